@@ -11,6 +11,9 @@ pub mod ReadBack
 pub mod LiteralLemmas
 pub mod CanonicalRunLemmas
 mod SearchLemmas
+mod MarkLemmas
+mod PlainLemmas
+mod TypedLemmas
 pub mod PieceLemmas
 pub mod DirectiveLemmas
 pub mod SpecificationLemmas

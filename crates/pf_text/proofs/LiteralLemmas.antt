@@ -31,7 +31,7 @@ stopped : (b : ℕ) → (b ≡ 37) ⊎ (b ≡ 0) → is_byte2 37 0 b ≡ true
 stopped b (inl e) = grind (arith, nat_tests)
 stopped b (inr e) = grind (arith, nat_tests)
 
-goes_on : (b : ℕ) → (is_byte2 37 0 b ≡ true → ⊥) → IsLiteral b
+pub goes_on : (b : ℕ) → (is_byte2 37 0 b ≡ true → ⊥) → IsLiteral b
 goes_on b h = (λ e. h (stopped b (inl e)), λ e. h (stopped b (inr e)))
 
 pub run_found : (text : Text) (n : ℕ) → n ≤ length text → Nowhere (find.Passes (is_byte2 37 0) text) 0 n → (n < length text → find.Passes (is_byte2 37 0) text n) → IsRun text n

@@ -53,26 +53,25 @@ lanes_set : (bytes : Text) → map (top 7) (map lane bytes) ≡ map (is_byte2 37
 lanes_set [] = refl
 lanes_set (b ∷ bytes) = ap (λ x. x ∷ map (top 7) (map lane bytes)) (lane_set (b == 37) (b == 0)) ∙ ap (λ xs. is_byte2 37 0 b ∷ xs) (lanes_set bytes)
 
--- what the mask says of the bytes that one vector holds
-module _ (text : Text) (i n : ℕ) (room : i + n ≤ length text) (few : n ≤ 64) (z : List ℕ) (lanes : z ≡ map lane (chunk i n text)) where
-  abbrev mask : ℕ
-  mask = mask_l (map (top 7) z) % 2 ^ 64
+-- the mask of the bytes that one vector holds
+pub mask_is : (text : Text) (i n : ℕ) → i + n ≤ length text → n ≤ 64 → (z : List ℕ) → z ≡ map lane (chunk i n text)
+    → mask_l (map (top 7) z) % 2 ^ 64 ≡ mask_l (map (is_byte2 37 0) (chunk i n text))
+mask_is text i n room few z lanes =
+    ap (λ l. mask_l (map (top 7) l) % 2 ^ 64) lanes ∙ ap (λ l. mask_l l % 2 ^ 64) (lanes_set (chunk i n text))
+    ∙ mask_l-mod (map (is_byte2 37 0) (chunk i n text)) 64 (omega (arith, few, length-map (chunk i n text) (is_byte2 37 0), length-chunk i n text room))
 
-  mask_is : mask ≡ mask_l (map (is_byte2 37 0) (chunk i n text))
-  mask_is =
-      ap (λ l. mask_l (map (top 7) l) % 2 ^ 64) lanes ∙ ap (λ l. mask_l l % 2 ^ 64) (lanes_set (chunk i n text))
-      ∙ mask_l-mod (map (is_byte2 37 0) (chunk i n text)) 64 (omega (arith, length-map (chunk i n text) (is_byte2 37 0), length-chunk i n text room))
-
+-- what it says of these bytes
+module _ (text : Text) (i n : ℕ) (room : i + n ≤ length text) (few : n ≤ 64) (mask : ℕ) (is : mask ≡ mask_l (map (is_byte2 37 0) (chunk i n text))) where
   fails : (b : Bool) → b ≡ false → b ≡ true → ⊥
   fails b e f = cc
 
   pub none_in : mask ≡ 0 → Nowhere (Passes (is_byte2 37 0) text) i (i + n)
-  none_in e k low high = fails (is_byte2 37 0 (get_or text k 0)) (none_from_empty_mask (is_byte2 37 0) text i n 0 room (sym mask_is ∙ e) k low high)
+  none_in e k low high = fails (is_byte2 37 0 (get_or text k 0)) (none_from_empty_mask (is_byte2 37 0) text i n 0 room (sym is ∙ e) k low high)
 
   module _ (some : mask ≢ 0) where
     counted : count_trailing_zeros 64 mask ≡ prefix_len (λ b. not (is_byte2 37 0 b)) (chunk i n text)
     counted =
-        ap (count_trailing_zeros 64) mask_is ∙ trailing_mask_l (is_byte2 37 0) 64 (chunk i n text) (omega (arith, length-chunk i n text room)) (omega (arith, some, mask_is))
+        ap (count_trailing_zeros 64) is ∙ trailing_mask_l (is_byte2 37 0) 64 (chunk i n text) (omega (arith, few, length-chunk i n text room)) (omega (arith, some, is))
 
     pub first_few : count_trailing_zeros 64 mask ≤ n
     first_few = run_in_chunk_le (is_byte2 37 0) text i n _ 0 room counted

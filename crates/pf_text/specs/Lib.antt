@@ -3,6 +3,7 @@ pub mod Moves
 pub mod Fronts
 pub mod Letters
 pub mod Places
+pub mod Marks
 pub mod States
 pub mod History
 pub mod CanonicalRuns

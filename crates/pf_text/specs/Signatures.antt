@@ -13,6 +13,12 @@ use Rattle.pf_text.specs.declared.signatures.Signature.{Signature}
 abbrev pub types_of : Signature → List ArgType
 types_of signature = signature.types.items
 
+-- a text is read, however long it is, and its directives take arguments of these types
+pub record ReadsTyped (model : Model) (t : Text) (wanted : List ArgType) : Type 0 where
+  pub items : List Item
+  pub reads : Reads t items
+  pub types_are : wanted ≡ types model items
+
 -- a text is accepted, and its directives take arguments of these types (C11 7.21.6.1 p3)
 pub record TakesTypes (model : Model) (t : Text) (wanted : List ArgType) : Type 0 where
   pub items : List Item

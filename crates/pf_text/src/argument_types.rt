@@ -3,6 +3,7 @@ ghost use Rattle.std.specs.Prelude.{◌≡◌, ◌≤◌, [], MatchResult};
 ghost use Rattle.pf_text.specs.Signatures.{TakesTypes, FaultForSignature, types_of};
 
 use crate::pieces::Pieces;
+use crate::plain_types::push_plain_types;
 use crate::refusals::TextFault;
 use crate::signatures::Signature;
 use pf_values::{ArgType, Model};
@@ -32,6 +33,10 @@ fn push_types<A: Allocator + Copy>(
     ensures { MatchResult result
         (λ _. TakesTypes model text.now found.new.items) (FaultForSignature model text.now) }
 {
+    if push_plain_types(found, model, text) {
+        return Ok(());
+    }
+    found.clear();
     for piece in Pieces::new(text) {
         let piece = match piece {
             Ok(piece) => piece,

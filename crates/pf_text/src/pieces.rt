@@ -6,6 +6,7 @@ ghost use Rattle.pf_values.specs.meaning.Refusals.{IsRefusedAt};
 ghost use Rattle.pf_values.specs.meaning.Text.{Text};
 ghost use Rattle.pf_text.specs.History.{EndsRun};
 
+use crate::plain::is_plainly_accepted;
 use crate::refusals::Refusal;
 use crate::scanner::{Scanner, Step};
 use pf_values::{ArgType, Directive, Model};
@@ -179,6 +180,9 @@ pub fn check(text: &[u8]) -> Result<(), Refusal>
     ensures { MatchResult result (λ _. IsAccepted text.now)
         (λ refusal. IsRefusedAt text.now refusal.kind refusal.at) }
 {
+    if is_plainly_accepted(text) {
+        return Ok(());
+    }
     for piece in Pieces::new(text) {
         match piece {
             Ok(_) => {}

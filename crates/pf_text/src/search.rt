@@ -1,5 +1,6 @@
 //! The search for the end of a run of literal bytes: a byte that is `%` or 0.
-ghost use Rattle.std.specs.Prelude.{◌≡◌, ◌+◌, ◌-◌, ◌<◌, ◌≤◌, length};
+ghost use Rattle.std.specs.Prelude.{◌≡◌, ◌+◌, ◌-◌, ◌<◌, ◌≤◌, length, map};
+ghost use Rattle.std.specs.Simd.Lanes.{chunk, mask_l};
 ghost use Rattle.memchr.specs.Find.{Nowhere, Passes, is_byte2};
 
 use memchr::memchr2;
@@ -121,11 +122,21 @@ fn literals_at<const N: usize>(text: &[u8], at: usize) -> usize
     ensures none { Nowhere (Passes (is_byte2 37 0) text.now) at (at + result) }
     ensures ended { result < N → Passes (is_byte2 37 0) text.now (at + result) }
 {
-    let bytes = Simd::<u8, N>::from_slice(&text[at..]);
-    let others = bytes.simd_eq(Simd::<u8, N>::splat(b'%')) | bytes.simd_eq(Simd::<u8, N>::splat(0));
-    let places = others.to_bitmask();
+    let places = ends_at::<N>(text, at);
     if places == 0 {
         return N;
     }
     places.trailing_zeros() as usize
+}
+
+/// Which bytes of a vector end a run of literal bytes, with a bit for each.
+#[inline(always)]
+pub(crate) fn ends_at<const N: usize>(text: &[u8], at: usize) -> u64
+    requires room { at + N ≤ length text.now }
+    requires few { N ≤ 64 }
+    ensures { result ≡ mask_l (map (is_byte2 37 0) (chunk at N text.now)) }
+{
+    let bytes = Simd::<u8, N>::from_slice(&text[at..]);
+    let others = bytes.simd_eq(Simd::<u8, N>::splat(b'%')) | bytes.simd_eq(Simd::<u8, N>::splat(0));
+    others.to_bitmask()
 }

@@ -1,11 +1,14 @@
 //! A conversion specification that is whole at the front of a text, read in one go. The automaton
 //! reads the same byte by byte, and finds out why a text has none.
-ghost use Rattle.std.specs.Prelude.{◌≡◌, ◌+◌, ◌<◌, ◌≤◌, List, [], ◌∷◌, ◌++◌, false, length, map, take, MatchOption, ⊤};
+ghost use Rattle.std.specs.Prelude.{◌≡◌, ◌+◌, ◌<◌, ◌≤◌, List, [], ◌∷◌, ◌++◌, false, length, map, take, None, IsFalse, IsTrue, MatchOption, ⊤};
+ghost use Rattle.pf_values.specs.Directives.{specification_of};
 ghost use Rattle.pf_values.specs.declared.flags.Flag.{Flag};
+ghost use Rattle.pf_values.specs.declared.flags.Flag.TheVariants.{Alt, Group, Zero};
+ghost use Rattle.pf_values.specs.declared.lengths.Length.TheVariants as lengths;
 ghost use Rattle.pf_values.specs.declared.limits.TheConstants.{MAX_NUMBER};
 ghost use Rattle.pf_values.specs.meaning.Conversions.{conv_letter};
-ghost use Rattle.pf_values.specs.meaning.Defined.{is_above_limit};
-ghost use Rattle.pf_values.specs.meaning.Flags.{flag_byte, flag_set};
+ghost use Rattle.pf_values.specs.meaning.Defined.{first_broken, is_above_limit, undefined_kinds};
+ghost use Rattle.pf_values.specs.meaning.Flags.{flag_byte, flag_set, has};
 ghost use Rattle.pf_values.specs.meaning.Items.{IsReadAs};
 ghost use Rattle.pf_values.specs.meaning.Items as items;
 ghost use Rattle.pf_values.specs.meaning.Lengths.{length_letters};
@@ -15,7 +18,7 @@ ghost use Rattle.pf_text.specs.Places.{ContinuesNumber, HasBytes};
 
 use crate::letters::{conv_of, flag_of, modifier_of};
 use pf_values::limits::MAX_NUMBER;
-use pf_values::{Conv, Directive, FlagSet, Length};
+use pf_values::{Conv, Directive, Flag, FlagSet, Length};
 
 /// The directive at the front of a text, and how many bytes it has. None where the text begins
 /// otherwise, or its specification is cut off or refused.
@@ -48,9 +51,9 @@ fn directive_of_conv(conv: Conv) -> Option<(Directive, usize)>
     }
 }
 
-// The directive at the front of a text that begins with `%`.
+/// The directive at the front of a text that begins with `%`.
 #[inline(always)]
-fn directive_of_parts(text: &[u8]) -> Option<(Directive, usize)>
+pub(crate) fn directive_of_parts(text: &[u8]) -> Option<(Directive, usize)>
     requires { (1 ≤ length text.now) × (take 1 text.now ≡ percent ∷ []) }
     ensures { MatchOption result ⊤ (λ front. (0 < front.1) × (front.1 ≤ length text.now)
         × IsReadAs (take front.1 text.now) (items.Directive front.0)) }
@@ -60,9 +63,38 @@ fn directive_of_parts(text: &[u8]) -> Option<(Directive, usize)>
     let (precision, at) = precision_at(text, at);
     let (length, at) = modifier_at(text, at);
     let conv = conv_at(text, at)?;
-    match Directive::new(flags, width, precision, length, conv) {
-        Ok(directive) => Some((directive, at + 1)),
-        Err(_) => None,
+    if !is_defined(flags, precision, length, conv) {
+        return None;
+    }
+    let directive = Directive::of_defined(flags, width, precision, length, conv);
+    Some((directive, at + 1))
+}
+
+// Whether the standard and POSIX define these parts together. `Directive::new` also finds out why
+// they don't, which takes longer.
+#[inline(always)]
+fn is_defined(flags: FlagSet, precision: Option<u16>, length: Length, conv: Conv) -> bool
+    ensures { IsTrue result
+        → first_broken undefined_kinds (specification_of flags None precision length conv) ≡ None }
+{
+    match conv {
+        Conv::D | Conv::I | Conv::U => !flags.has(Flag::Alt),
+        Conv::O | Conv::X | Conv::UpperX | Conv::B => !flags.has(Flag::Group),
+        Conv::C => precision.is_none() && suits_text(flags, length),
+        Conv::S => suits_text(flags, length),
+    }
+}
+
+// Whether flags and a length modifier are defined for a byte or a string: no `#`, no `0`, no `'` and
+// no modifier.
+#[inline(always)]
+fn suits_text(flags: FlagSet, length: Length) -> bool
+    ensures { IsTrue result → (length ≡ lengths.None) × IsFalse (has flags Alt)
+        × IsFalse (has flags Zero) × IsFalse (has flags Group) }
+{
+    match length {
+        Length::None => !(flags.has(Flag::Alt) | flags.has(Flag::Zero) | flags.has(Flag::Group)),
+        _ => false,
     }
 }
 

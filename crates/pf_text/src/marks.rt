@@ -1,0 +1,60 @@
+//! Where a short text has the bytes `%` and 0, as the bits of a number: so its runs of literal bytes
+//! need no search.
+ghost use Rattle.std.specs.Prelude.{◌≡◌, ◌+◌, ◌<◌, ◌≤◌, length, MatchOption};
+ghost use Rattle.pf_text.specs.Marks.{HasNoMark, IsMarked};
+
+use crate::search::ends_at;
+
+const LANES: usize = 16;
+
+// The lanes of the vector for a text that is shorter.
+const HALF: usize = 8;
+
+/// Marks the bytes `%` and 0 of a text, each by the bit of its offset.
+#[inline(always)]
+pub(crate) fn marks_of(text: &[u8]) -> u64
+    requires some { 8 ≤ length text.now }
+    requires few { length text.now ≤ 64 }
+    ensures { IsMarked result text.now 0 (length text.now) }
+{
+    let len = text.len();
+    if len < LANES {
+        return marks_at::<HALF>(text, 0) | marks_at::<HALF>(text, len - HALF);
+    }
+    // It overlaps the one before.
+    let last = marks_at::<LANES>(text, len - LANES);
+    let marks = marks_at::<LANES>(text, 0);
+    if len <= 2 * LANES {
+        return marks | last;
+    }
+    let marks = marks | marks_at::<LANES>(text, LANES);
+    if len <= 3 * LANES {
+        return marks | last;
+    }
+    marks | marks_at::<LANES>(text, 2 * LANES) | last
+}
+
+// Marks the bytes that one vector holds.
+#[inline(always)]
+fn marks_at<const N: usize>(text: &[u8], at: usize) -> u64
+    requires room { at + N ≤ length text.now }
+    requires few { at + N ≤ 64 }
+    requires some { 0 < N }
+    ensures { IsMarked result text.now at (at + N) }
+{
+    ends_at::<N>(text, at) << at as u32
+}
+
+/// The first marked offset from `at` on.
+#[inline(always)]
+pub(crate) fn next_marked(marks: u64, at: usize) -> Option<usize>
+    requires { at < 64 }
+    ensures { MatchOption result (HasNoMark marks at 64)
+        (λ place. (at ≤ place) × (place < 128) × HasNoMark marks at place) }
+{
+    let left = marks >> at as u32;
+    if left == 0 {
+        return None;
+    }
+    Some(at + left.trailing_zeros() as usize)
+}

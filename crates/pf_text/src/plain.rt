@@ -1,0 +1,115 @@
+//! A fast way to see that a text is accepted. It answers only what it is sure of: a text of which it
+//! doesn't know that it is accepted is left to the reader, which also finds out why it is refused.
+ghost use Rattle.std.specs.Prelude.{◌≡◌, ◌+◌, ◌*◌, ◌^◌, ◌<◌, ◌≤◌, List, [], ◌∷◌, drop, length, take, IsTrue};
+ghost use Rattle.pf_values.specs.meaning.Items.{IsAccepted, Item, Reads};
+ghost use Rattle.pf_values.specs.meaning.Text.{percent};
+
+use crate::letters::conv_of;
+use crate::marks::{marks_of, next_marked};
+use crate::search::literal_len;
+use crate::specification::directive_of_parts;
+use pf_values::limits::MAX_TEXT_LEN;
+
+/// Whether the text is known to be accepted.
+pub(crate) fn is_plainly_accepted(text: &[u8]) -> bool
+    ensures { IsTrue result → IsAccepted text.now }
+{
+    if text.len() < 8 {
+        return is_read_by_runs(text);
+    }
+    if text.len() > 64 {
+        return is_read_by_runs(text);
+    }
+    is_read_by_marks(text)
+}
+
+// Whether a text that is short enough for marks is known to be accepted.
+#[inline(always)]
+fn is_read_by_marks(text: &[u8]) -> bool
+    requires some { 8 ≤ length text.now }
+    requires few { length text.now ≤ 64 }
+    ensures { IsTrue result → IsAccepted text.now }
+{
+    let marks = marks_of(text);
+    let mut at = 0;
+    while at < text.len() {
+        let Some(place) = next_marked(marks, at) else {
+            return true;
+        };
+        let len = item_len(text, place);
+        if len == 0 {
+            return false;
+        }
+        at = place + len;
+    }
+    true
+}
+
+// Whether a text of any length is known to be accepted.
+#[inline(never)]
+fn is_read_by_runs(text: &[u8]) -> bool
+    ensures { IsTrue result → IsAccepted text.now }
+{
+    if text.len() as u64 > MAX_TEXT_LEN {
+        return false;
+    }
+    let mut at = 0;
+    while at < text.len() {
+        let len = front_len(text, at);
+        if len == 0 {
+            return false;
+        }
+        at += len;
+    }
+    true
+}
+
+// How many bytes at a place are literal, or are an item of the other kinds; 0 if that isn't known.
+#[inline(always)]
+fn front_len(text: &[u8], at: usize) -> usize
+    requires { at < length text.now }
+    ensures within { at + result ≤ length text.now }
+    ensures read { (items : List Item) × Reads (take result (drop at text.now)) items }
+{
+    if text[at] != b'%' {
+        return literal_len(&text[at..]);
+    }
+    item_len(text, at)
+}
+
+// How many bytes has the `%%` or the directive at a place; 0 if it isn't known that there is one.
+#[inline(always)]
+fn item_len(text: &[u8], at: usize) -> usize
+    requires { at + 1 < 2 ^ 64 }
+    ensures within { 0 < result → at + result ≤ length text.now }
+    ensures read { (items : List Item) × Reads (take result (drop at text.now)) items }
+{
+    let next = at + 1;
+    if next >= text.len() {
+        return 0;
+    }
+    if text[at] != b'%' {
+        return 0;
+    }
+    if text[next] == b'%' {
+        return 2;
+    }
+    match conv_of(text[next]) {
+        Some(_) => 2,
+        None => parts_len(&text[at..]),
+    }
+}
+
+// How many bytes has the directive at the front of a text that begins with `%`; 0 if it isn't known
+// that there is one.
+#[inline(never)]
+fn parts_len(text: &[u8]) -> usize
+    requires { (1 ≤ length text.now) × (take 1 text.now ≡ percent ∷ []) }
+    ensures within { result ≤ length text.now }
+    ensures read { (items : List Item) × Reads (take result text.now) items }
+{
+    match directive_of_parts(text) {
+        Some((_, len)) => len,
+        None => 0,
+    }
+}
