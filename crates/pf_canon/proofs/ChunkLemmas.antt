@@ -37,9 +37,7 @@ use Rattle.std.proofs.lemmas.List.{append-nil, append_assoc, length-append, leng
 use Rattle.pf_values.specs.declared.models.Model.{Model}
 use Rattle.pf_values.specs.declared.refusals.RefusalKind.{RefusalKind}
 use Rattle.pf_values.specs.meaning.Items.{Item, Byte, Directive, Reads}
-use Rattle.pf_values.specs.meaning.Normal.{IsNormal}
 use Rattle.pf_values.specs.meaning.Specification.{Specification}
-use Rattle.pf_values.specs.meaning.Spelling.{spelling_of}
 use Rattle.pf_values.specs.meaning.Refusals.{IsRefusedAt}
 use Rattle.pf_values.specs.meaning.Text.{Text}
 use Rattle.pf_text.specs.declared.refusals.Refusal.{Refusal}
@@ -74,9 +72,8 @@ use Rattle.pf_canon.specs.Transducer.{
 }
 use Rattle.pf_text.specs.CanonicalRuns.{PassesCanonicalRun, PassesSilents, silents}
 use Rattle.pf_canon.proofs.TextLemmas.{most_len-append, not_truncated}
-use Rattle.pf_text.proofs.SpellingLemmas.{length-spelled}
 use Rattle.pf_values.proofs.Alike.{alike_refl}
-use Rattle.pf_canon.proofs.MakingLemmas.{made_more, made_normal, made_settled, made_silents}
+use Rattle.pf_canon.proofs.MakingLemmas.{made_more, made_settled, made_silents}
 use Rattle.pf_canon.proofs.TransducerLemmas.{directive_grown, grown, passed, passed_run, through_few}
 
 pub through_settles : (model : Model) (r : Transducer) (t out : Text) (items : List Item) → IsThrough model r t items out → SettlesTo model t out
@@ -204,22 +201,6 @@ items_taken model mid new text out settled at run len v d =
       subst (IsThrough model new (take (at + run + len) text) h.items) (append_assoc out (take run (drop at text)) settled)
           (subst (λ u. IsThrough model new u h.items ((out ++ take run (drop at text)) ++ settled)) (sym (take-add (at + run) len text)) h.through),
     )
-
--- and a normal directive that is spelled as it should be is verbatim
-pub normal_kept : (model : Model) (old new : Transducer) (t out text : Text) (items : List Item) (len : ℕ) (d : Specification) → 0 < len → len ≤ length text
-    → IsThrough model old t items out → new.model ≡ old.model → new.silents ≡ old.silents → old.silents ≡ 0
-    → scanned.TakesDirective t items text len new.scanner d → IsNormal model d → spelling_of d ≡ take len text → TakesVerbatim model t out text len new
-normal_kept model old new t out text items len d some within h same held none takes normal is =
-    let more = items ++ Directive d ∷ [] in
-    let bytes = take len text in
-    let long : 1 ≤ length bytes = omega (arith, some, within, length-take len text) in
-    let short = length-spelled d normal.defined in
-    let settles : old.silents < 2 ^ 63 → IsMaking model out old.silents more (Directive d ∷ []) → IsMaking model (out ++ spelling_of d) new.silents more [] =
-    λ room made. subst (λ w. IsMaking model (out ++ spelling_of d) w more []) (sym (held ∙ none))
-    (made_normal model out 0 d more [] normal (subst (λ w. IsMaking model out w more (Directive d ∷ [])) none made)) in
-    let g = directive_grown model old new t bytes out (spelling_of d) items d h same takes.after long settles (omega (arith, held))
-    (omega (arith, held, short)) in
-    record { items = more; through = subst (λ o. IsThrough model new (t ++ bytes) more (out ++ o)) is g }
 
 most_silents : (count : ℕ) → most_len (silents count) ≡ 4120 * count
 most_silents zero = omega arith

@@ -17,7 +17,7 @@ use Rattle.pf_canon.specs.declared.transducer.Transducer.{Transducer}
 use Rattle.pf_text.specs.declared.refusals.TextFault.TheVariants.{Memory}
 use Rattle.pf_canon.specs.Answers.{FaultForCanonical, IsCanonicalFor, most_len}
 use Rattle.pf_canon.specs.Output.{output_text}
-use Rattle.pf_canon.specs.Transducer.{SettlesEnd, GrowsByChunk, IsThrough, IsUpTo, RefusesChunk, chunk_output_text, TakesVerbatim}
+use Rattle.pf_canon.specs.Transducer.{SettlesEnd, GrowsByChunk, IsThrough, IsUpTo, RefusesChunk, chunk_output_text}
 
 no_byte_truncates : (b : Bool) (part : Text) (byte : ℕ) (kind : RefusalKind) → MatchBool b (kind ≡ TooLong) (IsRefusedByte part byte kind) → kind ≢ Truncated
 no_byte_truncates true part byte kind h e = let both : TooLong ≡ Truncated = sym h ∙ e in cc
@@ -93,11 +93,6 @@ refused_at model t out at refused h = subst (λ u. IsRefusedAt u refused.refusal
 pub built_more : (model : Model) (t out now : Text) (at : ℕ) (chunk : Chunk) (new : Transducer) → GrowsByChunk model (take at t) out (drop at t) chunk new
     → now ≡ out ++ chunk_output_text chunk (drop at t) → (items : List Item) × IsThrough model new (take (at + chunk.len) t) items now
 built_more model t out now at chunk new g e = (g.items, rw (e, take-add at chunk.len t) g.through)
-
--- more verbatim bytes of a text were taken
-pub verbatim_more : (model : Model) (text : Text) (at len : ℕ) (new : Transducer) → TakesVerbatim model (take at text) (take at text) (drop at text) len new
-    → (items : List Item) × IsThrough model new (take (at + len) text) items (take (at + len) text)
-verbatim_more model text at len new g = (g.items, rw (take-add at len text) g.through)
 
 -- the data model is the transducer's own
 pub in_its_own : (model : Model) (r : Transducer) (t out : Text) (items : List Item) → IsThrough model r t items out → IsThrough r.model r t items out

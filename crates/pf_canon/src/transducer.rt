@@ -2,7 +2,6 @@
 ghost use Rattle.std.specs.Prelude.{◌≡◌, ◌+◌, ◌*◌, ◌<◌, ◌≤◌, ℕ, List, [], ◌∷◌, ◌++◌, length, take, IfOk, IfSome, IsTrue, MatchOption, MatchResult, OnOk};
 ghost use Rattle.pf_values.specs.declared.limits.TheConstants.{MAX_TEXT_LEN};
 ghost use Rattle.pf_values.specs.meaning.Items.{Item};
-ghost use Rattle.pf_values.specs.meaning.Spelling.{spelling_of};
 ghost use Rattle.pf_values.specs.meaning.Text.{Text};
 ghost use Rattle.pf_text.specs.History.{offset_of};
 ghost use Rattle.pf_canon.specs.Answers.{most_len};
@@ -12,7 +11,7 @@ ghost use Rattle.pf_canon.specs.Transducer.{SettlesEnd, GrowsByChunk, HasScanned
 
 use crate::chunk::{Chunk, ChunkRefusal};
 use crate::output::{Output, StepOutput};
-use pf_reduce::{Core, Reduced, is_normal, reduce};
+use pf_reduce::{Core, Reduced, reduce};
 use pf_text::{Refusal, Scanner, Spelling, Step, spell};
 use pf_values::{Directive, Model};
 
@@ -48,48 +47,6 @@ impl Transducer {
         let mut transducer = Transducer::new(model);
         let verbatim_len = transducer.pass_verbatim(text);
         (transducer, verbatim_len)
-    }
-
-    /// A transducer that took as many first bytes of a text as are their own canonical text, and
-    /// how many these are: whole directives that are normal and spelled as a canonical text spells
-    /// them, too.
-    #[inline(always)]
-    pub(crate) fn after_canonical(model: Model, text: &[u8]) -> (Transducer, usize)
-        ensures model { data_model_of result.0 ≡ model }
-        ensures kept { IsUpTo result.0 text.now result.1 (take result.1 text.now) }
-        ensures none { held_silents_of result.0 ≡ 0 }
-    {
-        let (mut transducer, verbatim_len) = Transducer::after_verbatim(model, text);
-        if verbatim_len == text.len() {
-            return (transducer, verbatim_len);
-        }
-        let len = transducer.pass_canonical(text, verbatim_len);
-        (transducer, len)
-    }
-
-    // Takes more of a text of which `from` bytes were taken, as far as it is its own canonical
-    // text, and returns how many were taken then.
-    #[inline(never)]
-    fn pass_canonical(&mut self, text: &[u8], from: usize) -> usize
-        requires from { from ≤ length text.now }
-        requires none { held_silents_of self.old ≡ 0 }
-        ensures none { held_silents_of self.new ≡ 0 }
-        ensures kept { (model : Model) (items : List Item)
-            → IsThrough model self.old (take from text.now) items (take from text.now)
-            → (now : List Item)
-            × IsThrough model self.new (take result text.now) now (take result text.now) }
-        ensures within { result ≤ length text.now }
-    {
-        let mut len = from;
-        while len < text.len() {
-            let directive_len = self.pass_normal(&text[len..]);
-            if directive_len == 0 {
-                break;
-            }
-            len += directive_len;
-            len += self.pass_verbatim(&text[len..]);
-        }
-        len
     }
 
     /// A transducer that took a text chunk by chunk, up to its end or to what is refused, and how
@@ -214,27 +171,6 @@ impl Transducer {
             return self.scanner.pass_literals(text);
         }
         self.scanner.pass_canonical_run(text)
-    }
-
-    // Takes the directive that a text begins with, if it is its own canonical text, and returns its
-    // length; otherwise nothing, and returns 0.
-    fn pass_normal(&mut self, text: &[u8]) -> usize
-        requires { held_silents_of self.old ≡ 0 }
-        ensures none { held_silents_of self.new ≡ 0 }
-        ensures kept { (model : Model) (t out : Text) (items : List Item)
-            → IsThrough model self.old t items out
-            → TakesVerbatim model t out text.now result self.new }
-        ensures within { result ≤ length text.now }
-    {
-        let mut scanner = self.scanner;
-        let Some((directive, len)) = scanner.pass_directive(text) else {
-            return 0;
-        };
-        if !is_normal(self.model, &directive) || !is_spelling(&directive, &text[..len]) {
-            return 0;
-        }
-        self.scanner = scanner;
-        len
     }
 
     // Takes the silent directives that follow the verbatim bytes, without writing them. Returns the
@@ -394,14 +330,6 @@ impl Transducer {
             Err(refusal) => Err(refusal),
         }
     }
-}
-
-// Whether a canonical text spells the directive so.
-#[inline(always)]
-fn is_spelling(directive: &Directive, text: &[u8]) -> bool
-    ensures { IsTrue result → spelling_of directive.now ≡ text.now }
-{
-    spell(directive).as_slice() == text
 }
 
 // `%%`

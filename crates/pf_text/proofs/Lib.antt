@@ -13,6 +13,7 @@ pub mod CanonicalRunLemmas
 mod SearchLemmas
 mod MarkLemmas
 mod PlainLemmas
+mod MarkedRunLemmas
 mod TypedLemmas
 pub mod PieceLemmas
 pub mod DirectiveLemmas

@@ -1,5 +1,5 @@
 -- The bits of a number that marks bytes of a text.
-use Rattle.std.proofs.Common.{◌≡◌, ◌≢◌, ℕ, zero, suc, ◌+◌, ◌-◌, ◌*◌, ◌/◌, ◌%◌, ◌^◌, ◌<◌, ◌≤◌, max, Bool, true, false, cond, List, [], ◌∷◌, ◌++◌, length, get_or, map, replicate, bit_or, refl, sym, ap, ◌∙◌, arith, inl, inr, w64}
+use Rattle.std.proofs.Common.{◌≡◌, ◌≢◌, ℕ, zero, suc, ◌+◌, ◌-◌, ◌*◌, ◌/◌, ◌%◌, ◌^◌, ◌<◌, ◌≤◌, max, Bool, true, false, cond, List, ◌++◌, length, get_or, map, replicate, bit_or, refl, sym, ap, ◌∙◌, arith, inl, inr, w64}
 use Rattle.std.specs.Int.{bit_at, trailing_zeros}
 use Rattle.std.specs.Simd.Lanes.{chunk, mask_l}
 use Rattle.std.proofs.Math.Nat.{div-div-eq-div-mul, div-le_self, pow-succ'}
@@ -8,7 +8,7 @@ use Rattle.std.proofs.lemmas.List.{get_or-append_right, get_or-map, length-appen
 use Rattle.std.proofs.lemmas.Nat.{pow-add}
 use Rattle.std.proofs.lemmas.Nat.Bits.{bit_at-lt, bit_at-trailing_zeros, bit_at-zero, bit_at_or}
 use Rattle.std.proofs.lemmas.Simd.{bit_mask_l, get_or-chunk, length-chunk, mask_l-mod}
-use Rattle.memchr.specs.Find.{Passes, is_byte2}
+use Rattle.memchr.specs.Find.{is_byte2}
 use Rattle.pf_values.specs.meaning.Text.{Text}
 use Rattle.pf_text.specs.Marks.{HasNoMark, IsMarked}
 

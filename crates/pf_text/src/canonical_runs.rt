@@ -8,6 +8,7 @@ ghost use Rattle.pf_text.specs.Places.{HasBytes};
 ghost use Rattle.pf_values.specs.meaning.Text.{percent};
 
 use crate::letters::conv_of;
+use crate::marks::{marks_of, next_marked};
 use crate::search::literal_len;
 use crate::specification::{conv_at, modifier_at};
 use pf_values::{Conv, Length};
@@ -18,6 +19,54 @@ use pf_values::{Conv, Length};
 /// is never inlined, as `literal_len`.
 #[inline(never)]
 pub(crate) fn canonical_run_len(text: &[u8]) -> usize
+    ensures within { result ≤ length text.now }
+    ensures canonical { (model : Model)
+        → (items : List Item) × IsCanonicalRun model (take result text.now) items }
+    ensures ended { result < length text.now → Passes (is_byte2 37 0) text.now result }
+{
+    if text.len() < 8 {
+        return len_by_search(text);
+    }
+    if text.len() > 64 {
+        return len_by_search(text);
+    }
+    len_by_marks(text)
+}
+
+// `canonical_run_len` of a text that is short enough for marks.
+#[inline(always)]
+fn len_by_marks(text: &[u8]) -> usize
+    requires some { 8 ≤ length text.now }
+    requires few { length text.now ≤ 64 }
+    ensures within { result ≤ length text.now }
+    ensures canonical { (model : Model)
+        → (items : List Item) × IsCanonicalRun model (take result text.now) items }
+    ensures ended { result < length text.now → Passes (is_byte2 37 0) text.now result }
+{
+    let marks = marks_of(text);
+    let mut at = 0;
+    while at < text.len() {
+        let Some(place) = next_marked(marks, at) else {
+            return text.len();
+        };
+        if place >= text.len() {
+            return text.len();
+        }
+        if text[place] != b'%' {
+            return len_by_search(text);
+        }
+        let len = item_len(&text[place..]);
+        if len == 0 {
+            return place;
+        }
+        at = place + len;
+    }
+    at
+}
+
+// `canonical_run_len` of a text of any length.
+#[inline(never)]
+fn len_by_search(text: &[u8]) -> usize
     ensures within { result ≤ length text.now }
     ensures canonical { (model : Model)
         → (items : List Item) × IsCanonicalRun model (take result text.now) items }
@@ -47,6 +96,17 @@ fn canonical_front_len(text: &[u8]) -> usize
     if text[0] != b'%' {
         return literal_len(text);
     }
+    item_len(text)
+}
+
+// How many bytes has the item that begins a text with `%`, if it is canonical.
+#[inline(always)]
+fn item_len(text: &[u8]) -> usize
+    requires { (1 ≤ length text.now) × (take 1 text.now ≡ percent ∷ []) }
+    ensures within { result ≤ length text.now }
+    ensures canonical { (model : Model)
+        → (items : List Item) × IsCanonicalRun model (take result text.now) items }
+{
     if text.len() < 2 {
         return 0;
     }

@@ -7,12 +7,12 @@ use Rattle.pf_canon.proofs.SinkLemmas.{stripped_to_end}
 use Rattle.pf_canon.proofs.canonical_texts.is_canonical.Goals as goal
 
 pub returns-in-Err-clause-err : goal.returns-in-Err-clause-err
-returns-in-Err-clause-err c = c.in-Err.ensures (take c.after_canonical-verbatim_len.result.1 c.args.text.now) c.after_canonical-verbatim_len.ensures.kept
+returns-in-Err-clause-err c = c.in-Err.ensures (take c.after_verbatim-verbatim_len.result.1 c.args.text.now) c.after_verbatim-verbatim_len.ensures.kept
 
 pub returns-in-Ok : goal.returns-in-Ok
 returns-in-Ok c =
     let text = c.args.text.now in
-    let after = c.after_canonical-verbatim_len in
+    let after = c.after_verbatim-verbatim_len in
     let h = c.in-Ok.ensures (take after.result.1 text) after.ensures.kept in
     let is = c.is_used_up in
     record {

@@ -1,5 +1,4 @@
-use Rattle.std.proofs.Common.{◌+◌, ◌<◌, ◌≤◌, ◌++◌, arith, length}
-use Rattle.pf_values.specs.declared.limits.TheConstants.{MAX_TEXT_LEN}
+use Rattle.std.proofs.Common.{◌+◌, ◌≤◌, ◌++◌, arith, length}
 use Rattle.pf_text.specs.Marks.{HasNoMark}
 use Rattle.pf_text.proofs.PlainLemmas.{read_more, unmarked_read, whole_read}
 use Rattle.pf_text.proofs.plain.is_read_by_marks.Goals as goal

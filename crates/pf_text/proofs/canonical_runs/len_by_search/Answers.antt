@@ -1,7 +1,7 @@
 use Rattle.std.proofs.Common.{◌≤◌, ◌++◌, arith, drop, length}
 use Rattle.std.proofs.lemmas.List.{length-drop, take_rest}
 use Rattle.pf_text.proofs.CanonicalRunLemmas.{run_more}
-use Rattle.pf_text.proofs.canonical_runs.canonical_run_len.Goals as goal
+use Rattle.pf_text.proofs.canonical_runs.len_by_search.Goals as goal
 
 pub loop-at-preserved : goal.loop-at-preserved
 loop-at-preserved c =

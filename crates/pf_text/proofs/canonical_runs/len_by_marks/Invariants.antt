@@ -2,7 +2,7 @@ use Rattle.std.proofs.Common.{◌-◌, ◌≤◌, List, length, take}
 use Rattle.pf_values.specs.declared.models.Model.{Model}
 use Rattle.pf_values.specs.meaning.Items.{Item}
 use Rattle.pf_text.specs.CanonicalRuns.{IsCanonicalRun}
-use Rattle.pf_text.proofs.canonical_runs.canonical_run_len.Given as goal
+use Rattle.pf_text.proofs.canonical_runs.len_by_marks.Given as goal
 
 abbrev pub invariant-loop-at : goal.invariant-loop-at
 invariant-loop-at l = record {
