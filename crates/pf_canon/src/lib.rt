@@ -17,7 +17,8 @@ mod transducer;
 
 pub use canonical_bytes::CanonBytes;
 pub use canonical_texts::{
-    append_canonical, canonical, canonical_len, canonical_with_room, is_canonical,
+    ShortText, append_canonical, canonical, canonical_len, canonical_with_room, is_canonical,
+    short_canonical,
 };
 pub use comparison::{same_stream, same_text};
 pub use copy::{canonical_stream, copy_canonical};
