@@ -4,7 +4,7 @@ ghost use Rattle.std.specs.Prelude.{◌≡◌};
 ghost use Rattle.fmtcanon_c.specs.Models.{InModel};
 
 use crate::interface::{CError, NO_MEMORY, NO_MODEL, model_of, put_refusal, put_string};
-use pf_canon::{canonical, canonical_len, is_canonical};
+use pf_canon::{canonical, canonical_len, is_canonical, short_canonical};
 use pf_text::{Side, TextFault, check};
 use pf_values::Model;
 use std::alloc::Global;
@@ -63,6 +63,28 @@ pub extern "C" fn fmtcanon_canonical(
 }
 
 fn put_canonical(
+    alloc: Global,
+    model: Model,
+    text: &[u8],
+    out: &mut [u8],
+    error: &mut CError,
+) -> i64
+    ensures { PutsCanonical model text.now out.old error.old result out.new error.new }
+{
+    match short_canonical(model, text) {
+        Ok(Some(short)) => {
+            let canonical = short.as_slice();
+            put_string(out, canonical);
+            canonical.len() as i64
+        }
+        Ok(None) => put_long_canonical(alloc, model, text, out, error),
+        Err(refusal) => put_refusal(error, Side::First, refusal),
+    }
+}
+
+// Puts the canonical text of a format that may be too long for the stack.
+#[inline(never)]
+fn put_long_canonical(
     alloc: Global,
     model: Model,
     text: &[u8],
