@@ -14,6 +14,7 @@ mod SearchLemmas
 mod MarkLemmas
 mod PlainLemmas
 mod MarkedRunLemmas
+mod BetweenLemmas
 mod TypedLemmas
 pub mod PieceLemmas
 pub mod DirectiveLemmas

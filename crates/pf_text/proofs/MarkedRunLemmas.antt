@@ -39,6 +39,8 @@ unmarked_canonical model marks text at stop items low within marked none h =
     let n = stop - at in
     let rest = drop at text in
     let place : at + n ≡ stop = omega (arith, low) in
-    let literal = literal_between text at stop low within (no_end_between marks text at stop within marked none) in
-    (items ++ map Byte (take n rest), subst (λ k. IsCanonicalRun model (take k text) (items ++ map Byte (take n rest))) place
-        (run_more model text at n items (map Byte (take n rest)) h (literals_are_canonical model (take n rest) literal)))
+    let literal = literal_between text at stop low within (no_end_between marks text at stop within marked none) in (
+      items ++ map Byte (take n rest),
+      subst (λ k. IsCanonicalRun model (take k text) (items ++ map Byte (take n rest))) place
+          (run_more model text at n items (map Byte (take n rest)) h (literals_are_canonical model (take n rest) literal)),
+    )

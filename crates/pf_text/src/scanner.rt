@@ -125,10 +125,10 @@ impl Scanner {
             → MatchBool result (Reads t items) (Reads t items → ⊥) }
         ensures stays { (refusal : Refusal) → HasRefused self.now refusal → result ≡ false }
     {
-        match self.finish() {
-            Ok(()) => true,
-            Err(_) => false,
+        if self.refused.is_some() {
+            return false;
         }
+        self.automaton.is_between()
     }
 
     /// Forgets what was read of the items before, none of which counts between items. So a loop

@@ -1,11 +1,9 @@
-use Rattle.std.proofs.Common.{◌≡◌, ◌≢◌, ◌++◌, [], refl, sym, ap, ◌∙◌, subst, Err}
-use Rattle.std.proofs.lemmas.List.{append-nil}
+use Rattle.std.proofs.Common.{◌≢◌, refl, sym, subst, Err}
 use Rattle.pf_values.specs.declared.refusals.RefusalKind.TheVariants.{Truncated}
-use Rattle.pf_values.specs.meaning.Items.{Reads}
 use Rattle.pf_values.specs.meaning.Refusals.{IsRefusedAt}
-use Rattle.pf_text.specs.Fronts.{IsAt}
 use Rattle.pf_text.specs.History.{Finishes}
 use Rattle.pf_text.specs.Stages.{Between, state_of}
+use Rattle.pf_text.proofs.BetweenLemmas.{between_reads}
 use Rattle.pf_text.proofs.Refusing.{truncated_at}
 use Rattle.pf_text.proofs.scanner.Scanner.finish.Goals as goal
 
@@ -16,7 +14,4 @@ returns-clause-finished c t items h =
     (refl, h.offset, subst (λ p. IsRefusedAt t Truncated p) (sym h.offset) (truncated_at t h.part items (state_of c.args.self.now.automaton) h.good.splits h.state inside h.limit))
 
 pub returns-then-is_between-clause-finished : goal.returns-then-is_between-clause-finished
-returns-then-is_between-clause-finished c t items h =
-    let none : h.part ≡ [] = subst (λ s. IsAt s h.part) (c.if-is_between.ensures.0 refl) h.state in
-    let whole = h.good.splits.whole in
-    subst (λ u. Reads u items) (sym (h.good.splits.split ∙ ap (λ p. whole ++ p) none ∙ append-nil whole)) h.good.splits.reads
+returns-then-is_between-clause-finished c t items h = between_reads c.args.self.now t items h (c.if-is_between.ensures.0 refl)

@@ -1,6 +1,5 @@
+use Rattle.pf_text.proofs.BetweenLemmas.{whether_read}
 use Rattle.pf_text.proofs.scanner.Scanner.is_between.Goals as goal
 
--- where the text is cut inside an item it isn't accepted, so it isn't read
-pub returns-in-Err-clause-read : goal.returns-in-Err-clause-read
-returns-in-Err-clause-read c t items h reads = (c.in-Err.ensures.finished t items h).2.not_accepted
-    (items, record { reads = reads; limit = h.limit })
+pub returns-clause-read : goal.returns-clause-read
+returns-clause-read c t items h = whether_read c.args.self.now t items c.is_between.result c.is_between.ensures h
