@@ -1,6 +1,7 @@
 -- Texts that are read with the types of their arguments.
 use Rattle.std.proofs.Common.{◌≡◌, ℕ, ◌+◌, ◌-◌, ◌≤◌, List, [], ◌∷◌, ◌++◌, length, map, take, drop, refl, sym, ap, ap₂, ◌∙◌, subst, arith}
 use Rattle.std.proofs.lemmas.List.{append-nil, take_all}
+use Rattle.memchr.specs.Find.{Nowhere, Passes, is_byte2}
 use Rattle.pf_values.specs.declared.limits.TheConstants.{MAX_TEXT_LEN}
 use Rattle.pf_values.specs.declared.models.Model.{Model}
 use Rattle.pf_values.specs.declared.types.ArgType.{ArgType}
@@ -11,11 +12,15 @@ use Rattle.pf_values.specs.meaning.Text.{Text}
 use Rattle.pf_values.proofs.ItemTypes.{types-append, types-bytes}
 use Rattle.pf_text.specs.Marks.{HasNoMark, IsMarked}
 use Rattle.pf_text.specs.Signatures.{ReadsTyped, TakesTypes}
-use Rattle.pf_text.proofs.PlainLemmas.{one_read, read_more, unmarked_read}
+use Rattle.pf_text.proofs.PlainLemmas.{one_read, read_more, run_read, unmarked_read}
 
 -- a directive alone
 pub directive_typed : (model : Model) (t : Text) (d : Specification) (type : ArgType) → IsReadAs t (Directive d) → type ≡ arg_type model d → ReadsTyped model t (type ∷ [])
 directive_typed model t d type h e = record { items = Directive d ∷ []; reads = one_read t (Directive d) h; types_are = ap (λ w. w ∷ []) e }
+
+-- the run of literal bytes at the front of a text takes no arguments
+pub run_typed : (model : Model) (text : Text) (n : ℕ) → n ≤ length text → Nowhere (Passes (is_byte2 37 0) text) 0 n → ReadsTyped model (take n text) []
+run_typed model text n within none = record { items = map Byte (take n text); reads = run_read text n within none; types_are = sym (types-bytes model (take n text)) }
 
 -- bytes without a mark take no arguments
 pub unmarked_typed : (model : Model) (marks : ℕ) (text : Text) (at stop : ℕ) (found : List ArgType) → at ≤ stop → stop ≤ length text → IsMarked marks text 0 (length text) → HasNoMark marks at stop
