@@ -1,4 +1,5 @@
-//! A fast way to the argument types of a text. As `plain`, it answers only what it is sure of.
+//! A fast way to the argument types of a text. It answers only what it is sure of, as the one in
+//! `plain`.
 ghost use Rattle.std.specs.Prelude.{◌≡◌, ◌+◌, ◌^◌, ◌<◌, ◌≤◌, [], ◌∷◌, ◌++◌, drop, length, take, None, MatchOption, ⊤};
 ghost use Rattle.std.specs.Option.{option_to_list};
 ghost use Rattle.pf_values.specs.Directives.{specification_of};
@@ -9,7 +10,7 @@ ghost use Rattle.pf_values.specs.meaning.Text.{percent};
 ghost use Rattle.pf_text.specs.Signatures.{ReadsTyped, TakesTypes};
 
 use crate::letters::conv_of;
-use crate::marks::{marks_of, next_marked};
+use crate::marks::{MAX_MARKED, MIN_MARKED, marks_of, next_marked};
 use crate::search::literal_len;
 use crate::specification::directive_of_parts;
 use pf_values::limits::MAX_TEXT_LEN;
@@ -21,20 +22,20 @@ pub fn known_types(model: Model, text: &[u8], types: &mut [ArgType]) -> Option<u
     ensures { MatchOption result ⊤ (λ count. (count ≤ length types.new)
         × TakesTypes model text.now (take count types.new)) }
 {
-    if text.len() < 8 {
+    if text.len() < MIN_MARKED {
         return types_by_runs(model, text, types);
     }
-    if text.len() > 64 {
+    if text.len() > MAX_MARKED {
         return types_by_runs(model, text, types);
     }
     types_by_marks(model, text, types)
 }
 
-// Those of a text that is short enough for marks.
+// `known_types` of a text with marks.
 #[inline(always)]
 fn types_by_marks(model: Model, text: &[u8], types: &mut [ArgType]) -> Option<usize>
-    requires some { 8 ≤ length text.now }
-    requires few { length text.now ≤ 64 }
+    requires some { MIN_MARKED ≤ length text.now }
+    requires few { length text.now ≤ MAX_MARKED }
     ensures { MatchOption result ⊤ (λ count. (count ≤ length types.new)
         × TakesTypes model text.now (take count types.new)) }
 {
@@ -52,7 +53,7 @@ fn types_by_marks(model: Model, text: &[u8], types: &mut [ArgType]) -> Option<us
     Some(count)
 }
 
-// Those of a text of any length.
+// `known_types` of a text of any length.
 #[inline(never)]
 fn types_by_runs(model: Model, text: &[u8], types: &mut [ArgType]) -> Option<usize>
     ensures { MatchOption result ⊤ (λ count. (count ≤ length types.new)

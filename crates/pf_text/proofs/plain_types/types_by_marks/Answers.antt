@@ -1,4 +1,4 @@
-use Rattle.std.proofs.Common.{◌+◌, ◌<◌, ◌≤◌, arith, length, subst, sym, take}
+use Rattle.std.proofs.Common.{◌+◌, ◌≤◌, arith, length, subst, sym, take}
 use Rattle.std.specs.Option.{option_to_list}
 use Rattle.pf_text.specs.Marks.{HasNoMark}
 use Rattle.pf_text.specs.Signatures.{ReadsTyped}
