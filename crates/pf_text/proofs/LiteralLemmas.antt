@@ -1,5 +1,6 @@
 -- Runs of literal bytes.
-use Rattle.std.proofs.Common.{◌≡◌, ℕ, zero, suc, ◌+◌, ◌-◌, ◌%◌, ◌^◌, ◌<◌, ◌≤◌, min, false, true, List, [], ◌∷◌, ◌++◌, length, get_or, map, take, drop, refl, sym, ◌∙◌, subst, arith, inl, inr, drop-cons}
+use Rattle.std.proofs.Common.{◌≡◌, ℕ, zero, suc, ◌+◌, ◌-◌, ◌%◌, ◌^◌, ◌<◌, ◌≤◌, min, false, true, List, [], ◌∷◌, ◌++◌, length, get_or, map, take, drop}
+use Rattle.std.proofs.Common.{refl, sym, ◌∙◌, subst, arith, inl, inr, drop-cons}
 use Rattle.std.specs.Prelude.{None, ◌⊎◌, ◌==◌}
 use Rattle.std.specs.List.{AllByRecursion}
 use Rattle.std.proofs.Math.ListN.{drop_of_length-le}
@@ -34,7 +35,8 @@ stopped b (inr e) = grind (arith, nat_tests)
 pub goes_on : (b : ℕ) → (is_byte2 37 0 b ≡ true → ⊥) → IsLiteral b
 goes_on b h = (λ e. h (stopped b (inl e)), λ e. h (stopped b (inr e)))
 
-pub run_found : (text : Text) (n : ℕ) → n ≤ length text → Nowhere (find.Passes (is_byte2 37 0) text) 0 n → (n < length text → find.Passes (is_byte2 37 0) text n) → IsRun text n
+pub run_found : (text : Text) (n : ℕ) → n ≤ length text → Nowhere (find.Passes (is_byte2 37 0) text) 0 n
+    → (n < length text → find.Passes (is_byte2 37 0) text n) → IsRun text n
 run_found text n within none ended =
     record { within = within; literal = λ k less. goes_on (get_or text k 0) (none k (omega arith) less); ends = λ less. stops (get_or text n 0) (ended less) }
 
@@ -50,7 +52,8 @@ pub Reads-literals : (run t : Text) (items : List Item) → Reads t items → Al
 Reads-literals [] t items h all = subst (λ u. Reads u (items ++ [])) (sym (append-nil t)) (subst (λ i. Reads t i) (sym (append-nil items)) h)
 Reads-literals (b ∷ run) t items h all =
     let more = Reads-literals run (t ++ b ∷ []) (items ++ Byte b ∷ []) (Reads-push items t (b ∷ []) (Byte b) h (read_literal b all.0)) all.1 in
-    subst (λ u. Reads u (items ++ (Byte b ∷ map Byte run))) (append_assoc t (b ∷ []) run) (subst (λ i. Reads ((t ++ b ∷ []) ++ run) i) (append_assoc items (Byte b ∷ []) (map Byte run)) more)
+    subst (λ u. Reads u (items ++ (Byte b ∷ map Byte run))) (append_assoc t (b ∷ []) run)
+    (subst (λ i. Reads ((t ++ b ∷ []) ++ run) i) (append_assoc items (Byte b ∷ []) (map Byte run)) more)
 
 -- the run, or what of it the limit leaves
 pub literals_taken : (text : Text) (run room : ℕ) → IsRun text run → AllByRecursion IsLiteral (take (min run room) text)
@@ -60,14 +63,16 @@ pub or_full : (b : ℕ) (P : Type 0) → (b ≡ 37) ⊎ (b ≡ 0) → (b ≡ 37)
 or_full b P (inl e) = inl e
 or_full b P (inr e) = inr (inl e)
 
-pub run_ends : (t text : Text) (run room : ℕ) → IsRun text run → length t + room ≡ MAX_TEXT_LEN → EndsRun (t ++ take (min run room) text) (drop (min run room) text)
+pub run_ends : (t text : Text) (run room : ℕ) → IsRun text run → length t + room ≡ MAX_TEXT_LEN
+    → EndsRun (t ++ take (min run room) text) (drop (min run room) text)
 run_ends t text run room h full =
     let n = min run room in
     let long : length (t ++ take n text) ≡ length t + n = omega (arith, length-append t (take n text), length-take n text, h.within) in
     elim (cases_lt n (length text)) [
       | inl less ↦ subst (EndsRun (t ++ take n text)) (sym (drop-cons text n 0 less)) (elim (cases_lt n run) [
         | inl cut ↦ inr (inr (omega arith))
-        | inr whole ↦ let same : n ≡ run = omega arith in or_full (get_or text n 0) _ (subst (λ k. (get_or text k 0 ≡ 37) ⊎ (get_or text k 0 ≡ 0)) (sym same) (h.ends (omega arith)))
+        | inr whole ↦ let same : n ≡ run = omega arith in or_full (get_or text n 0) _
+            (subst (λ k. (get_or text k 0 ≡ 37) ⊎ (get_or text k 0 ≡ 0)) (sym same) (h.ends (omega arith)))
       ])
       | inr le ↦ subst (EndsRun (t ++ take n text)) (sym (drop_of_length-le text le)) tt
     ]
@@ -77,7 +82,8 @@ pub no_part : (scanner : Scanner) (t : Text) (items : List Item) (h : IsAfter sc
 no_part scanner t items h reads = same_whole items h.good.splits.whole t h.part h.good.splits.reads reads h.good.splits.split
 
 -- so the state counts for nothing
-pub after_restart : (scanner new : Scanner) (t : Text) (items : List Item) → state_of new.automaton ≡ Between → new.offset ≡ scanner.offset → new.refused ≡ None → IsAfter scanner t items → Reads t items → IsAfter new t items
+pub after_restart : (scanner new : Scanner) (t : Text) (items : List Item) → state_of new.automaton ≡ Between → new.offset ≡ scanner.offset
+    → new.refused ≡ None → IsAfter scanner t items → Reads t items → IsAfter new t items
 after_restart scanner new t items between offset none h reads =
     record {
       part = [];

@@ -1,5 +1,6 @@
 -- The bits of a number that marks bytes of a text.
-use Rattle.std.proofs.Common.{◌≡◌, ◌≢◌, ℕ, zero, suc, ◌+◌, ◌-◌, ◌*◌, ◌/◌, ◌%◌, ◌^◌, ◌<◌, ◌≤◌, max, Bool, true, false, cond, List, ◌++◌, length, get_or, map, replicate, bit_or, refl, sym, ap, ◌∙◌, arith, inl, inr, w64}
+use Rattle.std.proofs.Common.{◌≡◌, ◌≢◌, ℕ, zero, suc, ◌+◌, ◌-◌, ◌*◌, ◌/◌, ◌%◌, ◌^◌, ◌<◌, ◌≤◌, max, Bool, true, false, cond, List, ◌++◌}
+use Rattle.std.proofs.Common.{length, get_or, map, replicate, bit_or, refl, sym, ap, ◌∙◌, arith, inl, inr, w64}
 use Rattle.std.specs.Int.{bit_at, trailing_zeros}
 use Rattle.std.specs.Simd.Lanes.{chunk, mask_l}
 use Rattle.std.proofs.Math.Nat.{div-div-eq-div-mul, div-le_self, pow-succ'}
@@ -57,7 +58,8 @@ max_right a b less e = omega (arith, e, less)
 pub both_marked : (a b : ℕ) (text : Text) (i j k l m : ℕ) → IsMarked a text i j → IsMarked b text k l → k ≤ j → m ≤ l → IsMarked (bit_or a b) text i m
 both_marked a b text i j k l m h g meet few place low high ends = elim (cases_lt place j) [
   | inl less ↦ bit_at_or a b place ∙ max_left (bit_at a place) (bit_at b place) (h place low less ends) (bit_at-lt b place)
-  | inr more ↦ bit_at_or a b place ∙ max_right (bit_at a place) (bit_at b place) (bit_at-lt a place) (g place (omega (arith, meet, more)) (omega (arith, few, high)) ends)
+  | inr more ↦ bit_at_or a b place ∙ max_right (bit_at a place) (bit_at b place) (bit_at-lt a place)
+      (g place (omega (arith, meet, more)) (omega (arith, few, high)) ends)
 ]
 
 bits_left : (marks at k : ℕ) → bit_at (marks / 2 ^ at) k ≡ bit_at marks (at + k)

@@ -1,5 +1,6 @@
 -- Where a search finds the first byte that is `%` or 0.
-use Rattle.std.proofs.Common.{◌≡◌, ◌≢◌, ℕ, ◌+◌, ◌-◌, ◌%◌, ◌^◌, ◌<◌, ◌≤◌, Bool, true, false, cond, ◌||◌, not, List, [], ◌∷◌, length, get_or, map, take, drop, bit_or, refl, sym, ap, ◌∙◌, arith, inl, inr}
+use Rattle.std.proofs.Common.{◌≡◌, ◌≢◌, ℕ, ◌+◌, ◌-◌, ◌%◌, ◌^◌, ◌<◌, ◌≤◌, Bool, true, false, cond, ◌||◌, not, List, [], ◌∷◌, length, get_or, map, take}
+use Rattle.std.proofs.Common.{drop, bit_or, refl, sym, ap, ◌∙◌, arith, inl, inr}
 use Rattle.std.specs.Prelude.{◌==◌}
 use Rattle.std.specs.List.{prefix_len}
 use Rattle.std.proofs.lemmas.Bool.{cases_lt}
@@ -71,7 +72,8 @@ module _ (text : Text) (i n : ℕ) (room : i + n ≤ length text) (few : n ≤ 6
   module _ (some : mask ≢ 0) where
     counted : count_trailing_zeros 64 mask ≡ prefix_len (λ b. not (is_byte2 37 0 b)) (chunk i n text)
     counted =
-        ap (count_trailing_zeros 64) is ∙ trailing_mask_l (is_byte2 37 0) 64 (chunk i n text) (omega (arith, few, length-chunk i n text room)) (omega (arith, some, is))
+        ap (count_trailing_zeros 64) is ∙ trailing_mask_l (is_byte2 37 0) 64 (chunk i n text) (omega (arith, few, length-chunk i n text room))
+        (omega (arith, some, is))
 
     pub first_few : count_trailing_zeros 64 mask ≤ n
     first_few = run_in_chunk_le (is_byte2 37 0) text i n _ 0 room counted

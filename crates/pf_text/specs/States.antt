@@ -37,7 +37,7 @@ abbrev pub judgement_of : Specification → Option RefusalKind → Next
 judgement_of s None = Ok (Between, Directive s)
 judgement_of s (Some kind) = Err kind
 
--- the same by the parts that have been read
+-- the judgement of the specification that has these parts
 abbrev pub judged_as : FlagSet → Option ℕ → Option ℕ → Length → Conv → Next
 judged_as flags width precision length conv = judgement_of
     (specification_of flags width precision length conv)
@@ -48,7 +48,7 @@ abbrev pub end_by : FlagSet → Option ℕ → Option ℕ → Length → ℕ →
 end_by flags width precision length byte None = Err (refused_letter byte)
 end_by flags width precision length byte (Some conv) = judged_as flags width precision length conv
 
--- the same of a byte
+-- a byte can only be the conversion
 abbrev pub end_at : FlagSet → Option ℕ → Option ℕ → Length → ℕ → Next
 end_at flags width precision length byte = end_by flags width precision length byte (conv_of byte)
 
@@ -59,7 +59,7 @@ modifier_or_end flags width precision byte (Some length) =
 modifier_or_end flags width precision byte None =
     if byte == 76 then Err Float else end_at flags width precision lengths.None byte
 
--- the same of a byte
+-- a byte after a number begins a modifier, or is the conversion
 abbrev pub after_number : FlagSet → Option ℕ → Option ℕ → ℕ → Next
 after_number flags width precision byte =
     modifier_or_end flags width precision byte (modifier_of byte)
@@ -85,7 +85,7 @@ flag_or_after flags byte None =
     if byte == star then Err Star else
     after_number flags None None byte
 
--- the same of a byte
+-- a byte after flags is one more flag, or what may follow them
 abbrev pub after_flags : FlagSet → ℕ → Next
 after_flags flags byte = flag_or_after flags byte (flag_of byte)
 

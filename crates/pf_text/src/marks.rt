@@ -5,6 +5,12 @@ ghost use Rattle.pf_text.specs.Marks.{HasNoMark, IsMarked};
 
 use crate::search::ends_at;
 
+/// The fewest bytes of a text that `marks_of` marks.
+pub(crate) const MIN_MARKED: usize = HALF;
+
+/// The most bytes of a text that `marks_of` marks: one for each bit.
+pub(crate) const MAX_MARKED: usize = 64;
+
 const LANES: usize = 16;
 
 // The lanes of the vector for a text that is shorter.
@@ -13,8 +19,8 @@ const HALF: usize = 8;
 /// Marks the bytes `%` and 0 of a text, each by the bit of its offset.
 #[inline(always)]
 pub(crate) fn marks_of(text: &[u8]) -> u64
-    requires some { 8 ≤ length text.now }
-    requires few { length text.now ≤ 64 }
+    requires some { MIN_MARKED ≤ length text.now }
+    requires few { length text.now ≤ MAX_MARKED }
     ensures { IsMarked result text.now 0 (length text.now) }
 {
     let len = text.len();

@@ -5,7 +5,7 @@ ghost use Rattle.pf_values.specs.meaning.Items.{IsAccepted, Item, Reads};
 ghost use Rattle.pf_values.specs.meaning.Text.{percent};
 
 use crate::letters::conv_of;
-use crate::marks::{marks_of, next_marked};
+use crate::marks::{MAX_MARKED, MIN_MARKED, marks_of, next_marked};
 use crate::search::literal_len;
 use crate::specification::directive_of_parts;
 use pf_values::limits::MAX_TEXT_LEN;
@@ -14,20 +14,20 @@ use pf_values::limits::MAX_TEXT_LEN;
 pub(crate) fn is_plainly_accepted(text: &[u8]) -> bool
     ensures { IsTrue result → IsAccepted text.now }
 {
-    if text.len() < 8 {
+    if text.len() < MIN_MARKED {
         return is_read_by_runs(text);
     }
-    if text.len() > 64 {
+    if text.len() > MAX_MARKED {
         return is_read_by_runs(text);
     }
     is_read_by_marks(text)
 }
 
-// Whether a text that is short enough for marks is known to be accepted.
+// Whether a text with marks is known to be accepted.
 #[inline(always)]
 fn is_read_by_marks(text: &[u8]) -> bool
-    requires some { 8 ≤ length text.now }
-    requires few { length text.now ≤ 64 }
+    requires some { MIN_MARKED ≤ length text.now }
+    requires few { length text.now ≤ MAX_MARKED }
     ensures { IsTrue result → IsAccepted text.now }
 {
     let marks = marks_of(text);

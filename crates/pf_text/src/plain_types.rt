@@ -1,5 +1,6 @@
-//! A fast way to the argument types of a text. As `plain`, it answers only what it is sure of.
-ghost use Rattle.std.specs.Prelude.{◌≡◌, ◌+◌, ◌^◌, ◌<◌, ◌≤◌, [], ◌∷◌, ◌++◌, drop, length, take, None, IsTrue, MatchOption, ⊤};
+//! A fast way to the argument types of a text. It answers only what it is sure of, as the one in
+//! `plain`.
+ghost use Rattle.std.specs.Prelude.{◌≡◌, ◌+◌, ◌^◌, ◌<◌, ◌≤◌, [], ◌∷◌, ◌++◌, drop, length, take, None, MatchOption, ⊤};
 ghost use Rattle.std.specs.Option.{option_to_list};
 ghost use Rattle.pf_values.specs.Directives.{specification_of};
 ghost use Rattle.pf_values.specs.declared.lengths.Length.TheVariants as lengths;
@@ -9,76 +10,102 @@ ghost use Rattle.pf_values.specs.meaning.Text.{percent};
 ghost use Rattle.pf_text.specs.Signatures.{ReadsTyped, TakesTypes};
 
 use crate::letters::conv_of;
-use crate::marks::{marks_of, next_marked};
+use crate::marks::{MAX_MARKED, MIN_MARKED, marks_of, next_marked};
+use crate::search::literal_len;
 use crate::specification::directive_of_parts;
+use pf_values::limits::MAX_TEXT_LEN;
 use pf_values::{ArgType, Conv, Model};
-use smallvec::SmallVec;
-use std::alloc::Allocator;
 
-/// Adds the types of the arguments that a text is known to take, and returns whether these are all
-/// that it takes.
-pub(crate) fn push_plain_types<const N: usize, A: Allocator + Copy>(
-    found: &mut SmallVec<ArgType, N, A>,
-    model: Model,
-    text: &[u8],
-) -> bool
-    requires { found.old.items ≡ [] }
-    ensures known { IsTrue result → TakesTypes model text.now found.new.items }
-    ensures room { found.old.capacity ≤ found.new.capacity }
+/// Puts the types of the arguments that a text takes in front of `types`, and returns how many there
+/// are. None if they aren't known, or have no room: then `signature` has them, or why there are none.
+pub fn known_types(model: Model, text: &[u8], types: &mut [ArgType]) -> Option<usize>
+    ensures { MatchOption result ⊤ (λ count. (count ≤ length types.new)
+        × TakesTypes model text.now (take count types.new)) }
 {
-    if text.len() < 8 {
-        return false;
+    if text.len() < MIN_MARKED {
+        return types_by_runs(model, text, types);
     }
-    if text.len() > 64 {
-        return false;
+    if text.len() > MAX_MARKED {
+        return types_by_runs(model, text, types);
     }
-    push_types_by_marks(found, model, text)
+    types_by_marks(model, text, types)
 }
 
-// Adds those of a text that is short enough for marks.
+// `known_types` of a text with marks.
 #[inline(always)]
-fn push_types_by_marks<const N: usize, A: Allocator + Copy>(
-    found: &mut SmallVec<ArgType, N, A>,
-    model: Model,
-    text: &[u8],
-) -> bool
-    requires none { found.old.items ≡ [] }
-    requires some { 8 ≤ length text.now }
-    requires few { length text.now ≤ 64 }
-    ensures known { IsTrue result → TakesTypes model text.now found.new.items }
-    ensures room { found.old.capacity ≤ found.new.capacity }
+fn types_by_marks(model: Model, text: &[u8], types: &mut [ArgType]) -> Option<usize>
+    requires some { MIN_MARKED ≤ length text.now }
+    requires few { length text.now ≤ MAX_MARKED }
+    ensures { MatchOption result ⊤ (λ count. (count ≤ length types.new)
+        × TakesTypes model text.now (take count types.new)) }
 {
     let marks = marks_of(text);
+    let mut count = 0;
     let mut at = 0;
     while at < text.len() {
         let Some(place) = next_marked(marks, at) else {
-            return true;
+            return Some(count);
         };
-        let Some((arg_type, len)) = typed_item(model, text, place) else {
-            return false;
-        };
-        if !push_if_any(found, arg_type) {
-            return false;
-        }
+        let (arg_type, len) = typed_item(model, text, place)?;
+        count = put_if_any(types, count, arg_type)?;
         at = place + len;
     }
-    true
+    Some(count)
 }
 
-// Adds the type if there is one, and returns whether there was memory for it.
-#[inline(always)]
-fn push_if_any<const N: usize, A: Allocator + Copy>(
-    found: &mut SmallVec<ArgType, N, A>,
-    arg_type: Option<ArgType>,
-) -> bool
-    ensures pushed { IsTrue result
-        → (found.new.items ≡ found.old.items ++ option_to_list arg_type) }
-    ensures room { found.old.capacity ≤ found.new.capacity }
+// `known_types` of a text of any length.
+#[inline(never)]
+fn types_by_runs(model: Model, text: &[u8], types: &mut [ArgType]) -> Option<usize>
+    ensures { MatchOption result ⊤ (λ count. (count ≤ length types.new)
+        × TakesTypes model text.now (take count types.new)) }
 {
-    match arg_type {
-        Some(arg_type) => found.push(arg_type).is_ok(),
-        None => true,
+    if text.len() as u64 > MAX_TEXT_LEN {
+        return None;
     }
+    let mut count = 0;
+    let mut at = 0;
+    while at < text.len() {
+        let (arg_type, len) = typed_front(model, text, at)?;
+        count = put_if_any(types, count, arg_type)?;
+        at += len;
+    }
+    Some(count)
+}
+
+// Puts the type, if there is one, after the others, and returns how many there are now. None if it
+// has no room.
+#[inline(always)]
+fn put_if_any(types: &mut [ArgType], count: usize, arg_type: Option<ArgType>) -> Option<usize>
+    requires { count ≤ length types.old }
+    ensures { MatchOption result ⊤ (λ more. (more ≤ length types.new)
+        × (take more types.new ≡ take count types.old ++ option_to_list arg_type)) }
+{
+    let Some(arg_type) = arg_type else {
+        return Some(count);
+    };
+    if count >= types.len() {
+        return None;
+    }
+    types[count] = arg_type;
+    Some(count + 1)
+}
+
+// The type of the argument that the item at a place takes, if it takes one, and how many bytes it, or
+// a run of literal bytes there, has. None if it isn't known that there is either.
+#[inline(always)]
+fn typed_front(model: Model, text: &[u8], at: usize) -> Option<(Option<ArgType>, usize)>
+    requires { at < length text.now }
+    ensures { MatchOption result ⊤ (λ front. (0 < front.1) × (at + front.1 ≤ length text.now)
+        × ReadsTyped model (take front.1 (drop at text.now)) (option_to_list front.0)) }
+{
+    if text[at] == b'%' {
+        return typed_item(model, text, at);
+    }
+    let len = literal_len(&text[at..]);
+    if len == 0 {
+        return None;
+    }
+    Some((None, len))
 }
 
 // The type of the argument that the `%%` or the directive at a place takes, if it takes one, and how
@@ -119,7 +146,7 @@ fn bare_type(model: Model, conv: Conv) -> ArgType
 
 // The type of the argument that the directive at the front of a text takes, which begins with `%`,
 // and how many bytes it has. None if it isn't known that there is one.
-#[inline(never)]
+#[inline(always)]
 fn typed_parts(model: Model, text: &[u8]) -> Option<(Option<ArgType>, usize)>
     requires { (1 ≤ length text.now) × (take 1 text.now ≡ percent ∷ []) }
     ensures { MatchOption result ⊤ (λ front. (0 < front.1) × (front.1 ≤ length text.now)

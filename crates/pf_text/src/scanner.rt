@@ -75,8 +75,8 @@ impl Scanner {
         }
     }
 
-    /// The same of a reader that has refused nothing. It returns why a byte is refused, and doesn't
-    /// keep that.
+    /// Takes one more byte, as `feed`, if nothing was refused before. It returns why a byte is
+    /// refused, and doesn't keep that.
     #[inline(always)]
     pub(crate) fn take(&mut self, byte: u8) -> Result<Step, RefusalKind>
         ensures fed { (t : Text) (items : List Item) → IsAfter self.old t items
@@ -161,7 +161,7 @@ impl Scanner {
         self.take_literals(text)
     }
 
-    /// The same of a reader that is between items.
+    /// Takes a run of literal bytes, as `pass_literals`, if the reader is between items.
     #[inline(always)]
     pub(crate) fn take_literals(&mut self, text: &[u8]) -> usize
         ensures within { result ≤ length text.now }
@@ -243,7 +243,7 @@ impl Scanner {
         self.take_directive(text)
     }
 
-    /// The same of a reader that is between items.
+    /// Takes a whole directive, as `pass_directive`, if the reader is between items.
     #[inline(always)]
     pub(crate) fn take_directive(&mut self, text: &[u8]) -> Option<(Directive, usize)>
         ensures within { MatchOption result (self.new ≡ self.old)

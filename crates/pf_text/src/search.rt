@@ -41,7 +41,7 @@ pub fn literal_len(text: &[u8]) -> usize
     len_behind(text, at)
 }
 
-// The same for a text that is shorter than a vector: most formats end in one, or are one.
+// `literal_len` of a text that is shorter than a vector: most formats end in one, or are one.
 #[inline(always)]
 fn short_len(text: &[u8]) -> usize
     requires { length text.now < LANES }
@@ -83,8 +83,8 @@ fn ends_literal_run(byte: u8) -> bool
     byte == b'%' || byte == 0
 }
 
-// The same where all but the last few bytes are known to be literal: the last vector overlaps
-// these.
+// `literal_len` of a text of which all but the last few bytes are known to be literal: the last
+// vector overlaps these.
 #[inline(always)]
 fn len_at_end(text: &[u8], seen: usize) -> usize
     requires room { LANES ≤ length text.now }
@@ -98,7 +98,7 @@ fn len_at_end(text: &[u8], seen: usize) -> usize
     at + literals_at::<LANES>(text, at)
 }
 
-// The same where the first bytes are known to be literal.
+// `literal_len` of a text whose first bytes are known to be literal.
 #[inline(never)]
 fn len_behind(text: &[u8], seen: usize) -> usize
     requires within { seen ≤ length text.now }

@@ -7,14 +7,16 @@ returns-then-len-lt-LANES c =
     let len = length c.args.text.now in
     let first = c.marks_at in
     let last = c.marks_at-then-len-lt-LANES in
-    both_marked first.result last.result c.args.text.now 0 8 (len - 8) (len - 8 + 8) len first.ensures last.ensures (omega (arith, c.if-len-lt-LANES.true)) (omega arith)
+    both_marked first.result last.result c.args.text.now 0 8 (len - 8) (len - 8 + 8) len first.ensures last.ensures
+    (omega (arith, c.if-len-lt-LANES.true)) (omega arith)
 
 pub returns-then-len : goal.returns-then-len
 returns-then-len c =
     let len = length c.args.text.now in
     let first = c.marks_at-marks in
     let last = c.marks_at-last in
-    both_marked first.result last.result c.args.text.now 0 16 (len - 16) (len - 16 + 16) len first.ensures last.ensures (omega (arith, c.if-len.true)) (omega arith)
+    both_marked first.result last.result c.args.text.now 0 16 (len - 16) (len - 16 + 16) len first.ensures last.ensures (omega (arith, c.if-len.true))
+    (omega arith)
 
 pub returns-then-len-2 : goal.returns-then-len-2
 returns-then-len-2 c =
@@ -24,7 +26,8 @@ returns-then-len-2 c =
     let second = c.marks_at-2 in
     let last = c.marks_at-last in
     let front = both_marked first.result second.result text 0 16 16 32 32 first.ensures second.ensures (omega arith) (omega arith) in
-    both_marked (bit_or first.result second.result) last.result text 0 32 (len - 16) (len - 16 + 16) len front last.ensures (omega (arith, c.if-len-2.true)) (omega arith)
+    both_marked (bit_or first.result second.result) last.result text 0 32 (len - 16) (len - 16 + 16) len front last.ensures
+    (omega (arith, c.if-len-2.true)) (omega arith)
 
 pub returns : goal.returns
 returns c =
@@ -36,4 +39,5 @@ returns c =
     let last = c.marks_at-last in
     let front = both_marked first.result second.result text 0 16 16 32 32 first.ensures second.ensures (omega arith) (omega arith) in
     let most = both_marked (bit_or first.result second.result) third.result text 0 32 32 48 48 front third.ensures (omega arith) (omega arith) in
-    both_marked (bit_or (bit_or first.result second.result) third.result) last.result text 0 48 (len - 16) (len - 16 + 16) len most last.ensures (omega (arith, c.requires.few)) (omega arith)
+    both_marked (bit_or (bit_or first.result second.result) third.result) last.result text 0 48 (len - 16) (len - 16 + 16) len most last.ensures
+    (omega (arith, c.requires.few)) (omega arith)

@@ -9,7 +9,8 @@ returns-in_default c e =
     let read = c.loop-at.invariant.read in
     let few : length text ≤ 64 = c.requires.few in
     let none : HasNoMark c.marks_of-marks.result c.loop-at.at (length text) = λ k low high. c.in_default.ensures k low (omega (arith, few, high)) in
-    let all = unmarked_read c.marks_of-marks.result text c.loop-at.at (length text) read.0 c.loop-at.invariant.within (omega arith) c.marks_of-marks.ensures none read.1 in
+    let all = unmarked_read c.marks_of-marks.result text c.loop-at.at (length text) read.0 c.loop-at.invariant.within (omega arith)
+    c.marks_of-marks.ensures none read.1 in
     whole_read text (length text) _ (omega arith) (omega (arith, few)) all
 
 pub loop-at-preserved : goal.loop-at-preserved
@@ -20,5 +21,6 @@ loop-at-preserved c =
     let read = c.loop-at.invariant.read in
     let more = c.item_len-len.ensures.read in
     let within : place + len ≤ length text = c.item_len-len.ensures.within (omega (arith, c.if-len-eq0.false)) in
-    let run = unmarked_read c.marks_of-marks.result text c.loop-at.at place read.0 c.in-Some.ensures.0 (omega (arith, within)) c.marks_of-marks.ensures c.in-Some.ensures.2 read.1 in
+    let run = unmarked_read c.marks_of-marks.result text c.loop-at.at place read.0 c.in-Some.ensures.0 (omega (arith, within))
+    c.marks_of-marks.ensures c.in-Some.ensures.2 read.1 in
     record { within = within; read = (_ ++ more.0, read_more text place len _ more.0 run more.1) }

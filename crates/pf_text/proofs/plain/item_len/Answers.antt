@@ -11,5 +11,8 @@ returns-then-text-next-eq37-clause-read c =
 
 pub returns-in-Some-clause-read : goal.returns-in-Some-clause-read
 returns-in-Some-clause-read c =
-    let conv = c.in-Some.field-0 in
-    (Directive (bare conv) ∷ [], bare_read c.args.text.now c.args.at conv (omega (arith, c.if-next-text.false)) c.if-text-at-ne37.false (sym c.conv_of.ensures ∙ c.in-Some.is))
+    let conv = c.in-Some.field-0 in (
+      Directive (bare conv) ∷ [],
+      bare_read c.args.text.now c.args.at conv (omega (arith, c.if-next-text.false)) c.if-text-at-ne37.false
+          (sym c.conv_of.ensures ∙ c.in-Some.is),
+    )

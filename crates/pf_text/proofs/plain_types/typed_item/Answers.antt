@@ -22,7 +22,8 @@ returns-in-Some c = (
   omega (arith, c.if-next-text.false),
   record {
     items = Directive (bare c.in-Some.conv) ∷ [];
-    reads = bare_read c.args.text.now c.args.at c.in-Some.conv (omega (arith, c.if-next-text.false)) c.if-text-at-ne37.false (sym c.conv_of.ensures ∙ c.in-Some.is);
+    reads = bare_read c.args.text.now c.args.at c.in-Some.conv (omega (arith, c.if-next-text.false)) c.if-text-at-ne37.false
+        (sym c.conv_of.ensures ∙ c.in-Some.is);
     types_are = ap (λ w. w ∷ []) c.bare_type.ensures;
   },
 )

@@ -4,5 +4,9 @@ use Rattle.pf_text.proofs.plain_types.typed_parts.Goals as goal
 
 pub returns : goal.returns
 returns c =
-    let front = c.in_ok-directive in
-    (front.ensures.0, front.ensures.1, directive_typed c.args.model (take front.len c.args.text.now) front.directive c.arg_type.result front.ensures.2 c.arg_type.ensures)
+    let front = c.in_ok-directive in (
+      front.ensures.0,
+      front.ensures.1,
+      directive_typed c.args.model (take front.len c.args.text.now) front.directive c.arg_type.result front.ensures.2
+          c.arg_type.ensures,
+    )

@@ -7,4 +7,5 @@ pub returns : goal.returns
 returns g c =
     let v = chunk c.args.at g.row.N c.args.text.now in
     let long = length-chunk c.args.at g.row.N c.args.text.now c.requires.room in
-    mask_is c.args.text.now c.args.at g.row.N c.requires.room c.requires.few _ (zip2_of_maps _ _ _ v (zip2_splat _ v g.row.N 37 long) (zip2_splat _ v g.row.N 0 long))
+    mask_is c.args.text.now c.args.at g.row.N c.requires.room c.requires.few _
+    (zip2_of_maps _ _ _ v (zip2_splat _ v g.row.N 37 long) (zip2_splat _ v g.row.N 0 long))
