@@ -12,8 +12,8 @@ pub mod LiteralLemmas
 pub mod CanonicalRunLemmas
 mod SearchLemmas
 mod MarkLemmas
-mod PlainLemmas
 mod MarkedRunLemmas
+mod PlainLemmas
 mod BetweenLemmas
 mod TypedLemmas
 pub mod PieceLemmas

@@ -1,6 +1,5 @@
 -- Texts that are read an item, or a run of literal bytes, at a time.
 use Rattle.std.proofs.Common.{◌≡◌, ℕ, ◌+◌, ◌-◌, ◌<◌, ◌≤◌, List, [], ◌∷◌, ◌++◌, length, get_or, map, take, drop, Some, refl, sym, ap, ap₂, ◌∙◌, subst, arith}
-use Rattle.std.specs.Int.{bit_at}
 use Rattle.std.proofs.Math.Seq.{take-add}
 use Rattle.std.proofs.lemmas.List.{get_or-drop, length-drop, take_all}
 use Rattle.memchr.specs.Find.{Nowhere, Passes, is_byte2}
@@ -8,12 +7,12 @@ use Rattle.pf_values.specs.declared.conversions.Conv.{Conv}
 use Rattle.pf_values.specs.declared.limits.TheConstants.{MAX_TEXT_LEN}
 use Rattle.pf_values.specs.meaning.Items.{Item, Byte, Directive, IsAccepted, IsReadAs, Reads}
 use Rattle.pf_values.specs.meaning.Text.{Text, percent}
-use Rattle.pf_text.specs.History.{IsLiteral}
 use Rattle.pf_text.specs.Letters.{conv_of}
 use Rattle.pf_text.specs.Marks.{HasNoMark, IsMarked}
 use Rattle.pf_text.proofs.CanonicalRunLemmas.{Reads-append, bare, first_bytes}
 use Rattle.pf_text.proofs.DirectiveLemmas.{conv_read}
 use Rattle.pf_text.proofs.LiteralLemmas.{goes_on, literal_take, Reads-literals}
+use Rattle.pf_text.proofs.MarkedRunLemmas.{literal_between, no_end_between}
 use Rattle.pf_text.proofs.Sound.{byte_of_conv}
 use Rattle.pf_text.proofs.Texts.{Reads-push}
 
@@ -34,9 +33,7 @@ literals_read text at stop items low within none h =
     let n = stop - at in
     let rest = drop at text in
     let place : at + n ≡ stop = omega (arith, low) in
-    let literal = literal_take rest n (omega (arith, length-drop at text, low, within)) (λ k less.
-    subst IsLiteral (sym (get_or-drop at text k 0)) (goes_on (get_or text (at + k) 0) (none (at + k) (omega arith) (omega (arith, place, less))))
-    ) in
+    let literal = literal_between text at stop low within none in
     subst (λ k. Reads (take k text) (items ++ map Byte (take n rest))) place
     (read_more text at n items (map Byte (take n rest)) h (Reads-literals (take n rest) [] [] refl literal))
 
@@ -50,11 +47,7 @@ pub unmarked_read : (marks : ℕ) (text : Text) (at stop : ℕ) (items : List It
     → HasNoMark marks at stop
     → Reads (take at text) items → Reads (take stop text) (items ++ map Byte (take (stop - at) (drop at text)))
 unmarked_read marks text at stop items low within marked none h =
-    literals_read text at stop items low within (λ k from below ends. not_both (bit_at marks k) (none k from below)
-    (marked k (omega arith) (omega (arith, below, within)) ends)) h
-  where
-    not_both : (n : ℕ) → n ≡ 0 → n ≡ 1 → ⊥
-    not_both n e f = omega (arith, e, f)
+    literals_read text at stop items low within (no_end_between marks text at stop within marked none) h
 
 -- a text that is read to its end
 pub whole_read : (text : Text) (at : ℕ) (items : List Item) → length text ≤ at → length text ≤ MAX_TEXT_LEN → Reads (take at text) items → IsAccepted text

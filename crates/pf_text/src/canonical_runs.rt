@@ -8,7 +8,7 @@ ghost use Rattle.pf_text.specs.Places.{HasBytes};
 ghost use Rattle.pf_values.specs.meaning.Text.{percent};
 
 use crate::letters::conv_of;
-use crate::marks::{marks_of, next_marked};
+use crate::marks::{MAX_MARKED, MIN_MARKED, marks_of, next_marked};
 use crate::search::literal_len;
 use crate::specification::{conv_at, modifier_at};
 use pf_values::{Conv, Length};
@@ -24,10 +24,10 @@ pub(crate) fn canonical_run_len(text: &[u8]) -> usize
         → (items : List Item) × IsCanonicalRun model (take result text.now) items }
     ensures ended { result < length text.now → Passes (is_byte2 37 0) text.now result }
 {
-    if text.len() < 8 {
+    if text.len() < MIN_MARKED {
         return len_by_search(text);
     }
-    if text.len() > 64 {
+    if text.len() > MAX_MARKED {
         return len_by_search(text);
     }
     len_by_marks(text)
@@ -36,8 +36,8 @@ pub(crate) fn canonical_run_len(text: &[u8]) -> usize
 // `canonical_run_len` of a text that is short enough for marks.
 #[inline(always)]
 fn len_by_marks(text: &[u8]) -> usize
-    requires some { 8 ≤ length text.now }
-    requires few { length text.now ≤ 64 }
+    requires some { MIN_MARKED ≤ length text.now }
+    requires few { length text.now ≤ MAX_MARKED }
     ensures within { result ≤ length text.now }
     ensures canonical { (model : Model)
         → (items : List Item) × IsCanonicalRun model (take result text.now) items }

@@ -21,6 +21,7 @@ mod state;
 pub use argument_types::signature;
 pub use letters::{conv_of, flag_of, modifier_of};
 pub use pieces::{Piece, Pieces, check};
+pub use plain::is_plainly_accepted;
 pub use plain_types::known_types;
 pub use refusals::{Refusal, Side, TextFault};
 pub use scanner::{Scanner, Step};

@@ -10,8 +10,9 @@ use crate::search::literal_len;
 use crate::specification::directive_of_parts;
 use pf_values::limits::MAX_TEXT_LEN;
 
-/// Whether the text is known to be accepted.
-pub(crate) fn is_plainly_accepted(text: &[u8]) -> bool
+/// Whether the text is known to be accepted. False if it is refused, and for a text of which `check` has
+/// to find out.
+pub fn is_plainly_accepted(text: &[u8]) -> bool
     ensures { IsTrue result → IsAccepted text.now }
 {
     if text.len() < MIN_MARKED {
