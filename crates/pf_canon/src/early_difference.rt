@@ -2,6 +2,7 @@
 ghost use Rattle.std.specs.Prelude.{◌≤◌, length, IsTrue, false};
 ghost use Rattle.pf_values.specs.declared.limits.TheConstants.{MAX_TEXT_LEN as LIMIT};
 ghost use Rattle.pf_values.specs.declared.models.Model.{Model};
+ghost use Rattle.pf_values.specs.meaning.Items.{IsAccepted};
 ghost use Rattle.pf_canon.specs.Comparison.{AreCommon, AreTextsSame, BeginApart};
 
 use pf_text::is_plainly_accepted;
@@ -19,10 +20,18 @@ pub(crate) fn differ_after(first: &[u8], second: &[u8], common: usize) -> bool
     if !begin_apart(first_rest, second_rest) || !is_short(first) || !is_short(second) {
         return false;
     }
-    if !is_plainly_accepted(&first[..common]) || !is_plainly_accepted(first_rest) {
+    if !is_format(&first[..common]) || !is_format(first_rest) {
         return false;
     }
-    is_plainly_accepted(second_rest)
+    is_format(second_rest)
+}
+
+// Never inlined, since three texts are checked.
+#[inline(never)]
+fn is_format(text: &[u8]) -> bool
+    ensures { IsTrue result → IsAccepted text.now }
+{
+    is_plainly_accepted(text)
 }
 
 // Whether two texts begin with different ordinary characters, or one does and the other is empty.

@@ -12,6 +12,7 @@ use pf_values::limits::MAX_TEXT_LEN;
 
 /// Whether the text is known to be accepted. False if it is refused, and for a text of which `check` has
 /// to find out.
+#[inline(always)]
 pub fn is_plainly_accepted(text: &[u8]) -> bool
     ensures { IsTrue result → IsAccepted text.now }
 {
