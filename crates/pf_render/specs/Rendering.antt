@@ -43,10 +43,10 @@ pub record HasWrongCount (model : Model) (t : Text) (args : List Arg)
   pub given_is : given ≡ length args
   pub differ : wanted ≢ given
 
--- two lists are the same before this place, and not there
-pub record DifferFirstAt {A : Type 0} (xs ys : List A) (place : ℕ) : Type 0 where
-  pub same : take place xs ≡ take place ys
-  pub differ : slice_get xs place ≢ slice_get ys place
+-- two lists are equal before this index, and differ at it
+pub record DifferFirstAt {A : Type 0} (xs ys : List A) (index : ℕ) : Type 0 where
+  pub same : take index xs ≡ take index ys
+  pub differ : slice_get xs index ≢ slice_get ys index
 
 -- an accepted text takes as many arguments, and this is the first one that is not of the type
 -- wanted there (C11 7.21.6.1 p9)

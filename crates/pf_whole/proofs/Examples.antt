@@ -747,7 +747,7 @@ filled_and_digits = (
   inr (record {
     neutral_same = together_for (Number (pos 0)) (candidate_typed Lp64 profile.Int _ (0, omega arith, refl)) refl;
     index = 1;
-    place = 6;
+    candidate_index = 6;
     probe = record {
       type = profile.Int;
       wide = int_type;

@@ -97,7 +97,7 @@ tells_here : (model : Model) (a b : List Item) (args : List Argument) → IsTell
 tells_here model a b args h = record {
   known = args;
   shown_is = refl;
-  typed = rw h.args_are (candidate_typed model (types model a) h.index h.place h.argument h.probe.candidate);
+  typed = rw h.args_are (candidate_typed model (types model a) h.index h.candidate_index h.argument h.probe.candidate);
   unlike = rw h.args_are h.probe.unlike;
 }
 
@@ -207,9 +207,9 @@ split_probe model a s rest i k shown h = elim (cases_lt i (length (types model a
 -- the probe that is shown is the first one that tells stretches apart
 pub record IsTold (model : Model) (a b : Stretches) (shown : List (Option Argument)) : Type 0 where
   pub index : ℕ
-  pub place : ℕ
-  pub probe : IsWholeProbe model a index place shown
-  pub earlier : (i k : ℕ) (before : List (Option Argument)) → IsWholeProbe model a i k before → IsEarlier i k index place
+  pub candidate_index : ℕ
+  pub probe : IsWholeProbe model a index candidate_index shown
+  pub earlier : (i k : ℕ) (before : List (Option Argument)) → IsWholeProbe model a i k before → IsEarlier i k index candidate_index
       → AgreeEverywhere model a b before
 
 told_last : (model : Model) (a b : List Item) (shown : List (Option Argument)) → ShowsTelling model (Last a) (Last b) shown
@@ -220,7 +220,7 @@ told_last model a b shown h =
     let candidate = telling.probe.candidate in
     record {
       index = telling.index;
-      place = telling.place;
+      candidate_index = telling.candidate_index;
       probe = record {
         type = candidate.type;
         wide = widened candidate.type;
@@ -249,7 +249,7 @@ told_here model a b s p rest more args shown shown_is telling agrees =
     let wide = length_map widened ts in
     record {
       index = telling.index;
-      place = telling.place;
+      candidate_index = telling.candidate_index;
       probe = record {
         type = candidate.type;
         wide = widened candidate.type;
@@ -265,7 +265,7 @@ told_here model a b s p rest more args shown shown_is telling agrees =
             ∙ ap (λ l. l ++ own) (probe_shown ts telling.index telling.argument));
       };
       earlier = λ i k before g e.
-          let few : i < length ts = not_later i k telling.index telling.place (length ts) e within in
+          let few : i < length ts = not_later i k telling.index telling.candidate_index (length ts) e within in
           let at = probe_here model a s rest i k before g few in (
             map Some (probe_at ts i at.argument),
             shown_any model s,
@@ -295,7 +295,7 @@ told_later model a b s p rest more shown back shown_is alike agrees told =
     let probe = told.probe in
     record {
       index = i;
-      place = told.place;
+      candidate_index = told.candidate_index;
       probe = record {
         type = probe.type;
         wide = probe.wide;
@@ -328,7 +328,7 @@ told_later model a b s p rest more shown back shown_is alike agrees told =
           later.shown_is,
           any_count model s,
           agree_neutrally model a b (alike_neutrally model a b alike),
-          told.earlier later.index k later.back later.probe (earlier_behind j k m told.place later.index n i e later.index_is),
+          told.earlier later.index k later.back later.probe (earlier_behind j k m told.candidate_index later.index n i e later.index_is),
         )
       ];
     }
@@ -358,7 +358,7 @@ shows_probe model t u a b shown h g one telling =
     record {
       neutral_same = agreeing_is_together model t u a b (neutral_shown model a) h g one (neutral_everywhere model a b (telling_agrees model a b shown telling));
       index = first.index;
-      place = first.place;
+      candidate_index = first.candidate_index;
       probe = first.probe;
       apart = telling_is_apart model t u a b shown h g one (telling_somewhere model a b shown telling);
       earlier = λ i k before probe e. agreeing_is_together model t u a b before h g one (first.earlier i k before probe e);

@@ -102,7 +102,7 @@ never_both model a b shown given apart together =
     let traced = some_trace model a given.args given.typed in
     apart given.args traced.0 traced.0 given.typed given.agree traced.1 ((together given.args traced.0 given.typed given.agree).0 traced.1) refl
 
--- an index and a place have one probe
+-- an index and a candidate's index have one probe
 one_probe : (model : Model) (a : Stretches) (i k : ℕ) (x y : List (Option Argument)) → IsWholeProbe model a i k x → IsWholeProbe model a i k y → x ≡ y
 one_probe model a i k x y h g =
     let wide : Some h.wide ≡ Some g.wide = sym h.wide_is ∙ g.wide_is in
@@ -113,17 +113,17 @@ one_probe model a i k x y h g =
     let same : h.argument ≡ g.argument = cc in
     h.shown_is ∙ ap (λ z. slice_set (neutral_shown model a) i (Some z)) same ∙ sym g.shown_is
 
--- one of two probes is earlier, or they have the same index and place
+-- one of two probes is earlier, or their indexes and their candidates' indexes are equal
 which_first : (i k j l : ℕ) → IsEarlier i k j l ⊎ (IsEarlier j l i k ⊎ ((i ≡ j) × (k ≡ l)))
 which_first i k j l = by_index (cases_order i j)
   where
-    by_place : i ≡ j → (k ≡ l) ⊎ ((k < l) ⊎ (l < k)) → IsEarlier i k j l ⊎ (IsEarlier j l i k ⊎ ((i ≡ j) × (k ≡ l)))
-    by_place e (inl same) = inr (inr (e, same))
-    by_place e (inr (inl less)) = inl (inr (e, less))
-    by_place e (inr (inr more)) = inr (inl (inr (sym e, more)))
+    by_candidate : i ≡ j → (k ≡ l) ⊎ ((k < l) ⊎ (l < k)) → IsEarlier i k j l ⊎ (IsEarlier j l i k ⊎ ((i ≡ j) × (k ≡ l)))
+    by_candidate e (inl same) = inr (inr (e, same))
+    by_candidate e (inr (inl less)) = inl (inr (e, less))
+    by_candidate e (inr (inr more)) = inr (inl (inr (sym e, more)))
 
     by_index : (i ≡ j) ⊎ ((i < j) ⊎ (j < i)) → IsEarlier i k j l ⊎ (IsEarlier j l i k ⊎ ((i ≡ j) × (k ≡ l)))
-    by_index (inl same) = by_place same (cases_order k l)
+    by_index (inl same) = by_candidate same (cases_order k l)
     by_index (inr (inl less)) = inl (inl less)
     by_index (inr (inr more)) = inr (inl (inl more))
 
@@ -134,14 +134,14 @@ shown_once model a b x y (inl h) (inr g) =
     absurd (never_both model a b (neutral_shown model a) (neutral_given model a) (subst (λ l. TracesApart model a b l) h.shown_is h.apart) g.neutral_same)
 shown_once model a b x y (inr h) (inl g) =
     absurd (never_both model a b (neutral_shown model a) (neutral_given model a) (subst (λ l. TracesApart model a b l) g.shown_is g.apart) h.neutral_same)
-shown_once model a b x y (inr h) (inr g) = by (which_first h.index h.place g.index g.place)
+shown_once model a b x y (inr h) (inr g) = by (which_first h.index h.candidate_index g.index g.candidate_index)
   where
-    by : IsEarlier h.index h.place g.index g.place ⊎ (IsEarlier g.index g.place h.index h.place ⊎ ((h.index ≡ g.index) × (h.place ≡ g.place))) → x ≡ y
-    by (inl first) = absurd (never_both model a b x (probe_given model a h.index h.place x h.probe) h.apart (g.earlier h.index h.place x h.probe first))
-    by (inr (inl first)) = absurd (never_both model a b y (probe_given model a g.index g.place y g.probe) g.apart (h.earlier g.index g.place y g.probe first))
+    by : IsEarlier h.index h.candidate_index g.index g.candidate_index ⊎ (IsEarlier g.index g.candidate_index h.index h.candidate_index ⊎ ((h.index ≡ g.index) × (h.candidate_index ≡ g.candidate_index))) → x ≡ y
+    by (inl first) = absurd (never_both model a b x (probe_given model a h.index h.candidate_index x h.probe) h.apart (g.earlier h.index h.candidate_index x h.probe first))
+    by (inr (inl first)) = absurd (never_both model a b y (probe_given model a g.index g.candidate_index y g.probe) g.apart (h.earlier g.index g.candidate_index y g.probe first))
     by (inr (inr same)) =
-        let moved : IsWholeProbe model a g.index h.place x = subst (λ i. IsWholeProbe model a i h.place x) same.0 h.probe in
-        one_probe model a g.index g.place x y (subst (λ k. IsWholeProbe model a g.index k x) same.1 moved) g.probe
+        let moved : IsWholeProbe model a g.index h.candidate_index x = subst (λ i. IsWholeProbe model a i h.candidate_index x) same.0 h.probe in
+        one_probe model a g.index g.candidate_index x y (subst (λ k. IsWholeProbe model a g.index k x) same.1 moved) g.probe
 
 one_difference : (l m : List ArgumentType) (i j : ℕ) → IsFirstDifference l m (Some i) → IsFirstDifference l m (Some j) → i ≡ j
 one_difference l m i j h g = by (cases_order i j)

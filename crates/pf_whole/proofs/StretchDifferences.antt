@@ -58,10 +58,10 @@ pub neutral_difference : (model : Model) (xs ys : List Item) (shown : List Argum
 neutral_difference model xs ys shown renderings (inl neutral) one = subst (PrintUnlike model xs ys) neutral.args_are neutral.unlike
 neutral_difference model xs ys shown renderings (inr other) one =
     let candidate = other.probe.candidate in
-    let place : other.place ≡ 0 = omega (arith, other.renderings_are, one) in
-    let at : slice_get (candidates model candidate.type) other.place ≡ Some other.argument = candidate.argument_is in
+    let first_index : other.candidate_index ≡ 0 = omega (arith, other.renderings_are, one) in
+    let at : slice_get (candidates model candidate.type) other.candidate_index ≡ Some other.argument = candidate.argument_is in
     let first : slice_get (candidates model candidate.type) 0 ≡ Some other.argument =
-    subst (λ k. slice_get (candidates model candidate.type) k ≡ Some other.argument) place at in
+    subst (λ k. slice_get (candidates model candidate.type) k ≡ Some other.argument) first_index at in
     let some : Some other.argument ≡ Some (neutral candidate.type) = sym first ∙ first_neutral model candidate.type in
     let is_neutral : other.argument ≡ neutral candidate.type = cc in
     subst (PrintUnlike model xs ys) (ap (slice_set (neutrals (types model xs)) other.index) is_neutral ∙ set_neutral (types model xs) other.index candidate.type candidate.type_is)
@@ -73,7 +73,7 @@ probe_difference model xs ys shown renderings (inl neutral) other = absurd (othe
 probe_difference model xs ys shown renderings (inr probe) other = record {
   neutral_same = probe.neutral_same;
   index = probe.index;
-  place = probe.place;
+  candidate_index = probe.candidate_index;
   argument = probe.argument;
   probe = probe.probe;
   args_are = probe.args_are;

@@ -29,18 +29,18 @@ shape model index t u (Before items s rest) (Before own p more) h g e c =
     let x : PlacedCall = record { index = index + length (types model items); spelling = normal_spelling model s } in
     let y : PlacedCall = record { index = index + length (types model own); spelling = normal_spelling model p } in
     let call : x ≡ y = cc in
-    let place : index + length (types model items) ≡ index + length (types model own) = ap (λ call. call.index) call in
+    let same_index : index + length (types model items) ≡ index + length (types model own) = ap (λ call. call.index) call in
     let spelling : normal_spelling model s ≡ normal_spelling model p = ap (λ call. call.spelling) call in
     let mine = spelling_types model h.1 g.1 s p h.4 g.4 spelling in
     let many : length (map widened (types model items)) ≡ length (map widened (types model own)) =
-    length_map widened (types model items) ∙ omega (arith, place) ∙ sym (length_map widened (types model own)) in
+    length_map widened (types model items) ∙ omega (arith, same_index) ∙ sym (length_map widened (types model own)) in
     let outer = same_parts (map widened (types model items)) (types_of_opaque model s ++ whole_types model rest) (map widened (types model own))
     (types_of_opaque model p ++ whole_types model more) many e in
     let inner = same_parts (types_of_opaque model s) (whole_types model rest) (types_of_opaque model p) (whole_types model more) (ap length mine) outer.1 in
     let back : placed_calls model (index + length (types model items) + length (types_of_opaque model s)) rest
     ≡ placed_calls model (index + length (types model own) + length (types_of_opaque model p)) more = cc in
     let next : index + length (types model items) + length (types_of_opaque model s)
-    ≡ index + length (types model own) + length (types_of_opaque model p) = ap₂ (λ m n. m + n) place (ap length mine) in (
+    ≡ index + length (types model own) + length (types_of_opaque model p) = ap₂ (λ m n. m + n) same_index (ap length mine) in (
       widened_once (types model items) (types model own) outer.0,
       spelling,
       shape model (index + length (types model items) + length (types_of_opaque model s)) h.2 g.2 rest more h.5 g.5 inner.1
