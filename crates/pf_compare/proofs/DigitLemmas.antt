@@ -100,7 +100,7 @@ no_last (c ∷ t) b = λ e. absurd cc
 pub has_digits : (base : ℕ) (upper : Bool) (n : ℕ) → 2 ≤ base → 0 < n → [] ≢ digits_under base upper n
 has_digits base upper n b h = λ e. no_last (digits_under base upper (n / base)) (digit_glyph upper (n % base)) (e ∙ digits_step base upper n b h)
 
--- the same of a number in what a kind makes of it, by the base as it is computed
+-- the digits of a number as a kind has them, by the base as it is computed
 module _ (j k : Kind) (base other : ℕ) (e : base ≡ number_of (base_under j)) (f : other ≡ number_of (base_under k)) (b : 2 ≤ base) (c : 2 ≤ other) (n m : ℕ)
     (h : 0 < n) (g : 0 < m) where
   left_same : kind_digits j n ≡ kind_digits k m → digits_under base (has_capitals j) n ≡ digits_under other (has_capitals k) m

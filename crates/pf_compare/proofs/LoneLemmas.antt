@@ -64,8 +64,7 @@ use Rattle.pf_compare.specs.Lone.{
   span_alone,
 }
 use Rattle.pf_compare.specs.Witnesses.{AreNeutral, AwaitsCandidate, FindsWitness, IsWitnessAt}
-use Rattle.pf_compare.proofs.CandidateLemmas.{candidate_has_type, contains_at}
-use Rattle.pf_compare.proofs.ProbeLemmas.{neutral_first, set_neutral}
+use Rattle.pf_compare.proofs.CandidateLemmas.{candidate_has_type, contains_at, neutral_first, set_neutral}
 use Rattle.pf_compare.proofs.TypeListLemmas.{differ_after_front}
 use Rattle.pf_render.specs.Rendering.{DifferFirstAt}
 

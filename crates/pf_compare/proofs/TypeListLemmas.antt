@@ -2,6 +2,7 @@
 use Rattle.std.proofs.Common.{◌≡◌, ◌≢◌, ℕ, zero, suc, ◌+◌, List, [], ◌∷◌, ◌++◌, length, refl, sym, ap, ◌∙◌, subst, arith, Some, None, Ok, Err, Result, Option}
 use Rattle.std.specs.Prelude.{slice_get, MatchOption}
 use Rattle.std.proofs.lemmas.List.{append-nil, append_assoc, length-map, length_push}
+use Rattle.std.proofs.lemmas.Option.{slice_get_within}
 use Rattle.pf_values.specs.declared.models.Model.{Model}
 use Rattle.pf_values.specs.declared.refusals.RefusalKind.{RefusalKind}
 use Rattle.pf_values.specs.declared.types.ArgType.{ArgType}
@@ -24,13 +25,14 @@ use Rattle.pf_text.proofs.Complete.{On}
 use Rattle.pf_text.proofs.Runs.{moved, run, run-append, run-refused}
 use Rattle.pf_text.proofs.SignatureLemmas.{HasFound, all_found, more_found, refused}
 use Rattle.pf_text.proofs.Texts.{Reads-unique, items_in, run-reads, start}
+use Rattle.pf_render.proofs.MatchingLemmas.{get_some}
 use Rattle.pf_render.specs.Rendering.{DifferFirstAt}
 use Rattle.pf_compare.specs.declared.layouts.DirectiveSpan.{DirectiveSpan}
 use Rattle.pf_compare.specs.declared.layouts.Layout.{Layout}
 use Rattle.pf_compare.specs.Answers.{HaveSameTypes}
 use Rattle.pf_compare.specs.Layouts.{IsLayoutOf, span_types}
 use Rattle.pf_compare.specs.TypeLists.{HasGivenTypes}
-use Rattle.pf_compare.proofs.ListLemmas.{get_some, get_within, take_whole}
+use Rattle.pf_compare.proofs.ListLemmas.{take_whole}
 
 -- The items of a front are the first items of the text.
 kept_by : (items : List Item) (step : Step) → (more : List Item) × (with_step items step ≡ items ++ more)
@@ -136,7 +138,7 @@ differ_here model first second t u done index wanted (Some type) xs ys at h k ot
     let two = some_there model second u done type ys k b in
     differ_after_front done (types model xs) (types model ys) (wanted ∷ one.0) (type ∷ two.0) index one.1 two.1 at (λ e. other (sym e))
 
--- The same type comes in both.
+-- One type comes in both.
 pub stepped : (model : Model) (first second : Pieces) (t u : Text) (done : List ArgType) (index : ℕ) (wanted : ArgType) (given : Option ArgType)
     → index ≡ length done
     → HasGivenTypes model first t (done ++ wanted ∷ []) → MatchOption given (TakesTypes model u done)
@@ -197,7 +199,7 @@ pub hole_types_are : (model : Model) (items : List Item) (layout : Layout) → I
     → span_types model layout.spans.items ≡ types model items
 hole_types_are model items layout h = same_lists (span_types model layout.spans.items) (types model items)
     (length-hole_types model layout.spans.items ∙ h.count) (λ i x e.
-    let less = get_within (span_types model layout.spans.items) i x e in
+    let less = slice_get_within (span_types model layout.spans.items) i x e in
     let span = get_some layout.spans.items i (omega (arith, less, length-hole_types model layout.spans.items)) in
     let is = h.spans i span.0 span.1 in
     is.type_is ∙ sym (hole_type_got model layout.spans.items i span.0 span.1) ∙ e)

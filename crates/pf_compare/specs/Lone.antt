@@ -19,7 +19,7 @@ use Rattle.pf_compare.specs.declared.differences.LoneDifference.{LoneDifference}
 abbrev pub IsIndexAfter : List Item → ℕ → Type 0
 IsIndexAfter items index = (model : Model) → index ≡ length (types model items)
 
--- two lists of items are the same but for one directive
+-- two lists of items are equal except for one directive
 pub record DifferInOne (xs ys : List Item) (difference : LoneDifference) : Type 0 where
   pub before : List Item
   pub after : List Item
@@ -27,12 +27,12 @@ pub record DifferInOne (xs ys : List Item) (difference : LoneDifference) : Type 
   pub second_is : ys ≡ before ++ Directive difference.second ∷ after
   pub index_is : IsIndexAfter before difference.index
 
--- the same, or the two lists are equal
+-- two lists of items differ in one directive, or they are equal
 abbrev pub DifferInOneAtMost : List Item → List Item → Option LoneDifference → Type 0
 DifferInOneAtMost xs ys (Some difference) = DifferInOne xs ys difference
 DifferInOneAtMost xs ys None = xs ≡ ys
 
--- the items of two accepted texts are the same but for one directive, or the same
+-- the items of two accepted texts are equal, or equal except for one directive
 pub record FormatsDifferInOneAtMost (t u : Text) (found : Option LoneDifference) : Type 0 where
   pub xs : List Item
   pub ys : List Item
@@ -40,7 +40,7 @@ pub record FormatsDifferInOneAtMost (t u : Text) (found : Option LoneDifference)
   pub accepted_second : HasItems u ys
   pub items : DifferInOneAtMost xs ys found
 
--- two accepted texts are the same but for one directive
+-- the items of two accepted texts are equal except for one directive
 abbrev pub FormatsDifferInOne : Text → Text → LoneDifference → Type 0
 FormatsDifferInOne t u difference = FormatsDifferInOneAtMost t u (Some difference)
 

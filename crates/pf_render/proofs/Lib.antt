@@ -4,6 +4,6 @@ pub mod IntegerLemmas
 mod TextLemmas
 mod PrintingLemmas
 mod ItemLemmas
-mod MatchingLemmas
+pub mod MatchingLemmas
 mod ProgressLemmas
 mod FormatLemmas

@@ -77,7 +77,7 @@ wrong_still model args types wanted matched count h e within other = elim (cases
       other (here ∙ sym e) (subst (IsOfTypeAt model args matched) (sym last) found)
 ]
 
-get_some : {A : Type 0} (xs : List A) (i : ℕ) → i < length xs → (x : A) × (slice_get xs i ≡ Some x)
+pub get_some : {A : Type 0} (xs : List A) (i : ℕ) → i < length xs → (x : A) × (slice_get xs i ≡ Some x)
 get_some [] i h = absurd (omega arith)
 get_some (x ∷ xs) zero h = (x, refl)
 get_some (x ∷ xs) (suc i) h = get_some xs i (omega arith)
