@@ -19,11 +19,28 @@ use Rattle.pf_posix.specs.Laws.{IsFirstDifference}
 use Rattle.pf_posix.specs.Types.{widened}
 use Rattle.pf_posix.specs.Stretches.{Stretches, Last, Before, types_of_opaque, whole_types}
 use Rattle.pf_posix.proofs.ReadOnce.{read_once}
-use Rattle.pf_whole.specs.Answers.{Agrees, DifferAtCall, IsWholeComparisonOf, IsWholeProbe, IsWholeVerdict, ShowsNeutral, ShowsProbe, TracesApart, TracesTogether, WholeVerdict, Same, TypesDiffer, DirectivesDiffer, Different, neutral_shown}
+use Rattle.pf_whole.specs.Answers.{
+  Agrees,
+  DifferAtCall,
+  IsWholeComparisonOf,
+  IsWholeProbe,
+  IsWholeVerdict,
+  ShowsNeutral,
+  ShowsProbe,
+  TracesApart,
+  TracesTogether,
+  WholeVerdict,
+  Same,
+  TypesDiffer,
+  DirectivesDiffer,
+  Different,
+  neutral_shown,
+}
 use Rattle.pf_whole.specs.Laws.{PlacedCall, placed_calls}
 use Rattle.pf_whole.specs.meaning.WholeArguments.{WholeArgument, Known, HasNarrowedType, HasWholeTypes, narrowed}
 use Rattle.pf_whole.proofs.SomeTrace.{some_trace}
 use Rattle.pf_whole.proofs.TwoValues.{whole_neutral, whole_neutrals, whole_neutrals_typed}
+use Rattle.pf_whole.proofs.ZipLemmas.{zip_append}
 
 -- arguments that agree with those that are shown
 record CanBeGiven (model : Model) (a : Stretches) (shown : List (Option Argument)) : Type 0 where
@@ -43,12 +60,6 @@ any_agree : (ts : List ArgumentType) → AllZip Agrees (map (λ type. None) ts) 
 any_agree [] = tt
 any_agree (type ∷ ts) = (tt, any_agree ts)
 
-both_agree : (x y : List (Option Argument)) (a b : List WholeArgument) → AllZip Agrees x a → AllZip Agrees y b → AllZip Agrees (x ++ y) (a ++ b)
-both_agree [] y [] b h g = g
-both_agree [] y (argument ∷ a) b h g = absurd h
-both_agree (shown ∷ x) y [] b h g = absurd h
-both_agree (shown ∷ x) y (argument ∷ a) b h g = (h.0, both_agree x y a b h.1 g)
-
 shown_agree : (model : Model) (a : Stretches) → AllZip Agrees (neutral_shown model a) (whole_neutrals (whole_types model a))
 shown_agree model (Last items) = neutrals_agree (types model items)
 shown_agree model (Before items s rest) =
@@ -58,12 +69,18 @@ shown_agree model (Before items s rest) =
     let split : whole_neutrals (here ++ (own ++ back)) ≡ whole_neutrals here ++ (whole_neutrals own ++ whole_neutrals back)
     = map-append whole_neutral here (own ++ back) ∙ ap (λ l. whole_neutrals here ++ l) (map-append whole_neutral own back) in
     subst (λ l. AllZip Agrees (neutral_shown model (Before items s rest)) l) (sym split)
-    (both_agree (map (λ type. Some (neutral type)) (types model items)) (map (λ type. None) own ++ neutral_shown model rest) (whole_neutrals here) (whole_neutrals own ++ whole_neutrals back)
+    (zip_append Agrees (map (λ type. Some (neutral type)) (types model items)) (map (λ type. None) own ++ neutral_shown model rest) (whole_neutrals here)
+    (whole_neutrals own ++ whole_neutrals back)
     (neutrals_agree (types model items))
-    (both_agree (map (λ type. None) own) (neutral_shown model rest) (whole_neutrals own) (whole_neutrals back) (any_agree own) (shown_agree model rest)))
+    (zip_append Agrees (map (λ type. None) own) (neutral_shown model rest) (whole_neutrals own) (whole_neutrals back) (any_agree own) (shown_agree model rest)))
 
 neutral_given : (model : Model) (a : Stretches) → CanBeGiven model a (neutral_shown model a)
-neutral_given model a = record { args = whole_neutrals (whole_types model a); typed = whole_neutrals_typed model (whole_types model a); agree = shown_agree model a }
+neutral_given model a = record {
+  args = whole_neutrals (whole_types model a);
+  typed = whole_neutrals_typed model (whole_types model a);
+  agree =
+      shown_agree model a;
+}
 
 set_agrees : (shown : List (Option Argument)) (args : List WholeArgument) (i : ℕ) (argument : Argument) → AllZip Agrees shown args
     → AllZip Agrees (slice_set shown i (Some argument)) (slice_set args i (Known argument))
@@ -95,7 +112,7 @@ probe_given model a i k shown h =
           (set_agrees (neutral_shown model a) before.args i h.argument before.agree);
     }
 
--- the same arguments don't tell traces apart and leave them together
+-- no arguments both tell traces apart and leave them together
 never_both : (model : Model) (a b : Stretches) (shown : List (Option Argument)) → CanBeGiven model a shown → TracesApart model a b shown
     → TracesTogether model a b shown → ⊥
 never_both model a b shown given apart together =
@@ -136,9 +153,12 @@ shown_once model a b x y (inr h) (inl g) =
     absurd (never_both model a b (neutral_shown model a) (neutral_given model a) (subst (λ l. TracesApart model a b l) g.shown_is g.apart) h.neutral_same)
 shown_once model a b x y (inr h) (inr g) = by (which_first h.index h.candidate_index g.index g.candidate_index)
   where
-    by : IsEarlier h.index h.candidate_index g.index g.candidate_index ⊎ (IsEarlier g.index g.candidate_index h.index h.candidate_index ⊎ ((h.index ≡ g.index) × (h.candidate_index ≡ g.candidate_index))) → x ≡ y
-    by (inl first) = absurd (never_both model a b x (probe_given model a h.index h.candidate_index x h.probe) h.apart (g.earlier h.index h.candidate_index x h.probe first))
-    by (inr (inl first)) = absurd (never_both model a b y (probe_given model a g.index g.candidate_index y g.probe) g.apart (h.earlier g.index g.candidate_index y g.probe first))
+    by : IsEarlier h.index h.candidate_index g.index g.candidate_index
+        ⊎ (IsEarlier g.index g.candidate_index h.index h.candidate_index ⊎ ((h.index ≡ g.index) × (h.candidate_index ≡ g.candidate_index))) → x ≡ y
+    by (inl first) = absurd (never_both model a b x (probe_given model a h.index h.candidate_index x h.probe) h.apart
+        (g.earlier h.index h.candidate_index x h.probe first))
+    by (inr (inl first)) = absurd (never_both model a b y (probe_given model a g.index g.candidate_index y g.probe) g.apart
+        (h.earlier g.index g.candidate_index y g.probe first))
     by (inr (inr same)) =
         let moved : IsWholeProbe model a g.index h.candidate_index x = subst (λ i. IsWholeProbe model a i h.candidate_index x) same.0 h.probe in
         one_probe model a g.index g.candidate_index x y (subst (λ k. IsWholeProbe model a g.index k x) same.1 moved) g.probe

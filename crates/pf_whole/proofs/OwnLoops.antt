@@ -47,7 +47,7 @@ own_last model t at (Last items) stretch h e own =
     )
 own_last model t at (Before items s rest) stretch h e own = absurd (subst (λ o. IsSomeAnd o (λ d. parts_of_opaque d ≡ s)) e h.0)
 
--- and the same of a stretch, a directive, and what comes after these
+-- the text is its own canonical text exactly if the stretch, the directive and the rest are theirs
 pub record OwnNext (model : Model) (t : Text) (at : ℕ) (stretch : Stretch) (directive : OpaqueDirective) : Type 0 where
   pub rest : Stretches
   pub later : ReadsWhole (drop stretch.after t) rest
