@@ -229,12 +229,12 @@ glyph_above : (upper : Bool) (d : ℕ) → space < digit_glyph upper d
 glyph_above true d = grind (arith, nat_tests)
 glyph_above false d = grind (arith, nat_tests)
 
-glyphs_lack_space : (upper : Bool) (ds : List ℕ) → Lacks space (map (digit_glyph upper) ds)
-glyphs_lack_space upper [] = tt
-glyphs_lack_space upper (d ∷ ds) = (above_space (digit_glyph upper d) (glyph_above upper d), glyphs_lack_space upper ds)
+pub glyphs_lack : (byte : ℕ) → byte ≤ space → (upper : Bool) (ds : List ℕ) → Lacks byte (map (digit_glyph upper) ds)
+glyphs_lack byte most upper [] = tt
+glyphs_lack byte most upper (d ∷ ds) = (λ e. omega (arith, most, glyph_above upper d, e), glyphs_lack byte most upper ds)
 
 pub number_lacks_space : (p : Text) (zeros base : ℕ) (upper : Bool) (n : ℕ) → Lacks space p → Lacks space
     (p ++ (replicate zeros zero_digit ++ digits_under base upper n))
 number_lacks_space p zeros base upper n h = lacks_both space p _ h
     (lacks_both space (replicate zeros zero_digit) (digits_under base upper n) (lacks_run space zeros zero_digit (above_space zero_digit (omega arith)))
-    (glyphs_lack_space upper (digits_of base n)))
+    (glyphs_lack space (omega arith) upper (digits_of base n)))

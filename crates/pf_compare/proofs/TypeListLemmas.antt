@@ -4,7 +4,6 @@ use Rattle.std.specs.Prelude.{slice_get, MatchOption}
 use Rattle.std.proofs.lemmas.List.{append-nil, append_assoc, length-map, length_push}
 use Rattle.std.proofs.lemmas.Option.{slice_get_within}
 use Rattle.pf_values.specs.declared.models.Model.{Model}
-use Rattle.pf_values.specs.declared.refusals.RefusalKind.{RefusalKind}
 use Rattle.pf_values.specs.declared.types.ArgType.{ArgType}
 use Rattle.pf_values.specs.meaning.DataModel.{arg_type}
 use Rattle.pf_values.specs.meaning.Items.{IsAccepted, Item, Reads, types}
@@ -13,18 +12,11 @@ use Rattle.pf_values.proofs.ItemTypes.{types-append}
 use Rattle.pf_text.specs.declared.pieces.Piece.{Piece}
 use Rattle.pf_text.specs.declared.pieces.Pieces.{Pieces}
 use Rattle.pf_text.specs.declared.refusals.Refusal.{Refusal}
-use Rattle.pf_text.specs.declared.scanner.Step.{Step}
-use Rattle.pf_text.specs.declared.scanner.Step.TheVariants as steps
-use Rattle.pf_text.specs.Stages.{State}
-use Rattle.pf_text.specs.Stages.{Between}
-use Rattle.pf_text.specs.History.{with_step}
 use Rattle.pf_text.specs.PieceHistory.{NextReturns, items_of}
 use Rattle.pf_text.specs.Signatures.{TakesTypes}
-use Rattle.pf_text.specs.States.{Next, next}
-use Rattle.pf_text.proofs.Complete.{On}
-use Rattle.pf_text.proofs.Runs.{moved, run, run-append, run-refused}
 use Rattle.pf_text.proofs.SignatureLemmas.{HasFound, all_found, more_found, refused}
-use Rattle.pf_text.proofs.Texts.{Reads-unique, items_in, run-reads, start}
+use Rattle.pf_text.proofs.Texts.{Reads-unique}
+use Rattle.pf_render.proofs.ItemLemmas.{front_items}
 use Rattle.pf_render.proofs.MatchingLemmas.{get_some}
 use Rattle.pf_render.specs.Rendering.{DifferFirstAt}
 use Rattle.pf_compare.specs.declared.layouts.DirectiveSpan.{DirectiveSpan}
@@ -34,36 +26,11 @@ use Rattle.pf_compare.specs.Layouts.{IsLayoutOf, span_types}
 use Rattle.pf_compare.specs.TypeLists.{HasGivenTypes}
 use Rattle.pf_compare.proofs.ListLemmas.{take_whole}
 
--- The items of a front are the first items of the text.
-kept_by : (items : List Item) (step : Step) → (more : List Item) × (with_step items step ≡ items ++ more)
-kept_by items steps.More = ([], sym (append-nil items))
-kept_by items (steps.Byte b) = (_, refl)
-kept_by items steps.Percent = (_, refl)
-kept_by items (steps.Directive d) = (_, refl)
-
-not_on : (kind : RefusalKind) (q : State × List Item) → Err kind ≡ Ok q → ⊥
-not_on kind q e = cc
-
-kept : (n : Next) (t : Text) (items xs : List Item) (last : State) → run (moved items n) t ≡ On xs last → (more : List Item) × (xs ≡ items ++ more)
-kept (Err kind) t items xs last e = absurd (not_on kind (last, xs) (sym (run-refused kind t) ∙ e))
-kept (Ok p) [] items xs last e =
-    let step = kept_by items p.1 in
-    (step.0, sym (ap items_in e) ∙ step.1)
-kept (Ok p) (b ∷ t) items xs last e =
-    let step = kept_by items p.1 in
-    let rest = kept (next p.0 b) t (with_step items p.1) xs last e in
-    (step.0 ++ rest.0, rest.1 ∙ ap (λ l. l ++ rest.0) step.1 ∙ append_assoc items step.0 rest.0)
-
-front_items : (t read rest : Text) (items xs : List Item) → t ≡ read ++ rest → Reads read items → Reads t xs → (more : List Item) × (xs ≡ items ++ more)
-front_items t read rest items xs e h g =
-    kept (Ok (Between, steps.More)) rest items xs Between
-    (sym (ap (λ p. run p rest) (run-reads items read [] h)) ∙ sym (run-append start read rest) ∙ sym (ap (run start) e) ∙ run-reads xs t [] g)
-
 -- what is taken comes first
 taken_first : (model : Model) (pieces : Pieces) (t : Text) (done : List ArgType) (xs : List Item) → HasGivenTypes model pieces t done → Reads t xs
     → (rest : List ArgType) × (types model xs ≡ done ++ rest)
 taken_first model pieces t done xs h g =
-    let more = front_items t h.read pieces.rest.now h.items xs h.given.split h.given.reads g in
+    let more = front_items h.read pieces.rest.now h.items xs h.given.reads (subst (λ u. Reads u xs) h.given.split g) in
     (types model more.0, ap (types model) more.1 ∙ types-append model h.items more.0 ∙ ap (λ ts. ts ++ types model more.0) (sym h.types_are))
 
 pub types_of_all : (model : Model) (t : Text) (wanted : List ArgType) (xs : List Item) → TakesTypes model t wanted → Reads t xs → types model xs ≡ wanted

@@ -23,7 +23,7 @@ use Rattle.pf_render.specs.Matching.{TakesArguments}
 use Rattle.pf_render.specs.Progressing.{WritesOn, arity, next_arguments}
 use Rattle.pf_render.specs.Rendering.{Renders, RendersTo}
 use Rattle.pf_render.proofs.ItemLemmas.{Begin, front_items, length_items}
-use Rattle.pf_render.proofs.PrintingLemmas.{PrintsAll-exists, PrintsAll-unique}
+use Rattle.pf_render.proofs.PrintingLemmas.{PrintsAll-exists, same_printed}
 use Rattle.pf_render.proofs.ProgressLemmas.{IsPrinting, all_written, arguments, nothing_yet, wrote_on}
 
 -- an accepted text takes these arguments
@@ -39,7 +39,7 @@ module _ (model : Model) (t : Text) (args : List Arg) (h : TakesArguments model 
     renders_items out prints =
         let here = subst (λ i. PrintsAll model i (arguments args) out) same_items prints in
         let typed = subst (λ i. HasTypes model (arguments args) (types model i)) same_items typed_items in
-        record { takes = h.takes; typed = h.typed; prints = here; only = λ other g. PrintsAll-unique model h.takes.items (arguments args) out other typed here g }
+        record { takes = h.takes; typed = h.typed; prints = here; only = λ other g. same_printed model h.takes.items (arguments args) other out typed g here }
 
   -- it prints something
   pub renders : (out : Text) × Renders model t args out

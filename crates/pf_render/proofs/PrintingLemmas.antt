@@ -6,13 +6,14 @@ use Rattle.pf_values.specs.meaning.Arguments.{Argument, HasTypes}
 use Rattle.pf_values.specs.meaning.Items.{Item, Byte, Directive, types}
 use Rattle.pf_values.specs.meaning.Printing.{PrintsAll}
 use Rattle.pf_values.specs.meaning.Text.{Text}
-use Rattle.pf_values.proofs.Alike.{all_printed, all_printed-is, PrintsAll-unique as only_printed}
+use Rattle.pf_values.proofs.Alike.{all_printed, all_printed-is, PrintsAll-unique}
 
 pub PrintsAll-exists : (model : Model) (items : List Item) (args : List Argument) → HasTypes model args (types model items) → (out : Text) × PrintsAll model items args out
 PrintsAll-exists model items args h = (all_printed model items args, all_printed-is model items args h)
 
-pub PrintsAll-unique : (model : Model) (items : List Item) (args : List Argument) (out other : Text) → HasTypes model args (types model items) → PrintsAll model items args out → PrintsAll model items args other → other ≡ out
-PrintsAll-unique model items args out other h f g = only_printed model items args other h g ∙ sym (only_printed model items args out h f)
+pub same_printed : (model : Model) (items : List Item) (args : List Argument) (x y : Text) → HasTypes model args (types model items) → PrintsAll model items args x
+    → PrintsAll model items args y → x ≡ y
+same_printed model items args x y typed f g = PrintsAll-unique model items args x typed f ∙ sym (PrintsAll-unique model items args y typed g)
 
 -- items that come before others take the first arguments, and print first
 pub PrintsAll-split : (model : Model) (items more : List Item) (args : List Argument) (out : Text) → PrintsAll model (items ++ more) args out

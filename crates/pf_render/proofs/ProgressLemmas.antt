@@ -19,7 +19,7 @@ use Rattle.pf_render.specs.declared.piece_cache.FormatPart.{FormatPart}
 use Rattle.pf_render.specs.declared.progress.Progress.{Progress}
 use Rattle.pf_render.specs.Caching.{directive_or_bytes, items_of_part}
 use Rattle.pf_render.specs.Progressing.{WritesOn, WritesPart, arity, next_arguments}
-use Rattle.pf_render.proofs.PrintingLemmas.{HasTypes-split, PrintsAll-bytes, PrintsAll-none, PrintsAll-split, PrintsAll-unique}
+use Rattle.pf_render.proofs.PrintingLemmas.{HasTypes-split, PrintsAll-bytes, PrintsAll-none, PrintsAll-split, same_printed}
 
 abbrev pub arguments : List Arg → List Argument
 arguments args = map argument_of args
@@ -95,7 +95,8 @@ module _ (model : Model) {W : Type 0} {contents : W → Known} {old : Counted W}
         prints_split : (rest : Text) × PrintsAll model later (drop (arity model part) left) rest × (h.back ≡ text ++ rest)
         prints_split =
             let parts = PrintsAll-split model (items_of_part part) later left h.back (subst (λ i. PrintsAll model i left h.back) others_are h.prints) in
-            let same : parts.0 ≡ text = PrintsAll-unique model (items_of_part part) (next_arguments model progress part args) text parts.0 next_typed prints (subst (λ a. PrintsAll model (items_of_part part) a parts.0) (sym own_are) parts.2) in
+            let same : parts.0 ≡ text = same_printed model (items_of_part part) (next_arguments model progress part args) parts.0 text next_typed
+            (subst (λ a. PrintsAll model (items_of_part part) a parts.0) (sym own_are) parts.2) prints in
             (parts.1, parts.3, parts.4 ∙ ap (λ u. u ++ parts.1) same)
 
         pub wrote_on : WritesOn contents now new progress after text (arity model part) → IsPrinting model contents old args out new after later
