@@ -167,7 +167,7 @@ first_digit base (suc n) b h = first_digits_of base (suc n) b (omega arith)
 after_digits : (base : ℕ) (upper : Bool) (n : ℕ) → 2 ≤ base → after_zeros (digits_under base upper n) ≡ digits_under base upper n
 after_digits base upper n b = after_glyphs upper (digits_of base n) (first_digit base n b)
 
--- digits that differ do so behind zeros
+-- digits that differ do so after zeros
 pub differ_behind_zeros : (base other : ℕ) (upper others : Bool) (n m : ℕ) (j k : ℕ) (p : Text) → 2 ≤ base → 2 ≤ other
     → digits_under base upper n ≢ digits_under other others m
     → p ++ (replicate j zero_digit ++ digits_under base upper n) ≢ p ++ (replicate k zero_digit ++ digits_under other others m)

@@ -374,7 +374,7 @@ along_whole first new second later t u index found h steps ends = said found (re
   said None h = h
   said (Some difference) h = h
 
--- the items of texts that are the same but for one directive
+-- the items of texts that are equal except for one directive
 module _ (model : Model) (xs ys : List Item) (difference : LoneDifference) (h : DifferInOne xs ys difference) where
   first_types : types model xs ≡ types model h.before ++ arg_type model difference.first ∷ types model h.after
   first_types = ap (types model) h.first_is ∙ types-append model h.before (Directive difference.first ∷ h.after)

@@ -26,7 +26,7 @@ use pf_values::{Arg, Directive, Model};
 use std::alloc::{AllocError, Global};
 use thiserror::Error;
 
-/// Compares two formats in a data model. Equivalent ones are `Same`. Else they differ in their
+/// Compares two formats in a data model. Equivalent ones are `Same`. Otherwise they differ in their
 /// types, or the first probe is given for which they print different bytes. A refused text is
 /// answered by its refusal, the first before the second. Memory is taken only for arguments: where
 /// both are accepted, have the same types, and are not equivalent.
@@ -251,7 +251,7 @@ pub enum CompareFault {
     /// The text of this side is refused.
     #[error("{1}")]
     Refused(Side, Refusal),
-    /// A growth was refused.
+    /// An allocation failed.
     #[error("out of memory")]
     Memory,
 }

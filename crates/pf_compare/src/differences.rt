@@ -72,8 +72,8 @@ fn item_difference_of(found: Option<LoneDifference>) -> ItemDifference
     }
 }
 
-// Whether the first bytes in which two texts differ are inside of what looks like a directive. Else
-// the texts differ in literal bytes, and needn't be read.
+// Whether the first bytes in which two texts differ are inside of what looks like a directive.
+// Otherwise the texts differ in literal bytes, and needn't be read.
 fn diverge_in_directive(first: &[u8], second: &[u8]) -> bool {
     have_similar_ends(first.last(), second.last())
         && ends_in_directive(&first[..common_prefix_len(first, second)])

@@ -101,7 +101,7 @@ module _ (model : Model) {W : Type 0} {contents : W → Known} {old : Counted W}
       }
 
   module _ {now : Counted W} {before : Pieces} {progress : Progress} (h : IsUnderWay model contents old t args now before progress) where
-    -- so many bytes are few enough to be counted
+    -- the bytes written so far are few enough to be counted
     pub counts : progress.written + 2 ^ 64 ≤ 2 ^ 128
     counts = omega (arith, h.few, length_items h.read h.items h.given.reads, h.given.scanned.limit)
 

@@ -119,7 +119,7 @@ module _ (model : Model) (args : List Arg) (types : List ArgType) (type : ArgTyp
         wrong = wrong_still model args types type matched wanted h.wrong h.wanted_is h.within other;
       }
 
--- what so many arguments are, where the tally is of all types
+-- what `check.wanted` arguments are, once every type is checked
 module _ (model : Model) (check : ArgumentCheck) (t : Text) (args : List Arg) (types : List ArgType) (h : HasChecked model check args types) (takes : signatures.TakesTypes model t types) (same : check.wanted ≡ length args) where
   pub wrong_type : (check.matched ≡ check.wanted → ⊥) → HasWrongType model t args check.matched
   wrong_type less =

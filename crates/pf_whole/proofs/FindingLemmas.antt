@@ -107,8 +107,7 @@ neutral_somewhere model (Before a s rest) (Before b p more) h = (
     | inl here ↦ inl (record {
       known = neutrals (types model a);
       shown_is = neutrals_shown (types model a);
-      typed =
-          neutrals_typed model (types model a);
+      typed = neutrals_typed model (types model a);
       unlike = here;
     })
     | inr there ↦ inr (neutral_somewhere model rest more there)
@@ -275,8 +274,7 @@ told_last model a b shown h =
           let at : IsCandidateAt model ts i k g.argument = record {
             type = g.type;
             type_is = typed_at ts i g.type g.wide g.wide_is g.type_is;
-            argument_is =
-                g.candidate;
+            argument_is = g.candidate;
           } in
           let same = telling.probe.earlier i k g.argument at e in
           rw (g.shown_is, probe_shown ts i g.argument) (agree_for model a b i k g.argument at same);

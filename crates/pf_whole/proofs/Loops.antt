@@ -102,7 +102,7 @@ pub both_end : (model : Model) (t u x y : Text) (left more : Stretches) (a b : L
 both_end model t u x y left more a b reaches e f h g same =
     reaches.1 (rw (e, f) ((stretches_equivalent model x y a b h g).0 same))
 
--- both go on behind stretches that print alike and the same call
+-- both go on after stretches that print alike and equal calls
 pub both_go_on : (model : Model) (t u x y : Text) (left more rest others : Stretches) (a b : List Item) (s p : PosixSpecification) → Reaches model t u left more
     → left ≡ Before a s rest → more ≡ Before b p others → Reads x a → Reads y b → AreEquivalent model x y → normal_spelling model s ≡ normal_spelling model p
     → Reaches model t u rest others

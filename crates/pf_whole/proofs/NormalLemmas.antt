@@ -66,8 +66,7 @@ same_conversion _ = record {
   alt = refl;
   zero_flag = refl;
   precision = refl;
-  count =
-      refl;
+  count = refl;
 }
 
 -- modifiers

@@ -78,8 +78,7 @@ neutral_given : (model : Model) (a : Stretches) → CanBeGiven model a (neutral_
 neutral_given model a = record {
   args = whole_neutrals (whole_types model a);
   typed = whole_neutrals_typed model (whole_types model a);
-  agree =
-      shown_agree model a;
+  agree = shown_agree model a;
 }
 
 set_agrees : (shown : List (Option Argument)) (args : List WholeArgument) (i : ℕ) (argument : Argument) → AllZip Agrees shown args

@@ -48,8 +48,7 @@ are_split model (x ∷ args) (t ∷ a) b h =
       first = x ∷ rest.first;
       second = rest.second;
       whole = ap (λ l. x ∷ l) rest.whole;
-      typed_first =
-          (h.0, rest.typed_first);
+      typed_first = (h.0, rest.typed_first);
       typed_second = rest.typed_second;
     }
 
@@ -75,8 +74,7 @@ trace_before model items s rest first own back text trace printed typed h = (
   record {
     spelling = refl;
     args_are = refl;
-    as_many =
-        sym (AllZip-long (HasWholeType model) own (types_of_opaque model s) typed);
+    as_many = sym (AllZip-long (HasWholeType model) own (types_of_opaque model s) typed);
   },
   h,
 )

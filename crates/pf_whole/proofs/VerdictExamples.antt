@@ -235,8 +235,7 @@ filled_and_digits = (
     probe = record {
       type = profile.Int;
       wide = int_type;
-      argument = Number
-          (negsuc 0);
+      argument = Number (negsuc 0);
       in_stretch = refl;
       wide_is = refl;
       type_is = refl;
