@@ -69,7 +69,8 @@ front_lacks kinds.String s v = tt
 
 value_lacks : (s : Specification) (v : ℤ) → Lacks 0 (value_text s v)
 value_lacks s v = rw (value_text-is s v) (lacks_both 0 (sign_or_prefix s v) _ (front_lacks (kind_of s.conv) s v)
-    (lacks_both 0 _ (map (digit_glyph (is_upper s.conv)) (digits_of (base_of s.conv) (nat_abs v))) (lacks_run 0 _ zero_digit (above zero_digit (omega arith))) (glyphs_lack 0 (omega arith) (is_upper s.conv) (digits_of (base_of s.conv) (nat_abs v)))))
+    (lacks_both 0 _ (map (digit_glyph (is_upper s.conv)) (digits_of (base_of s.conv) (nat_abs v))) (lacks_run 0 _ zero_digit (above zero_digit (omega arith)))
+    (glyphs_lack 0 (omega arith) (is_upper s.conv) (digits_of (base_of s.conv) (nat_abs v)))))
 
 field_lacks : (left : Bool) (width : ℕ) (t : Text) → Lacks 0 t → Lacks 0 (field_of left width t)
 field_lacks true width t h = lacks_both 0 t _ h (lacks_run 0 _ space (above space (omega arith)))
@@ -78,7 +79,8 @@ field_lacks false width t h = lacks_both 0 _ t (lacks_run 0 _ space (above space
 number_lacks : (model : Model) (s : Specification) (n : ℤ) (out : Text) → IsFalse (is_text s.conv) → Prints model s (Number n) out → Lacks 0 out
 number_lacks model s n out integer h =
     let number = under_number model (kind_of s.conv) s n h.0 integer h.1 in
-    rw (printed_number model s n number.value out integer number.value_is h) (field_lacks (has s.flags Minus) (width_of s) (value_text s number.value) (value_lacks s number.value))
+    rw (printed_number model s n number.value out integer number.value_is h)
+    (field_lacks (has s.flags Minus) (width_of s) (value_text s number.value) (value_lacks s number.value))
 
 -- what is printed as a byte has it
 last_lacks : (c : ℕ) (x y : Text) → Lacks c (x ++ y) → Lacks c y
@@ -89,7 +91,8 @@ not_in_field : (left : Bool) (width : ℕ) → Lacks 0 (field_of left width (0 �
 not_in_field true width h = h.0 refl
 not_in_field false width h = (last_lacks 0 _ (0 ∷ []) h).0 refl
 
-under_char : (model : Model) (k : Kind) (s : Specification) (n : ℤ) (body : Text) → IsTrue (prints_char k) → PrintsKind model k s (Number n) body → PrintsChar n body
+under_char : (model : Model) (k : Kind) (s : Specification) (n : ℤ) (body : Text) → IsTrue (prints_char k) → PrintsKind model k s (Number n) body
+    → PrintsChar n body
 under_char model kinds.Signed s n body e h = absurd cc
 under_char model (kinds.Unsigned base capitals) s n body e h = absurd cc
 under_char model kinds.Char s n body e h = h
@@ -102,7 +105,8 @@ byte_of_zero byte h =
     let same : pos 0 ≡ pos byte +ℤ h.times *ℤ pos 256 = h.differs in
     omega (arith, ints, low, high, same)
 
-pub told_by_zero : (model : Model) (s t : Specification) (p q : Text) → IsTrue (is_char s.conv) → IsFalse (is_text t.conv) → Prints model s (Number (pos 0)) p → Prints model t (Number (pos 0)) q → p ≢ q
+pub told_by_zero : (model : Model) (s t : Specification) (p q : Text) → IsTrue (is_char s.conv) → IsFalse (is_text t.conv) → Prints model s (Number (pos 0)) p
+    → Prints model t (Number (pos 0)) q → p ≢ q
 told_by_zero model s t p q char integer h g = λ same.
     let byte = under_char model (kind_of s.conv) s (pos 0) h.0 char h.1 in
     let whole : p ≡ field s (0 ∷ []) = h.2 ∙ ap (field s) (byte.2 ∙ ap (λ b. b ∷ []) (byte_of_zero byte.0 byte.1)) in

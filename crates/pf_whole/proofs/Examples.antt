@@ -23,7 +23,19 @@ use Rattle.pf_whole.specs.meaning.Traces.{AreWholeAlike}
 use Rattle.pf_whole.specs.meaning.WholeCanonical.{IsCanonicalStretch, IsWholeCanonicalOf}
 use Rattle.pf_whole.proofs.Completeness.{alike_have_one_canonical}
 use Rattle.pf_whole.proofs.OneCanonical.{one_canonical_is_alike}
-use Rattle.pf_whole.proofs.ExampleTexts.{no_width, star_width, given_width, no_precision, star_precision, given_precision, parts, opaque, ends, then_on, silent_defined}
+use Rattle.pf_whole.proofs.ExampleTexts.{
+  no_width,
+  star_width,
+  given_width,
+  no_precision,
+  star_precision,
+  given_precision,
+  parts,
+  opaque,
+  ends,
+  then_on,
+  silent_defined,
+}
 
 -- `C` and `S` are `lc` and `ls`
 wide_ones : IsWholeCanonicalOf Llp64 (codes "%lc%C%ls%S") (codes "%lc%lc%ls%ls")

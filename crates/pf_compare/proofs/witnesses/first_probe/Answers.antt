@@ -21,13 +21,15 @@ module _ (first second : Layout) (i : ℕ) (less : i < length first.spans.items)
   module _ (model : Model) (r : HaveSameTypesAndBytes model first second) where
     two_at : (two : DirectiveSpan) → two ≡ get_or second.spans.items i two → slice_get second.spans.items i ≡ Some two
     two_at two e = slice_get_read second.spans.items _ i two refl
-        (omega (arith, less, as_many model first second r.xs r.ys r.laid_first r.laid_second r.same_types r.same_bytes)) e
+        (omega (arith, less, as_many model first second r.lists.xs r.lists.ys r.lists.laid_first r.lists.laid_second r.lists.same_types r.same_bytes)) e
 
-    one_in : (one : DirectiveSpan) → one ≡ get_or first.spans.items i one → IsSpanOf model r.xs first.bytes.items i one
-    one_in one e = first_span model first second r.xs r.ys r.laid_first r.laid_second r.same_types r.same_bytes i one (one_at one e)
+    one_in : (one : DirectiveSpan) → one ≡ get_or first.spans.items i one → IsSpanOf model r.lists.xs first.bytes.items i one
+    one_in one e = first_span model first second r.lists.xs r.lists.ys r.lists.laid_first r.lists.laid_second r.lists.same_types r.same_bytes i one
+        (one_at one e)
 
-    two_in : (two : DirectiveSpan) → two ≡ get_or second.spans.items i two → IsSpanOf model r.ys first.bytes.items i two
-    two_in two e = second_span model first second r.xs r.ys r.laid_first r.laid_second r.same_types r.same_bytes i two (two_at two e)
+    two_in : (two : DirectiveSpan) → two ≡ get_or second.spans.items i two → IsSpanOf model r.lists.ys first.bytes.items i two
+    two_in two e = second_span model first second r.lists.xs r.lists.ys r.lists.laid_first r.lists.laid_second r.lists.same_types r.same_bytes i two
+        (two_at two e)
 
 -- what was found of two spans, in the bytes of a layout
 found_in : (model : Model) (t whole : Text) (one two : DirectiveSpan) (found is : Option ℕ) → t ≡ whole → found ≡ is
@@ -42,9 +44,10 @@ pub first_candidate-requires-clause-one_type : goal.first_candidate-requires-cla
 first_candidate-requires-clause-one_type c =
     let first = c.args.first.now in
     let r = c.requires.equal in
-    span_types_same c.args.model r.xs r.ys first.bytes.items c.loop-index.index c.index.result.now c.index-in-loop-index.result.now
+    span_types_same c.args.model r.lists.xs r.lists.ys first.bytes.items c.loop-index.index c.index.result.now c.index-in-loop-index.result.now
     (one_in first c.args.second.now c.loop-index.index (within c) c.args.model r c.index.result.now c.index.ensures)
-    (two_in first c.args.second.now c.loop-index.index (within c) c.args.model r c.index-in-loop-index.result.now c.index-in-loop-index.ensures) r.same_types
+    (two_in first c.args.second.now c.loop-index.index (within c) c.args.model r c.index-in-loop-index.result.now c.index-in-loop-index.ensures)
+    r.lists.same_types
 
 pub first_candidate-requires-clause-first : goal.first_candidate-requires-clause-first
 first_candidate-requires-clause-first c =
@@ -63,10 +66,12 @@ first_candidate-requires-clause-neutral c =
     let r = c.requires.equal in
     subst (λ (t : Text). ReplacementsEqual c.args.model t c.index.result.now c.index-in-loop-index.result.now
     (neutral (arg_type c.args.model c.index.result.now.directive))) (sym c.deref.ensures.value)
-    (neutral_alike c.args.model r.xs r.ys first.bytes.items c.loop-index.index c.index.result.now c.index-in-loop-index.result.now
+    (neutral_alike c.args.model r.lists.xs r.lists.ys first.bytes.items c.loop-index.index c.index.result.now c.index-in-loop-index.result.now
     (one_in first c.args.second.now c.loop-index.index (within c) c.args.model r c.index.result.now c.index.ensures)
-    (two_in first c.args.second.now c.loop-index.index (within c) c.args.model r c.index-in-loop-index.result.now c.index-in-loop-index.ensures) r.same_types
-    r.laid_first.bytes (subst (λ (t : Text). PrintsAll c.args.model r.ys (neutrals (types c.args.model r.ys)) t) (sym r.same_bytes) r.laid_second.bytes))
+    (two_in first c.args.second.now c.loop-index.index (within c) c.args.model r c.index-in-loop-index.result.now c.index-in-loop-index.ensures)
+    r.lists.same_types
+    r.lists.laid_first.bytes (subst (λ (t : Text). PrintsAll c.args.model r.lists.ys (neutrals (types c.args.model r.lists.ys)) t)
+    (sym r.same_bytes) r.lists.laid_second.bytes))
 
 pub returns-in-Some : goal.returns-in-Some
 returns-in-Some c =
