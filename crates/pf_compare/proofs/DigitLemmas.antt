@@ -100,7 +100,7 @@ no_last (c ∷ t) b = λ e. absurd cc
 pub has_digits : (base : ℕ) (upper : Bool) (n : ℕ) → 2 ≤ base → 0 < n → [] ≢ digits_under base upper n
 has_digits base upper n b h = λ e. no_last (digits_under base upper (n / base)) (digit_glyph upper (n % base)) (e ∙ digits_step base upper n b h)
 
--- the same of a number in what a kind makes of it, by the base as it is computed
+-- the digits of a number as a kind has them, by the base as it is computed
 module _ (j k : Kind) (base other : ℕ) (e : base ≡ number_of (base_under j)) (f : other ≡ number_of (base_under k)) (b : 2 ≤ base) (c : 2 ≤ other) (n m : ℕ)
     (h : 0 < n) (g : 0 < m) where
   left_same : kind_digits j n ≡ kind_digits k m → digits_under base (has_capitals j) n ≡ digits_under other (has_capitals k) m
@@ -167,7 +167,7 @@ first_digit base (suc n) b h = first_digits_of base (suc n) b (omega arith)
 after_digits : (base : ℕ) (upper : Bool) (n : ℕ) → 2 ≤ base → after_zeros (digits_under base upper n) ≡ digits_under base upper n
 after_digits base upper n b = after_glyphs upper (digits_of base n) (first_digit base n b)
 
--- digits that differ do so behind zeros
+-- digits that differ do so after zeros
 pub differ_behind_zeros : (base other : ℕ) (upper others : Bool) (n m : ℕ) (j k : ℕ) (p : Text) → 2 ≤ base → 2 ≤ other
     → digits_under base upper n ≢ digits_under other others m
     → p ++ (replicate j zero_digit ++ digits_under base upper n) ≢ p ++ (replicate k zero_digit ++ digits_under other others m)
@@ -229,12 +229,12 @@ glyph_above : (upper : Bool) (d : ℕ) → space < digit_glyph upper d
 glyph_above true d = grind (arith, nat_tests)
 glyph_above false d = grind (arith, nat_tests)
 
-glyphs_lack_space : (upper : Bool) (ds : List ℕ) → Lacks space (map (digit_glyph upper) ds)
-glyphs_lack_space upper [] = tt
-glyphs_lack_space upper (d ∷ ds) = (above_space (digit_glyph upper d) (glyph_above upper d), glyphs_lack_space upper ds)
+pub glyphs_lack : (byte : ℕ) → byte ≤ space → (upper : Bool) (ds : List ℕ) → Lacks byte (map (digit_glyph upper) ds)
+glyphs_lack byte most upper [] = tt
+glyphs_lack byte most upper (d ∷ ds) = (λ e. omega (arith, most, glyph_above upper d, e), glyphs_lack byte most upper ds)
 
 pub number_lacks_space : (p : Text) (zeros base : ℕ) (upper : Bool) (n : ℕ) → Lacks space p → Lacks space
     (p ++ (replicate zeros zero_digit ++ digits_under base upper n))
 number_lacks_space p zeros base upper n h = lacks_both space p _ h
     (lacks_both space (replicate zeros zero_digit) (digits_under base upper n) (lacks_run space zeros zero_digit (above_space zero_digit (omega arith)))
-    (glyphs_lack_space upper (digits_of base n)))
+    (glyphs_lack space (omega arith) upper (digits_of base n)))

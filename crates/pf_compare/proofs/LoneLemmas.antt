@@ -64,8 +64,7 @@ use Rattle.pf_compare.specs.Lone.{
   span_alone,
 }
 use Rattle.pf_compare.specs.Witnesses.{AreNeutral, AwaitsCandidate, FindsWitness, IsWitnessAt}
-use Rattle.pf_compare.proofs.CandidateLemmas.{candidate_has_type, contains_at}
-use Rattle.pf_compare.proofs.ProbeLemmas.{neutral_first, set_neutral}
+use Rattle.pf_compare.proofs.CandidateLemmas.{candidate_has_type, contains_at, neutral_first, set_neutral}
 use Rattle.pf_compare.proofs.TypeListLemmas.{differ_after_front}
 use Rattle.pf_render.specs.Rendering.{DifferFirstAt}
 
@@ -93,7 +92,7 @@ pub index_more : (xs more : List Item) (index count : ℕ) → IsIndexAfter xs i
 index_more xs more index count h g model = omega
     (arith, h model, g model, ap length (types-append model xs more), length-append (types model xs) (types model more))
 
--- places of a list where one is set
+-- indexes of a list in which one element is set
 set_at : {A : Type 0} (xs : List A) (i : ℕ) (x y : A) → slice_get xs i ≡ Some y → slice_get (slice_set xs i x) i ≡ Some x
 set_at [] i x y e = absurd (cc)
 set_at (a ∷ xs) zero x y e = refl
@@ -166,10 +165,10 @@ module _ (model : Model) (s t : Specification) (after : List Item) where
     abbrev second_items : List Item
     second_items = before ++ Directive t ∷ after
 
-    abbrev place_of : ℕ
-    place_of = length (types model before)
+    abbrev argument_index : ℕ
+    argument_index = length (types model before)
 
-    module _ (args : List Argument) (typed : HasTypes model args (types model first_items)) (n : Argument) (at : slice_get args place_of ≡ Some n) where
+    module _ (args : List Argument) (typed : HasTypes model args (types model first_items)) (n : Argument) (at : slice_get args argument_index ≡ Some n) where
       typed_second : HasTypes model args (types model second_items)
       typed_second = subst (HasTypes model args) (one_type_list before same_type) typed
 
@@ -194,15 +193,15 @@ module _ (model : Model) (s t : Specification) (after : List Item) where
     probes_typed i k other c = probe_typed model (types model first_items) (probe_at (types model first_items) i other)
         (inr (i, c.type, other, c.type_is, contains_at (candidates model c.type) k other c.argument_is, refl))
 
-    neutral_set : (other : Argument) → slice_get (probe_at (types model first_items) place_of other) place_of ≡ Some other
-    neutral_set other = set_at (neutrals (types model first_items)) place_of other (neutral (arg_type model s)) (neutral_at before)
+    neutral_set : (other : Argument) → slice_get (probe_at (types model first_items) argument_index other) argument_index ≡ Some other
+    neutral_set other = set_at (neutrals (types model first_items)) argument_index other (neutral (arg_type model s)) (neutral_at before)
 
-    neutral_beside : (i : ℕ) (other : Argument) → i ≢ place_of → slice_get (probe_at (types model first_items) i other) place_of ≡ Some
+    neutral_beside : (i : ℕ) (other : Argument) → i ≢ argument_index → slice_get (probe_at (types model first_items) i other) argument_index ≡ Some
         (neutral (arg_type model s))
-    neutral_beside i other differ = set_beside (neutrals (types model first_items)) i place_of other differ ∙ neutral_at before
+    neutral_beside i other differ = set_beside (neutrals (types model first_items)) i argument_index other differ ∙ neutral_at before
 
-    -- a candidate at the place of the directive is one of its type
-    candidate_here : (i k : ℕ) (other : Argument) → i ≡ place_of → IsCandidateAt model (types model first_items) i k other → slice_get
+    -- a candidate for the argument of the directive is one of its type
+    candidate_here : (i k : ℕ) (other : Argument) → i ≡ argument_index → IsCandidateAt model (types model first_items) i k other → slice_get
         (candidates model (arg_type model s)) k ≡ Some other
     candidate_here i k other here c =
         let both : Some c.type ≡ Some (arg_type model s) = sym c.type_is ∙ ap (slice_get (types model first_items)) here ∙ type_at before in
@@ -220,87 +219,94 @@ module _ (model : Model) (s t : Specification) (after : List Item) where
       all_neutral : PrintTheSame model first_items second_items (neutrals (types model first_items))
       all_neutral = prints_same (neutrals (types model first_items)) neutral_typed (neutral (arg_type model s)) (neutral_at before) neutral_texts
 
-      beside : (i k : ℕ) (other : Argument) → IsCandidateAt model (types model first_items) i k other → i ≢ place_of
+      beside : (i k : ℕ) (other : Argument) → IsCandidateAt model (types model first_items) i k other → i ≢ argument_index
           → PrintTheSame model first_items second_items (probe_at (types model first_items) i other)
       beside i k other c differ = prints_same (probe_at (types model first_items) i other) (probes_typed i k other c) (neutral (arg_type model s))
           (neutral_beside i other differ) neutral_texts
 
-      here : (i k : ℕ) (other : Argument) → IsCandidateAt model (types model first_items) i k other → i ≡ place_of →
+      here : (i k : ℕ) (other : Argument) → IsCandidateAt model (types model first_items) i k other → i ≡ argument_index →
           (slice_get (candidates model (arg_type model s)) k ≡ Some other → ReplacementsEqual model [] (span_alone s) (span_alone t) other)
           → PrintTheSame model first_items second_items (probe_at (types model first_items) i other)
       here i k other c at alike =
           let e = candidate_here i k other at c in
           prints_same (probe_at (types model first_items) i other) (probes_typed i k other c) other
-          (subst (λ (j : ℕ). slice_get (probe_at (types model first_items) j other) place_of ≡ Some other) (sym at) (neutral_set other))
+          (subst (λ (j : ℕ). slice_get (probe_at (types model first_items) j other) argument_index ≡ Some other) (sym at) (neutral_set other))
           (alike_texts k other e (alike e))
 
       anywhere : (i k : ℕ) (other : Argument) → IsCandidateAt model (types model first_items) i k other →
-          (i ≡ place_of → slice_get (candidates model (arg_type model s)) k ≡ Some other → ReplacementsEqual model [] (span_alone s) (span_alone t) other)
+          (i ≡ argument_index → slice_get (candidates model (arg_type model s)) k ≡ Some other → ReplacementsEqual model [] (span_alone s) (span_alone t) other)
           → PrintTheSame model first_items second_items (probe_at (types model first_items) i other)
-      anywhere i k other c alike = elim (cases_lt i place_of) [
+      anywhere i k other c alike = elim (cases_lt i argument_index) [
         | inl less ↦ beside i k other c (λ e. absurd (omega (arith, less, e)))
-        | inr most ↦ elim (cases_lt place_of i) [
+        | inr most ↦ elim (cases_lt argument_index i) [
           | inl more ↦ beside i k other c (λ e. absurd (omega (arith, more, e)))
-          | inr least ↦ let at : i ≡ place_of = omega (arith, most, least) in here i k other c at (alike at)
+          | inr least ↦ let at : i ≡ argument_index = omega (arith, most, least) in here i k other c at (alike at)
         ]
       ]
 
-    unlike_here : (place : ℕ) (argument : Argument) → slice_get (candidates model (arg_type model s)) place ≡ Some argument → ReplacementsDiffer model []
+    unlike_here : (candidate_index : ℕ) (argument : Argument) → slice_get (candidates model (arg_type model s)) candidate_index ≡ Some argument
+        → ReplacementsDiffer model []
         (span_alone s) (span_alone t) argument
-        → PrintUnlike model first_items second_items (probe_at (types model first_items) place_of argument)
-    unlike_here place argument e h =
-        prints_unlike (probe_at (types model first_items) place_of argument)
-        (probes_typed place_of place argument (record { type = arg_type model s; type_is = type_at before; argument_is = e })) argument (neutral_set argument)
-        (unlike_alone same_type argument (candidate_has_type model (arg_type model s) place argument e) h)
+        → PrintUnlike model first_items second_items (probe_at (types model first_items) argument_index argument)
+    unlike_here candidate_index argument e h =
+        prints_unlike (probe_at (types model first_items) argument_index argument)
+        (probes_typed argument_index candidate_index argument (record { type = arg_type model s; type_is = type_at before; argument_is = e })) argument
+        (neutral_set argument)
+        (unlike_alone same_type argument (candidate_has_type model (arg_type model s) candidate_index argument e) h)
 
-    pub apart_here : (place : ℕ) → IsFirstUnlike model [] (span_alone s) (span_alone t) (arg_type model s) place → (args : List Argument) × HasTypes model args
+    pub apart_here : (candidate_index : ℕ) → IsFirstUnlike model [] (span_alone s) (span_alone t) (arg_type model s) candidate_index
+        → (args : List Argument) × HasTypes model args
         (types model first_items) × PrintUnlike model first_items second_items args
-    apart_here place h = (
-      probe_at (types model first_items) place_of h.argument,
-      probes_typed place_of place h.argument (record { type = arg_type model s; type_is = type_at before; argument_is = h.argument_is }),
-      unlike_here place h.argument h.argument_is h.unlike,
+    apart_here candidate_index h = (
+      probe_at (types model first_items) argument_index h.argument,
+      probes_typed argument_index candidate_index h.argument (record { type = arg_type model s; type_is = type_at before; argument_is = h.argument_is }),
+      unlike_here candidate_index h.argument h.argument_is h.unlike,
     )
 
-    neutral_level : (place : ℕ) → IsFirstUnlike model [] (span_alone s) (span_alone t) (arg_type model s) (suc place) → ReplacementsEqual model []
+    neutral_level : (candidate_index : ℕ) → IsFirstUnlike model [] (span_alone s) (span_alone t) (arg_type model s) (suc candidate_index)
+        → ReplacementsEqual model []
         (span_alone s) (span_alone t) (neutral (arg_type model s))
-    neutral_level place h = h.earlier 0 (neutral (arg_type model s)) (omega arith) (neutral_first model (arg_type model s))
+    neutral_level candidate_index h = h.earlier 0 (neutral (arg_type model s)) (omega arith) (neutral_first model (arg_type model s))
 
     -- the one candidate that is named
-    argument_is : (place : ℕ) (one other : Argument) → slice_get (candidates model (arg_type model s)) place ≡ Some one → IsCandidateAt model
-        (types model first_items) place_of place other → one ≡ other
-    argument_is place one other e c = let both : Some one ≡ Some other = sym e ∙ candidate_here place_of place other refl c in cc
+    argument_is : (candidate_index : ℕ) (one other : Argument) → slice_get (candidates model (arg_type model s)) candidate_index ≡ Some one
+        → IsCandidateAt model
+        (types model first_items) argument_index candidate_index other → one ≡ other
+    argument_is candidate_index one other e c = let both : Some one ≡ Some other = sym e ∙ candidate_here argument_index candidate_index other refl c in cc
 
-    pub found_alone : (place : ℕ) (witness : Witness) → IsFirstUnlike model [] (span_alone s) (span_alone t) (arg_type model s) place → IsWitnessAt model
-        (types model first_items) (record { index = place_of; candidate_index = place }) witness
+    pub found_alone : (candidate_index : ℕ) (witness : Witness) → IsFirstUnlike model [] (span_alone s) (span_alone t) (arg_type model s) candidate_index
+        → IsWitnessAt model
+        (types model first_items) (record { index = argument_index; candidate_index = candidate_index }) witness
         → FindsWitness model first_items second_items (Some witness)
     found_alone zero witness h w =
         let is = argument_is 0 h.argument w.argument h.argument_is w.candidate in
         let first : Some (neutral (arg_type model s)) ≡ Some h.argument = sym (neutral_first model (arg_type model s)) ∙ h.argument_is in
         let also : h.argument ≡ neutral (arg_type model s) = cc in
-        let neutral_args : probe_at (types model first_items) place_of w.argument ≡ neutrals (types model first_items)
-        = ap (λ x. probe_at (types model first_items) place_of x) (sym is ∙ also) ∙ set_neutral (types model first_items) place_of (arg_type model s)
+        let neutral_args : probe_at (types model first_items) argument_index w.argument ≡ neutrals (types model first_items)
+        = ap (λ x. probe_at (types model first_items) argument_index x) (sym is ∙ also)
+        ∙ set_neutral (types model first_items) argument_index (arg_type model s)
         (type_at before) in (
           w.types_are,
           inl (record {
             args_are = w.args_are ∙ neutral_args;
-            unlike = subst (PrintUnlike model first_items second_items) (ap (λ x. probe_at (types model first_items) place_of x) is ∙ sym w.args_are)
+            unlike = subst (PrintUnlike model first_items second_items) (ap (λ x. probe_at (types model first_items) argument_index x) is ∙ sym w.args_are)
                 (unlike_here 0 h.argument h.argument_is h.unlike);
             renderings_are = w.renderings_are;
           }),
         )
-    found_alone (suc place) witness h w =
-        let is = argument_is (suc place) h.argument w.argument h.argument_is w.candidate in
-        let level = neutral_level place h in (
+    found_alone (suc candidate_index) witness h w =
+        let is = argument_is (suc candidate_index) h.argument w.argument h.argument_is w.candidate in
+        let level = neutral_level candidate_index h in (
           w.types_are,
           inr (record {
             neutral_same = all_neutral level;
-            index = place_of;
-            place = suc place;
+            index = argument_index;
+            candidate_index = suc candidate_index;
             argument = w.argument;
             probe = record {
               candidate = w.candidate;
-              unlike = subst (λ x. PrintUnlike model first_items second_items (probe_at (types model first_items) place_of x)) is
-                  (unlike_here (suc place) h.argument h.argument_is h.unlike);
+              unlike = subst (λ x. PrintUnlike model first_items second_items (probe_at (types model first_items) argument_index x)) is
+                  (unlike_here (suc candidate_index) h.argument h.argument_is h.unlike);
               earlier = λ i k other c order. elim order [
                 | inl less ↦ beside level i k other c (λ e. absurd (omega (arith, less, e)))
                 | inr at ↦ here level i k other c at.0 (λ e. h.earlier k other at.1 e)
@@ -320,8 +326,8 @@ module _ (model : Model) (s t : Specification) (after : List Item) where
     pub alike_here : AreAlike model first_items second_items → PrintAlikeOnCandidates model s t
     alike_here same k other e =
         let typed = candidate_has_type model (arg_type model s) k other e in
-        let args = probe_at (types model first_items) place_of other in
-        let args_typed = probes_typed place_of k other (record { type = arg_type model s; type_is = type_at before; argument_is = e }) in (
+        let args = probe_at (types model first_items) argument_index other in
+        let args_typed = probes_typed argument_index k other (record { type = arg_type model s; type_is = type_at before; argument_is = e }) in (
           printed_text model s other,
           printed_text model t other,
           printed-is model s other typed,
@@ -330,45 +336,45 @@ module _ (model : Model) (s t : Specification) (after : List Item) where
         )
 
 -- two texts were read so far, and differ in one directive at most
-pub record AreAlong (first second : Pieces) (f g : Text) (index : ℕ) (found : Option LoneDifference) : Type 0 where
+pub record AreAlong (first second : Pieces) (t u : Text) (index : ℕ) (found : Option LoneDifference) : Type 0 where
   pub read : Text
   pub items : List Item
-  pub given : HasGiven first f read items
-  pub followed : HasFollowed second g items found
+  pub given : HasGiven first t read items
+  pub followed : HasFollowed second u items found
   pub count : IsIndexAfter items index
 
-module _ (first new : Pieces) (second later : Pieces) (f g : Text) (index : ℕ) (found : Option LoneDifference) (h : AreAlong first second f g index found) where
+module _ (first new : Pieces) (second later : Pieces) (t u : Text) (index : ℕ) (found : Option LoneDifference) (h : AreAlong first second t u index found) where
   -- one piece more of both
   pub along_more : (next : Result Piece Refusal) (piece : Piece) (count : ℕ) (after : Option LoneDifference) → NextReturns first (Some next) new
       → next ≡ Ok piece
-      → ((t : Text) (xs : List Item) → HasFollowed second t xs found → IsIndexAfter xs index → HasFollowed later t (xs ++ items_of piece) after) →
+      → ((other : Text) (xs : List Item) → HasFollowed second other xs found → IsIndexAfter xs index → HasFollowed later other (xs ++ items_of piece) after) →
       ((model : Model) → count ≡ length (types model (items_of piece)))
-      → AreAlong new later f g (index + count) after
+      → AreAlong new later t u (index + count) after
   along_more next piece count after steps e made counted =
-      let given : NextIsPiece new f h.read h.items piece = subst (λ r. NextIs (Some r) new f h.read h.items) e (steps.next f h.read h.items h.given) in
+      let given : NextIsPiece new t h.read h.items piece = subst (λ r. NextIs (Some r) new t h.read h.items) e (steps.next t h.read h.items h.given) in
       record {
         read = h.read ++ given.more;
         items = h.items ++ items_of piece;
         given = given.given;
-        followed = made g h.items h.followed h.count;
+        followed = made u h.items h.followed h.count;
         count = index_more h.items (items_of piece) index count h.count counted;
       }
 
 -- the end of both
-pub along_whole : (first new second later : Pieces) (f g : Text) (index : ℕ) (found : Option LoneDifference) → AreAlong first second f g index found
-    → NextReturns first None new → NextReturns second None later → DifferInItems f g (item_difference_of found)
-along_whole first new second later f g index found h steps ends = said found (record {
+pub along_whole : (first new second later : Pieces) (t u : Text) (index : ℕ) (found : Option LoneDifference) → AreAlong first second t u index found
+    → NextReturns first None new → NextReturns second None later → DifferInItems t u (item_difference_of found)
+along_whole first new second later t u index found h steps ends = said found (record {
   xs = h.items;
   ys = h.followed.items;
-  accepted_first = steps.next f h.read h.items h.given;
-  accepted_second = ends.next g h.followed.read h.followed.items h.followed.given;
+  accepted_first = steps.next t h.read h.items h.given;
+  accepted_second = ends.next u h.followed.read h.followed.items h.followed.given;
   items = h.followed.at_most;
 }) where
-  said : (found : Option LoneDifference) → FormatsDifferInOneAtMost f g found → DifferInItems f g (item_difference_of found)
+  said : (found : Option LoneDifference) → FormatsDifferInOneAtMost t u found → DifferInItems t u (item_difference_of found)
   said None h = h
   said (Some difference) h = h
 
--- the items of texts that are the same but for one directive
+-- the items of texts that are equal except for one directive
 module _ (model : Model) (xs ys : List Item) (difference : LoneDifference) (h : DifferInOne xs ys difference) where
   first_types : types model xs ≡ types model h.before ++ arg_type model difference.first ∷ types model h.after
   first_types = ap (types model) h.first_is ∙ types-append model h.before (Directive difference.first ∷ h.after)
@@ -388,10 +394,10 @@ module _ (model : Model) (xs ys : List Item) (difference : LoneDifference) (h : 
     lone_type_at = ap (slice_get (types model xs)) (h.index_is model) ∙ ap (λ l. slice_get (types model l) (length (types model h.before))) h.first_is
         ∙ type_at model difference.first difference.second h.after h.before
 
-    pub lone_awaits : (place : ℕ) (args : List OwnedArg) → FindsUnlike model [] (span_alone difference.first) (span_alone difference.second)
-        (arg_type model difference.first) (Some place) → AreNeutral (types model xs) args
-        → AwaitsCandidate model (types model xs) args (arg_type model difference.first) (record { index = difference.index; candidate_index = place })
-    lone_awaits place args found neutral = record {
+    pub lone_awaits : (candidate_index : ℕ) (args : List OwnedArg) → FindsUnlike model [] (span_alone difference.first) (span_alone difference.second)
+        (arg_type model difference.first) (Some candidate_index) → AreNeutral (types model xs) args
+        → AwaitsCandidate model (types model xs) args (arg_type model difference.first) (record { index = difference.index; candidate_index = candidate_index })
+    lone_awaits candidate_index args found neutral = record {
       neutral = neutral;
       candidate = (found.argument, record { type = arg_type model difference.first; type_is = lone_type_at; argument_is = found.argument_is });
       type_is = lone_type_at;
@@ -402,22 +408,23 @@ module _ (model : Model) (xs ys : List Item) (difference : LoneDifference) (h : 
     back_in found w = subst (λ l. FindsWitness model l ys found) (sym h.first_is)
         (subst (λ l. FindsWitness model (h.before ++ Directive difference.first ∷ h.after) l found) (sym h.second_is) w)
 
-    pub lone_found : (place : ℕ) (witness : Witness) → FindsUnlike model [] (span_alone difference.first) (span_alone difference.second)
-        (arg_type model difference.first) (Some place)
-        → IsWitnessAt model (types model xs) (record { index = difference.index; candidate_index = place }) witness → FindsWitness model xs ys (Some witness)
-    lone_found place witness found w =
+    pub lone_found : (candidate_index : ℕ) (witness : Witness) → FindsUnlike model [] (span_alone difference.first) (span_alone difference.second)
+        (arg_type model difference.first) (Some candidate_index)
+        → IsWitnessAt model (types model xs) (record { index = difference.index; candidate_index = candidate_index }) witness
+        → FindsWitness model xs ys (Some witness)
+    lone_found candidate_index witness found w =
         let there : IsWitnessAt model (types model (h.before ++ Directive difference.first ∷ h.after))
-        (record { index = difference.index; candidate_index = place }) witness
-        = subst (λ l. IsWitnessAt model (types model l) (record { index = difference.index; candidate_index = place }) witness) h.first_is w in
-        back_in (Some witness) (found_alone model difference.first difference.second h.after h.before same_type place witness found
+        (record { index = difference.index; candidate_index = candidate_index }) witness
+        = subst (λ l. IsWitnessAt model (types model l) (record { index = difference.index; candidate_index = candidate_index }) witness) h.first_is w in
+        back_in (Some witness) (found_alone model difference.first difference.second h.after h.before same_type candidate_index witness found
         (subst (λ i. IsWitnessAt model (types model (h.before ++ Directive difference.first ∷ h.after))
-        (record { index = i; candidate_index = place }) witness) (h.index_is model) there))
+        (record { index = i; candidate_index = candidate_index }) witness) (h.index_is model) there))
 
     -- they print different texts for some arguments
-    pub lone_apart : (place : ℕ) → AreToldApartAt model difference place → (args : List Argument) × HasTypes model args
+    pub lone_apart : (candidate_index : ℕ) → AreToldApartAt model difference candidate_index → (args : List Argument) × HasTypes model args
         (types model xs) × PrintUnlike model xs ys args
-    lone_apart place found =
-        let there = apart_here model difference.first difference.second h.after h.before same_type place found in (
+    lone_apart candidate_index found =
+        let there = apart_here model difference.first difference.second h.after h.before same_type candidate_index found in (
           there.0,
           subst (λ l. HasTypes model there.0 (types model l)) (sym h.first_is) there.1,
           subst (λ l. PrintUnlike model l ys there.0) (sym h.first_is)
@@ -439,15 +446,15 @@ lone_lists_alike model xs ys difference h same =
     (alike_before model (Directive first ∷ []) (Directive second ∷ []) h.after (printed-alike model (Directive first ∷ []) (Directive second ∷ []) same)) in
     subst (λ l. AreAlike model l ys) (sym h.first_is) (subst (λ l. AreAlike model (h.before ++ Directive first ∷ h.after) l) (sym h.second_is) whole)
 
-module _ (model : Model) (f g : Text) (difference : LoneDifference) (h : FormatsDifferInOne f g difference) where
-  pub lone_types : arg_type model difference.first ≢ arg_type model difference.second → (xs ys : List Item) → Reads f xs → Reads g ys → DifferFirstAt
+module _ (model : Model) (t u : Text) (difference : LoneDifference) (h : FormatsDifferInOne t u difference) where
+  pub lone_types : arg_type model difference.first ≢ arg_type model difference.second → (xs ys : List Item) → Reads t xs → Reads u ys → DifferFirstAt
       (types model xs) (types model ys) difference.index
   lone_types differ xs ys a b =
-      subst (λ l. DifferFirstAt (types model l) (types model ys) difference.index) (Reads-unique f h.xs xs h.accepted_first.reads a)
-      (subst (λ l. DifferFirstAt (types model h.xs) (types model l) difference.index) (Reads-unique g h.ys ys h.accepted_second.reads b)
+      subst (λ l. DifferFirstAt (types model l) (types model ys) difference.index) (Reads-unique t h.xs xs h.accepted_first.reads a)
+      (subst (λ l. DifferFirstAt (types model h.xs) (types model l) difference.index) (Reads-unique u h.ys ys h.accepted_second.reads b)
       (lone_differ model h.xs h.ys difference h.items differ))
 
-  pub lone_have_same : arg_type model difference.first ≡ arg_type model difference.second → HaveSameTypes model f g
+  pub lone_have_same : arg_type model difference.first ≡ arg_type model difference.second → HaveSameTypes model t u
   lone_have_same same = record {
     types = types model h.xs;
     first = record { items = h.xs; accepted = h.accepted_first; types_are = refl };

@@ -35,7 +35,6 @@ use Rattle.pf_compare.specs.Outlines.{
   IsUnderKind,
   Lacks,
   between_spaces,
-  outline_len,
   outline_text,
 }
 use Rattle.pf_compare.proofs.DigitLemmas.{differ_behind_zeros, kind_above_one, number_lacks_space, prefix_unlike_zeros}
@@ -179,18 +178,20 @@ drawn k o = outline_text o (kind_digits k o.parts.magnitude)
 
 module _ (j k : Kind) (x y : Outline) (h : IsUnderKind j x.parts) (g : IsUnderKind k y.parts) where
   -- in their fields
-  pub outlines_of_lengths : outline_len x ≢ outline_len y → drawn j x ≢ drawn k y
-  outlines_of_lengths e = differ_in_length _ _ _ _
+  pub outlines_of_spaces : parts_len x.parts ≡ parts_len y.parts → x.spaces_before + x.spaces_after ≢ y.spaces_before + y.spaces_after
+      → drawn j x ≢ drawn k y
+  outlines_of_spaces same differ = differ_in_length _ _ _ _
       (length_between x.spaces_before (whole j x.parts) x.spaces_after
       ∙ ap (λ n. x.spaces_before + n + x.spaces_after) (length_whole j x.parts h))
       (length_between y.spaces_before (whole k y.parts) y.spaces_after
-      ∙ ap (λ n. y.spaces_before + n + y.spaces_after) (length_whole k y.parts g)) e
+      ∙ ap (λ n. y.spaces_before + n + y.spaces_after) (length_whole k y.parts g))
+      (λ e. differ (omega (arith, same, e)))
 
   pub outlines_of_parts : whole j x.parts ≢ whole k y.parts → drawn j x ≢ drawn k y
   outlines_of_parts differ = differ_between x.spaces_before _ x.spaces_after y.spaces_before _ y.spaces_after
       (whole_lacks_space j x.parts h) (whole_lacks_space k y.parts g) differ
 
-  pub outlines_apart : outline_len x ≡ outline_len y → whole j x.parts ≡ whole k y.parts → (told : Bool)
+  pub outlines_apart : x.spaces_before + x.spaces_after ≡ y.spaces_before + y.spaces_after → whole j x.parts ≡ whole k y.parts → (told : Bool)
       → DoLieApart (parts_len x.parts) x.spaces_before y.spaces_before told
       → DoTextsDiffer (drawn j x) (drawn k y) told
   outlines_apart e same told apart =

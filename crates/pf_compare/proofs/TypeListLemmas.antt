@@ -2,8 +2,8 @@
 use Rattle.std.proofs.Common.{◌≡◌, ◌≢◌, ℕ, zero, suc, ◌+◌, List, [], ◌∷◌, ◌++◌, length, refl, sym, ap, ◌∙◌, subst, arith, Some, None, Ok, Err, Result, Option}
 use Rattle.std.specs.Prelude.{slice_get, MatchOption}
 use Rattle.std.proofs.lemmas.List.{append-nil, append_assoc, length-map, length_push}
+use Rattle.std.proofs.lemmas.Option.{slice_get_within}
 use Rattle.pf_values.specs.declared.models.Model.{Model}
-use Rattle.pf_values.specs.declared.refusals.RefusalKind.{RefusalKind}
 use Rattle.pf_values.specs.declared.types.ArgType.{ArgType}
 use Rattle.pf_values.specs.meaning.DataModel.{arg_type}
 use Rattle.pf_values.specs.meaning.Items.{IsAccepted, Item, Reads, types}
@@ -12,55 +12,25 @@ use Rattle.pf_values.proofs.ItemTypes.{types-append}
 use Rattle.pf_text.specs.declared.pieces.Piece.{Piece}
 use Rattle.pf_text.specs.declared.pieces.Pieces.{Pieces}
 use Rattle.pf_text.specs.declared.refusals.Refusal.{Refusal}
-use Rattle.pf_text.specs.declared.scanner.Step.{Step}
-use Rattle.pf_text.specs.declared.scanner.Step.TheVariants as steps
-use Rattle.pf_text.specs.Stages.{State}
-use Rattle.pf_text.specs.Stages.{Between}
-use Rattle.pf_text.specs.History.{with_step}
 use Rattle.pf_text.specs.PieceHistory.{NextReturns, items_of}
 use Rattle.pf_text.specs.Signatures.{TakesTypes}
-use Rattle.pf_text.specs.States.{Next, next}
-use Rattle.pf_text.proofs.Complete.{On}
-use Rattle.pf_text.proofs.Runs.{moved, run, run-append, run-refused}
 use Rattle.pf_text.proofs.SignatureLemmas.{HasFound, all_found, more_found, refused}
-use Rattle.pf_text.proofs.Texts.{Reads-unique, items_in, run-reads, start}
+use Rattle.pf_text.proofs.Texts.{Reads-unique}
+use Rattle.pf_render.proofs.ItemLemmas.{front_items}
+use Rattle.pf_render.proofs.MatchingLemmas.{get_some}
 use Rattle.pf_render.specs.Rendering.{DifferFirstAt}
 use Rattle.pf_compare.specs.declared.layouts.DirectiveSpan.{DirectiveSpan}
 use Rattle.pf_compare.specs.declared.layouts.Layout.{Layout}
 use Rattle.pf_compare.specs.Answers.{HaveSameTypes}
 use Rattle.pf_compare.specs.Layouts.{IsLayoutOf, span_types}
 use Rattle.pf_compare.specs.TypeLists.{HasGivenTypes}
-use Rattle.pf_compare.proofs.ListLemmas.{get_some, get_within, take_whole}
-
--- The items of a front are the first items of the text.
-kept_by : (items : List Item) (step : Step) → (more : List Item) × (with_step items step ≡ items ++ more)
-kept_by items steps.More = ([], sym (append-nil items))
-kept_by items (steps.Byte b) = (_, refl)
-kept_by items steps.Percent = (_, refl)
-kept_by items (steps.Directive d) = (_, refl)
-
-not_on : (kind : RefusalKind) (q : State × List Item) → Err kind ≡ Ok q → ⊥
-not_on kind q e = cc
-
-kept : (n : Next) (t : Text) (items xs : List Item) (last : State) → run (moved items n) t ≡ On xs last → (more : List Item) × (xs ≡ items ++ more)
-kept (Err kind) t items xs last e = absurd (not_on kind (last, xs) (sym (run-refused kind t) ∙ e))
-kept (Ok p) [] items xs last e =
-    let step = kept_by items p.1 in
-    (step.0, sym (ap items_in e) ∙ step.1)
-kept (Ok p) (b ∷ t) items xs last e =
-    let step = kept_by items p.1 in
-    let rest = kept (next p.0 b) t (with_step items p.1) xs last e in
-    (step.0 ++ rest.0, rest.1 ∙ ap (λ l. l ++ rest.0) step.1 ∙ append_assoc items step.0 rest.0)
-
-front_items : (t read rest : Text) (items xs : List Item) → t ≡ read ++ rest → Reads read items → Reads t xs → (more : List Item) × (xs ≡ items ++ more)
-front_items t read rest items xs e h g =
-    kept (Ok (Between, steps.More)) rest items xs Between
-    (sym (ap (λ p. run p rest) (run-reads items read [] h)) ∙ sym (run-append start read rest) ∙ sym (ap (run start) e) ∙ run-reads xs t [] g)
+use Rattle.pf_compare.proofs.ListLemmas.{take_whole}
 
 -- what is taken comes first
-taken_first : (model : Model) (pieces : Pieces) (t : Text) (done : List ArgType) (xs : List Item) → HasGivenTypes model pieces t done → Reads t xs → (rest : List ArgType) × (types model xs ≡ done ++ rest)
+taken_first : (model : Model) (pieces : Pieces) (t : Text) (done : List ArgType) (xs : List Item) → HasGivenTypes model pieces t done → Reads t xs
+    → (rest : List ArgType) × (types model xs ≡ done ++ rest)
 taken_first model pieces t done xs h g =
-    let more = front_items t h.read pieces.rest.now h.items xs h.given.split h.given.reads g in
+    let more = front_items h.read pieces.rest.now h.items xs h.given.reads (subst (λ u. Reads u xs) h.given.split g) in
     (types model more.0, ap (types model) more.1 ∙ types-append model h.items more.0 ∙ ap (λ ts. ts ++ types model more.0) (sym h.types_are))
 
 pub types_of_all : (model : Model) (t : Text) (wanted : List ArgType) (xs : List Item) → TakesTypes model t wanted → Reads t xs → types model xs ≡ wanted
@@ -77,7 +47,8 @@ found_as model pieces t done h = record { read = h.read; items = h.items; given 
 module _ (model : Model) (old new : Pieces) (t : Text) (done : List ArgType) (h : HasGivenTypes model old t done) where
   module _ (given : Result Piece Refusal) (steps : NextReturns old (Some given) new) where
     pub taken_more : (piece : Piece) (more : List ArgType) → given ≡ Ok piece → more ≡ types model (items_of piece) → HasGivenTypes model new t (done ++ more)
-    taken_more piece more e same = taken_as model new t (done ++ more) (more_found model old new t done (found_as model old t done h) given steps piece more e same)
+    taken_more piece more e same = taken_as model new t (done ++ more)
+        (more_found model old new t done (found_as model old t done h) given steps piece more e same)
 
     pub taken_same : (piece : Piece) → given ≡ Ok piece → [] ≡ types model (items_of piece) → HasGivenTypes model new t done
     taken_same piece e same = subst (HasGivenTypes model new t) (append-nil done) (taken_more piece [] e same)
@@ -89,10 +60,10 @@ module _ (model : Model) (old new : Pieces) (t : Text) (done : List ArgType) (h 
   taken_all steps = all_found model old new t done (found_as model old t done h) steps
 
 -- both have taken the same types so far
-pub record AreInStep (model : Model) (first second : Pieces) (f g : Text) (index : ℕ) : Type 0 where
+pub record AreInStep (model : Model) (first second : Pieces) (t u : Text) (index : ℕ) : Type 0 where
   pub done : List ArgType
-  pub first_taken : HasGivenTypes model first f done
-  pub second_taken : HasGivenTypes model second g done
+  pub first_taken : HasGivenTypes model first t done
+  pub second_taken : HasGivenTypes model second u done
   pub count : index ≡ length done
 
 get_after : (xs ys : List ArgType) → slice_get (xs ++ ys) (length xs) ≡ slice_get ys 0
@@ -100,57 +71,71 @@ get_after [] ys = refl
 get_after (x ∷ xs) ys = get_after xs ys
 
 -- two lists begin with the same types, and then differ
-pub differ_after_front : (done xs ys us vs : List ArgType) (index : ℕ) → xs ≡ done ++ us → ys ≡ done ++ vs → index ≡ length done → slice_get us 0 ≢ slice_get vs 0 → DifferFirstAt xs ys index
+pub differ_after_front : (done xs ys us vs : List ArgType) (index : ℕ) → xs ≡ done ++ us → ys ≡ done ++ vs → index ≡ length done
+    → slice_get us 0 ≢ slice_get vs 0 → DifferFirstAt xs ys index
 differ_after_front done xs ys us vs index e f at h =
     let here : DifferFirstAt (done ++ us) (done ++ vs) (length done)
     = record {
       same = take_whole done us ∙ sym (take_whole done vs);
       differ = λ same. h (sym (get_after done us) ∙ same ∙ get_after done vs);
     } in
-    subst (λ l. DifferFirstAt l ys index) (sym e) (subst (λ l. DifferFirstAt (done ++ us) l index) (sym f) (subst (DifferFirstAt (done ++ us) (done ++ vs)) (sym at) here))
+    subst (λ l. DifferFirstAt l ys index) (sym e) (subst (λ l. DifferFirstAt (done ++ us) l index) (sym f)
+    (subst (DifferFirstAt (done ++ us) (done ++ vs)) (sym at) here))
 
 none_there : (done xs : List ArgType) → xs ≡ done → xs ≡ done ++ []
 none_there done xs e = e ∙ sym (append-nil done)
 
-some_there : (model : Model) (pieces : Pieces) (t : Text) (done : List ArgType) (type : ArgType) (xs : List Item) → HasGivenTypes model pieces t (done ++ type ∷ []) → Reads t xs → (rest : List ArgType) × (types model xs ≡ done ++ type ∷ rest)
-some_there model pieces t done type xs h g = let more = taken_first model pieces t (done ++ type ∷ []) xs h g in (more.0, more.1 ∙ append_assoc done (type ∷ []) more.0)
+some_there : (model : Model) (pieces : Pieces) (t : Text) (done : List ArgType) (type : ArgType) (xs : List Item)
+    → HasGivenTypes model pieces t (done ++ type ∷ []) → Reads t xs → (rest : List ArgType) × (types model xs ≡ done ++ type ∷ rest)
+some_there model pieces t done type xs h g = let more = taken_first model pieces t (done ++ type ∷ []) xs h g in
+    (more.0, more.1 ∙ append_assoc done (type ∷ []) more.0)
 
 -- Another type comes in the second list, or none.
-pub differ_here : (model : Model) (first second : Pieces) (f g : Text) (done : List ArgType) (index : ℕ) (wanted : ArgType) (given : Option ArgType) (xs ys : List Item) → index ≡ length done
-    → HasGivenTypes model first f (done ++ wanted ∷ []) → MatchOption given (TakesTypes model g done) (λ type. HasGivenTypes model second g (done ++ type ∷ [])) → given ≢ Some wanted → Reads f xs → Reads g ys → DifferFirstAt (types model xs) (types model ys) index
-differ_here model first second f g done index wanted None xs ys at h k other a b =
-    let one = some_there model first f done wanted xs h a in
-    differ_after_front done (types model xs) (types model ys) (wanted ∷ one.0) [] index one.1 (none_there done (types model ys) (types_of_all model g done ys k b)) at (λ e. cc)
-differ_here model first second f g done index wanted (Some type) xs ys at h k other a b =
-    let one = some_there model first f done wanted xs h a in
-    let two = some_there model second g done type ys k b in
+pub differ_here : (model : Model) (first second : Pieces) (t u : Text) (done : List ArgType) (index : ℕ) (wanted : ArgType) (given : Option ArgType)
+    (xs ys : List Item) → index ≡ length done
+    → HasGivenTypes model first t (done ++ wanted ∷ []) → MatchOption given (TakesTypes model u done)
+    (λ type. HasGivenTypes model second u (done ++ type ∷ [])) → given ≢ Some wanted → Reads t xs → Reads u ys
+    → DifferFirstAt (types model xs) (types model ys) index
+differ_here model first second t u done index wanted None xs ys at h k other a b =
+    let one = some_there model first t done wanted xs h a in
+    differ_after_front done (types model xs) (types model ys) (wanted ∷ one.0) [] index one.1
+    (none_there done (types model ys) (types_of_all model u done ys k b)) at (λ e. cc)
+differ_here model first second t u done index wanted (Some type) xs ys at h k other a b =
+    let one = some_there model first t done wanted xs h a in
+    let two = some_there model second u done type ys k b in
     differ_after_front done (types model xs) (types model ys) (wanted ∷ one.0) (type ∷ two.0) index one.1 two.1 at (λ e. other (sym e))
 
--- The same type comes in both.
-pub stepped : (model : Model) (first second : Pieces) (f g : Text) (done : List ArgType) (index : ℕ) (wanted : ArgType) (given : Option ArgType) → index ≡ length done
-    → HasGivenTypes model first f (done ++ wanted ∷ []) → MatchOption given (TakesTypes model g done) (λ type. HasGivenTypes model second g (done ++ type ∷ [])) → given ≡ Some wanted → AreInStep model first second f g (index + 1)
-stepped model first second f g done index wanted None at h k same = absurd (cc)
-stepped model first second f g done index wanted (Some type) at h k same =
+-- One type comes in both.
+pub stepped : (model : Model) (first second : Pieces) (t u : Text) (done : List ArgType) (index : ℕ) (wanted : ArgType) (given : Option ArgType)
+    → index ≡ length done
+    → HasGivenTypes model first t (done ++ wanted ∷ []) → MatchOption given (TakesTypes model u done)
+    (λ type. HasGivenTypes model second u (done ++ type ∷ [])) → given ≡ Some wanted → AreInStep model first second t u (index + 1)
+stepped model first second t u done index wanted None at h k same = absurd (cc)
+stepped model first second t u done index wanted (Some type) at h k same =
     let is : type ≡ wanted = cc in
     record {
       done = done ++ wanted ∷ [];
       first_taken = h;
-      second_taken = subst (λ (t : ArgType). HasGivenTypes model second g (done ++ t ∷ [])) is k;
+      second_taken = subst (λ (a : ArgType). HasGivenTypes model second u (done ++ a ∷ [])) is k;
       count = omega (arith, at, length_push done wanted);
     }
 
 -- The second list is longer.
-pub differ_after : (model : Model) (second : Pieces) (f g : Text) (done : List ArgType) (index : ℕ) (type : ArgType) (xs ys : List Item) → index ≡ length done
-    → TakesTypes model f done → HasGivenTypes model second g (done ++ type ∷ []) → Reads f xs → Reads g ys → DifferFirstAt (types model xs) (types model ys) index
-differ_after model second f g done index type xs ys at h k a b =
-    let two = some_there model second g done type ys k b in
-    differ_after_front done (types model xs) (types model ys) [] (type ∷ two.0) index (none_there done (types model xs) (types_of_all model f done xs h a)) two.1 at (λ e. cc)
+pub differ_after : (model : Model) (second : Pieces) (t u : Text) (done : List ArgType) (index : ℕ) (type : ArgType) (xs ys : List Item) → index ≡ length done
+    → TakesTypes model t done → HasGivenTypes model second u (done ++ type ∷ []) → Reads t xs → Reads u ys
+    → DifferFirstAt (types model xs) (types model ys) index
+differ_after model second t u done index type xs ys at h k a b =
+    let two = some_there model second u done type ys k b in
+    differ_after_front done (types model xs) (types model ys) [] (type ∷ two.0) index
+    (none_there done (types model xs) (types_of_all model t done xs h a)) two.1 at (λ e. cc)
 
-pub same_lists_of : (model : Model) (f g : Text) (done : List ArgType) (xs ys : List Item) → TakesTypes model f done → TakesTypes model g done → Reads f xs → Reads g ys → types model xs ≡ types model ys
-same_lists_of model f g done xs ys h k a b = types_of_all model f done xs h a ∙ sym (types_of_all model g done ys k b)
+pub same_lists_of : (model : Model) (t u : Text) (done : List ArgType) (xs ys : List Item) → TakesTypes model t done → TakesTypes model u done → Reads t xs
+    → Reads u ys → types model xs ≡ types model ys
+same_lists_of model t u done xs ys h k a b = types_of_all model t done xs h a ∙ sym (types_of_all model u done ys k b)
 
-pub same_types_of : (model : Model) (f g : Text) (a : IsAccepted f) (b : IsAccepted g) → ((xs ys : List Item) → Reads f xs → Reads g ys → types model xs ≡ types model ys) → HaveSameTypes model f g
-same_types_of model f g a b same =
+pub same_types_of : (model : Model) (t u : Text) (a : IsAccepted t) (b : IsAccepted u)
+    → ((xs ys : List Item) → Reads t xs → Reads u ys → types model xs ≡ types model ys) → HaveSameTypes model t u
+same_types_of model t u a b same =
     record {
       types = types model a.0;
       first = record { items = a.0; accepted = a.1; types_are = refl };
@@ -161,7 +146,8 @@ same_types_of model f g a b same =
 pub length-hole_types : (model : Model) (spans : List DirectiveSpan) → length (span_types model spans) ≡ length spans
 length-hole_types model spans = length-map spans (λ span. arg_type model span.directive)
 
-hole_type_got : (model : Model) (spans : List DirectiveSpan) (i : ℕ) (span : DirectiveSpan) → slice_get spans i ≡ Some span → slice_get (span_types model spans) i ≡ Some (arg_type model span.directive)
+hole_type_got : (model : Model) (spans : List DirectiveSpan) (i : ℕ) (span : DirectiveSpan) → slice_get spans i ≡ Some span
+    → slice_get (span_types model spans) i ≡ Some (arg_type model span.directive)
 hole_type_got model [] i span e = absurd (cc)
 hole_type_got model (h ∷ spans) zero span e = let is : h ≡ span = cc in ap (λ (o : DirectiveSpan). Some (arg_type model o.directive)) is
 hole_type_got model (h ∷ spans) (suc i) span e = hole_type_got model spans i span e
@@ -176,9 +162,11 @@ same_lists (x ∷ xs) (y ∷ ys) e h =
     let same : y ≡ x = cc in
     cc
 
-pub hole_types_are : (model : Model) (items : List Item) (layout : Layout) → IsLayoutOf model items layout → span_types model layout.spans.items ≡ types model items
-hole_types_are model items layout h = same_lists (span_types model layout.spans.items) (types model items) (length-hole_types model layout.spans.items ∙ h.count) (λ i x e.
-    let less = get_within (span_types model layout.spans.items) i x e in
+pub hole_types_are : (model : Model) (items : List Item) (layout : Layout) → IsLayoutOf model items layout
+    → span_types model layout.spans.items ≡ types model items
+hole_types_are model items layout h = same_lists (span_types model layout.spans.items) (types model items)
+    (length-hole_types model layout.spans.items ∙ h.count) (λ i x e.
+    let less = slice_get_within (span_types model layout.spans.items) i x e in
     let span = get_some layout.spans.items i (omega (arith, less, length-hole_types model layout.spans.items)) in
     let is = h.spans i span.0 span.1 in
     is.type_is ∙ sym (hole_type_got model layout.spans.items i span.0 span.1) ∙ e)

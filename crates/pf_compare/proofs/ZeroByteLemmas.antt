@@ -1,9 +1,8 @@
 -- The byte 0, which is printed for the number 0 as a byte, and is in no text of a number.
-use Rattle.std.proofs.Common.{◌≡◌, ◌≢◌, ℕ, ◌<◌, Bool, true, false, List, [], ◌∷◌, ◌++◌, map, refl, ap, ◌∙◌, subst, arith, ℤ, pos}
+use Rattle.std.proofs.Common.{◌≡◌, ◌≢◌, ℕ, ◌<◌, Bool, true, false, [], ◌∷◌, ◌++◌, map, refl, ap, ◌∙◌, subst, arith, ℤ, pos}
 use Rattle.std.specs.Prelude.{IsFalse, IsTrue, ◌&&◌, not, ◌*ℤ◌, ◌+ℤ◌, codes, if◌then◌else◌, nat_abs}
 use Rattle.std.specs.Fmt.{digit_glyph}
 use Rattle.std.specs.Int.Digits.{digits_of}
-use Rattle.std.proofs.lemmas.Bool.Decides.{nat_tests}
 use Rattle.std.proofs.lemmas.Int.{ints}
 use Rattle.pf_values.specs.declared.bases.Alternative.{Alternative}
 use Rattle.pf_values.specs.declared.bases.Alternative.TheVariants.{Undefined, Raised, Prefixed}
@@ -24,6 +23,7 @@ use Rattle.pf_values.specs.meaning.Text.{Text, space, zero_digit}
 use Rattle.pf_values.proofs.NumberTexts.{value_text-is}
 use Rattle.pf_values.proofs.PrintsOnce.{value_text}
 use Rattle.pf_compare.specs.Outlines.{Lacks}
+use Rattle.pf_compare.proofs.DigitLemmas.{glyphs_lack}
 use Rattle.pf_compare.proofs.FieldLemmas.{lacks_both, lacks_run}
 use Rattle.pf_compare.proofs.OutlineLemmas.{printed_number, under_number}
 
@@ -67,17 +67,10 @@ front_lacks (kinds.Unsigned base capitals) s v = prefix_lacks (alternative_of ba
 front_lacks kinds.Char s v = tt
 front_lacks kinds.String s v = tt
 
-glyph_above : (upper : Bool) (d : ℕ) → 0 < digit_glyph upper d
-glyph_above true d = grind (arith, nat_tests)
-glyph_above false d = grind (arith, nat_tests)
-
-glyphs_lack : (upper : Bool) (ds : List ℕ) → Lacks 0 (map (digit_glyph upper) ds)
-glyphs_lack upper [] = tt
-glyphs_lack upper (d ∷ ds) = (above (digit_glyph upper d) (glyph_above upper d), glyphs_lack upper ds)
-
 value_lacks : (s : Specification) (v : ℤ) → Lacks 0 (value_text s v)
 value_lacks s v = rw (value_text-is s v) (lacks_both 0 (sign_or_prefix s v) _ (front_lacks (kind_of s.conv) s v)
-    (lacks_both 0 _ (map (digit_glyph (is_upper s.conv)) (digits_of (base_of s.conv) (nat_abs v))) (lacks_run 0 _ zero_digit (above zero_digit (omega arith))) (glyphs_lack (is_upper s.conv) (digits_of (base_of s.conv) (nat_abs v)))))
+    (lacks_both 0 _ (map (digit_glyph (is_upper s.conv)) (digits_of (base_of s.conv) (nat_abs v))) (lacks_run 0 _ zero_digit (above zero_digit (omega arith)))
+    (glyphs_lack 0 (omega arith) (is_upper s.conv) (digits_of (base_of s.conv) (nat_abs v)))))
 
 field_lacks : (left : Bool) (width : ℕ) (t : Text) → Lacks 0 t → Lacks 0 (field_of left width t)
 field_lacks true width t h = lacks_both 0 t _ h (lacks_run 0 _ space (above space (omega arith)))
@@ -86,7 +79,8 @@ field_lacks false width t h = lacks_both 0 _ t (lacks_run 0 _ space (above space
 number_lacks : (model : Model) (s : Specification) (n : ℤ) (out : Text) → IsFalse (is_text s.conv) → Prints model s (Number n) out → Lacks 0 out
 number_lacks model s n out integer h =
     let number = under_number model (kind_of s.conv) s n h.0 integer h.1 in
-    rw (printed_number model s n number.value out integer number.value_is h) (field_lacks (has s.flags Minus) (width_of s) (value_text s number.value) (value_lacks s number.value))
+    rw (printed_number model s n number.value out integer number.value_is h)
+    (field_lacks (has s.flags Minus) (width_of s) (value_text s number.value) (value_lacks s number.value))
 
 -- what is printed as a byte has it
 last_lacks : (c : ℕ) (x y : Text) → Lacks c (x ++ y) → Lacks c y
@@ -97,7 +91,8 @@ not_in_field : (left : Bool) (width : ℕ) → Lacks 0 (field_of left width (0 �
 not_in_field true width h = h.0 refl
 not_in_field false width h = (last_lacks 0 _ (0 ∷ []) h).0 refl
 
-under_char : (model : Model) (k : Kind) (s : Specification) (n : ℤ) (body : Text) → IsTrue (prints_char k) → PrintsKind model k s (Number n) body → PrintsChar n body
+under_char : (model : Model) (k : Kind) (s : Specification) (n : ℤ) (body : Text) → IsTrue (prints_char k) → PrintsKind model k s (Number n) body
+    → PrintsChar n body
 under_char model kinds.Signed s n body e h = absurd cc
 under_char model (kinds.Unsigned base capitals) s n body e h = absurd cc
 under_char model kinds.Char s n body e h = h
@@ -110,7 +105,8 @@ byte_of_zero byte h =
     let same : pos 0 ≡ pos byte +ℤ h.times *ℤ pos 256 = h.differs in
     omega (arith, ints, low, high, same)
 
-pub told_by_zero : (model : Model) (s t : Specification) (p q : Text) → IsTrue (is_char s.conv) → IsFalse (is_text t.conv) → Prints model s (Number (pos 0)) p → Prints model t (Number (pos 0)) q → p ≢ q
+pub told_by_zero : (model : Model) (s t : Specification) (p q : Text) → IsTrue (is_char s.conv) → IsFalse (is_text t.conv) → Prints model s (Number (pos 0)) p
+    → Prints model t (Number (pos 0)) q → p ≢ q
 told_by_zero model s t p q char integer h g = λ same.
     let byte = under_char model (kind_of s.conv) s (pos 0) h.0 char h.1 in
     let whole : p ≡ field s (0 ∷ []) = h.2 ∙ ap (field s) (byte.2 ∙ ap (λ b. b ∷ []) (byte_of_zero byte.0 byte.1)) in

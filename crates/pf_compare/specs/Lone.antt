@@ -19,7 +19,7 @@ use Rattle.pf_compare.specs.declared.differences.LoneDifference.{LoneDifference}
 abbrev pub IsIndexAfter : List Item → ℕ → Type 0
 IsIndexAfter items index = (model : Model) → index ≡ length (types model items)
 
--- two lists of items are the same but for one directive
+-- two lists of items are equal except for one directive
 pub record DifferInOne (xs ys : List Item) (difference : LoneDifference) : Type 0 where
   pub before : List Item
   pub after : List Item
@@ -27,22 +27,22 @@ pub record DifferInOne (xs ys : List Item) (difference : LoneDifference) : Type 
   pub second_is : ys ≡ before ++ Directive difference.second ∷ after
   pub index_is : IsIndexAfter before difference.index
 
--- the same, or the two lists are equal
+-- two lists of items differ in one directive, or they are equal
 abbrev pub DifferInOneAtMost : List Item → List Item → Option LoneDifference → Type 0
 DifferInOneAtMost xs ys (Some difference) = DifferInOne xs ys difference
 DifferInOneAtMost xs ys None = xs ≡ ys
 
--- the items of two accepted texts are the same but for one directive, or the same
-pub record FormatsDifferInOneAtMost (f g : Text) (found : Option LoneDifference) : Type 0 where
+-- the items of two accepted texts are equal, or equal except for one directive
+pub record FormatsDifferInOneAtMost (t u : Text) (found : Option LoneDifference) : Type 0 where
   pub xs : List Item
   pub ys : List Item
-  pub accepted_first : HasItems f xs
-  pub accepted_second : HasItems g ys
+  pub accepted_first : HasItems t xs
+  pub accepted_second : HasItems u ys
   pub items : DifferInOneAtMost xs ys found
 
--- two accepted texts are the same but for one directive
+-- the items of two accepted texts are equal except for one directive
 abbrev pub FormatsDifferInOne : Text → Text → LoneDifference → Type 0
-FormatsDifferInOne f g difference = FormatsDifferInOneAtMost f g (Some difference)
+FormatsDifferInOne t u difference = FormatsDifferInOneAtMost t u (Some difference)
 
 -- what is answered where at most one directive differs
 abbrev pub item_difference_of : Option LoneDifference → ItemDifference
@@ -51,9 +51,9 @@ item_difference_of (Some difference) = Lone difference
 
 -- what an answer says of two texts
 abbrev pub DifferInItems : Text → Text → ItemDifference → Type 0
-DifferInItems f g Nowhere = FormatsDifferInOneAtMost f g None
-DifferInItems f g (Lone difference) = FormatsDifferInOne f g difference
-DifferInItems f g Unknown = ⊤
+DifferInItems t u Nowhere = FormatsDifferInOneAtMost t u None
+DifferInItems t u (Lone difference) = FormatsDifferInOne t u difference
+DifferInItems t u Unknown = ⊤
 
 -- what was given of a second text differs from these items in one directive at most
 pub record HasFollowed (pieces : Pieces) (t : Text) (xs : List Item)
@@ -67,10 +67,10 @@ pub record HasFollowed (pieces : Pieces) (t : Text) (xs : List Item)
 abbrev pub span_alone : Specification → DirectiveSpan
 span_alone s = record { directive = s; start = 0; end = 0 }
 
--- the first candidate for which the two directives print different bytes has this place
+-- the first candidate for which the two directives print different bytes has this index
 abbrev pub AreToldApartAt : Model → LoneDifference → ℕ → Type 0
-AreToldApartAt model difference place = IsFirstUnlike model [] (span_alone difference.first)
-    (span_alone difference.second) (arg_type model difference.first) place
+AreToldApartAt model difference candidate_index = IsFirstUnlike model [] (span_alone difference.first)
+    (span_alone difference.second) (arg_type model difference.first) candidate_index
 
 -- two directives print the same for each candidate of the type of the first
 abbrev pub PrintAlikeOnCandidates : Model → Specification → Specification → Type 0

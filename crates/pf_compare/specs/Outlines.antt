@@ -1,5 +1,5 @@
--- What a directive prints of a number but for its digits. This project's own.
-use Rattle.std.specs.Prelude.{◌≡◌, ◌≢◌, ℕ, ◌+◌, ◌<◌, ◌≤◌, ℤ, ◌++◌, Bool, length, replicate, MatchBool, ◌⊎◌}
+-- What a directive prints of a number, except for its digits. This project's own.
+use Rattle.std.specs.Prelude.{◌≡◌, ◌≢◌, ℕ, ◌<◌, ◌≤◌, ℤ, ◌++◌, Bool, length, replicate, MatchBool, ◌⊎◌}
 use Rattle.std.specs.List.{AllByRecursion}
 use Rattle.std.specs.Int.Digits.{digits_of}
 use Rattle.pf_values.specs.declared.models.Model.{Model}
@@ -12,7 +12,7 @@ use Rattle.pf_values.specs.meaning.Specification.{Specification}
 use Rattle.pf_values.specs.meaning.Text.{Text, space}
 use Rattle.pf_render.specs.declared.integer_parts.IntegerParts.{IntegerParts}
 use Rattle.pf_render.specs.Values.{IsOfValue}
-use Rattle.pf_render.specs.IntegerParts.{kind_digits, parts_len, parts_text, sign_or_prefix_text}
+use Rattle.pf_render.specs.IntegerParts.{kind_digits, parts_text, sign_or_prefix_text}
 use Rattle.pf_compare.specs.declared.outlines.Outline.{Outline}
 use Rattle.pf_compare.specs.declared.outlines.CountedValue.{CountedValue}
 
@@ -31,10 +31,6 @@ between_spaces before body after = (replicate before space ++ body) ++ replicate
 -- the bytes of an outline, with these digits
 abbrev pub outline_text : Outline → Text → Text
 outline_text o t = between_spaces o.spaces_before (parts_text o.parts t) o.spaces_after
-
--- how many bytes these are
-abbrev pub outline_len : Outline → ℕ
-outline_len o = o.spaces_before + parts_len o.parts + o.spaces_after
 
 -- no byte of a text is this one
 abbrev pub Lacks : ℕ → Text → Type 0

@@ -9,7 +9,7 @@ use Rattle.pf_values.specs.meaning.Text.{Text}
 use Rattle.pf_compare.specs.declared.outlines.RunOutline.{RunOutline}
 use Rattle.pf_compare.specs.Outlines.{between_spaces}
 
--- the byte so many times, between spaces
+-- the bytes of an outline: spaces, `outline.count` equal bytes, and spaces
 abbrev pub run_outline_text : RunOutline → ℕ → Text
 run_outline_text outline byte =
     between_spaces outline.spaces_before (replicate outline.count byte) outline.spaces_after
@@ -17,7 +17,7 @@ run_outline_text outline byte =
 abbrev pub run_outline_len : RunOutline → ℕ
 run_outline_len outline = outline.spaces_before + outline.count + outline.spaces_after
 
--- what a directive prints for a string of any byte, so many times
+-- what a directive prints for a string of `count` equal bytes
 abbrev pub IsStringOutlineOf : Specification → ℕ → RunOutline → Type 0
 IsStringOutlineOf s count outline = (model : Model) (byte : ℕ) (out : Text)
     → Prints model s (String (replicate count byte)) out → out ≡ run_outline_text outline byte

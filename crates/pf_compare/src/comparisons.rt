@@ -26,18 +26,23 @@ use pf_values::{Arg, Directive, Model};
 use std::alloc::{AllocError, Global};
 use thiserror::Error;
 
-/// Compares two formats in a data model. Equivalent ones are `Same`. Else they differ in their
+/// Compares two formats in a data model. Equivalent ones are `Same`. Otherwise they differ in their
 /// types, or the first probe is given for which they print different bytes. A refused text is
 /// answered by its refusal, the first before the second. Memory is taken only for arguments: where
 /// both are accepted, have the same types, and are not equivalent.
-pub fn compare(alloc: Global, model: Model, f: &[u8], g: &[u8]) -> Result<Comparison, CompareFault>
-    ensures { MatchResult result (IsComparisonOf model f.now g.now)
-        (FaultForCompare model f.now g.now) }
+pub fn compare(
+    alloc: Global,
+    model: Model,
+    first: &[u8],
+    second: &[u8],
+) -> Result<Comparison, CompareFault>
+    ensures { MatchResult result (IsComparisonOf model first.now second.now)
+        (FaultForCompare model first.now second.now) }
 {
-    if are_unlike(f, g) {
-        return compare_unlike(alloc, model, f, g);
+    if are_unlike(first, second) {
+        return compare_unlike(alloc, model, first, second);
     }
-    compare_any(alloc, model, f, g)
+    compare_any(alloc, model, first, second)
 }
 
 // Compares two formats whose bytes differ. Where their items differ in one directive alone, the two
@@ -46,36 +51,41 @@ pub fn compare(alloc: Global, model: Model, f: &[u8], g: &[u8]) -> Result<Compar
 fn compare_unlike(
     alloc: Global,
     model: Model,
-    f: &[u8],
-    g: &[u8],
+    first: &[u8],
+    second: &[u8],
 ) -> Result<Comparison, CompareFault>
-    ensures { MatchResult result (IsComparisonOf model f.now g.now)
-        (FaultForCompare model f.now g.now) }
+    ensures { MatchResult result (IsComparisonOf model first.now second.now)
+        (FaultForCompare model first.now second.now) }
 {
-    match item_difference(f, g) {
+    match item_difference(first, second) {
         ItemDifference::Nowhere => Ok(same_comparison()),
-        ItemDifference::Lone(difference) => compare_lone(alloc, model, f, g, &difference),
-        ItemDifference::Unknown => compare_any(alloc, model, f, g),
+        ItemDifference::Lone(difference) => compare_lone(alloc, model, first, second, &difference),
+        ItemDifference::Unknown => compare_any(alloc, model, first, second),
     }
 }
 
 // Compares two formats that may differ anywhere, or nowhere.
-fn compare_any(alloc: Global, model: Model, f: &[u8], g: &[u8]) -> Result<Comparison, CompareFault>
-    ensures { MatchResult result (IsComparisonOf model f.now g.now)
-        (FaultForCompare model f.now g.now) }
+fn compare_any(
+    alloc: Global,
+    model: Model,
+    first: &[u8],
+    second: &[u8],
+) -> Result<Comparison, CompareFault>
+    ensures { MatchResult result (IsComparisonOf model first.now second.now)
+        (FaultForCompare model first.now second.now) }
 {
-    match are_equivalent(model, f, g) {
+    match are_equivalent(model, first, second) {
         Ok(true) => Ok(same_comparison()),
-        Ok(false) => compare_apart(alloc, model, f, g),
+        Ok(false) => compare_apart(alloc, model, first, second),
         Err(fault) => Err(fault),
     }
 }
 
-fn are_equivalent(model: Model, f: &[u8], g: &[u8]) -> Result<bool, CompareFault>
-    ensures { MatchResult result (AreTextsSame model f.now g.now)
-        (FaultForCompare model f.now g.now) }
+fn are_equivalent(model: Model, first: &[u8], second: &[u8]) -> Result<bool, CompareFault>
+    ensures { MatchResult result (AreTextsSame model first.now second.now)
+        (FaultForCompare model first.now second.now) }
 {
-    match same_text(model, f, g) {
+    match same_text(model, first, second) {
         Ok(same) => Ok(same),
         Err((side, refusal)) => Err(CompareFault::Refused(side, refusal)),
     }
@@ -86,33 +96,33 @@ fn are_equivalent(model: Model, f: &[u8], g: &[u8]) -> Result<bool, CompareFault
 fn compare_apart(
     alloc: Global,
     model: Model,
-    f: &[u8],
-    g: &[u8],
+    first: &[u8],
+    second: &[u8],
 ) -> Result<Comparison, CompareFault>
-    requires { AreTextsSame model f.now g.now false }
-    ensures { MatchResult result (IsComparisonOf model f.now g.now)
-        (FaultForCompare model f.now g.now) }
+    requires { AreTextsSame model first.now second.now false }
+    ensures { MatchResult result (IsComparisonOf model first.now second.now)
+        (FaultForCompare model first.now second.now) }
 {
-    if let Some(index) = first_type_difference(model, f, g) {
+    if let Some(index) = first_type_difference(model, first, second) {
         return Ok(Comparison {
             verdict: Verdict::Types(index),
             renderings: 0,
         });
     }
-    Ok(compare_bytes(alloc, model, f, g)?)
+    Ok(compare_bytes(alloc, model, first, second)?)
 }
 
 // Compares two formats that differ in one directive alone.
 fn compare_lone(
     alloc: Global,
     model: Model,
-    f: &[u8],
-    g: &[u8],
+    first: &[u8],
+    second: &[u8],
     difference: &LoneDifference,
 ) -> Result<Comparison, CompareFault>
-    requires { FormatsDifferInOne f.now g.now difference.now }
-    ensures { MatchResult result (IsComparisonOf model f.now g.now)
-        (FaultForCompare model f.now g.now) }
+    requires { FormatsDifferInOne first.now second.now difference.now }
+    ensures { MatchResult result (IsComparisonOf model first.now second.now)
+        (FaultForCompare model first.now second.now) }
 {
     if have_different_types(model, &difference.first, &difference.second) {
         return Ok(Comparison {
@@ -122,9 +132,9 @@ fn compare_lone(
     }
     match predicted_candidate(model, &difference.first, &difference.second) {
         Some(candidate_index) => {
-            Ok(compare_at(alloc, model, f, g, difference, candidate_index)?)
+            Ok(compare_at(alloc, model, first, second, difference, candidate_index)?)
         }
-        None => compare_unpredicted(alloc, model, f, g, difference),
+        None => compare_unpredicted(alloc, model, first, second, difference),
     }
 }
 
@@ -139,17 +149,17 @@ fn have_different_types(model: Model, first: &Directive, second: &Directive) -> 
 fn compare_at(
     alloc: Global,
     model: Model,
-    f: &[u8],
-    g: &[u8],
+    first: &[u8],
+    second: &[u8],
     difference: &LoneDifference,
     candidate_index: usize,
 ) -> Result<Comparison, AllocError>
-    requires lone { FormatsDifferInOne f.now g.now difference.now }
+    requires lone { FormatsDifferInOne first.now second.now difference.now }
     requires types { arg_type model difference.now.first ≡ arg_type model difference.now.second }
     requires found { AreToldApartAt model difference.now candidate_index }
-    ensures { IfOk result (IsComparisonOf model f.now g.now) }
+    ensures { IfOk result (IsComparisonOf model first.now second.now) }
 {
-    match witness_at(alloc, model, f, difference, candidate_index) {
+    match witness_at(alloc, model, first, difference, candidate_index) {
         Ok(Witness { args, renderings }) => Ok(Comparison {
             verdict: Verdict::Args(args),
             renderings,
@@ -163,21 +173,21 @@ fn compare_at(
 fn compare_unpredicted(
     alloc: Global,
     model: Model,
-    f: &[u8],
-    g: &[u8],
+    first: &[u8],
+    second: &[u8],
     difference: &LoneDifference,
 ) -> Result<Comparison, CompareFault>
-    requires lone { FormatsDifferInOne f.now g.now difference.now }
+    requires lone { FormatsDifferInOne first.now second.now difference.now }
     requires types { arg_type model difference.now.first ≡ arg_type model difference.now.second }
-    ensures { MatchResult result (IsComparisonOf model f.now g.now)
-        (FaultForCompare model f.now g.now) }
+    ensures { MatchResult result (IsComparisonOf model first.now second.now)
+        (FaultForCompare model first.now second.now) }
 {
     if print_alike(model, &difference.first, &difference.second) {
         return Ok(same_comparison());
     }
     match first_candidate_alone(alloc, model, &difference.first, &difference.second)? {
         Some(candidate_index) => {
-            Ok(compare_at(alloc, model, f, g, difference, candidate_index)?)
+            Ok(compare_at(alloc, model, first, second, difference, candidate_index)?)
         }
         None => unreachable!(),
     }
@@ -193,14 +203,19 @@ fn same_comparison() -> Comparison
 }
 
 // Compares two formats with the same types, which differ in what they print.
-fn compare_bytes(alloc: Global, model: Model, f: &[u8], g: &[u8]) -> Result<Comparison, AllocError>
-    requires apart { AreTextsSame model f.now g.now false }
-    requires types { HaveSameTypes model f.now g.now }
-    ensures { IfOk result (IsComparisonOf model f.now g.now) }
+fn compare_bytes(
+    alloc: Global,
+    model: Model,
+    first: &[u8],
+    second: &[u8],
+) -> Result<Comparison, AllocError>
+    requires apart { AreTextsSame model first.now second.now false }
+    requires types { HaveSameTypes model first.now second.now }
+    ensures { IfOk result (IsComparisonOf model first.now second.now) }
 {
-    let first = lay_out(alloc, model, f)?;
-    let second = lay_out(alloc, model, g)?;
-    match first_witness(alloc, model, &first, &second)? {
+    let first_layout = lay_out(alloc, model, first)?;
+    let second_layout = lay_out(alloc, model, second)?;
+    match first_witness(alloc, model, &first_layout, &second_layout)? {
         Some(Witness { args, renderings }) => Ok(Comparison {
             verdict: Verdict::Args(args),
             renderings,
@@ -236,7 +251,7 @@ pub enum CompareFault {
     /// The text of this side is refused.
     #[error("{1}")]
     Refused(Side, Refusal),
-    /// A growth was refused.
+    /// An allocation failed.
     #[error("out of memory")]
     Memory,
 }
@@ -254,27 +269,27 @@ impl From<AllocError> for CompareFault {
 pub fn confirms(
     alloc: Global,
     model: Model,
-    f: &[u8],
-    g: &[u8],
+    first: &[u8],
+    second: &[u8],
     args: &[Arg<'_>],
 ) -> Result<bool, AllocError>
-    ensures told { IfOk result (λ told. IsTrue told ↔ TellApart model f.now g.now args.now) }
+    ensures told { IfOk result (λ told. IsTrue told ↔ TellApart model first.now second.now args.now) }
     ensures memory { IfErr result
-        (λ _. PrintsSome model f.now args.now ⊎ PrintsSome model g.now args.now) }
+        (λ _. PrintsSome model first.now args.now ⊎ PrintsSome model second.now args.now) }
 {
-    let x = rendering_of(alloc, model, f, args)?;
-    let y = rendering_of(alloc, model, g, args)?;
-    Ok(differ(x, y))
+    let first_bytes = rendering_of(alloc, model, first, args)?;
+    let second_bytes = rendering_of(alloc, model, second, args)?;
+    Ok(differ(first_bytes, second_bytes))
 }
 
 // Whether there are two texts, and they differ.
-fn differ(x: Option<Vec<u8>>, y: Option<Vec<u8>>) -> bool
+fn differ(first: Option<Vec<u8>>, second: Option<Vec<u8>>) -> bool
     ensures { IsTrue result
-        ↔ AreUnlike (option_map (λ v. v.items) x) (option_map (λ v. v.items) y) }
+        ↔ AreUnlike (option_map (λ v. v.items) first) (option_map (λ v. v.items) second) }
 {
-    if let Some(x) = x {
-        if let Some(y) = y {
-            return x.as_slice() != y.as_slice();
+    if let Some(first) = first {
+        if let Some(second) = second {
+            return first.as_slice() != second.as_slice();
         }
     }
     false

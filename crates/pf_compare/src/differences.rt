@@ -36,16 +36,16 @@ pub(crate) enum ItemDifference {
 }
 
 /// In which items two formats differ. It takes no memory.
-pub(crate) fn item_difference(f: &[u8], g: &[u8]) -> ItemDifference
-    ensures { DifferInItems f.now g.now result }
+pub(crate) fn item_difference(first: &[u8], second: &[u8]) -> ItemDifference
+    ensures { DifferInItems first.now second.now result }
 {
-    if !diverge_in_directive(f, g) {
+    if !diverge_in_directive(first, second) {
         return ItemDifference::Unknown;
     }
     let mut found = None;
     let mut index = 0;
-    let mut second_pieces = Pieces::new(g);
-    for piece in Pieces::new(f) {
+    let mut second_pieces = Pieces::new(second);
+    for piece in Pieces::new(first) {
         match piece {
             Ok(piece) => {
                 if !next_piece_matches(&mut found, index, &piece, &mut second_pieces) {
@@ -72,10 +72,11 @@ fn item_difference_of(found: Option<LoneDifference>) -> ItemDifference
     }
 }
 
-// Whether the first bytes in which two texts differ are inside of what looks like a directive. Else
-// the texts differ in literal bytes, and needn't be read.
-fn diverge_in_directive(f: &[u8], g: &[u8]) -> bool {
-    have_similar_ends(f.last(), g.last()) && ends_in_directive(&f[..common_prefix_len(f, g)])
+// Whether the first bytes in which two texts differ are inside of what looks like a directive.
+// Otherwise the texts differ in literal bytes, and needn't be read.
+fn diverge_in_directive(first: &[u8], second: &[u8]) -> bool {
+    have_similar_ends(first.last(), second.last())
+        && ends_in_directive(&first[..common_prefix_len(first, second)])
 }
 
 // Whether two texts with these last bytes end in the same byte, or each in a letter.
@@ -90,12 +91,12 @@ fn have_similar_ends(first: Option<&u8>, second: Option<&u8>) -> bool {
 }
 
 // How many bytes two texts begin with in common.
-fn common_prefix_len(f: &[u8], g: &[u8]) -> usize
-    ensures { result ≤ length f.now }
+fn common_prefix_len(first: &[u8], second: &[u8]) -> usize
+    ensures { result ≤ length first.now }
 {
-    let most = f.len().min(g.len());
+    let most = first.len().min(second.len());
     for at in 0..most {
-        if f[at] != g[at] {
+        if first[at] != second[at] {
             return at;
         }
     }
@@ -123,9 +124,9 @@ fn next_piece_matches(
     piece: &Piece<'_>,
     second_pieces: &mut Pieces<'_>,
 ) -> bool
-    ensures { IsTrue result → (g : Text) (xs : List Item)
-        → HasFollowed second_pieces.old g xs found.old → IsIndexAfter xs index
-        → HasFollowed second_pieces.new g (xs ++ items_of piece.now) found.new }
+    ensures { IsTrue result → (t : Text) (xs : List Item)
+        → HasFollowed second_pieces.old t xs found.old → IsIndexAfter xs index
+        → HasFollowed second_pieces.new t (xs ++ items_of piece.now) found.new }
 {
     match second_pieces.next() {
         Some(next) => match next {
@@ -240,16 +241,16 @@ fn arg_count(piece: &Piece<'_>) -> usize
 
 /// The first index at which the argument types of two accepted formats differ, if they do. It takes
 /// no memory.
-pub(crate) fn first_type_difference(model: Model, f: &[u8], g: &[u8]) -> Option<u64>
-    requires first { IsAccepted f.now }
-    requires second { IsAccepted g.now }
-    ensures { (xs ys : List Item) → Reads f.now xs → Reads g.now ys
+pub(crate) fn first_type_difference(model: Model, first: &[u8], second: &[u8]) -> Option<u64>
+    requires first { IsAccepted first.now }
+    requires second { IsAccepted second.now }
+    ensures { (xs ys : List Item) → Reads first.now xs → Reads second.now ys
         → MatchOption result (types model xs ≡ types model ys)
         (DifferFirstAt (types model xs) (types model ys)) }
 {
     let mut index = 0;
-    let mut second_pieces = Pieces::new(g);
-    for piece in Pieces::new(f) {
+    let mut second_pieces = Pieces::new(second);
+    for piece in Pieces::new(first) {
         match piece {
             Ok(piece) => {
                 if let Some(wanted) = piece.arg_type(model) {
@@ -366,8 +367,8 @@ pub(crate) fn same_conv(first: Conv, second: Conv) -> bool
 }
 
 /// Whether two texts differ.
-pub(crate) fn are_unlike(x: &[u8], y: &[u8]) -> bool
-    ensures { MatchBool result (x.now ≢ y.now) (x.now ≡ y.now) }
+pub(crate) fn are_unlike(first: &[u8], second: &[u8]) -> bool
+    ensures { MatchBool result (first.now ≢ second.now) (first.now ≡ second.now) }
 {
-    x != y
+    first != second
 }

@@ -8,7 +8,7 @@ ghost use Rattle.pf_values.specs.meaning.Conversions.{is_char, is_text, is_strin
 ghost use Rattle.pf_values.specs.meaning.Printing.{field};
 ghost use Rattle.pf_values.specs.meaning.Text.{space};
 ghost use Rattle.pf_render.specs.IntegerParts.{parts_text, sign_or_prefix_text};
-ghost use Rattle.pf_compare.specs.Outlines.{HasOutlineText, IsCountedValueOf, IsOutlineOf, outline_len};
+ghost use Rattle.pf_compare.specs.Outlines.{HasOutlineText, IsCountedValueOf, IsOutlineOf};
 ghost use Rattle.pf_compare.specs.RunOutlines.{IsCharOutlineOf, IsStringOutlineOf, run_outline_len, run_outline_text};
 
 use crate::differences::{same_conv, same_length};
@@ -125,34 +125,31 @@ impl Outline {
         ensures { HasOutlineText result parts
             (λ t. (replicate before space ++ parts_text parts t) ++ replicate spaces_after space) }
     {
+        let mut outline = Outline {
+            spaces_before: before,
+            parts,
+            spaces_after,
+        };
+        // Two fields are changed: a second outline would copy all parts.
         match parts.prefix {
-            SignOrPrefix::Space => Outline {
-                spaces_before: before + 1,
-                parts: IntegerParts {
-                    prefix: SignOrPrefix::Nothing,
-                    zeros: parts.zeros,
-                    digit_count: parts.digit_count,
-                    magnitude: parts.magnitude,
-                },
-                spaces_after,
-            },
+            SignOrPrefix::Space => {
+                outline.spaces_before = before + 1;
+                outline.parts.prefix = SignOrPrefix::Nothing;
+                outline
+            }
             SignOrPrefix::Nothing
             | SignOrPrefix::Minus
             | SignOrPrefix::Plus
-            | SignOrPrefix::Letters(_, _) => Outline {
-                spaces_before: before,
-                parts,
-                spaces_after,
-            },
+            | SignOrPrefix::Letters(_, _) => outline,
         }
     }
 
-    /// How many bytes that is.
+    /// The number of spaces around the parts.
     #[inline(always)]
-    pub(crate) fn len(&self) -> usize
-        ensures { result ≡ outline_len self.now }
+    pub(crate) fn space_count(&self) -> usize
+        ensures { result ≡ self.now.spaces_before + self.now.spaces_after }
     {
-        usize::from(self.spaces_before) + self.parts.len() + usize::from(self.spaces_after)
+        usize::from(self.spaces_before) + usize::from(self.spaces_after)
     }
 }
 

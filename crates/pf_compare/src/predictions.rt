@@ -11,7 +11,7 @@ ghost use Rattle.pf_values.specs.meaning.Printing.{Prints};
 ghost use Rattle.pf_values.specs.meaning.Specification.{Specification};
 ghost use Rattle.pf_values.specs.meaning.Text.{Text};
 ghost use Rattle.pf_probes.specs.Candidate.{candidate_argument};
-ghost use Rattle.pf_render.specs.IntegerParts.{kind_digits, parts_text, sign_or_prefix_text};
+ghost use Rattle.pf_render.specs.IntegerParts.{kind_digits, parts_len, parts_text, sign_or_prefix_text};
 ghost use Rattle.pf_compare.specs.Outlines.{DoLieApart, DoTextsDiffer, IsUnderKind, PredictsDifference, outline_text};
 ghost use Rattle.pf_compare.specs.RunOutlines.{run_outline_text};
 ghost use Rattle.pf_compare.specs.Spaces.{PrintEqualIn, LeavesRoomForSpace, IsInEqualPrintRange};
@@ -245,22 +245,22 @@ fn outlines_differ(
         (DoTextsDiffer (outline_text first.now (kind_digits first_kind first.now.parts.magnitude))
         (outline_text second.now (kind_digits second_kind second.now.parts.magnitude))) }
 {
-    if first.len() != second.len() {
+    let len = first.parts.len();
+    if len != second.parts.len() {
+        return Some(true);
+    }
+    if first.space_count() != second.space_count() {
         return Some(true);
     }
     match parts_differ(&first.parts, first_kind, &second.parts, second_kind) {
         None => None,
         Some(true) => Some(true),
-        Some(false) => Some(lie_apart(
-            first.parts.len(),
-            first.spaces_before,
-            second.spaces_before,
-        )),
+        Some(false) => Some(lie_apart(len, first.spaces_before, second.spaces_before)),
     }
 }
 
-// Whether two numbers without their spaces are different bytes. A sign or prefix of one and zeros of
-// the other differ; a sign or prefix beside digits isn't told.
+// Whether two numbers of one length without their spaces are different bytes. A sign or prefix of one
+// and zeros of the other differ; a sign or prefix beside digits isn't told.
 fn parts_differ(
     first: &IntegerParts,
     first_kind: Kind,
@@ -269,13 +269,11 @@ fn parts_differ(
 ) -> Option<bool>
     requires first { IsUnderKind first_kind first.now }
     requires second { IsUnderKind second_kind second.now }
+    requires length { parts_len first.now ≡ parts_len second.now }
     ensures { IfSome result
         (DoTextsDiffer (parts_text first.now (kind_digits first_kind first.now.magnitude))
         (parts_text second.now (kind_digits second_kind second.now.magnitude))) }
 {
-    if first.len() != second.len() {
-        return Some(true);
-    }
     if have_same_prefix(first.prefix, second.prefix) {
         return Some(digits_differ(first_kind, first.magnitude, second_kind, second.magnitude));
     }

@@ -79,17 +79,17 @@ fn witness_of(
 pub(crate) fn witness_at(
     alloc: Global,
     model: Model,
-    f: &[u8],
+    first: &[u8],
     difference: &LoneDifference,
     candidate_index: usize,
 ) -> Result<Witness, AllocError>
     requires one_type { arg_type model difference.now.first ≡ arg_type model difference.now.second }
-    requires first { (xs ys : List Item) × HasItems f.now xs × DifferInOne xs ys difference.now }
+    requires first { (xs ys : List Item) × HasItems first.now xs × DifferInOne xs ys difference.now }
     requires found { AreToldApartAt model difference.now candidate_index }
     ensures { IfOk result (λ witness. (xs ys : List Item)
-        → Reads f.now xs → DifferInOne xs ys difference.now → FindsWitness model xs ys (Some witness)) }
+        → Reads first.now xs → DifferInOne xs ys difference.now → FindsWitness model xs ys (Some witness)) }
 {
-    let args = neutrals_of(alloc, model, f)?;
+    let args = neutrals_of(alloc, model, first)?;
     let probe = Probe {
         index: difference.index,
         candidate_index,
@@ -415,17 +415,17 @@ fn printed_differ(
         (ReplacementsDiffer model whole.now first.now second.now (argument_of argument.entry))
         (ReplacementsEqual model whole.now first.now second.now (argument_of argument.entry))) }
 {
-    let x = print(alloc, model, &first.directive, argument)?;
-    let y = print(alloc, model, &second.directive, argument)?;
+    let first_bytes = print(alloc, model, &first.directive, argument)?;
+    let second_bytes = print(alloc, model, &second.directive, argument)?;
     if have_same_offsets(first, second) {
-        return Ok(are_unlike(&x, &y));
+        return Ok(are_unlike(&first_bytes, &second_bytes));
     }
-    if is_unchanged(whole, first, &x) {
-        if is_unchanged(whole, second, &y) {
+    if is_unchanged(whole, first, &first_bytes) {
+        if is_unchanged(whole, second, &second_bytes) {
             return Ok(false);
         }
     }
-    replaced_differ(alloc, whole, first, second, &x, &y)
+    replaced_differ(alloc, whole, first, second, &first_bytes, &second_bytes)
 }
 
 // Whether a span holds these bytes.
@@ -443,19 +443,19 @@ fn replaced_differ(
     whole: &[u8],
     first: &DirectiveSpan,
     second: &DirectiveSpan,
-    x: &[u8],
-    y: &[u8],
+    first_bytes: &[u8],
+    second_bytes: &[u8],
 ) -> Result<bool, AllocError>
     requires first { IsSpanIn whole.now first.now }
     requires second { IsSpanIn whole.now second.now }
     ensures { IfOk result (λ told. MatchBool told
-        (replace_span whole.now first.now x.now ≢ replace_span whole.now second.now y.now)
-        (replace_span whole.now first.now x.now ≡ replace_span whole.now second.now y.now)) }
+        (replace_span whole.now first.now first_bytes.now ≢ replace_span whole.now second.now second_bytes.now)
+        (replace_span whole.now first.now first_bytes.now ≡ replace_span whole.now second.now second_bytes.now)) }
 {
     let from = first.start.min(second.start);
     let to = first.end.max(second.end);
-    let first_part = replace_span(alloc, &whole[from..to], from, first, x)?;
-    let second_part = replace_span(alloc, &whole[from..to], from, second, y)?;
+    let first_part = replace_span(alloc, &whole[from..to], from, first, first_bytes)?;
+    let second_part = replace_span(alloc, &whole[from..to], from, second, second_bytes)?;
     Ok(are_unlike(&first_part, &second_part))
 }
 

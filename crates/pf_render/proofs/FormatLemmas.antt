@@ -1,5 +1,35 @@
 -- What a format prints, and the pieces of it that are written.
-use Rattle.std.proofs.Common.{◌≡◌, ℕ, suc, ◌+◌, ◌*◌, ◌^◌, ◌<◌, ◌≤◌, true, List, [], ◌∷◌, ◌++◌, length, map, drop, sym, ap, ◌∙◌, subst, arith, Some, None, Ok, Err, Result, get_or, drop-cons, refl}
+use Rattle.std.proofs.Common.{
+  ◌≡◌,
+  ℕ,
+  suc,
+  ◌+◌,
+  ◌*◌,
+  ◌^◌,
+  ◌<◌,
+  ◌≤◌,
+  true,
+  List,
+  [],
+  ◌∷◌,
+  ◌++◌,
+  length,
+  map,
+  drop,
+  sym,
+  ap,
+  ◌∙◌,
+  subst,
+  arith,
+  Some,
+  None,
+  Ok,
+  Err,
+  Result,
+  get_or,
+  drop-cons,
+  refl,
+}
 use Rattle.std.proofs.lemmas.List.{append-nil, append_assoc, append_cancel_left, length-append}
 use Rattle.pf_values.specs.declared.arguments.Arg.{Arg}
 use Rattle.pf_values.specs.declared.counted.Counted.{Counted}
@@ -23,7 +53,7 @@ use Rattle.pf_render.specs.Matching.{TakesArguments}
 use Rattle.pf_render.specs.Progressing.{WritesOn, arity, next_arguments}
 use Rattle.pf_render.specs.Rendering.{Renders, RendersTo}
 use Rattle.pf_render.proofs.ItemLemmas.{Begin, front_items, length_items}
-use Rattle.pf_render.proofs.PrintingLemmas.{PrintsAll-exists, PrintsAll-unique}
+use Rattle.pf_render.proofs.PrintingLemmas.{PrintsAll-exists, same_printed}
 use Rattle.pf_render.proofs.ProgressLemmas.{IsPrinting, all_written, arguments, nothing_yet, wrote_on}
 
 -- an accepted text takes these arguments
@@ -39,7 +69,7 @@ module _ (model : Model) (t : Text) (args : List Arg) (h : TakesArguments model 
     renders_items out prints =
         let here = subst (λ i. PrintsAll model i (arguments args) out) same_items prints in
         let typed = subst (λ i. HasTypes model (arguments args) (types model i)) same_items typed_items in
-        record { takes = h.takes; typed = h.typed; prints = here; only = λ other g. PrintsAll-unique model h.takes.items (arguments args) out other typed here g }
+        record { takes = h.takes; typed = h.typed; prints = here; only = λ other g. same_printed model h.takes.items (arguments args) other out typed g here }
 
   -- it prints something
   pub renders : (out : Text) × Renders model t args out
@@ -57,7 +87,8 @@ module _ (model : Model) (t : Text) (args : List Arg) (h : TakesArguments model 
     renders_parts out prints = renders_items k.0 k.1 out (subst (λ i. PrintsAll model i (arguments args) out) (k.2.same whole) prints)
 
 -- the part that comes next, and those after it
-pub next_part : (parts : List FormatPart) (n : ℕ) (part : FormatPart) → n < length parts → part ≡ get_or parts n part → items_of_parts (drop n parts) ≡ items_of_part part ++ items_of_parts (drop (n + 1) parts)
+pub next_part : (parts : List FormatPart) (n : ℕ) (part : FormatPart) → n < length parts → part ≡ get_or parts n part
+    → items_of_parts (drop n parts) ≡ items_of_part part ++ items_of_parts (drop (n + 1) parts)
 next_part parts n part less e =
     let one_more : suc n ≡ n + 1 = omega arith in
     ap items_of_parts (drop-cons parts n part less ∙ ap (λ k. get_or parts n part ∷ drop k parts) one_more ∙ ap (λ p. p ∷ drop (n + 1) parts) (sym e))
@@ -84,7 +115,8 @@ module _ (model : Model) {W : Type 0} (contents : W → Known) (old : Counted W)
     pub printing : IsPrinting model contents old args out now progress others
 
 module _ (model : Model) {W : Type 0} {contents : W → Known} {old : Counted W} {t : Text} {args : List Arg} where
-  pub under_way : (pieces : Pieces) (progress : Progress) → TakesArguments model t args → HasGiven pieces t [] [] → (progress.taken ≡ 0) × (progress.written ≡ 0) → IsUnderWay model contents old t args old pieces progress
+  pub under_way : (pieces : Pieces) (progress : Progress) → TakesArguments model t args → HasGiven pieces t [] []
+      → (progress.taken ≡ 0) × (progress.written ≡ 0) → IsUnderWay model contents old t args old pieces progress
   under_way pieces progress h g none =
       let r = renders model t args h in
       record {
@@ -101,7 +133,7 @@ module _ (model : Model) {W : Type 0} {contents : W → Known} {old : Counted W}
       }
 
   module _ {now : Counted W} {before : Pieces} {progress : Progress} (h : IsUnderWay model contents old t args now before progress) where
-    -- so many bytes are few enough to be counted
+    -- the bytes written so far are few enough to be counted
     pub counts : progress.written + 2 ^ 64 ≤ 2 ^ 128
     counts = omega (arith, h.few, length_items h.read h.items h.given.reads, h.given.scanned.limit)
 
@@ -136,9 +168,12 @@ module _ (model : Model) {W : Type 0} {contents : W → Known} {old : Counted W}
         later = all_items.0
 
         pub others_are : h.others ≡ items_of_part part ++ later
-        others_are = append_cancel_left h.items h.others (items_of piece ++ later) (sym h.whole ∙ all_items.1 ∙ append_assoc h.items (items_of piece) later) ∙ ap (λ i. i ++ later) (sym same)
+        others_are = append_cancel_left h.items h.others (items_of piece ++ later) (sym h.whole ∙ all_items.1 ∙ append_assoc h.items (items_of piece) later)
+            ∙ ap (λ i. i ++ later) (sym same)
 
-        pub piece_written : (after : Progress) (writer : Counted W) (text : Text) → PrintsAll model (items_of_part part) (next_arguments model progress part args) text → WritesOn contents now writer progress after text (arity model part)
+        pub piece_written : (after : Progress) (writer : Counted W) (text : Text)
+            → PrintsAll model (items_of_part part) (next_arguments model progress part args) text
+            → WritesOn contents now writer progress after text (arity model part)
             → IsUnderWay model contents old t args writer new after
         piece_written after writer text prints w =
             record {

@@ -2,8 +2,8 @@ pub mod DigitLemmas
 mod PartLemmas
 pub mod IntegerLemmas
 mod TextLemmas
-mod PrintingLemmas
-mod ItemLemmas
-mod MatchingLemmas
+pub mod PrintingLemmas
+pub mod ItemLemmas
+pub mod MatchingLemmas
 mod ProgressLemmas
 mod FormatLemmas

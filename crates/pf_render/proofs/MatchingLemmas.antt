@@ -1,5 +1,33 @@
 -- The argument check after one more type, and what follows at the end.
-use Rattle.std.proofs.Common.{◌≡◌, ℕ, zero, suc, ◌+◌, ◌<◌, ◌≤◌, List, [], ◌∷◌, ◌++◌, length, map, take, refl, sym, ap, ◌∙◌, subst, arith, inl, inr, Ok, Err, None, Result, Some}
+use Rattle.std.proofs.Common.{
+  ◌≡◌,
+  ℕ,
+  zero,
+  suc,
+  ◌+◌,
+  ◌<◌,
+  ◌≤◌,
+  List,
+  [],
+  ◌∷◌,
+  ◌++◌,
+  length,
+  map,
+  take,
+  refl,
+  sym,
+  ap,
+  ◌∙◌,
+  subst,
+  arith,
+  inl,
+  inr,
+  Ok,
+  Err,
+  None,
+  Result,
+  Some,
+}
 use Rattle.std.specs.Prelude.{OnOk, slice_get}
 use Rattle.std.specs.List.{AllZip}
 use Rattle.std.proofs.lemmas.Bool.{cases_lt}
@@ -45,7 +73,8 @@ typed_matched model (a ∷ args) [] h = absurd h
 typed_matched model (a ∷ args) (type ∷ types) h = (h.0.typed, typed_matched model args types h.1)
 
 -- one more argument is of the type that comes next
-match_more : (model : Model) (args : List Arg) (types : List ArgType) (type : ArgType) (arg : Arg) → Match model (take (length types) args) types → slice_get args (length types) ≡ Some arg → IsOfType model arg type
+match_more : (model : Model) (args : List Arg) (types : List ArgType) (type : ArgType) (arg : Arg) → Match model (take (length types) args) types
+    → slice_get args (length types) ≡ Some arg → IsOfType model arg type
     → Match model (take (length (types ++ type ∷ [])) args) (types ++ type ∷ [])
 match_more model [] [] type arg h e g = cc
 match_more model (a ∷ args) [] type arg h e g = let same : arg ≡ a = cc in (subst (λ x. IsOfType model x type) same g, tt)
@@ -66,7 +95,8 @@ abbrev IsWrongAt : Model → List Arg → List ArgType → ℕ → Type 0
 IsWrongAt model args types index =
     (type : ArgType) → slice_get types index ≡ Some type → IsOfTypeAt model args index type → ⊥
 
-wrong_still : (model : Model) (args : List Arg) (types : List ArgType) (wanted : ArgType) (matched count : ℕ) → IsWrongAt model args types matched → count ≡ length types → matched ≤ length types
+wrong_still : (model : Model) (args : List Arg) (types : List ArgType) (wanted : ArgType) (matched count : ℕ) → IsWrongAt model args types matched
+    → count ≡ length types → matched ≤ length types
     → (matched ≡ count → IsOfTypeAt model args matched wanted → ⊥) → IsWrongAt model args (types ++ wanted ∷ []) matched
 wrong_still model args types wanted matched count h e within other = elim (cases_lt matched (length types)) [
   | inl less ↦ λ type is. h type (sym (get_before types wanted matched less) ∙ is)
@@ -77,7 +107,7 @@ wrong_still model args types wanted matched count h e within other = elim (cases
       other (here ∙ sym e) (subst (IsOfTypeAt model args matched) (sym last) found)
 ]
 
-get_some : {A : Type 0} (xs : List A) (i : ℕ) → i < length xs → (x : A) × (slice_get xs i ≡ Some x)
+pub get_some : {A : Type 0} (xs : List A) (i : ℕ) → i < length xs → (x : A) × (slice_get xs i ≡ Some x)
 get_some [] i h = absurd (omega arith)
 get_some (x ∷ xs) zero h = (x, refl)
 get_some (x ∷ xs) (suc i) h = get_some xs i (omega arith)
@@ -94,22 +124,27 @@ no_types model (pieces.Directive d) other = absurd (other d refl)
 
 module _ (model : Model) (args : List Arg) (types : List ArgType) (type : ArgType) (matched : ℕ) where
   -- the argument that comes next is of the type that comes next
-  pub checked_matched : (wanted : ℕ) → HasChecked model (record { wanted = wanted; matched = matched }) args types → matched ≡ wanted → IsOfTypeAt model args matched type
+  pub checked_matched : (wanted : ℕ) → HasChecked model (record { wanted = wanted; matched = matched }) args types → matched ≡ wanted
+      → IsOfTypeAt model args matched type
       → HasChecked model (record { wanted = wanted + 1; matched = wanted + 1 }) args (types ++ type ∷ [])
   checked_matched wanted h e g =
       let all : matched ≡ length types = e ∙ h.wanted_is in
       let count : wanted + 1 ≡ length (types ++ type ∷ []) = omega (arith, h.wanted_is, length_push types type) in
-      let front : Match model (take (length types) args) types = subst (λ ts. Match model (take (length types) args) ts) (take_all (length types) types (omega arith)) (subst (λ n. Match model (take n args) (take n types)) all h.matching) in
+      let front : Match model (take (length types) args) types = subst (λ ts. Match model (take (length types) args) ts)
+      (take_all (length types) types (omega arith)) (subst (λ n. Match model (take n args) (take n types)) all h.matching) in
       let more = match_more model args types type g.0 front (subst (λ n. slice_get args n ≡ Some g.0) all g.1) g.2 in
       record {
         wanted_is = count;
         within = omega arith;
-        matching = subst (λ n. Match model (take n args) (take n (types ++ type ∷ []))) (sym count) (subst (λ ts. Match model (take (length (types ++ type ∷ [])) args) ts) (sym (take_all (length (types ++ type ∷ [])) (types ++ type ∷ []) (omega arith))) more);
+        matching = subst (λ n. Match model (take n args) (take n (types ++ type ∷ []))) (sym count)
+            (subst (λ ts. Match model (take (length (types ++ type ∷ [])) args) ts)
+            (sym (take_all (length (types ++ type ∷ [])) (types ++ type ∷ []) (omega arith))) more);
         wrong = λ other is. absurd (get_none (types ++ type ∷ []) other (wanted + 1) (omega arith) is);
       }
 
   -- it is not, or one before it was not
-  pub checked_unmatched : (wanted : ℕ) → HasChecked model (record { wanted = wanted; matched = matched }) args types → (matched ≡ wanted → IsOfTypeAt model args matched type → ⊥)
+  pub checked_unmatched : (wanted : ℕ) → HasChecked model (record { wanted = wanted; matched = matched }) args types
+      → (matched ≡ wanted → IsOfTypeAt model args matched type → ⊥)
       → HasChecked model (record { wanted = wanted + 1; matched = matched }) args (types ++ type ∷ [])
   checked_unmatched wanted h other =
       record {
@@ -119,8 +154,9 @@ module _ (model : Model) (args : List Arg) (types : List ArgType) (type : ArgTyp
         wrong = wrong_still model args types type matched wanted h.wrong h.wanted_is h.within other;
       }
 
--- what so many arguments are, where the tally is of all types
-module _ (model : Model) (check : ArgumentCheck) (t : Text) (args : List Arg) (types : List ArgType) (h : HasChecked model check args types) (takes : signatures.TakesTypes model t types) (same : check.wanted ≡ length args) where
+-- what `check.wanted` arguments are, once every type is checked
+module _ (model : Model) (check : ArgumentCheck) (t : Text) (args : List Arg) (types : List ArgType) (h : HasChecked model check args types)
+    (takes : signatures.TakesTypes model t types) (same : check.wanted ≡ length args) where
   pub wrong_type : (check.matched ≡ check.wanted → ⊥) → HasWrongType model t args check.matched
   wrong_type less =
       let arg = get_some args check.matched (omega (arith, h.within, h.wanted_is)) in
@@ -161,7 +197,8 @@ pub record IsChecked (model : Model) (pieces : Pieces) (t : Text) (args : List A
   pub keeps : CachesItems cache found.items
 
 -- no piece was given yet
-pub none_checked : (model : Model) (pieces : Pieces) (t : Text) (args : List Arg) (cache : PieceCache) → HasGiven pieces t [] [] → CachesItems cache [] → IsChecked model pieces t args (record { wanted = 0; matched = 0 }) cache
+pub none_checked : (model : Model) (pieces : Pieces) (t : Text) (args : List Arg) (cache : PieceCache) → HasGiven pieces t [] [] → CachesItems cache []
+    → IsChecked model pieces t args (record { wanted = 0; matched = 0 }) cache
 none_checked model pieces t args cache given keeps =
     record {
       types = [];
@@ -170,18 +207,28 @@ none_checked model pieces t args cache given keeps =
       keeps = keeps;
     }
 
-module _ (model : Model) {before : Pieces} {t : Text} {args : List Arg} {check : ArgumentCheck} {cache : PieceCache} (h : IsChecked model before t args check cache) where
+module _ (model : Model) {before : Pieces} {t : Text} {args : List Arg} {check : ArgumentCheck} {cache : PieceCache}
+    (h : IsChecked model before t args check cache) where
   -- a text has few directives
   pub few_found : length h.types ≤ MAX_TEXT_LEN
-  few_found = let found = h.found in omega (arith, ap length found.types_are, length_types model found.items, length_items found.read found.items found.given.reads, found.given.scanned.limit)
+  few_found = let found = h.found in omega (
+    arith,
+    ap length found.types_are,
+    length_types model found.items,
+    length_items found.read found.items
+        found.given.reads,
+    found.given.scanned.limit,
+  )
 
   pub all_checked : {new : Pieces} → NextReturns before None new → signatures.TakesTypes model t h.types × CachesText cache t
   all_checked {new} steps =
       let end = steps.next t h.found.read h.found.items h.found.given in
       (all_found model before new t h.types h.found steps, (h.found.items, end.reads, h.keeps))
 
-  module _ {new : Pieces} {r : Result Piece Refusal} (steps : NextReturns before (Some r) new) {piece : Piece} (is : r ≡ Ok piece) (after : ArgumentCheck) (more : PieceCache) (keeps : CachesItems more (h.found.items ++ items_of piece)) where
-    piece_checked : (wanted : List ArgType) → wanted ≡ types model (items_of piece) → HasChecked model after args (h.types ++ wanted) → IsChecked model new t args after more
+  module _ {new : Pieces} {r : Result Piece Refusal} (steps : NextReturns before (Some r) new) {piece : Piece} (is : r ≡ Ok piece) (after : ArgumentCheck)
+      (more : PieceCache) (keeps : CachesItems more (h.found.items ++ items_of piece)) where
+    piece_checked : (wanted : List ArgType) → wanted ≡ types model (items_of piece) → HasChecked model after args (h.types ++ wanted)
+        → IsChecked model new t args after more
     piece_checked wanted same checked =
         let found = h.found in
         let g = more_given model before new t h.types found r steps piece is in
@@ -191,13 +238,15 @@ module _ (model : Model) {before : Pieces} {t : Text} {args : List Arg} {check :
             read = found.read ++ g.more;
             items = found.items ++ items_of piece;
             given = g.given;
-            types_are = ap (λ f. f ++ wanted) found.types_are ∙ ap (λ m. types model found.items ++ m) same ∙ sym (types-append model found.items (items_of piece));
+            types_are = ap (λ f. f ++ wanted) found.types_are ∙ ap (λ m. types model found.items ++ m) same
+                ∙ sym (types-append model found.items (items_of piece));
           };
           checked = checked;
           keeps = keeps;
         }
 
-    pub directive_checked : (d : Specification) (type : ArgType) → piece ≡ pieces.Directive d → type ≡ arg_type model d → HasChecked model after args (h.types ++ type ∷ []) → IsChecked model new t args after more
+    pub directive_checked : (d : Specification) (type : ArgType) → piece ≡ pieces.Directive d → type ≡ arg_type model d
+        → HasChecked model after args (h.types ++ type ∷ []) → IsChecked model new t args after more
     directive_checked d type e same checked = piece_checked (type ∷ []) (ap (λ x. x ∷ []) same ∙ sym (ap (λ p. types model (items_of p)) e)) checked
 
     pub other_checked : ((d : Specification) → piece ≡ pieces.Directive d → ⊥) → HasChecked model after args h.types → IsChecked model new t args after more

@@ -6,17 +6,21 @@ use Rattle.pf_values.specs.meaning.Arguments.{Argument, HasTypes}
 use Rattle.pf_values.specs.meaning.Items.{Item, Byte, Directive, types}
 use Rattle.pf_values.specs.meaning.Printing.{PrintsAll}
 use Rattle.pf_values.specs.meaning.Text.{Text}
-use Rattle.pf_values.proofs.Alike.{all_printed, all_printed-is, PrintsAll-unique as only_printed}
+use Rattle.pf_values.proofs.Alike.{all_printed, all_printed-is, PrintsAll-unique}
 
-pub PrintsAll-exists : (model : Model) (items : List Item) (args : List Argument) → HasTypes model args (types model items) → (out : Text) × PrintsAll model items args out
+pub PrintsAll-exists : (model : Model) (items : List Item) (args : List Argument) → HasTypes model args (types model items)
+    → (out : Text) × PrintsAll model items args out
 PrintsAll-exists model items args h = (all_printed model items args, all_printed-is model items args h)
 
-pub PrintsAll-unique : (model : Model) (items : List Item) (args : List Argument) (out other : Text) → HasTypes model args (types model items) → PrintsAll model items args out → PrintsAll model items args other → other ≡ out
-PrintsAll-unique model items args out other h f g = only_printed model items args other h g ∙ sym (only_printed model items args out h f)
+pub same_printed : (model : Model) (items : List Item) (args : List Argument) (x y : Text) → HasTypes model args (types model items)
+    → PrintsAll model items args x
+    → PrintsAll model items args y → x ≡ y
+same_printed model items args x y typed f g = PrintsAll-unique model items args x typed f ∙ sym (PrintsAll-unique model items args y typed g)
 
 -- items that come before others take the first arguments, and print first
 pub PrintsAll-split : (model : Model) (items more : List Item) (args : List Argument) (out : Text) → PrintsAll model (items ++ more) args out
-    → (first rest : Text) × PrintsAll model items (take (length (types model items)) args) first × PrintsAll model more (drop (length (types model items)) args) rest × (out ≡ first ++ rest)
+    → (first rest : Text) × PrintsAll model items (take (length (types model items)) args) first
+    × PrintsAll model more (drop (length (types model items)) args) rest × (out ≡ first ++ rest)
 PrintsAll-split model [] more args out h = ([], out, refl, h, refl)
 PrintsAll-split model (Byte byte ∷ items) more args out h =
     let r = PrintsAll-split model items more args h.0 h.1 in
@@ -33,7 +37,8 @@ HasTypes-split model (type ∷ first) rest [] h = absurd h
 HasTypes-split model (type ∷ first) rest (a ∷ args) h = let r = HasTypes-split model first rest args h.1 in ((h.0, r.0), r.1, omega (arith, r.2))
 
 -- literal bytes print themselves, and take no argument
-pub PrintsAll-bytes : (model : Model) (bytes : Text) (args : List Argument) → HasTypes model args (types model (map Byte bytes)) → PrintsAll model (map Byte bytes) args bytes
+pub PrintsAll-bytes : (model : Model) (bytes : Text) (args : List Argument) → HasTypes model args (types model (map Byte bytes))
+    → PrintsAll model (map Byte bytes) args bytes
 PrintsAll-bytes model [] [] h = refl
 PrintsAll-bytes model [] (a ∷ args) h = absurd h
 PrintsAll-bytes model (byte ∷ bytes) args h = (bytes, PrintsAll-bytes model bytes args h, refl)

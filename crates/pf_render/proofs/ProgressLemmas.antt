@@ -1,5 +1,28 @@
 -- Parts of a format that are written, one after another.
-use Rattle.std.proofs.Common.{◌≡◌, ◌+◌, ◌<◌, ◌≤◌, List, [], ◌∷◌, ◌++◌, length, map, take, drop, refl, sym, ap, ◌∙◌, subst, arith, Some, None, get_or, append_assoc}
+use Rattle.std.proofs.Common.{
+  ◌≡◌,
+  ◌+◌,
+  ◌<◌,
+  ◌≤◌,
+  List,
+  [],
+  ◌∷◌,
+  ◌++◌,
+  length,
+  map,
+  take,
+  drop,
+  refl,
+  sym,
+  ap,
+  ◌∙◌,
+  subst,
+  arith,
+  Some,
+  None,
+  get_or,
+  append_assoc,
+}
 use Rattle.std.proofs.lemmas.List.{append-nil, length-append, length-drop, length-map, drop-drop, drop-map, take-map}
 use Rattle.std.proofs.KnownBytes.{Appends-nil, Appends-trans}
 use Rattle.pf_values.specs.declared.arguments.Arg.{Arg}
@@ -19,12 +42,13 @@ use Rattle.pf_render.specs.declared.piece_cache.FormatPart.{FormatPart}
 use Rattle.pf_render.specs.declared.progress.Progress.{Progress}
 use Rattle.pf_render.specs.Caching.{directive_or_bytes, items_of_part}
 use Rattle.pf_render.specs.Progressing.{WritesOn, WritesPart, arity, next_arguments}
-use Rattle.pf_render.proofs.PrintingLemmas.{HasTypes-split, PrintsAll-bytes, PrintsAll-none, PrintsAll-split, PrintsAll-unique}
+use Rattle.pf_render.proofs.PrintingLemmas.{HasTypes-split, PrintsAll-bytes, PrintsAll-none, PrintsAll-split, same_printed}
 
 abbrev pub arguments : List Arg → List Argument
 arguments args = map argument_of args
 
-one_printed : (model : Model) (s : Specification) (args : List Arg) (first : Arg) (out : Text) → first ≡ get_or args 0 first → HasTypes model (arguments args) (types model (Directive s ∷ [])) → Prints model s (argument_of first) out
+one_printed : (model : Model) (s : Specification) (args : List Arg) (first : Arg) (out : Text) → first ≡ get_or args 0 first
+    → HasTypes model (arguments args) (types model (Directive s ∷ [])) → Prints model s (argument_of first) out
     → PrintsAll model (Directive s ∷ []) (arguments args) out
 one_printed model s [] first out e h g = absurd h
 one_printed model s (a ∷ []) first out e h g = (out, [], subst (λ x. Prints model s (argument_of x) out) e g, refl, sym (append-nil out))
@@ -34,11 +58,15 @@ one_printed model s (a ∷ (b ∷ args)) first out e h g = absurd h.1
 module _ (model : Model) (part : FormatPart) (own : List Arg) (typed : HasTypes model (arguments own) (types model (items_of_part part))) where
   pub bytes_printed : part.directive ≡ None → PrintsAll model (items_of_part part) (arguments own) part.literal.now
   bytes_printed e =
-      subst (λ d. HasTypes model (arguments own) (types model (directive_or_bytes d part.literal.now)) → PrintsAll model (directive_or_bytes d part.literal.now) (arguments own) part.literal.now) (sym e) (PrintsAll-bytes model part.literal.now (arguments own)) typed
+      subst (λ d. HasTypes model (arguments own) (types model (directive_or_bytes d part.literal.now))
+      → PrintsAll model (directive_or_bytes d part.literal.now) (arguments own) part.literal.now) (sym e)
+      (PrintsAll-bytes model part.literal.now (arguments own)) typed
 
-  pub directive_printed : (s : Specification) (first : Arg) (out : Text) → part.directive ≡ Some s → first ≡ get_or own 0 first → Prints model s (argument_of first) out → PrintsAll model (items_of_part part) (arguments own) out
+  pub directive_printed : (s : Specification) (first : Arg) (out : Text) → part.directive ≡ Some s → first ≡ get_or own 0 first
+      → Prints model s (argument_of first) out → PrintsAll model (items_of_part part) (arguments own) out
   directive_printed s first out e same h =
-      subst (λ d. HasTypes model (arguments own) (types model (directive_or_bytes d part.literal.now)) → PrintsAll model (directive_or_bytes d part.literal.now) (arguments own) out) (sym e) (λ t. one_printed model s own first out same t h) typed
+      subst (λ d. HasTypes model (arguments own) (types model (directive_or_bytes d part.literal.now))
+      → PrintsAll model (directive_or_bytes d part.literal.now) (arguments own) out) (sym e) (λ t. one_printed model s own first out same t h) typed
 
 -- The first items were written, for the first arguments. What all of them print is that, and what the others print.
 module _ (model : Model) {W : Type 0} (contents : W → Known) (old : Counted W) (args : List Arg) (out : Text) where
@@ -53,7 +81,8 @@ module _ (model : Model) {W : Type 0} (contents : W → Known) (old : Counted W)
     pub wrote : WritesAll contents old now front
 
 module _ (model : Model) {W : Type 0} {contents : W → Known} {old : Counted W} {args : List Arg} {out : Text} where
-  pub nothing_yet : (progress : Progress) (items : List Item) → (progress.taken ≡ 0) × (progress.written ≡ 0) → HasTypes model (arguments args) (types model items) → PrintsAll model items (arguments args) out
+  pub nothing_yet : (progress : Progress) (items : List Item) → (progress.taken ≡ 0) × (progress.written ≡ 0)
+      → HasTypes model (arguments args) (types model items) → PrintsAll model items (arguments args) out
       → IsPrinting model contents old args out old progress items
   nothing_yet progress items e typed prints =
       record {
@@ -78,29 +107,35 @@ module _ (model : Model) {W : Type 0} {contents : W → Known} {old : Counted W}
 
     -- one more part is to be written
     module _ (part : FormatPart) (later : List Item) (others_are : others ≡ items_of_part part ++ later) where
-      types_split : HasTypes model (take (arity model part) left) (types model (items_of_part part)) × HasTypes model (drop (arity model part) left) (types model later) × (arity model part ≤ length left)
-      types_split = HasTypes-split model (types model (items_of_part part)) (types model later) left (subst (HasTypes model left) (ap (types model) others_are ∙ types-append model (items_of_part part) later) h.typed)
+      types_split : HasTypes model (take (arity model part) left) (types model (items_of_part part))
+          × HasTypes model (drop (arity model part) left) (types model later) × (arity model part ≤ length left)
+      types_split = HasTypes-split model (types model (items_of_part part)) (types model later) left
+          (subst (HasTypes model left) (ap (types model) others_are ∙ types-append model (items_of_part part) later) h.typed)
 
       pub next_within : progress.taken + arity model part ≤ length args
       next_within = omega (arith, types_split.2, length-drop progress.taken (arguments args), length-map args argument_of, h.within)
 
       own_are : next_arguments model progress part args ≡ take (arity model part) left
-      own_are = sym (take-map argument_of (arity model part) (drop progress.taken args)) ∙ ap (take (arity model part)) (sym (drop-map argument_of progress.taken args))
+      own_are = sym (take-map argument_of (arity model part) (drop progress.taken args))
+          ∙ ap (take (arity model part)) (sym (drop-map argument_of progress.taken args))
 
       pub next_typed : HasTypes model (next_arguments model progress part args) (types model (items_of_part part))
       next_typed = subst (λ a. HasTypes model a (types model (items_of_part part))) (sym own_are) types_split.0
 
       -- what it prints
-      module _ (new : Counted W) (after : Progress) (text : Text) (prints : PrintsAll model (items_of_part part) (next_arguments model progress part args) text) where
+      module _ (new : Counted W) (after : Progress) (text : Text) (prints : PrintsAll model (items_of_part part)
+          (next_arguments model progress part args) text) where
         prints_split : (rest : Text) × PrintsAll model later (drop (arity model part) left) rest × (h.back ≡ text ++ rest)
         prints_split =
             let parts = PrintsAll-split model (items_of_part part) later left h.back (subst (λ i. PrintsAll model i left h.back) others_are h.prints) in
-            let same : parts.0 ≡ text = PrintsAll-unique model (items_of_part part) (next_arguments model progress part args) text parts.0 next_typed prints (subst (λ a. PrintsAll model (items_of_part part) a parts.0) (sym own_are) parts.2) in
+            let same : parts.0 ≡ text = same_printed model (items_of_part part) (next_arguments model progress part args) parts.0 text next_typed
+            (subst (λ a. PrintsAll model (items_of_part part) a parts.0) (sym own_are) parts.2) prints in
             (parts.1, parts.3, parts.4 ∙ ap (λ u. u ++ parts.1) same)
 
         pub wrote_on : WritesOn contents now new progress after text (arity model part) → IsPrinting model contents old args out new after later
         wrote_on w =
-            let behind : drop (arity model part) left ≡ drop after.taken (arguments args) = drop-drop (arity model part) progress.taken (arguments args) ∙ ap (λ n. drop n (arguments args)) (sym w.taken) in
+            let behind : drop (arity model part) left ≡ drop after.taken (arguments args) = drop-drop (arity model part) progress.taken (arguments args)
+            ∙ ap (λ n. drop n (arguments args)) (sym w.taken) in
             record {
               typed = subst (λ a. HasTypes model a (types model later)) behind types_split.1;
               within = omega (arith, next_within, w.taken);
@@ -116,10 +151,12 @@ module _ (model : Model) {W : Type 0} {contents : W → Known} {old : Counted W}
             }
 
         -- only its first bytes went out
-        pub wrote_part : (fault : WriteFault) → WritesPart contents now new progress after text fault → WritesFirst contents old new out fault.written × (fault.written < length out)
+        pub wrote_part : (fault : WriteFault) → WritesPart contents now new progress after text fault
+            → WritesFirst contents old new out fault.written × (fault.written < length out)
         wrote_part fault w =
             let all : out ≡ h.front ++ (text ++ prints_split.0) = h.split ∙ ap (λ b. h.front ++ b) prints_split.2 in
             let count : length h.front + w.count ≡ fault.written = omega (arith, h.written, w.written) in (
-              subst (WritesFirst contents old new out) count (subst (λ u. WritesFirst contents old new u (length h.front + w.count)) (sym all) (WritesFirst-more contents old now new h.front text prints_split.0 w.count h.wrote w.wrote)),
+              subst (WritesFirst contents old new out) count (subst (λ u. WritesFirst contents old new u (length h.front + w.count)) (sym all)
+                  (WritesFirst-more contents old now new h.front text prints_split.0 w.count h.wrote w.wrote)),
               omega (arith, count, w.less, ap length all, length-append h.front (text ++ prints_split.0), length-append text prints_split.0),
             )

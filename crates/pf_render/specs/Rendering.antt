@@ -29,7 +29,7 @@ pub record Renders (model : Model) (t : Text) (args : List Arg) (out : Text) : T
   pub prints : PrintsAll model takes.items (map argument_of args) out
   pub only : (other : Text) → PrintsAll model takes.items (map argument_of args) other → other ≡ out
 
--- the same, and of what is printed this holds
+-- an accepted text prints a text with this property
 abbrev pub RendersTo : Model → Text → List Arg → (Text → Type 0) → Type 0
 RendersTo model t args IsLeft = (out : Text) × Renders model t args out × IsLeft out
 
@@ -43,10 +43,10 @@ pub record HasWrongCount (model : Model) (t : Text) (args : List Arg)
   pub given_is : given ≡ length args
   pub differ : wanted ≢ given
 
--- two lists are the same before this place, and not there
-pub record DifferFirstAt {A : Type 0} (xs ys : List A) (place : ℕ) : Type 0 where
-  pub same : take place xs ≡ take place ys
-  pub differ : slice_get xs place ≢ slice_get ys place
+-- two lists are equal before this index, and differ at it
+pub record DifferFirstAt {A : Type 0} (xs ys : List A) (index : ℕ) : Type 0 where
+  pub same : take index xs ≡ take index ys
+  pub differ : slice_get xs index ≢ slice_get ys index
 
 -- an accepted text takes as many arguments, and this is the first one that is not of the type
 -- wanted there (C11 7.21.6.1 p9)
@@ -85,7 +85,7 @@ module _ (model : Model) {W : Type 0} (contents : W → Known) (old new : Counte
   RendersInto (Ok done) = RendersTo model t args (λ out. WritesAll contents old new out)
   RendersInto (Err fault) = StopsWith fault
 
--- the same of a call that gives what is printed; where that is nothing, it takes no memory
+-- why a call doesn't return what is printed; it asks for memory only if something is printed
 abbrev pub FaultForRenderVec : Model → Text → List Arg → RenderVecFault → Type 0
 FaultForRenderVec model t args (vec_faults.Refused refusal) =
     FaultForRender model t args (faults.Refused refusal)
@@ -95,7 +95,7 @@ FaultForRenderVec model t args (vec_faults.WrongType index) =
     FaultForRender model t args (faults.WrongType index)
 FaultForRenderVec model t args vec_faults.Memory = RendersTo model t args (λ out. out ≢ [])
 
--- the fault of a call that renders into memory: there a write fails only where a growth is refused
+-- the fault of a call that renders into memory: there a write fails only if an allocation does
 abbrev pub memory_fault : RenderFault → RenderVecFault
 memory_fault (faults.Refused refusal) = vec_faults.Refused refusal
 memory_fault (faults.WrongCount wanted given) = vec_faults.WrongCount wanted given

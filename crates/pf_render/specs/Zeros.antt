@@ -6,12 +6,12 @@ use Rattle.pf_values.specs.meaning.Flags.{has}
 use Rattle.pf_values.specs.Directives.{effective_precision}
 use Rattle.pf_values.specs.meaning.Specification.{Specification}
 
--- the fewest digits that are printed of a number with so many; those of an octal number under `#`
--- begin with one 0 more (C11 7.21.6.1 p6)
+-- the fewest digits that are printed of a number with `count` digits; those of an octal number under
+-- `#` begin with one 0 more (C11 7.21.6.1 p6)
 abbrev pub fewest_digits : Specification → ℕ → ℕ
 fewest_digits s count = if is_octal s.conv && has s.flags Alt then count + 1 else count
 
--- how many zeros come before so many digits, beside a sign or prefix of so many bytes (C11 7.21.6.1
+-- how many zeros come before `count` digits, after a sign or prefix of `front` bytes (C11 7.21.6.1
 -- p6, p8)
 abbrev pub zeros_for : Specification → ℕ → ℕ → ℕ
 zeros_for s front count =

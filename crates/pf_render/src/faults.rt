@@ -73,7 +73,7 @@ pub enum RenderVecFault {
     /// the range of its type.
     #[error("argument {0} has the wrong type")]
     WrongType(u64),
-    /// A growth was refused.
+    /// An allocation failed.
     #[error("out of memory")]
     Memory,
 }

@@ -36,7 +36,7 @@ fn render_vec_in<A: Allocator>(
     }
 }
 
-// The fault of a call that renders into memory: a vector fails only where a growth is refused.
+// The fault of a call that renders into memory: a vector fails only if an allocation does.
 fn memory_fault(fault: RenderFault) -> RenderVecFault
     ensures { result ≡ memory_fault fault }
 {

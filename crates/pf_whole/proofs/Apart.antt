@@ -4,6 +4,7 @@ use Rattle.std.proofs.Common.{◌≡◌, ◌≢◌, ℕ, zero, List, [], ◌∷�
 use Rattle.std.specs.Prelude.{Some}
 use Rattle.std.proofs.lemmas.List.{append_assoc}
 use Rattle.std.proofs.lemmas.Bool.{cases_lt}
+use Rattle.std.proofs.lemmas.Slice.Zip.{AllZip-long}
 use Rattle.pf_values.specs.declared.models.Model.{Model}
 use Rattle.pf_values.specs.meaning.Arguments.{Argument, HasTypes}
 use Rattle.pf_values.specs.meaning.Items.{Item, types}
@@ -17,14 +18,15 @@ use Rattle.pf_posix.specs.Stretches.{Stretches, Before, types_of_opaque, whole_t
 use Rattle.pf_posix.proofs.SpecificationsOnce.{one_specification, parts_of}
 use Rattle.pf_whole.specs.meaning.NormalSpellings.{normal_parts, normal_spelling}
 use Rattle.pf_whole.specs.meaning.Traces.{Ends, Calls, HasTrace, Trace, TraceAlike}
-use Rattle.pf_whole.specs.meaning.WholeArguments.{WholeArgument, Known, HasWholeTypes}
+use Rattle.pf_whole.specs.meaning.WholeArguments.{WholeArgument, Known, HasWholeType, HasWholeTypes}
 use Rattle.pf_whole.proofs.KnownArguments.{known_once, known_typed, widened_once}
 use Rattle.pf_whole.proofs.NormalLemmas.{types_again}
-use Rattle.pf_whole.proofs.SomeTrace.{call_of, known_printed, some_trace, trace_before, typed_both, typed_count}
+use Rattle.pf_whole.proofs.SomeTrace.{call_of, known_printed, some_trace, trace_before}
 use Rattle.pf_whole.proofs.SpelledNormally.{opaque_normally}
 use Rattle.pf_whole.proofs.TraceLemmas.{known_count, trace_sym}
 use Rattle.pf_whole.proofs.TwoValues.{count, count_is, whole_neutrals_typed, nth, nth_another, nth_behind, nth_neutral, one_other, one_other_typed, two_values}
 use Rattle.pf_whole.proofs.TwoValues.{whole_another, whole_neutral, whole_neutrals}
+use Rattle.pf_whole.proofs.ZipLemmas.{zip_append}
 
 -- directives with the same normal spelling take the same types
 pub spelling_types : (model : Model) (t u : Text) (s p : PosixSpecification) → SpellsOpaque t s → SpellsOpaque u p
@@ -153,8 +155,8 @@ module _ (model : Model) (t u : Text) (items own : List Item) (s p : PosixSpecif
       → HasWholeTypes model ((first ++ mine) ++ back) (whole_types model (Before items s rest))
   whole_typed first mine back a b c =
       subst (λ l. HasWholeTypes model l (whole_types model (Before items s rest))) (sym (append_assoc first mine back))
-      (typed_both model first (mine ++ back) (map widened (types model items)) (types_of_opaque model s ++ whole_types model rest) a
-      (typed_both model mine back (types_of_opaque model s) (whole_types model rest) b c))
+      (zip_append (HasWholeType model) first (mine ++ back) (map widened (types model items)) (types_of_opaque model s ++ whole_types model rest) a
+      (zip_append (HasWholeType model) mine back (types_of_opaque model s) (whole_types model rest) b c))
 
   pub first_goes : (args : List Argument) (out : Text) → HasTypes model args (types model items) → PrintsAll model items args out → PrintsAll model own args out
   first_goes args out typed prints =
@@ -168,7 +170,7 @@ module _ (model : Model) (t u : Text) (items own : List Item) (s p : PosixSpecif
       let one = trace_before model items s rest first mine back out trace.0 (args, refl, prints) mine_typed trace.1 in
       let k = (h.same_traces ((first ++ mine) ++ back) (Calls out (call_of model s mine) trace.0)
       (whole_typed first mine back first_typed mine_typed back_typed)).0 one in
-      let many : length first ≡ length k.0 = typed_count model first (map widened (types model items)) first_typed ∙ one_length
+      let many : length first ≡ length k.0 = sym (AllZip-long (HasWholeType model) first (map widened (types model items)) first_typed) ∙ one_length
       ∙ sym (known_count model own k.0 out k.4) in
       let same : first ≡ k.0 = (same_parts first (mine ++ back) k.0 (k.1 ++ k.2) many
       (sym (append_assoc first mine back) ∙ k.3 ∙ append_assoc k.0 k.1 k.2)).0 in
@@ -186,10 +188,11 @@ module _ (model : Model) (t u : Text) (items own : List Item) (s p : PosixSpecif
       let one = trace_before model items s rest first mine args printed.0 trace printed.1 mine_typed g in
       let k = (h.same_traces ((first ++ mine) ++ args) (Calls printed.0 (call_of model s mine) trace)
       (whole_typed first mine args first_typed mine_typed typed)).0 one in
-      let many : length first ≡ length k.0 = typed_count model first (map widened (types model items)) first_typed ∙ one_length
+      let many : length first ≡ length k.0 = sym (AllZip-long (HasWholeType model) first (map widened (types model items)) first_typed) ∙ one_length
       ∙ sym (known_count model own k.0 printed.0 k.4) in
       let behind = (same_parts first (mine ++ args) k.0 (k.1 ++ k.2) many (sym (append_assoc first mine args) ∙ k.3 ∙ append_assoc k.0 k.1 k.2)).1 in
-      let also : length mine ≡ length k.1 = typed_count model mine (types_of_opaque model s) mine_typed ∙ ap length same_own ∙ sym k.5.as_many in
+      let also : length mine ≡ length k.1 = sym (AllZip-long (HasWholeType model) mine (types_of_opaque model s) mine_typed) ∙ ap length same_own
+      ∙ sym k.5.as_many in
       let last : args ≡ k.2 = (same_parts mine args k.1 k.2 also behind).1 in
       subst (λ l. HasTrace model more l trace) (sym last) k.6
 

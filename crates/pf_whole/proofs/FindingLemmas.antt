@@ -16,10 +16,32 @@ use Rattle.pf_compare.proofs.CandidateLemmas.{contains_at}
 use Rattle.pf_compare.specs.Answers.{IsCandidateAt, IsEarlier, PrintTheSame, probe_at}
 use Rattle.pf_posix.specs.Specifications.{PosixSpecification}
 use Rattle.pf_posix.specs.Types.{widened}
-use Rattle.pf_whole.specs.Answers.{AgreeEverywhere, HaveOneShape, IsWholeProbe, ShowsNeutral, ShowsProbe, StretchesAgree, TellSomewhere, TellStretches, neutral_shown}
+use Rattle.pf_whole.specs.Answers.{
+  AgreeEverywhere,
+  HaveOneShape,
+  IsWholeProbe,
+  ShowsNeutral,
+  ShowsProbe,
+  StretchesAgree,
+  TellSomewhere,
+  TellStretches,
+  neutral_shown,
+}
 use Rattle.pf_whole.specs.Findings.{IsTellingProbe, NeutralAgrees, NeutralTells, ShowsTelling, shown_any, shown_neutrals}
 use Rattle.pf_posix.specs.Stretches.{Stretches, Last, Before, ReadsWhole, types_of_opaque, whole_types}
-use Rattle.pf_whole.proofs.Slots.{get_first, get_second, neutral_at, neutrals_shown, none_shown, probe_count, probe_shown, set_first, set_second, typed_at, wide_at}
+use Rattle.pf_whole.proofs.Slots.{
+  get_first,
+  get_second,
+  neutral_at,
+  neutrals_shown,
+  none_shown,
+  probe_count,
+  probe_shown,
+  set_first,
+  set_second,
+  typed_at,
+  wide_at,
+}
 use Rattle.pf_whole.proofs.Telling.{telling_is_apart}
 use Rattle.pf_whole.proofs.Together.{agreeing_is_together}
 use Rattle.pf_whole.proofs.TraceLemmas.{length_map}
@@ -33,7 +55,8 @@ candidate_typed model ts i k argument h = probe_typed model ts (probe_at ts i ar
     (inr (i, h.type, argument, h.type_is, contains_at (candidates model h.type) k argument h.argument_is, refl))
 
 -- stretches that print alike print the same for arguments of their types
-alike_same : (model : Model) (a b : List Item) (known : List Argument) → PrintAlike model a b → HasTypes model known (types model a) → PrintTheSame model a b known
+alike_same : (model : Model) (a b : List Item) (known : List Argument) → PrintAlike model a b → HasTypes model known (types model a)
+    → PrintTheSame model a b known
 alike_same model a b known alike typed x y p q =
     let there : HasTypes model known (types model b) = rw (← alike.same_types) typed in
     PrintsAll-unique model b known x there ((alike.same_bytes known x typed).0 p) ∙ sym (PrintsAll-unique model b known y there q)
@@ -81,7 +104,12 @@ neutral_somewhere model (Before a s rest) (Before b p more) h = (
   neutrals_count model a,
   any_count model s,
   elim h [
-    | inl here ↦ inl (record { known = neutrals (types model a); shown_is = neutrals_shown (types model a); typed = neutrals_typed model (types model a); unlike = here })
+    | inl here ↦ inl (record {
+      known = neutrals (types model a);
+      shown_is = neutrals_shown (types model a);
+      typed = neutrals_typed model (types model a);
+      unlike = here;
+    })
     | inr there ↦ inr (neutral_somewhere model rest more there)
   ],
 )
@@ -90,14 +118,22 @@ pub neutral_everywhere : (model : Model) (a b : Stretches) → NeutralAgrees mod
 neutral_everywhere model (Last a) (Last b) h = agree_neutrally model a b h
 neutral_everywhere model (Last a) (Before b p more) h = h
 neutral_everywhere model (Before a s rest) (Last b) h = h
-neutral_everywhere model (Before a s rest) (Before b p more) h =
-    (shown_neutrals model a, shown_any model s, neutral_shown model rest, refl, any_count model s, agree_neutrally model a b h.0, neutral_everywhere model rest more h.1)
+neutral_everywhere model (Before a s rest) (Before b p more) h = (
+  shown_neutrals model a,
+  shown_any model s,
+  neutral_shown model rest,
+  refl,
+  any_count model s,
+  agree_neutrally model a b h.0,
+  neutral_everywhere model rest
+      more h.1,
+)
 
 tells_here : (model : Model) (a b : List Item) (args : List Argument) → IsTellingProbe model a b args → TellStretches model a b (map Some args)
 tells_here model a b args h = record {
   known = args;
   shown_is = refl;
-  typed = rw h.args_are (candidate_typed model (types model a) h.index h.place h.argument h.probe.candidate);
+  typed = rw h.args_are (candidate_typed model (types model a) h.index h.candidate_index h.argument h.probe.candidate);
   unlike = rw h.args_are h.probe.unlike;
 }
 
@@ -151,11 +187,13 @@ probe_here model a s rest i k shown h few =
       within = few;
       argument = h.argument;
       candidate = record { type = h.type; type_is = typed_at ts i h.type h.wide wide h.type_is; argument_is = h.candidate };
-      shown_is = h.shown_is ∙ set_first (shown_neutrals model a) own i (Some h.argument) (omega (arith, few, first)) ∙ ap (λ l. l ++ own) (probe_shown ts i h.argument);
+      shown_is = h.shown_is ∙ set_first (shown_neutrals model a) own i (Some h.argument) (omega (arith, few, first))
+          ∙ ap (λ l. l ++ own) (probe_shown ts i h.argument);
     }
 
 probe_later : (model : Model) (a : List Item) (s : PosixSpecification) (rest : Stretches) (i k m : ℕ) (shown : List (Option Argument))
-    → IsWholeProbe model (Before a s rest) i k shown → i ≡ length (types model a) + (length (types_of_opaque model s) + m) → IsProbeLater model a s rest i k shown
+    → IsWholeProbe model (Before a s rest) i k shown → i ≡ length (types model a) + (length (types_of_opaque model s) + m)
+    → IsProbeLater model a s rest i k shown
 probe_later model a s rest i k m shown h e =
     let ts = types model a in
     let first = neutrals_count model a in
@@ -179,7 +217,8 @@ probe_later model a s rest i k m shown h e =
         candidate = h.candidate;
         shown_is = refl;
       };
-      shown_is = h.shown_is ∙ set_second (shown_neutrals model a) (shown_any model s ++ neutral_shown model rest) n i (Some h.argument) (omega (arith, e, first))
+      shown_is = h.shown_is ∙ set_second (shown_neutrals model a) (shown_any model s ++ neutral_shown model rest) n i (Some h.argument)
+          (omega (arith, e, first))
           ∙ ap (λ l. shown_neutrals model a ++ l) (set_second (shown_any model s) (neutral_shown model rest) m n (Some h.argument) (omega (arith, own)));
     }
 
@@ -207,9 +246,9 @@ split_probe model a s rest i k shown h = elim (cases_lt i (length (types model a
 -- the probe that is shown is the first one that tells stretches apart
 pub record IsTold (model : Model) (a b : Stretches) (shown : List (Option Argument)) : Type 0 where
   pub index : ℕ
-  pub place : ℕ
-  pub probe : IsWholeProbe model a index place shown
-  pub earlier : (i k : ℕ) (before : List (Option Argument)) → IsWholeProbe model a i k before → IsEarlier i k index place
+  pub candidate_index : ℕ
+  pub probe : IsWholeProbe model a index candidate_index shown
+  pub earlier : (i k : ℕ) (before : List (Option Argument)) → IsWholeProbe model a i k before → IsEarlier i k index candidate_index
       → AgreeEverywhere model a b before
 
 told_last : (model : Model) (a b : List Item) (shown : List (Option Argument)) → ShowsTelling model (Last a) (Last b) shown
@@ -220,7 +259,7 @@ told_last model a b shown h =
     let candidate = telling.probe.candidate in
     record {
       index = telling.index;
-      place = telling.place;
+      candidate_index = telling.candidate_index;
       probe = record {
         type = candidate.type;
         wide = widened candidate.type;
@@ -232,7 +271,11 @@ told_last model a b shown h =
         shown_is = h.1 ∙ ap (map Some) telling.args_are ∙ sym (probe_shown ts telling.index telling.argument);
       };
       earlier = λ i k before g e.
-          let at : IsCandidateAt model ts i k g.argument = record { type = g.type; type_is = typed_at ts i g.type g.wide g.wide_is g.type_is; argument_is = g.candidate } in
+          let at : IsCandidateAt model ts i k g.argument = record {
+            type = g.type;
+            type_is = typed_at ts i g.type g.wide g.wide_is g.type_is;
+            argument_is = g.candidate;
+          } in
           let same = telling.probe.earlier i k g.argument at e in
           rw (g.shown_is, probe_shown ts i g.argument) (agree_for model a b i k g.argument at same);
     }
@@ -249,7 +292,7 @@ told_here model a b s p rest more args shown shown_is telling agrees =
     let wide = length_map widened ts in
     record {
       index = telling.index;
-      place = telling.place;
+      candidate_index = telling.candidate_index;
       probe = record {
         type = candidate.type;
         wide = widened candidate.type;
@@ -265,7 +308,7 @@ told_here model a b s p rest more args shown shown_is telling agrees =
             ∙ ap (λ l. l ++ own) (probe_shown ts telling.index telling.argument));
       };
       earlier = λ i k before g e.
-          let few : i < length ts = not_later i k telling.index telling.place (length ts) e within in
+          let few : i < length ts = not_later i k telling.index telling.candidate_index (length ts) e within in
           let at = probe_here model a s rest i k before g few in (
             map Some (probe_at ts i at.argument),
             shown_any model s,
@@ -295,7 +338,7 @@ told_later model a b s p rest more shown back shown_is alike agrees told =
     let probe = told.probe in
     record {
       index = i;
-      place = told.place;
+      candidate_index = told.candidate_index;
       probe = record {
         type = probe.type;
         wide = probe.wide;
@@ -328,12 +371,13 @@ told_later model a b s p rest more shown back shown_is alike agrees told =
           later.shown_is,
           any_count model s,
           agree_neutrally model a b (alike_neutrally model a b alike),
-          told.earlier later.index k later.back later.probe (earlier_behind j k m told.place later.index n i e later.index_is),
+          told.earlier later.index k later.back later.probe (earlier_behind j k m told.candidate_index later.index n i e later.index_is),
         )
       ];
     }
   where
-    earlier_behind : (j k m l x n i : ℕ) → IsEarlier j k (length (types model a) + (length (types_of_opaque model s) + m)) l → j ≡ length (types model a) + (length (types_of_opaque model s) + x) → IsEarlier x k m l
+    earlier_behind : (j k m l x n i : ℕ) → IsEarlier j k (length (types model a) + (length (types_of_opaque model s) + m)) l
+        → j ≡ length (types model a) + (length (types_of_opaque model s) + x) → IsEarlier x k m l
     earlier_behind j k m l x n i (inl less) e = inl (omega (arith, less, e))
     earlier_behind j k m l x n i (inr same) e = inr (omega (arith, same.0, e), same.1)
 
@@ -358,7 +402,7 @@ shows_probe model t u a b shown h g one telling =
     record {
       neutral_same = agreeing_is_together model t u a b (neutral_shown model a) h g one (neutral_everywhere model a b (telling_agrees model a b shown telling));
       index = first.index;
-      place = first.place;
+      candidate_index = first.candidate_index;
       probe = first.probe;
       apart = telling_is_apart model t u a b shown h g one (telling_somewhere model a b shown telling);
       earlier = λ i k before probe e. agreeing_is_together model t u a b before h g one (first.earlier i k before probe e);

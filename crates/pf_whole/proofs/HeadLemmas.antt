@@ -16,7 +16,7 @@ use Rattle.pf_posix.specs.Opaque.{SpellsOpaque}
 use Rattle.pf_posix.specs.OpaqueParts.{parts_of_opaque}
 use Rattle.pf_posix.specs.Stretches.{Stretches, Last, Before, ReadsWhole}
 
--- the bytes of a text between two places
+-- the bytes of a text between two offsets
 abbrev pub between : Text → ℕ → ℕ → Text
 between t from to = take (to - from) (drop from t)
 
@@ -70,6 +70,12 @@ goes_further t from stretch directive h e =
     let some : IsSome stretch.opaque = rw e refl in
     omega (arith, h.begins, h.further some)
 
+pub less_left : (t : Text) (from : ℕ) (stretch : Stretch) (directive : OpaqueDirective) → IsPlaced t from stretch → stretch.opaque ≡ Some directive
+    → length t - stretch.after < length t - from
+less_left t from stretch directive h e =
+    let further = goes_further t from stretch directive h e in
+    omega (arith, further, h.within)
+
 -- a directive has some bytes
 pub goes_on_behind : (t : Text) (from : ℕ) (stretch : Stretch) (directive : OpaqueDirective) → IsPlaced t from stretch → stretch.opaque ≡ Some directive
     → stretch.end < stretch.after
@@ -81,6 +87,6 @@ stretch_few model t from to c h =
     let bytes = items_few (between t from to) h.items h.accepted.reads in
     omega (arith, h.few, most_items h.items, bytes, length-take (to - from) (drop from t))
 
--- how many bytes are between two places
+-- the number of bytes between two offsets
 pub between_long : (t : Text) (from to : ℕ) → length (between t from to) ≤ to - from
 between_long t from to = omega (arith, length-take (to - from) (drop from t))

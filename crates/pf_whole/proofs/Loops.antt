@@ -75,7 +75,8 @@ first_alike model (Before a s rest) (Last b) h = absurd h
 first_alike model (Before a s rest) (Before b p more) h = h.0
 
 -- the next stretches don't print alike
-pub unlike_stretches : (model : Model) (t u x y : Text) (left more : Stretches) → Reaches model t u left more → Reads x (first_items left) → Reads y (first_items more)
+pub unlike_stretches : (model : Model) (t u x y : Text) (left more : Stretches) → Reaches model t u left more → Reads x (first_items left)
+    → Reads y (first_items more)
     → ¬ AreEquivalent model x y → ¬ AreWholeAlike model t u
 unlike_stretches model t u x y left more reaches h g unlike alike =
     unlike ((stretches_equivalent model x y (first_items left) (first_items more) h g).1 (first_alike model left more (reaches.0 alike)))
@@ -94,7 +95,8 @@ one_ends model t u left more rest a b s reaches e f alike = let both : Correspon
 
 pub other_goes_on : (model : Model) (t u : Text) (left more others : Stretches) (a b : List Item) (p : PosixSpecification) → Reaches model t u left more
     → left ≡ Last a → more ≡ Before b p others → ¬ AreWholeAlike model t u
-other_goes_on model t u left more others a b p reaches e f alike = let both : Correspond model (Last a) (Before b p others) = rw (e, f) at reaches.0 alike in both
+other_goes_on model t u left more others a b p reaches e f alike = let both : Correspond model (Last a) (Before b p others) =
+    rw (e, f) at reaches.0 alike in both
 
 -- both texts end with stretches that print alike
 pub both_end : (model : Model) (t u x y : Text) (left more : Stretches) (a b : List Item) → Reaches model t u left more → left ≡ Last a → more ≡ Last b
@@ -102,7 +104,7 @@ pub both_end : (model : Model) (t u x y : Text) (left more : Stretches) (a b : L
 both_end model t u x y left more a b reaches e f h g same =
     reaches.1 (rw (e, f) ((stretches_equivalent model x y a b h g).0 same))
 
--- both go on behind stretches that print alike and the same call
+-- both go on after stretches that print alike and equal calls
 pub both_go_on : (model : Model) (t u x y : Text) (left more rest others : Stretches) (a b : List Item) (s p : PosixSpecification) → Reaches model t u left more
     → left ≡ Before a s rest → more ≡ Before b p others → Reads x a → Reads y b → AreEquivalent model x y → normal_spelling model s ≡ normal_spelling model p
     → Reaches model t u rest others

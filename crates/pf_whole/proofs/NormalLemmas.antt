@@ -66,8 +66,7 @@ same_conversion _ = record {
   alt = refl;
   zero_flag = refl;
   precision = refl;
-  count =
-      refl;
+  count = refl;
 }
 
 -- modifiers
@@ -215,7 +214,7 @@ normal_again model s =
     (modifier_again model s.conversion s.modifier)
     same.again
 
--- the same types
+-- the normal spelling keeps the types of the arguments
 pub types_again : (model : Model) (s : PosixSpecification) → types_of_opaque model (normal_parts model s) ≡ types_of_opaque model s
 types_again model s =
     let precision = precision_same s.conversion s.precision in

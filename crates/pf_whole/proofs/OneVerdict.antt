@@ -19,11 +19,28 @@ use Rattle.pf_posix.specs.Laws.{IsFirstDifference}
 use Rattle.pf_posix.specs.Types.{widened}
 use Rattle.pf_posix.specs.Stretches.{Stretches, Last, Before, types_of_opaque, whole_types}
 use Rattle.pf_posix.proofs.ReadOnce.{read_once}
-use Rattle.pf_whole.specs.Answers.{Agrees, DifferAtCall, IsWholeComparisonOf, IsWholeProbe, IsWholeVerdict, ShowsNeutral, ShowsProbe, TracesApart, TracesTogether, WholeVerdict, Same, TypesDiffer, DirectivesDiffer, Different, neutral_shown}
+use Rattle.pf_whole.specs.Answers.{
+  Agrees,
+  DifferAtCall,
+  IsWholeComparisonOf,
+  IsWholeProbe,
+  IsWholeVerdict,
+  ShowsNeutral,
+  ShowsProbe,
+  TracesApart,
+  TracesTogether,
+  WholeVerdict,
+  Same,
+  TypesDiffer,
+  DirectivesDiffer,
+  Different,
+  neutral_shown,
+}
 use Rattle.pf_whole.specs.Laws.{PlacedCall, placed_calls}
 use Rattle.pf_whole.specs.meaning.WholeArguments.{WholeArgument, Known, HasNarrowedType, HasWholeTypes, narrowed}
 use Rattle.pf_whole.proofs.SomeTrace.{some_trace}
 use Rattle.pf_whole.proofs.TwoValues.{whole_neutral, whole_neutrals, whole_neutrals_typed}
+use Rattle.pf_whole.proofs.ZipLemmas.{zip_append}
 
 -- arguments that agree with those that are shown
 record CanBeGiven (model : Model) (a : Stretches) (shown : List (Option Argument)) : Type 0 where
@@ -43,12 +60,6 @@ any_agree : (ts : List ArgumentType) → AllZip Agrees (map (λ type. None) ts) 
 any_agree [] = tt
 any_agree (type ∷ ts) = (tt, any_agree ts)
 
-both_agree : (x y : List (Option Argument)) (a b : List WholeArgument) → AllZip Agrees x a → AllZip Agrees y b → AllZip Agrees (x ++ y) (a ++ b)
-both_agree [] y [] b h g = g
-both_agree [] y (argument ∷ a) b h g = absurd h
-both_agree (shown ∷ x) y [] b h g = absurd h
-both_agree (shown ∷ x) y (argument ∷ a) b h g = (h.0, both_agree x y a b h.1 g)
-
 shown_agree : (model : Model) (a : Stretches) → AllZip Agrees (neutral_shown model a) (whole_neutrals (whole_types model a))
 shown_agree model (Last items) = neutrals_agree (types model items)
 shown_agree model (Before items s rest) =
@@ -58,12 +69,17 @@ shown_agree model (Before items s rest) =
     let split : whole_neutrals (here ++ (own ++ back)) ≡ whole_neutrals here ++ (whole_neutrals own ++ whole_neutrals back)
     = map-append whole_neutral here (own ++ back) ∙ ap (λ l. whole_neutrals here ++ l) (map-append whole_neutral own back) in
     subst (λ l. AllZip Agrees (neutral_shown model (Before items s rest)) l) (sym split)
-    (both_agree (map (λ type. Some (neutral type)) (types model items)) (map (λ type. None) own ++ neutral_shown model rest) (whole_neutrals here) (whole_neutrals own ++ whole_neutrals back)
+    (zip_append Agrees (map (λ type. Some (neutral type)) (types model items)) (map (λ type. None) own ++ neutral_shown model rest) (whole_neutrals here)
+    (whole_neutrals own ++ whole_neutrals back)
     (neutrals_agree (types model items))
-    (both_agree (map (λ type. None) own) (neutral_shown model rest) (whole_neutrals own) (whole_neutrals back) (any_agree own) (shown_agree model rest)))
+    (zip_append Agrees (map (λ type. None) own) (neutral_shown model rest) (whole_neutrals own) (whole_neutrals back) (any_agree own) (shown_agree model rest)))
 
 neutral_given : (model : Model) (a : Stretches) → CanBeGiven model a (neutral_shown model a)
-neutral_given model a = record { args = whole_neutrals (whole_types model a); typed = whole_neutrals_typed model (whole_types model a); agree = shown_agree model a }
+neutral_given model a = record {
+  args = whole_neutrals (whole_types model a);
+  typed = whole_neutrals_typed model (whole_types model a);
+  agree = shown_agree model a;
+}
 
 set_agrees : (shown : List (Option Argument)) (args : List WholeArgument) (i : ℕ) (argument : Argument) → AllZip Agrees shown args
     → AllZip Agrees (slice_set shown i (Some argument)) (slice_set args i (Known argument))
@@ -95,14 +111,14 @@ probe_given model a i k shown h =
           (set_agrees (neutral_shown model a) before.args i h.argument before.agree);
     }
 
--- the same arguments don't tell traces apart and leave them together
+-- no arguments both tell traces apart and leave them together
 never_both : (model : Model) (a b : Stretches) (shown : List (Option Argument)) → CanBeGiven model a shown → TracesApart model a b shown
     → TracesTogether model a b shown → ⊥
 never_both model a b shown given apart together =
     let traced = some_trace model a given.args given.typed in
     apart given.args traced.0 traced.0 given.typed given.agree traced.1 ((together given.args traced.0 given.typed given.agree).0 traced.1) refl
 
--- an index and a place have one probe
+-- an index and a candidate's index have one probe
 one_probe : (model : Model) (a : Stretches) (i k : ℕ) (x y : List (Option Argument)) → IsWholeProbe model a i k x → IsWholeProbe model a i k y → x ≡ y
 one_probe model a i k x y h g =
     let wide : Some h.wide ≡ Some g.wide = sym h.wide_is ∙ g.wide_is in
@@ -113,17 +129,17 @@ one_probe model a i k x y h g =
     let same : h.argument ≡ g.argument = cc in
     h.shown_is ∙ ap (λ z. slice_set (neutral_shown model a) i (Some z)) same ∙ sym g.shown_is
 
--- one of two probes is earlier, or they have the same index and place
+-- one of two probes is earlier, or their indexes and their candidates' indexes are equal
 which_first : (i k j l : ℕ) → IsEarlier i k j l ⊎ (IsEarlier j l i k ⊎ ((i ≡ j) × (k ≡ l)))
 which_first i k j l = by_index (cases_order i j)
   where
-    by_place : i ≡ j → (k ≡ l) ⊎ ((k < l) ⊎ (l < k)) → IsEarlier i k j l ⊎ (IsEarlier j l i k ⊎ ((i ≡ j) × (k ≡ l)))
-    by_place e (inl same) = inr (inr (e, same))
-    by_place e (inr (inl less)) = inl (inr (e, less))
-    by_place e (inr (inr more)) = inr (inl (inr (sym e, more)))
+    by_candidate : i ≡ j → (k ≡ l) ⊎ ((k < l) ⊎ (l < k)) → IsEarlier i k j l ⊎ (IsEarlier j l i k ⊎ ((i ≡ j) × (k ≡ l)))
+    by_candidate e (inl same) = inr (inr (e, same))
+    by_candidate e (inr (inl less)) = inl (inr (e, less))
+    by_candidate e (inr (inr more)) = inr (inl (inr (sym e, more)))
 
     by_index : (i ≡ j) ⊎ ((i < j) ⊎ (j < i)) → IsEarlier i k j l ⊎ (IsEarlier j l i k ⊎ ((i ≡ j) × (k ≡ l)))
-    by_index (inl same) = by_place same (cases_order k l)
+    by_index (inl same) = by_candidate same (cases_order k l)
     by_index (inr (inl less)) = inl (inl less)
     by_index (inr (inr more)) = inr (inl (inl more))
 
@@ -134,14 +150,17 @@ shown_once model a b x y (inl h) (inr g) =
     absurd (never_both model a b (neutral_shown model a) (neutral_given model a) (subst (λ l. TracesApart model a b l) h.shown_is h.apart) g.neutral_same)
 shown_once model a b x y (inr h) (inl g) =
     absurd (never_both model a b (neutral_shown model a) (neutral_given model a) (subst (λ l. TracesApart model a b l) g.shown_is g.apart) h.neutral_same)
-shown_once model a b x y (inr h) (inr g) = by (which_first h.index h.place g.index g.place)
+shown_once model a b x y (inr h) (inr g) = by (which_first h.index h.candidate_index g.index g.candidate_index)
   where
-    by : IsEarlier h.index h.place g.index g.place ⊎ (IsEarlier g.index g.place h.index h.place ⊎ ((h.index ≡ g.index) × (h.place ≡ g.place))) → x ≡ y
-    by (inl first) = absurd (never_both model a b x (probe_given model a h.index h.place x h.probe) h.apart (g.earlier h.index h.place x h.probe first))
-    by (inr (inl first)) = absurd (never_both model a b y (probe_given model a g.index g.place y g.probe) g.apart (h.earlier g.index g.place y g.probe first))
+    by : IsEarlier h.index h.candidate_index g.index g.candidate_index
+        ⊎ (IsEarlier g.index g.candidate_index h.index h.candidate_index ⊎ ((h.index ≡ g.index) × (h.candidate_index ≡ g.candidate_index))) → x ≡ y
+    by (inl first) = absurd (never_both model a b x (probe_given model a h.index h.candidate_index x h.probe) h.apart
+        (g.earlier h.index h.candidate_index x h.probe first))
+    by (inr (inl first)) = absurd (never_both model a b y (probe_given model a g.index g.candidate_index y g.probe) g.apart
+        (h.earlier g.index g.candidate_index y g.probe first))
     by (inr (inr same)) =
-        let moved : IsWholeProbe model a g.index h.place x = subst (λ i. IsWholeProbe model a i h.place x) same.0 h.probe in
-        one_probe model a g.index g.place x y (subst (λ k. IsWholeProbe model a g.index k x) same.1 moved) g.probe
+        let moved : IsWholeProbe model a g.index h.candidate_index x = subst (λ i. IsWholeProbe model a i h.candidate_index x) same.0 h.probe in
+        one_probe model a g.index g.candidate_index x y (subst (λ k. IsWholeProbe model a g.index k x) same.1 moved) g.probe
 
 one_difference : (l m : List ArgumentType) (i j : ℕ) → IsFirstDifference l m (Some i) → IsFirstDifference l m (Some j) → i ≡ j
 one_difference l m i j h g = by (cases_order i j)

@@ -25,7 +25,8 @@ parted : (t : Text) (from : ℕ) (stretch : Stretch) → IsPlaced t from stretch
 parted t from stretch h =
     let end = stretch.end in
     let first : between t from end ++ drop end t ≡ drop from t =
-    ap (λ l. between t from end ++ l) (ap (λ n. drop n t) (let n : end ≡ from + (end - from) = omega (arith, h.begins) in n) ∙ sym (drop-drop (end - from) from t))
+    ap (λ l. between t from end ++ l) (ap (λ n. drop n t) (let n : end ≡ from + (end - from) = omega (arith, h.begins) in n)
+    ∙ sym (drop-drop (end - from) from t))
     ∙ take-append-drop (end - from) (drop from t) in
     let second : between t end stretch.after ++ drop stretch.after t ≡ drop end t =
     ap (λ l. between t end stretch.after ++ l) (ap (λ n. drop n t) (let n : stretch.after ≡ end + (stretch.after - end) = omega (arith, h.ends) in n)
@@ -37,7 +38,8 @@ rest_is : (t : Text) (from end : ℕ) → end ≡ length t → between t from en
 rest_is t from end e = take_all (end - from) (drop from t) (omega (arith, e, length-drop from t))
 
 -- if it is, then the last stretch is canonical, and only then
-pub own_last : (model : Model) (t : Text) (at : ℕ) (left : Stretches) (stretch : Stretch) → IsHead t at left stretch → stretch.opaque ≡ None → OwnFrom model t left at
+pub own_last : (model : Model) (t : Text) (at : ℕ) (left : Stretches) (stretch : Stretch) → IsHead t at left stretch → stretch.opaque ≡ None
+    → OwnFrom model t left at
     → (IsWholeCanonicalOf model t t ↔ IsCanonicalText model (between t at stretch.end))
 own_last model t at (Last items) stretch h e own =
     let whole = rest_is t at stretch.end h.1 in
@@ -47,14 +49,15 @@ own_last model t at (Last items) stretch h e own =
     )
 own_last model t at (Before items s rest) stretch h e own = absurd (subst (λ o. IsSomeAnd o (λ d. parts_of_opaque d ≡ s)) e h.0)
 
--- and the same of a stretch, a directive, and what comes after these
+-- the text is its own canonical text exactly if the stretch, the directive and the rest are theirs
 pub record OwnNext (model : Model) (t : Text) (at : ℕ) (stretch : Stretch) (directive : OpaqueDirective) : Type 0 where
   pub rest : Stretches
   pub later : ReadsWhole (drop stretch.after t) rest
   pub own : IsWholeCanonicalOf model t t ↔ (IsCanonicalText model (between t at stretch.end)
       × (normal_spelling model (parts_of_opaque directive) ≡ between t stretch.end stretch.after) × IsPutTogether model rest (drop stretch.after t))
 
-pub own_next : (model : Model) (t : Text) (at : ℕ) (left : Stretches) (stretch : Stretch) (directive : OpaqueDirective) → IsHead t at left stretch → IsPlaced t at stretch
+pub own_next : (model : Model) (t : Text) (at : ℕ) (left : Stretches) (stretch : Stretch) (directive : OpaqueDirective) → IsHead t at left stretch
+    → IsPlaced t at stretch
     → stretch.opaque ≡ Some directive → OwnFrom model t left at → OwnNext model t at stretch directive
 own_next model t at left stretch directive h placed e own =
     let before = before_directive t at left stretch directive h e in
@@ -73,7 +76,8 @@ own_next model t at left stretch directive h placed e own =
     }
 
 -- in both cases the stretch is canonical
-pub own_first : (model : Model) (t : Text) (at : ℕ) (left : Stretches) (stretch : Stretch) → IsHead t at left stretch → IsPlaced t at stretch → OwnFrom model t left at
+pub own_first : (model : Model) (t : Text) (at : ℕ) (left : Stretches) (stretch : Stretch) → IsHead t at left stretch → IsPlaced t at stretch
+    → OwnFrom model t left at
     → IsWholeCanonicalOf model t t → IsCanonicalText model (between t at stretch.end)
 own_first model t at left stretch h placed own is = go stretch.opaque refl where
   go : (o : Option OpaqueDirective) → stretch.opaque ≡ o → IsCanonicalText model (between t at stretch.end)

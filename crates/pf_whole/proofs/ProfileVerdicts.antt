@@ -17,7 +17,6 @@ use Rattle.pf_posix.specs.Types.{widened}
 use Rattle.pf_posix.proofs.ReadOnce.{read_once}
 use Rattle.pf_whole.specs.Answers.{HaveOneShape, IsWholeComparisonOf, IsWholeVerdict, WholeVerdict, Same, TypesDiffer, Different, ShowsNeutral}
 use Rattle.pf_whole.specs.Comparisons.{FaultForWholeCompare, HasShownType, ShowsDifference, shown_as}
-use Rattle.pf_whole.specs.Findings.{IsTellingProbe}
 use Rattle.pf_whole.specs.Laws.{Correspond}
 use Rattle.pf_whole.specs.meaning.Traces.{AreWholeAlike}
 use Rattle.pf_whole.proofs.Corresponding.{alike_is_corresponding}
@@ -26,7 +25,7 @@ use Rattle.pf_whole.proofs.FindingLoops.{compared_from}
 use Rattle.pf_whole.proofs.ProfileAnswers.{accepted_whole}
 use Rattle.pf_whole.proofs.ProfileTexts.{profile_coincides}
 use Rattle.pf_whole.proofs.ShownLoops.{compared_end, neutral_end, typed_end, typed_from}
-use Rattle.pf_whole.proofs.StretchDifferences.{verdict_of_items}
+use Rattle.pf_whole.proofs.StretchDifferences.{telling_probe, verdict_of_items}
 use Rattle.pf_whole.proofs.VerdictLemmas.{same_verdict}
 
 -- types that are widened differ where they do
@@ -55,7 +54,8 @@ first_accepted model t u comparison h = (h.first, h.accepted_first)
 second_accepted : (model : Model) (t u : Text) (comparison : Comparison) → IsComparisonOf model t u comparison → IsAccepted u
 second_accepted model t u comparison h = (h.second, h.accepted_second)
 
-apart : (model : Model) (t u : Text) (comparison : Comparison) → IsComparisonOf model t u comparison → comparison.verdict ≢ compared.Same → ¬ AreWholeAlike model t u
+apart : (model : Model) (t u : Text) (comparison : Comparison) → IsComparisonOf model t u comparison → comparison.verdict ≢ compared.Same
+    → ¬ AreWholeAlike model t u
 apart model t u comparison h other = λ alike.
     let both = profile_coincides model t u (first_accepted model t u comparison h) (second_accepted model t u comparison h) in
     other (h.same.1 (both.alike.0 alike))
@@ -99,14 +99,7 @@ shown_last model t u comparison args h other shape (inl neutral) =
 shown_last model t u comparison args h other shape (inr probe) =
     let a = Last h.first in
     let b = Last h.second in
-    let tells : IsTellingProbe model h.first h.second (map argument_of_owned args) = record {
-      neutral_same = probe.neutral_same;
-      index = probe.index;
-      place = probe.place;
-      argument = probe.argument;
-      probe = probe.probe;
-      args_are = probe.args_are;
-    } in
+    let tells = telling_probe model h.first h.second (map argument_of_owned args) comparison.renderings probe in
     let differ : ¬ Correspond model a b = λ same.
     apart model t u comparison h other ((alike_is_corresponding model t u a b h.accepted_first.reads h.accepted_second.reads).1 same) in
     let telling = compared_end model a b h.first h.second [] args false true (compared_from model a b) (inr (inr (refl, refl, tells))) differ in
@@ -152,5 +145,6 @@ profile_memory model t u h =
       accepted_whole t first,
       accepted_whole u second,
       λ alike. h.1 ((profile_coincides model t u first second).alike.0 alike),
-      λ a b k l. last_shape model t u h.0.first.items h.0.second.items a b h.0.first.accepted h.0.second.accepted (sym h.0.first.types_are ∙ h.0.second.types_are) k l,
+      λ a b k l. last_shape model t u h.0.first.items h.0.second.items a b h.0.first.accepted h.0.second.accepted
+          (sym h.0.first.types_are ∙ h.0.second.types_are) k l,
     )

@@ -1,5 +1,29 @@
 -- Arguments that are shown, as the code holds them: stretch by stretch.
-use Rattle.std.proofs.Common.{◌≡◌, ℕ, zero, suc, drop, Bool, true, false, List, [], ◌∷◌, ◌++◌, map, length, replicate, refl, sym, ap, ◌∙◌, arith, subst, inl, inr}
+use Rattle.std.proofs.Common.{
+  ◌≡◌,
+  ℕ,
+  zero,
+  suc,
+  drop,
+  Bool,
+  true,
+  false,
+  List,
+  [],
+  ◌∷◌,
+  ◌++◌,
+  map,
+  length,
+  replicate,
+  refl,
+  sym,
+  ap,
+  ◌∙◌,
+  arith,
+  subst,
+  inl,
+  inr,
+}
 use Rattle.std.specs.Prelude.{Option, Some, None, option_map}
 use Rattle.std.specs.List.{AllZip}
 use Rattle.std.proofs.lemmas.List.{append_assoc, map-append}
@@ -28,6 +52,7 @@ use Rattle.pf_whole.proofs.FindingLoops.{IsComparedUpTo, ends_alike, ends_same, 
 use Rattle.pf_whole.proofs.FindingLemmas.{alike_neutrally}
 use Rattle.pf_whole.proofs.HeadLemmas.{between, first_items}
 use Rattle.pf_whole.proofs.Slots.{neutrals_shown}
+use Rattle.pf_whole.proofs.ZipLemmas.{zip_append}
 
 pub some_shown : (args : List OwnedArg) → shown_as (map Some args) ≡ map Some (map argument_of_owned args)
 some_shown [] = refl
@@ -43,19 +68,13 @@ none_each [] (suc count) e = absurd (omega (arith, e))
 none_each (x ∷ xs) zero e = absurd (omega (arith, e))
 none_each (x ∷ xs) (suc count) e = ap (λ l. None ∷ l) (none_each xs count (omega (arith, e)))
 
-pub any_shown : (model : Model) (s : PosixSpecification) (count : ℕ) → count ≡ length (types_of_opaque model s) → shown_as (replicate count None) ≡ shown_any model s
+pub any_shown : (model : Model) (s : PosixSpecification) (count : ℕ) → count ≡ length (types_of_opaque model s)
+    → shown_as (replicate count None) ≡ shown_any model s
 any_shown model s count e = none_shown count ∙ none_each (types_of_opaque model s) count e
 
 pub shown_more : (before args more : List (Option OwnedArg)) → shown_as ((before ++ args) ++ more) ≡ (shown_as before ++ shown_as args) ++ shown_as more
 shown_more before args more = map-append (option_map argument_of_owned) (before ++ args) more
     ∙ ap (λ l. l ++ shown_as more) (map-append (option_map argument_of_owned) before args)
-
--- types of arguments, one after another
-zip_both : (xs ys : List (Option OwnedArg)) (ts us : List ArgumentType) → AllZip HasShownType xs ts → AllZip HasShownType ys us → AllZip HasShownType (xs ++ ys) (ts ++ us)
-zip_both [] ys [] us h g = g
-zip_both [] ys (t ∷ ts) us h g = absurd h
-zip_both (x ∷ xs) ys [] us h g = absurd h
-zip_both (x ∷ xs) ys (t ∷ ts) us h g = (h.0, zip_both xs ys ts us h.1 g)
 
 some_typed : (args : List OwnedArg) (ts : List ArgType) → map type_of_owned args ≡ ts → AllZip HasShownType (map Some args) (map widened ts)
 some_typed [] [] e = tt
@@ -77,15 +96,19 @@ IsTypedUpTo model a left shown = (rest : List (Option OwnedArg)) → AllZip HasS
 pub typed_from : (model : Model) (a : Stretches) → IsTypedUpTo model a a []
 typed_from model a rest h = h
 
-pub typed_past : (model : Model) (a rest : Stretches) (items : List Item) (s : PosixSpecification) (shown : List (Option OwnedArg)) (args : List OwnedArg) (count : ℕ)
+pub typed_past : (model : Model) (a rest : Stretches) (items : List Item) (s : PosixSpecification) (shown : List (Option OwnedArg)) (args : List OwnedArg)
+    (count : ℕ)
     → IsTypedUpTo model a (Before items s rest) shown → map type_of_owned args ≡ types model items → count ≡ length (types_of_opaque model s)
     → IsTypedUpTo model a rest ((shown ++ map Some args) ++ replicate count None)
 typed_past model a rest items s shown args count h e n back typed =
-    let own = zip_both (replicate count None) back (types_of_opaque model s) (whole_types model rest) (none_typed count (types_of_opaque model s) n) typed in
-    let all = zip_both (map Some args) (replicate count None ++ back) (map widened (types model items)) (types_of_opaque model s ++ whole_types model rest)
+    let own = zip_append HasShownType (replicate count None) back (types_of_opaque model s) (whole_types model rest)
+    (none_typed count (types_of_opaque model s) n) typed in
+    let all = zip_append HasShownType (map Some args) (replicate count None ++ back) (map widened (types model items))
+    (types_of_opaque model s ++ whole_types model rest)
     (some_typed args (types model items) e) own in
     subst (λ l. AllZip HasShownType l (whole_types model a))
-    (sym (append_assoc shown (map Some args) (replicate count None ++ back)) ∙ sym (append_assoc (shown ++ map Some args) (replicate count None) back)) (h _ all)
+    (sym (append_assoc shown (map Some args) (replicate count None ++ back)) ∙ sym (append_assoc (shown ++ map Some args) (replicate count None) back))
+    (h _ all)
 
 pub typed_end : (model : Model) (a : Stretches) (items : List Item) (shown : List (Option OwnedArg)) (args : List OwnedArg)
     → IsTypedUpTo model a (Last items) shown → map type_of_owned args ≡ types model items → AllZip HasShownType (shown ++ map Some args) (whole_types model a)
@@ -99,7 +122,8 @@ neutral_args : (model : Model) (items : List Item) (args : List OwnedArg) → ma
     → shown_as (map Some args) ≡ shown_neutrals model items
 neutral_args model items args e = some_shown args ∙ ap (map Some) e ∙ sym (neutrals_shown (types model items))
 
-pub neutral_past : (model : Model) (a rest : Stretches) (items : List Item) (s : PosixSpecification) (shown : List (Option OwnedArg)) (args : List OwnedArg) (count : ℕ)
+pub neutral_past : (model : Model) (a rest : Stretches) (items : List Item) (s : PosixSpecification) (shown : List (Option OwnedArg)) (args : List OwnedArg)
+    (count : ℕ)
     → IsNeutralUpTo model a (Before items s rest) shown → map argument_of_owned args ≡ neutrals (types model items) → count ≡ length (types_of_opaque model s)
     → IsNeutralUpTo model a rest ((shown ++ map Some args) ++ replicate count None)
 neutral_past model a rest items s shown args count h e n =
@@ -110,21 +134,25 @@ neutral_past model a rest items s shown args count h e n =
     ∙ append_assoc (shown_as shown) (shown_neutrals model items) (shown_any model s ++ neutral_shown model rest)) ∙ h
 
 pub neutral_end : (model : Model) (a : Stretches) (items : List Item) (shown : List (Option OwnedArg)) (args : List OwnedArg)
-    → IsNeutralUpTo model a (Last items) shown → map argument_of_owned args ≡ neutrals (types model items) → shown_as (shown ++ map Some args) ≡ neutral_shown model a
+    → IsNeutralUpTo model a (Last items) shown → map argument_of_owned args ≡ neutrals (types model items)
+    → shown_as (shown ++ map Some args) ≡ neutral_shown model a
 neutral_end model a items shown args h e =
     map-append (option_map argument_of_owned) shown (map Some args) ∙ ap (λ l. shown_as shown ++ l) (neutral_args model items args e) ∙ h
 
 -- two stretches more
-pub compared_past : (model : Model) (a b rest more : Stretches) (xs ys : List Item) (s p : PosixSpecification) (shown : List (Option OwnedArg)) (args : List OwnedArg)
+pub compared_past : (model : Model) (a b rest more : Stretches) (xs ys : List Item) (s p : PosixSpecification) (shown : List (Option OwnedArg))
+    (args : List OwnedArg)
     (count : ℕ) (found now : Bool) → IsComparedUpTo model a b (Before xs s rest) (Before ys p more) (shown_as shown) found
-    → IsShownNext model xs ys found (map argument_of_owned args) now → normal_spelling model s ≡ normal_spelling model p → count ≡ length (types_of_opaque model s)
+    → IsShownNext model xs ys found (map argument_of_owned args) now → normal_spelling model s ≡ normal_spelling model p
+    → count ≡ length (types_of_opaque model s)
     → IsComparedUpTo model a b rest more (shown_as ((shown ++ map Some args) ++ replicate count None)) now
 compared_past model a b rest more xs ys s p shown args count found now h next spelling n =
     let own = any_shown model s count n in
     let split = shown_more shown (map Some args) (replicate count None) in
     let neutrally : map argument_of_owned args ≡ neutrals (types model xs)
     → shown_as ((shown ++ map Some args) ++ replicate count None) ≡ (shown_as shown ++ shown_neutrals model xs) ++ shown_any model s = λ e.
-    split ∙ ap (λ l. (shown_as shown ++ l) ++ shown_as (replicate count None)) (neutral_args model xs args e) ∙ ap (λ l. (shown_as shown ++ shown_neutrals model xs) ++ l) own in
+    split ∙ ap (λ l. (shown_as shown ++ l) ++ shown_as (replicate count None)) (neutral_args model xs args e)
+    ∙ ap (λ l. (shown_as shown ++ shown_neutrals model xs) ++ l) own in
     elim next [
       | inl alike ↦ subst (IsComparedUpTo model a b rest more _) (sym alike.2)
           (subst (λ l. IsComparedUpTo model a b rest more l found) (sym (neutrally alike.1))
@@ -133,7 +161,8 @@ compared_past model a b rest more xs ys s p shown args count found now h next sp
         | inl again ↦
             let here = subst (IsComparedUpTo model a b (Before xs s rest) (Before ys p more) (shown_as shown)) again.0 h in
             subst (IsComparedUpTo model a b rest more _) (sym again.1)
-            (subst (λ l. IsComparedUpTo model a b rest more l true) (sym (neutrally again.3)) (past_same model a b rest more xs ys s p (shown_as shown) here again.2))
+            (subst (λ l. IsComparedUpTo model a b rest more l true) (sym (neutrally again.3))
+            (past_same model a b rest more xs ys s p (shown_as shown) here again.2))
         | inr probe ↦
             let here = subst (IsComparedUpTo model a b (Before xs s rest) (Before ys p more) (shown_as shown)) probe.0 h in
             let same = split ∙ ap (λ l. (shown_as shown ++ l) ++ shown_as (replicate count None)) (some_shown args)
@@ -224,7 +253,8 @@ abbrev pub HasShownDifference : Model → Stretches → Stretches → List (Opti
 HasShownDifference model a b shown = ShowsDifference model a b (shown_as shown) × AllZip HasShownType shown (whole_types model a)
 
 -- what holds of one reading holds of each
-pub shown_once : (model : Model) (t u : Text) (a b x y : Stretches) (shown : List (Option OwnedArg)) → ReadsWhole t a → ReadsWhole u b → ReadsWhole t x → ReadsWhole u y
+pub shown_once : (model : Model) (t u : Text) (a b x y : Stretches) (shown : List (Option OwnedArg)) → ReadsWhole t a → ReadsWhole u b → ReadsWhole t x
+    → ReadsWhole u y
     → HasShownDifference model a b shown → HasShownDifference model x y shown
 shown_once model t u a b x y shown h g k l is =
     subst (λ z. HasShownDifference model x z shown) (read_once u b y g l) (subst (λ z. HasShownDifference model z b shown) (read_once t a x h k) is)

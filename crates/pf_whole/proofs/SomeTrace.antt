@@ -1,6 +1,7 @@
 -- Each list of stretches has a trace for arguments of its types.
-use Rattle.std.proofs.Common.{◌≡◌, List, [], ◌∷◌, ◌++◌, map, length, refl, sym, ap, ◌∙◌, arith, subst}
+use Rattle.std.proofs.Common.{◌≡◌, List, [], ◌∷◌, ◌++◌, map, refl, sym, ap, ◌∙◌, subst}
 use Rattle.std.proofs.lemmas.List.{append_assoc}
+use Rattle.std.proofs.lemmas.Slice.Zip.{AllZip-long}
 use Rattle.pf_values.specs.declared.models.Model.{Model}
 use Rattle.pf_values.specs.declared.types.ArgType.{ArgType}
 use Rattle.pf_values.specs.meaning.Arguments.{Argument, HasTypes}
@@ -13,7 +14,7 @@ use Rattle.pf_posix.specs.Types.{widened}
 use Rattle.pf_posix.specs.Stretches.{Stretches, Last, Before, types_of_opaque, whole_types}
 use Rattle.pf_whole.specs.meaning.NormalSpellings.{normal_spelling}
 use Rattle.pf_whole.specs.meaning.Traces.{Ends, Calls, HasTrace, PrintsKnown, Trace, Call}
-use Rattle.pf_whole.specs.meaning.WholeArguments.{WholeArgument, Known, Other, HasWholeTypes}
+use Rattle.pf_whole.specs.meaning.WholeArguments.{WholeArgument, Known, Other, HasWholeType, HasWholeTypes}
 
 -- arguments of types of the profile are known
 pub record AreKnown (model : Model) (args : List WholeArgument) (ts : List ArgType) : Type 0 where
@@ -47,23 +48,9 @@ are_split model (x ∷ args) (t ∷ a) b h =
       first = x ∷ rest.first;
       second = rest.second;
       whole = ap (λ l. x ∷ l) rest.whole;
-      typed_first =
-          (h.0, rest.typed_first);
+      typed_first = (h.0, rest.typed_first);
       typed_second = rest.typed_second;
     }
-
-pub typed_both : (model : Model) (x y : List WholeArgument) (a b : List ArgumentType) → HasWholeTypes model x a → HasWholeTypes model y b
-    → HasWholeTypes model (x ++ y) (a ++ b)
-typed_both model [] y [] b h g = g
-typed_both model [] y (t ∷ a) b h g = absurd h
-typed_both model (x ∷ xs) y [] b h g = absurd h
-typed_both model (x ∷ xs) y (t ∷ a) b h g = (h.0, typed_both model xs y a b h.1 g)
-
-pub typed_count : (model : Model) (x : List WholeArgument) (a : List ArgumentType) → HasWholeTypes model x a → length x ≡ length a
-typed_count model [] [] h = refl
-typed_count model [] (t ∷ a) h = absurd h
-typed_count model (x ∷ xs) [] h = absurd h
-typed_count model (x ∷ xs) (t ∷ a) h = omega (arith, typed_count model xs a h.1)
 
 pub known_printed : (model : Model) (items : List Item) (args : List WholeArgument) → HasWholeTypes model args (map widened (types model items))
     → (text : Text) × PrintsKnown model items args text
@@ -78,8 +65,19 @@ call_of model s args = record { spelling = normal_spelling model s; args = args 
 pub trace_before : (model : Model) (items : List Item) (s : PosixSpecification) (rest : Stretches) (first own back : List WholeArgument) (text : Text)
     (trace : Trace) → PrintsKnown model items first text → HasWholeTypes model own (types_of_opaque model s) → HasTrace model rest back trace
     → HasTrace model (Before items s rest) ((first ++ own) ++ back) (Calls text (call_of model s own) trace)
-trace_before model items s rest first own back text trace printed typed h =
-    (first, own, back, refl, printed, record { spelling = refl; args_are = refl; as_many = typed_count model own (types_of_opaque model s) typed }, h)
+trace_before model items s rest first own back text trace printed typed h = (
+  first,
+  own,
+  back,
+  refl,
+  printed,
+  record {
+    spelling = refl;
+    args_are = refl;
+    as_many = sym (AllZip-long (HasWholeType model) own (types_of_opaque model s) typed);
+  },
+  h,
+)
 
 pub some_trace : (model : Model) (a : Stretches) (args : List WholeArgument) → HasWholeTypes model args (whole_types model a)
     → (trace : Trace) × HasTrace model a args trace

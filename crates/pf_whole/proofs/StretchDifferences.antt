@@ -1,9 +1,7 @@
 -- What a comparison of the profile says of two stretches of equal types.
-use Rattle.std.proofs.Common.{◌≡◌, ◌≢◌, ℕ, zero, suc, List, [], ◌∷◌, refl, sym, ap, ◌∙◌, arith, subst, inl, inr}
+use Rattle.std.proofs.Common.{◌≡◌, ◌≢◌, ℕ, List, sym, ap, ◌∙◌, arith, subst, inl, inr}
 use Rattle.std.specs.Prelude.{Some, ◌⊎◌, slice_get, slice_set}
 use Rattle.pf_values.specs.declared.models.Model.{Model}
-use Rattle.pf_values.specs.declared.types.ArgType.{ArgType}
-use Rattle.pf_values.specs.declared.types.ArgType.TheVariants as args
 use Rattle.pf_values.specs.Candidates.{candidates, neutral, neutrals}
 use Rattle.pf_values.specs.meaning.Arguments.{Argument}
 use Rattle.pf_values.specs.meaning.Items.{HasItems, Item, types}
@@ -14,10 +12,12 @@ use Rattle.pf_compare.specs.declared.comparisons.Comparison.{Comparison}
 use Rattle.pf_compare.specs.declared.comparisons.Verdict.{Verdict}
 use Rattle.pf_compare.specs.declared.comparisons.Verdict.TheVariants.{Same, Types}
 use Rattle.pf_compare.specs.Answers.{IsComparisonOf, IsNeutralProbe, IsOtherProbe, IsVerdict, PrintUnlike}
+use Rattle.pf_compare.proofs.CandidateLemmas.{neutral_first, set_neutral}
 use Rattle.pf_whole.specs.Findings.{IsTellingProbe}
 use Rattle.pf_whole.proofs.Loops.{stretches_equivalent}
 
-pub same_difference : (model : Model) (t u : Text) (comparison : Comparison) (xs ys : List Item) → IsComparisonOf model t u comparison → comparison.verdict ≡ Same
+pub same_difference : (model : Model) (t u : Text) (comparison : Comparison) (xs ys : List Item) → IsComparisonOf model t u comparison
+    → comparison.verdict ≡ Same
     → HasItems t xs → HasItems u ys → PrintAlike model xs ys
 same_difference model t u comparison xs ys h e k l = (stretches_equivalent model t u xs ys k.reads l.reads).0 (h.same.0 e)
 
@@ -38,43 +38,34 @@ types_never model t u comparison index xs ys h e k l same =
     let is = verdict_of_items model t u comparison (Types index) xs ys h e k l in
     is.0.differ (ap (λ ts. slice_get ts index) same)
 
--- the first candidate of each type is neutral
-first_neutral : (model : Model) (type : ArgType) → slice_get (candidates model type) 0 ≡ Some (neutral type)
-first_neutral model args.Int = refl
-first_neutral model args.UInt = refl
-first_neutral model args.Long = refl
-first_neutral model args.ULong = refl
-first_neutral model args.LongLong = refl
-first_neutral model args.ULongLong = refl
-first_neutral model args.Str = refl
-
-set_neutral : (ts : List ArgType) (i : ℕ) (type : ArgType) → slice_get ts i ≡ Some type → slice_set (neutrals ts) i (neutral type) ≡ neutrals ts
-set_neutral [] i type e = refl
-set_neutral (t ∷ ts) zero type e = let same : t ≡ type = cc in ap (λ x. neutral x ∷ neutrals ts) (sym same)
-set_neutral (t ∷ ts) (suc i) type e = ap (λ l. neutral t ∷ l) (set_neutral ts i type e)
-
 pub neutral_difference : (model : Model) (xs ys : List Item) (shown : List Argument) (renderings : ℕ)
-    → (IsNeutralProbe model xs ys shown renderings) ⊎ (IsOtherProbe model xs ys shown renderings) → renderings ≡ 1 → PrintUnlike model xs ys (neutrals (types model xs))
+    → (IsNeutralProbe model xs ys shown renderings) ⊎ (IsOtherProbe model xs ys shown renderings) → renderings ≡ 1
+    → PrintUnlike model xs ys (neutrals (types model xs))
 neutral_difference model xs ys shown renderings (inl neutral) one = subst (PrintUnlike model xs ys) neutral.args_are neutral.unlike
 neutral_difference model xs ys shown renderings (inr other) one =
     let candidate = other.probe.candidate in
-    let place : other.place ≡ 0 = omega (arith, other.renderings_are, one) in
-    let at : slice_get (candidates model candidate.type) other.place ≡ Some other.argument = candidate.argument_is in
+    let first_index : other.candidate_index ≡ 0 = omega (arith, other.renderings_are, one) in
+    let at : slice_get (candidates model candidate.type) other.candidate_index ≡ Some other.argument = candidate.argument_is in
     let first : slice_get (candidates model candidate.type) 0 ≡ Some other.argument =
-    subst (λ k. slice_get (candidates model candidate.type) k ≡ Some other.argument) place at in
-    let some : Some other.argument ≡ Some (neutral candidate.type) = sym first ∙ first_neutral model candidate.type in
+    subst (λ k. slice_get (candidates model candidate.type) k ≡ Some other.argument) first_index at in
+    let some : Some other.argument ≡ Some (neutral candidate.type) = sym first ∙ neutral_first model candidate.type in
     let is_neutral : other.argument ≡ neutral candidate.type = cc in
-    subst (PrintUnlike model xs ys) (ap (slice_set (neutrals (types model xs)) other.index) is_neutral ∙ set_neutral (types model xs) other.index candidate.type candidate.type_is)
+    subst (PrintUnlike model xs ys) (ap (slice_set (neutrals (types model xs)) other.index) is_neutral
+    ∙ set_neutral (types model xs) other.index candidate.type candidate.type_is)
     other.probe.unlike
 
-pub probe_difference : (model : Model) (xs ys : List Item) (shown : List Argument) (renderings : ℕ)
-    → (IsNeutralProbe model xs ys shown renderings) ⊎ (IsOtherProbe model xs ys shown renderings) → renderings ≢ 1 → IsTellingProbe model xs ys shown
-probe_difference model xs ys shown renderings (inl neutral) other = absurd (other neutral.renderings_are)
-probe_difference model xs ys shown renderings (inr probe) other = record {
+pub telling_probe : (model : Model) (xs ys : List Item) (shown : List Argument) (renderings : ℕ) → IsOtherProbe model xs ys shown renderings
+    → IsTellingProbe model xs ys shown
+telling_probe model xs ys shown renderings probe = record {
   neutral_same = probe.neutral_same;
   index = probe.index;
-  place = probe.place;
+  candidate_index = probe.candidate_index;
   argument = probe.argument;
   probe = probe.probe;
   args_are = probe.args_are;
 }
+
+pub probe_difference : (model : Model) (xs ys : List Item) (shown : List Argument) (renderings : ℕ)
+    → (IsNeutralProbe model xs ys shown renderings) ⊎ (IsOtherProbe model xs ys shown renderings) → renderings ≢ 1 → IsTellingProbe model xs ys shown
+probe_difference model xs ys shown renderings (inl neutral) other = absurd (other neutral.renderings_are)
+probe_difference model xs ys shown renderings (inr probe) other = telling_probe model xs ys shown renderings probe

@@ -15,10 +15,11 @@ use Rattle.pf_whole.specs.Answers.{Agrees, CallsGiveShape, HaveOneShape, TellSom
 use Rattle.pf_whole.specs.Laws.{PlacedCall, placed_calls}
 use Rattle.pf_whole.specs.meaning.NormalSpellings.{normal_spelling}
 use Rattle.pf_whole.specs.meaning.Traces.{Ends, Calls, HasTrace, PrintsKnown, Trace}
-use Rattle.pf_whole.specs.meaning.WholeArguments.{WholeArgument, Known, Other, HasWholeTypes}
+use Rattle.pf_whole.specs.meaning.WholeArguments.{WholeArgument, Known, Other, HasWholeType, HasWholeTypes}
 use Rattle.pf_whole.proofs.Apart.{same_parts, spelling_types}
 use Rattle.pf_whole.proofs.KnownArguments.{known_once, widened_once}
-use Rattle.pf_whole.proofs.TraceLemmas.{known_count, length_map, typed_parts}
+use Rattle.pf_whole.proofs.TraceLemmas.{known_count, length_map}
+use Rattle.pf_whole.proofs.ZipLemmas.{zip_parts}
 
 shape : (model : Model) (index : ℕ) (t u : Text) (a b : Stretches) → ReadsWhole t a → ReadsWhole u b → whole_types model a ≡ whole_types model b
     → placed_calls model index a ≡ placed_calls model index b → HaveOneShape model a b
@@ -29,18 +30,18 @@ shape model index t u (Before items s rest) (Before own p more) h g e c =
     let x : PlacedCall = record { index = index + length (types model items); spelling = normal_spelling model s } in
     let y : PlacedCall = record { index = index + length (types model own); spelling = normal_spelling model p } in
     let call : x ≡ y = cc in
-    let place : index + length (types model items) ≡ index + length (types model own) = ap (λ call. call.index) call in
+    let same_index : index + length (types model items) ≡ index + length (types model own) = ap (λ call. call.index) call in
     let spelling : normal_spelling model s ≡ normal_spelling model p = ap (λ call. call.spelling) call in
     let mine = spelling_types model h.1 g.1 s p h.4 g.4 spelling in
     let many : length (map widened (types model items)) ≡ length (map widened (types model own)) =
-    length_map widened (types model items) ∙ omega (arith, place) ∙ sym (length_map widened (types model own)) in
+    length_map widened (types model items) ∙ omega (arith, same_index) ∙ sym (length_map widened (types model own)) in
     let outer = same_parts (map widened (types model items)) (types_of_opaque model s ++ whole_types model rest) (map widened (types model own))
     (types_of_opaque model p ++ whole_types model more) many e in
     let inner = same_parts (types_of_opaque model s) (whole_types model rest) (types_of_opaque model p) (whole_types model more) (ap length mine) outer.1 in
     let back : placed_calls model (index + length (types model items) + length (types_of_opaque model s)) rest
     ≡ placed_calls model (index + length (types model own) + length (types_of_opaque model p)) more = cc in
     let next : index + length (types model items) + length (types_of_opaque model s)
-    ≡ index + length (types model own) + length (types_of_opaque model p) = ap₂ (λ m n. m + n) place (ap length mine) in (
+    ≡ index + length (types model own) + length (types_of_opaque model p) = ap₂ (λ m n. m + n) same_index (ap length mine) in (
       widened_once (types model items) (types model own) outer.0,
       spelling,
       shape model (index + length (types model items) + length (types_of_opaque model s)) h.2 g.2 rest more h.5 g.5 inner.1
@@ -57,13 +58,6 @@ agreed [] (x ∷ args) h = absurd h
 agreed (k ∷ known) [] h = absurd h
 agreed (k ∷ known) (Known x ∷ args) h = ap₂ (λ y l. Known y ∷ l) h.0 (agreed known args h.1)
 agreed (k ∷ known) (Other x ∷ args) h = absurd h.0
-
-pub agree_parts : (xs ys : List (Option Argument)) (a b : List WholeArgument) → length xs ≡ length a → AllZip Agrees (xs ++ ys) (a ++ b)
-    → AllZip Agrees xs a × AllZip Agrees ys b
-agree_parts [] ys [] b e h = (tt, h)
-agree_parts [] ys (x ∷ a) b e h = absurd (omega (arith, e))
-agree_parts (x ∷ xs) ys [] b e h = absurd (omega (arith, e))
-agree_parts (x ∷ xs) ys (y ∷ a) b e h = let rest = agree_parts xs ys a b (omega (arith, e)) h.1 in ((h.0, rest.0), rest.1)
 
 -- what is printed for known arguments
 pub printed_for : (model : Model) (items : List Item) (known : List Argument) (args : List WholeArgument) (text : Text) → args ≡ map Known known
@@ -101,13 +95,13 @@ apart model t u (Before a s rest) (Before b k more) shown h g one tell args (Cal
     let front_too : length p.0 ≡ length q.0 = front ∙ ap (λ ts. length (map widened ts)) one.0 ∙ sym (known_count model b q.0 y q.4) in
     let split = same_parts p.0 (p.1 ++ p.2) q.0 (q.1 ++ q.2) front_too (sym here ∙ there) in
     let behind = same_parts p.1 p.2 q.1 q.2 (p.5.as_many ∙ ap length mine ∙ sym q.5.as_many) split.1 in
-    let types_here = typed_parts model p.0 (p.1 ++ p.2) (map widened (types model a)) (types_of_opaque model s ++ whole_types model rest) front
+    let types_here = zip_parts (HasWholeType model) p.0 (p.1 ++ p.2) (map widened (types model a)) (types_of_opaque model s ++ whole_types model rest) front
     (rw here at typed) in
-    let types_behind = typed_parts model p.1 p.2 (types_of_opaque model s) (whole_types model rest) p.5.as_many types_here.1 in
+    let types_behind = zip_parts (HasWholeType model) p.1 p.2 (types_of_opaque model s) (whole_types model rest) p.5.as_many types_here.1 in
     let agree_all : AllZip Agrees (tell.0 ++ (tell.1 ++ tell.2)) (p.0 ++ (p.1 ++ p.2)) = subst (λ l. AllZip Agrees l (p.0 ++ (p.1 ++ p.2))) tell.3
     (subst (λ l. AllZip Agrees shown l) here agree) in
-    let agree_here = agree_parts tell.0 (tell.1 ++ tell.2) p.0 (p.1 ++ p.2) (tell.4 ∙ sym (length_map widened (types model a)) ∙ sym front) agree_all in
-    let agree_behind = agree_parts tell.1 tell.2 p.1 p.2 (tell.5 ∙ sym p.5.as_many) agree_here.1 in
+    let agree_here = zip_parts Agrees tell.0 (tell.1 ++ tell.2) p.0 (p.1 ++ p.2) (tell.4 ∙ sym (length_map widened (types model a)) ∙ sym front) agree_all in
+    let agree_behind = zip_parts Agrees tell.1 tell.2 p.1 p.2 (tell.5 ∙ sym p.5.as_many) agree_here.1 in
     let later : TellSomewhere model rest more tell.2
     → ⊥ = λ somewhere. apart model h.2 g.2 rest more tell.2 h.5 g.5 one.2 somewhere p.2 w z types_behind.1 agree_behind.1 p.6
     (subst (λ l. HasTrace model more l z) (sym behind.1) q.6) trace in

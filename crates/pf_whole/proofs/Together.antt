@@ -1,11 +1,11 @@
 -- If each stretch prints the same bytes for the arguments shown, the traces of the whole are equal.
-use Rattle.std.proofs.Common.{◌≡◌, List, [], ◌∷◌, ◌++◌, map, length, refl, sym, ap, ◌∙◌, arith, subst}
+use Rattle.std.proofs.Common.{◌≡◌, List, ◌++◌, map, length, refl, sym, ap, ◌∙◌, subst}
 use Rattle.std.specs.Prelude.{Option, Some}
 use Rattle.std.specs.List.{AllZip}
 use Rattle.std.proofs.lemmas.List.{append_assoc}
+use Rattle.std.proofs.lemmas.Slice.Zip.{AllZip-long}
 use Rattle.pf_values.specs.declared.models.Model.{Model}
-use Rattle.pf_values.specs.declared.types.ArgType.{ArgType}
-use Rattle.pf_values.specs.meaning.Arguments.{Argument, HasTypes}
+use Rattle.pf_values.specs.meaning.Arguments.{Argument, HasType}
 use Rattle.pf_values.specs.meaning.Items.{Item, types}
 use Rattle.pf_values.specs.meaning.Printing.{PrintsAll}
 use Rattle.pf_values.specs.meaning.Text.{Text}
@@ -14,11 +14,12 @@ use Rattle.pf_posix.specs.Types.{widened}
 use Rattle.pf_posix.specs.Stretches.{Stretches, Last, Before, ReadsWhole, types_of_opaque, whole_types}
 use Rattle.pf_whole.specs.Answers.{AgreeEverywhere, AgreeingIsTogether, Agrees, HaveOneShape, StretchesAgree}
 use Rattle.pf_whole.specs.meaning.Traces.{Ends, Calls, HasTrace, PrintsKnown, Trace}
-use Rattle.pf_whole.specs.meaning.WholeArguments.{WholeArgument, Known, HasWholeTypes}
+use Rattle.pf_whole.specs.meaning.WholeArguments.{WholeArgument, Known, HasWholeType, HasWholeTypes}
 use Rattle.pf_whole.proofs.Apart.{spelling_types}
 use Rattle.pf_whole.proofs.KnownArguments.{known_once}
-use Rattle.pf_whole.proofs.Telling.{agree_parts, agreed}
-use Rattle.pf_whole.proofs.TraceLemmas.{known_count, length_map, typed_parts}
+use Rattle.pf_whole.proofs.Telling.{agreed}
+use Rattle.pf_whole.proofs.TraceLemmas.{known_count, length_map}
+use Rattle.pf_whole.proofs.ZipLemmas.{zip_parts}
 
 stretch_goes : (model : Model) (a b : List Item) (shown : List (Option Argument)) (args : List WholeArgument) (x : Text) → types model a ≡ types model b
     → StretchesAgree model a b shown → AllZip Agrees shown args → PrintsKnown model a args x → PrintsKnown model b args x
@@ -32,12 +33,6 @@ stretch_goes model a b shown args x e h agree p =
 stretch_back : (model : Model) (a b : List Item) (shown : List (Option Argument)) → types model a ≡ types model b → StretchesAgree model a b shown
     → StretchesAgree model b a shown
 stretch_back model a b shown e h = record { known = h.known; shown_is = h.shown_is; typed = rw (← e) h.typed; same = λ x y p q. sym (h.same y x q p) }
-
-known_zip : (model : Model) (known : List Argument) (ts : List ArgType) → HasTypes model known ts → length known ≡ length ts
-known_zip model [] [] h = refl
-known_zip model [] (t ∷ ts) h = absurd h
-known_zip model (k ∷ known) [] h = absurd h
-known_zip model (k ∷ known) (t ∷ ts) h = omega (arith, known_zip model known ts h.1)
 
 shape_back : (model : Model) (a b : Stretches) → HaveOneShape model a b → HaveOneShape model b a
 shape_back model (Last a) (Last b) h = sym h
@@ -82,15 +77,16 @@ goes model t u (Before a s rest) (Before b k more) shown h g one all args (Calls
     let here = p.3 ∙ append_assoc p.0 p.1 p.2 in
     let mine = spelling_types model h.1 g.1 s k h.4 g.4 one.1 in
     let front = known_count model a p.0 x p.4 in
-    let types_here = typed_parts model p.0 (p.1 ++ p.2) (map widened (types model a)) (types_of_opaque model s ++ whole_types model rest) front
+    let types_here = zip_parts (HasWholeType model) p.0 (p.1 ++ p.2) (map widened (types model a)) (types_of_opaque model s ++ whole_types model rest) front
     (rw here at typed) in
-    let types_behind = typed_parts model p.1 p.2 (types_of_opaque model s) (whole_types model rest) p.5.as_many types_here.1 in
+    let types_behind = zip_parts (HasWholeType model) p.1 p.2 (types_of_opaque model s) (whole_types model rest) p.5.as_many types_here.1 in
     let agree_all : AllZip Agrees (all.0 ++ (all.1 ++ all.2)) (p.0 ++ (p.1 ++ p.2)) = subst (λ l. AllZip Agrees l (p.0 ++ (p.1 ++ p.2))) all.3
     (subst (λ l. AllZip Agrees shown l) here agree) in
-    let many : length all.0 ≡ length p.0 = ap length all.5.shown_is ∙ length_map Some all.5.known ∙ known_zip model all.5.known (types model a) all.5.typed
+    let many : length all.0 ≡ length p.0 = ap length all.5.shown_is ∙ length_map Some all.5.known
+    ∙ sym (AllZip-long (HasType model) all.5.known (types model a) all.5.typed)
     ∙ sym (length_map widened (types model a)) ∙ sym front in
-    let agree_here = agree_parts all.0 (all.1 ++ all.2) p.0 (p.1 ++ p.2) many agree_all in
-    let agree_behind = agree_parts all.1 all.2 p.1 p.2 (all.4 ∙ sym p.5.as_many) agree_here.1 in (
+    let agree_here = zip_parts Agrees all.0 (all.1 ++ all.2) p.0 (p.1 ++ p.2) many agree_all in
+    let agree_behind = zip_parts Agrees all.1 all.2 p.1 p.2 (all.4 ∙ sym p.5.as_many) agree_here.1 in (
       p.0,
       p.1,
       p.2,

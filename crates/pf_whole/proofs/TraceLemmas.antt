@@ -6,14 +6,14 @@ use Rattle.pf_values.specs.meaning.Arguments.{Argument}
 use Rattle.pf_values.specs.meaning.Items.{Item, Byte, Directive, types}
 use Rattle.pf_values.specs.meaning.Printing.{PrintAlike, PrintsAll}
 use Rattle.pf_values.specs.meaning.Text.{Text}
-use Rattle.pf_posix.specs.declared.types.ArgumentType.{ArgumentType}
 use Rattle.pf_posix.specs.Specifications.{PosixSpecification}
 use Rattle.pf_posix.specs.Types.{widened}
 use Rattle.pf_posix.specs.Stretches.{Stretches, Before, types_of_opaque, whole_types}
 use Rattle.pf_whole.specs.meaning.NormalSpellings.{normal_spelling}
 use Rattle.pf_whole.specs.meaning.Traces.{Ends, Calls, HasTrace, PrintsKnown, Trace, TraceAlike}
-use Rattle.pf_whole.specs.meaning.WholeArguments.{WholeArgument, Known, HasWholeTypes}
+use Rattle.pf_whole.specs.meaning.WholeArguments.{WholeArgument, Known, HasWholeType, HasWholeTypes}
 use Rattle.pf_whole.proofs.ProfileTexts.{known_alike, turned}
+use Rattle.pf_whole.proofs.ZipLemmas.{zip_parts}
 
 pub trace_refl : (model : Model) (a : Stretches) → TraceAlike model a a
 trace_refl model a = record { same_types = refl; same_traces = λ args trace typed. (λ g. g, λ g. g) }
@@ -47,13 +47,6 @@ pub length_map : {A B : Type 0} (f : A → B) (xs : List A) → length (map f xs
 length_map f [] = refl
 length_map f (x ∷ xs) = omega (arith, length_map f xs)
 
-pub typed_parts : (model : Model) (xs ys : List WholeArgument) (a b : List ArgumentType) → length xs ≡ length a → HasWholeTypes model (xs ++ ys) (a ++ b)
-    → HasWholeTypes model xs a × HasWholeTypes model ys b
-typed_parts model [] ys [] b e h = (tt, h)
-typed_parts model [] ys (type ∷ a) b e h = absurd (omega (arith, e))
-typed_parts model (x ∷ xs) ys [] b e h = absurd (omega (arith, e))
-typed_parts model (x ∷ xs) ys (type ∷ a) b e h = let rest = typed_parts model xs ys a b (omega (arith, e)) h.1 in ((h.0, rest.0), rest.1)
-
 pub known_count : (model : Model) (items : List Item) (args : List WholeArgument) (text : Text) → PrintsKnown model items args text
     → length args ≡ length (map widened (types model items))
 known_count model items args text h = ap length h.1 ∙ length_map Known h.0 ∙ printed_count model items h.0 text h.2
@@ -67,9 +60,9 @@ before_goes : (model : Model) (items own : List Item) (s p : PosixSpecification)
 before_goes model items own s p rest more print spelling same_types rests args (Ends text) typed h = h
 before_goes model items own s p rest more print spelling same_types rests args (Calls text call trace) typed h =
     let whole = h.3 ∙ append_assoc h.0 h.1 h.2 in
-    let first = typed_parts model h.0 (h.1 ++ h.2) (map widened (types model items)) (types_of_opaque model s ++ whole_types model rest)
+    let first = zip_parts (HasWholeType model) h.0 (h.1 ++ h.2) (map widened (types model items)) (types_of_opaque model s ++ whole_types model rest)
     (known_count model items h.0 text h.4) (rw whole at typed) in
-    let second = typed_parts model h.1 h.2 (types_of_opaque model s) (whole_types model rest) h.5.as_many first.1 in (
+    let second = zip_parts (HasWholeType model) h.1 h.2 (types_of_opaque model s) (whole_types model rest) h.5.as_many first.1 in (
       h.0,
       h.1,
       h.2,

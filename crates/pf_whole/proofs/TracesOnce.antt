@@ -11,11 +11,12 @@ use Rattle.pf_posix.specs.Types.{widened}
 use Rattle.pf_posix.specs.Stretches.{Stretches, Last, Before, types_of_opaque, whole_types}
 use Rattle.pf_whole.specs.Laws.{TracesOnce}
 use Rattle.pf_whole.specs.meaning.Traces.{Call, Calls, Ends, HasTrace, IsCallOf, PrintsKnown, Trace}
-use Rattle.pf_whole.specs.meaning.WholeArguments.{WholeArgument, Known, HasWholeTypes}
+use Rattle.pf_whole.specs.meaning.WholeArguments.{WholeArgument, Known, HasWholeType, HasWholeTypes}
 use Rattle.pf_whole.proofs.Apart.{same_parts}
 use Rattle.pf_whole.proofs.KnownArguments.{known_once, typed_known}
 use Rattle.pf_whole.proofs.SomeTrace.{some_trace}
-use Rattle.pf_whole.proofs.TraceLemmas.{known_count, typed_parts}
+use Rattle.pf_whole.proofs.TraceLemmas.{known_count}
+use Rattle.pf_whole.proofs.ZipLemmas.{zip_parts}
 
 known_text : (model : Model) (items : List Item) (args : List WholeArgument) (x y : Text) → HasWholeTypes model args (map widened (types model items))
     → PrintsKnown model items args x → PrintsKnown model items args y → x ≡ y
@@ -44,9 +45,9 @@ one_trace model (Before items s rest) args (Calls x c w) (Calls y d z) typed p q
     let front = known_count model items p.0 x p.4 in
     let split = same_parts p.0 (p.1 ++ p.2) q.0 (q.1 ++ q.2) (front ∙ sym (known_count model items q.0 y q.4)) (sym here ∙ there) in
     let back = same_parts p.1 p.2 q.1 q.2 (p.5.as_many ∙ sym q.5.as_many) split.1 in
-    let types_here = typed_parts model p.0 (p.1 ++ p.2) (map widened (types model items)) (types_of_opaque model s ++ whole_types model rest) front
+    let types_here = zip_parts (HasWholeType model) p.0 (p.1 ++ p.2) (map widened (types model items)) (types_of_opaque model s ++ whole_types model rest) front
     (rw here at typed) in
-    let types_back = typed_parts model p.1 p.2 (types_of_opaque model s) (whole_types model rest) p.5.as_many types_here.1 in
+    let types_back = zip_parts (HasWholeType model) p.1 p.2 (types_of_opaque model s) (whole_types model rest) p.5.as_many types_here.1 in
     let text : x ≡ y = known_text model items p.0 x y types_here.0 p.4 (subst (λ l. PrintsKnown model items l y) (sym split.0) q.4) in
     let call : c ≡ d = same_call model s p.1 q.1 c d back.0 p.5 q.5 in
     let trace : w ≡ z = one_trace model rest p.2 w z types_back.1 p.6 (subst (λ l. HasTrace model rest l z) (sym back.1) q.6) in

@@ -60,8 +60,8 @@ TracesTogether model a b shown = (args : List WholeArgument) (trace : Trace)
     → (HasTrace model a args trace ↔ HasTrace model b args trace)
 
 -- the shown arguments are neutral, except that the one with this index, which is an argument of a
--- stretch, is the candidate with this place of its type
-pub record IsWholeProbe (model : Model) (a : Stretches) (index place : ℕ)
+-- stretch, is the candidate of its type with `candidate_index`
+pub record IsWholeProbe (model : Model) (a : Stretches) (index candidate_index : ℕ)
     (shown : List (Option Argument)) : Type 0 where
   pub type : ArgType
   pub wide : ArgumentType
@@ -69,7 +69,7 @@ pub record IsWholeProbe (model : Model) (a : Stretches) (index place : ℕ)
   pub in_stretch : slice_get (neutral_shown model a) index ≡ Some (Some (neutral type))
   pub wide_is : slice_get (whole_types model a) index ≡ Some wide
   pub type_is : narrowed wide ≡ Some type
-  pub candidate : slice_get (candidates model type) place ≡ Some argument
+  pub candidate : slice_get (candidates model type) candidate_index ≡ Some argument
   pub shown_is : shown ≡ slice_set (neutral_shown model a) index (Some argument)
 
 -- the neutral arguments are shown, and tell the traces apart
@@ -81,11 +81,11 @@ pub record ShowsNeutral (model : Model) (a b : Stretches) (shown : List (Option 
 pub record ShowsProbe (model : Model) (a b : Stretches) (shown : List (Option Argument)) : Type 0 where
   pub neutral_same : TracesTogether model a b (neutral_shown model a)
   pub index : ℕ
-  pub place : ℕ
-  pub probe : IsWholeProbe model a index place shown
+  pub candidate_index : ℕ
+  pub probe : IsWholeProbe model a index candidate_index shown
   pub apart : TracesApart model a b shown
   pub earlier : (i k : ℕ) (before : List (Option Argument)) → IsWholeProbe model a i k before
-      → IsEarlier i k index place → TracesTogether model a b before
+      → IsEarlier i k index candidate_index → TracesTogether model a b before
 
 -- one list has the call, and the other one doesn't
 abbrev pub IsCallOfOne : List PlacedCall → List PlacedCall → PlacedCall → Type 0

@@ -39,9 +39,9 @@ NeutralTells model (Before a s rest) (Before b p more) =
 pub record IsTellingProbe (model : Model) (a b : List Item) (args : List Argument) : Type 0 where
   pub neutral_same : PrintTheSame model a b (neutrals (types model a))
   pub index : ℕ
-  pub place : ℕ
+  pub candidate_index : ℕ
   pub argument : Argument
-  pub probe : IsFirstProbe model a b index place argument
+  pub probe : IsFirstProbe model a b index candidate_index argument
   pub args_are : args ≡ probe_at (types model a) index argument
 
 -- stretches print the same for neutral arguments, and before the one with the probe that is shown, for

@@ -29,7 +29,7 @@ pub enum WholeVerdict {
     /// that only one of them makes.
     Directives(u64),
     /// Their argument types and their calls are equal. For these arguments they print different bytes.
-    /// `None` stands for any argument of a directive that the profile lacks.
+    /// `None` is any argument of a directive that the profile lacks.
     Args(Vec<Option<OwnedArg>>),
 }
 

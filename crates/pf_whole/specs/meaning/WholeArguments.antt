@@ -14,7 +14,7 @@ pub data WholeArgument : Type 0 where
   Known : (argument : Argument) → WholeArgument
   Other : (representation : Text) → WholeArgument
 
--- the same type in the profile, if the profile has it
+-- a type as the profile has it, if it does
 abbrev pub narrowed : ArgumentType → Option ArgType
 narrowed (Profile type) = Some type
 narrowed _ = None

@@ -6,5 +6,6 @@ use Rattle.pf_compare.proofs.VerdictLemmas.{same_verdict}
 use Rattle.pf_compare.proofs.comparisons.compare_any.Goals as goal
 
 pub returns-in-Ok-true : goal.returns-in-Ok-true
-returns-in-Ok-true c = subst (λ (r : Comparison). IsComparisonOf c.args.model c.args.f.now c.args.g.now r) (sym c.same_comparison.ensures)
-    (same_verdict c.args.model c.args.f.now c.args.g.now (subst (AreTextsSame c.args.model c.args.f.now c.args.g.now) c.in-Ok-true.field-0-test c.in-Ok-true.ensures))
+returns-in-Ok-true c = subst (λ (r : Comparison). IsComparisonOf c.args.model c.args.first.now c.args.second.now r) (sym c.same_comparison.ensures)
+    (same_verdict c.args.model c.args.first.now c.args.second.now (subst
+    (AreTextsSame c.args.model c.args.first.now c.args.second.now) c.in-Ok-true.field-0-test c.in-Ok-true.ensures))

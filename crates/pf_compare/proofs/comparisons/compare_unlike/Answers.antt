@@ -6,5 +6,5 @@ use Rattle.pf_compare.proofs.comparisons.compare_unlike.Goals as goal
 
 pub returns-in-Nowhere : goal.returns-in-Nowhere
 returns-in-Nowhere c =
-    subst (λ (r : Comparison). IsComparisonOf c.args.model c.args.f.now c.args.g.now r) (sym c.same_comparison.ensures)
-    (items_verdict c.args.model c.args.f.now c.args.g.now (rw c.in-Nowhere.is at c.item_difference.ensures))
+    subst (λ (r : Comparison). IsComparisonOf c.args.model c.args.first.now c.args.second.now r) (sym c.same_comparison.ensures)
+    (items_verdict c.args.model c.args.first.now c.args.second.now (rw c.in-Nowhere.is at c.item_difference.ensures))

@@ -11,7 +11,7 @@ loop-piece-init c = record {
   bound = omega arith;
   steps = record {
     done = [];
-    first_taken = subst (λ (pieces : Pieces). HasGivenTypes c.args.model pieces c.args.f.now []) (sym c.into_iter-piece-iterator.ensures.into_iter_gives)
+    first_taken = subst (λ (pieces : Pieces). HasGivenTypes c.args.model pieces c.args.first.now []) (sym c.into_iter-piece-iterator.ensures.into_iter_gives)
         (record { read = []; items = []; given = c.new-piece-items.ensures; types_are = refl });
     second_taken = record { read = []; items = []; given = c.new-second_pieces.ensures; types_are = refl };
     count = refl;
@@ -22,11 +22,11 @@ pub returns-then-not-is_type : goal.returns-then-not-is_type
 returns-then-not-is_type c =
     let s = c.loop-piece.invariant.steps in
     λ xs ys a b.
-    differ_here c.args.model c.next.new.self c.next_type.new.pieces c.args.f.now c.args.g.now s.done c.loop-piece.index c.in-Some-arg_type.wanted
+    differ_here c.args.model c.next.new.self c.next_type.new.pieces c.args.first.now c.args.second.now s.done c.loop-piece.index c.in-Some-arg_type.wanted
     c.next_type.result xs ys s.count
-    (taken_more c.args.model c.loop-piece.piece-iterator c.next.new.self c.args.f.now s.done s.first_taken c.in-Some.piece c.in-Some.ensures.steps
+    (taken_more c.args.model c.loop-piece.piece-iterator c.next.new.self c.args.first.now s.done s.first_taken c.in-Some.piece c.in-Some.ensures.steps
     c.in-Ok.piece _ c.in-Ok.is c.in-Some-arg_type.ensures)
-    (c.next_type.ensures c.args.g.now s.done c.requires.second s.second_taken) (c.is_type.ensures.other (rw c.if-not-is_type.true (search rules))) a b
+    (c.next_type.ensures c.args.second.now s.done c.requires.second s.second_taken) (c.is_type.ensures.other (rw c.if-not-is_type.true (search rules))) a b
 
 pub loop-piece-preserved-in-Some-arg_type : goal.loop-piece-preserved-in-Some-arg_type
 loop-piece-preserved-in-Some-arg_type c =
@@ -36,11 +36,11 @@ loop-piece-preserved-in-Some-arg_type c =
       can = tt;
       finite = tt;
       bound = omega (arith, c.loop-piece.invariant.bound, less);
-      steps = stepped c.args.model c.next.new.self c.next_type.new.pieces c.args.f.now c.args.g.now s.done c.loop-piece.index c.in-Some-arg_type.wanted
+      steps = stepped c.args.model c.next.new.self c.next_type.new.pieces c.args.first.now c.args.second.now s.done c.loop-piece.index c.in-Some-arg_type.wanted
           c.next_type.result s.count
-          (taken_more c.args.model c.loop-piece.piece-iterator c.next.new.self c.args.f.now s.done s.first_taken c.in-Some.piece c.in-Some.ensures.steps
+          (taken_more c.args.model c.loop-piece.piece-iterator c.next.new.self c.args.first.now s.done s.first_taken c.in-Some.piece c.in-Some.ensures.steps
           c.in-Ok.piece _ c.in-Ok.is c.in-Some-arg_type.ensures)
-          (c.next_type.ensures c.args.g.now s.done c.requires.second s.second_taken) (c.is_type.ensures.yes (rw c.if-not-is_type.false (search rules)));
+          (c.next_type.ensures c.args.second.now s.done c.requires.second s.second_taken) (c.is_type.ensures.yes (rw c.if-not-is_type.false (search rules)));
     }
 
 pub loop-piece-preserved : goal.loop-piece-preserved
@@ -53,7 +53,7 @@ loop-piece-preserved c =
       bound = omega (arith, c.loop-piece.invariant.bound, less);
       steps = record {
         done = s.done;
-        first_taken = taken_same c.args.model c.loop-piece.piece-iterator c.next.new.self c.args.f.now s.done s.first_taken c.in-Some.piece
+        first_taken = taken_same c.args.model c.loop-piece.piece-iterator c.next.new.self c.args.first.now s.done s.first_taken c.in-Some.piece
             c.in-Some.ensures.steps c.in-Ok.piece c.in-Ok.is c.in_default.ensures;
         second_taken = s.second_taken;
         count = s.count;
@@ -63,21 +63,21 @@ loop-piece-preserved c =
 pub unreachable-requires : goal.unreachable-requires
 unreachable-requires c =
     let s = c.loop-piece.invariant.steps in
-    not_refused c.args.model c.loop-piece.piece-iterator c.next.new.self c.args.f.now s.done s.first_taken c.in-Some.piece c.in-Some.ensures.steps
+    not_refused c.args.model c.loop-piece.piece-iterator c.next.new.self c.args.first.now s.done s.first_taken c.in-Some.piece c.in-Some.ensures.steps
     c.requires.first c.in-Err.field-0 c.in-Err.is
 
 pub returns-in-Some-next_type : goal.returns-in-Some-next_type
 returns-in-Some-next_type c =
     let s = c.loop-piece.invariant.steps in
     λ xs ys a b.
-    differ_after c.args.model c.next_type-2.new.pieces c.args.f.now c.args.g.now s.done c.loop-piece.index c.in-Some-next_type.field-0 xs ys s.count
-    (taken_all c.args.model c.loop-piece.piece-iterator c.next.new.self c.args.f.now s.done s.first_taken c.in-None.ensures.steps)
-    (c.in-Some-next_type.ensures c.args.g.now s.done c.requires.second s.second_taken) a b
+    differ_after c.args.model c.next_type-2.new.pieces c.args.first.now c.args.second.now s.done c.loop-piece.index c.in-Some-next_type.field-0 xs ys s.count
+    (taken_all c.args.model c.loop-piece.piece-iterator c.next.new.self c.args.first.now s.done s.first_taken c.in-None.ensures.steps)
+    (c.in-Some-next_type.ensures c.args.second.now s.done c.requires.second s.second_taken) a b
 
 pub returns-in-None-next_type : goal.returns-in-None-next_type
 returns-in-None-next_type c =
     let s = c.loop-piece.invariant.steps in
     λ xs ys a b.
-    same_lists_of c.args.model c.args.f.now c.args.g.now s.done xs ys
-    (taken_all c.args.model c.loop-piece.piece-iterator c.next.new.self c.args.f.now s.done s.first_taken c.in-None.ensures.steps)
-    (c.in-None-next_type.ensures c.args.g.now s.done c.requires.second s.second_taken) a b
+    same_lists_of c.args.model c.args.first.now c.args.second.now s.done xs ys
+    (taken_all c.args.model c.loop-piece.piece-iterator c.next.new.self c.args.first.now s.done s.first_taken c.in-None.ensures.steps)
+    (c.in-None-next_type.ensures c.args.second.now s.done c.requires.second s.second_taken) a b

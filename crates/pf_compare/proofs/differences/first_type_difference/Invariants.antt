@@ -7,5 +7,5 @@ invariant-loop-piece l = record {
   can : (goal.iterator-loop-piece).can_next l.piece-iterator;
   finite : (goal.iterator-loop-piece).is_finite l.piece-iterator;
   bound : l.index + (goal.iterator-loop-piece).remaining l.piece-iterator ≤ (goal.iterator-loop-piece).remaining l.initial.piece-iterator;
-  steps : AreInStep l.model l.piece-iterator l.second_pieces l.f l.g l.index;
+  steps : AreInStep l.model l.piece-iterator l.second_pieces l.first l.second l.index;
 }

@@ -1,16 +1,11 @@
-use Rattle.std.proofs.Common.{arith, rules, sym, ◌∙◌}
-use Rattle.pf_compare.proofs.OutlineLemmas.{parts_after_zeros, parts_of_digits, parts_of_lengths, parts_of_zeros}
+use Rattle.std.proofs.Common.{rules}
+use Rattle.pf_compare.proofs.OutlineLemmas.{parts_after_zeros, parts_of_digits, parts_of_zeros}
 use Rattle.pf_compare.proofs.predictions.parts_differ.Goals as goal
-
-pub returns-then-len : goal.returns-then-len
-returns-then-len c =
-    parts_of_lengths c.args.first_kind c.args.second_kind c.args.first.now c.args.second.now c.requires.first c.requires.second
-    (λ e. c.if-len.true (c.len.ensures.value ∙ e ∙ sym c.len-2.ensures.value))
 
 pub returns-then-have_same_prefix : goal.returns-then-have_same_prefix
 returns-then-have_same_prefix c =
     parts_of_digits c.args.first_kind c.args.second_kind c.args.first.now c.args.second.now c.requires.first c.requires.second
-    (omega (arith, c.if-len.false, c.len.ensures.value, c.len-2.ensures.value)) c.if-have_same_prefix.ensures
+    c.requires.length c.if-have_same_prefix.ensures
     c.digits_differ.result c.digits_differ.ensures
 
 pub returns-then-has_zeros_beside : goal.returns-then-has_zeros_beside

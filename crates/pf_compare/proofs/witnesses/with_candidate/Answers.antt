@@ -1,5 +1,5 @@
 use Rattle.std.proofs.Common.{arith, refl}
-use Rattle.pf_compare.proofs.VerdictLemmas.{place_few}
+use Rattle.pf_compare.proofs.VerdictLemmas.{candidate_index_few}
 use Rattle.pf_compare.proofs.WitnessLemmas.{args_of, candidate_has, index_within, types_of}
 use Rattle.pf_compare.proofs.witnesses.with_candidate.Goals as goal
 
@@ -13,14 +13,14 @@ index_mut-requires c = omega (arith, index_within c.args.model c.requires.0 c.ar
 pub overflow_cast-result : goal.overflow_cast-result
 overflow_cast-result c = omega (
   arith,
-  place_few c.args.model c.requires.0 c.args.probe.index c.args.probe.candidate_index c.requires.1.candidate.0
+  candidate_index_few c.args.model c.requires.0 c.args.probe.index c.args.probe.candidate_index c.requires.1.candidate.0
       c.requires.1.candidate.1,
 )
 
 pub overflow_add-result : goal.overflow_add-result
 overflow_add-result c = omega (
   arith,
-  place_few c.args.model c.requires.0 c.args.probe.index c.args.probe.candidate_index c.requires.1.candidate.0
+  candidate_index_few c.args.model c.requires.0 c.args.probe.index c.args.probe.candidate_index c.requires.1.candidate.0
       c.requires.1.candidate.1,
 )
 

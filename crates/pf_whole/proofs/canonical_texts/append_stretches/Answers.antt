@@ -2,7 +2,7 @@ use Rattle.std.proofs.Common.{[], ◌++◌, sym, ap, ◌∙◌, arith}
 use Rattle.std.proofs.lemmas.List.{append-nil, append_assoc}
 use Rattle.pf_posix.specs.OpaqueParts.{parts_of_opaque}
 use Rattle.pf_whole.specs.meaning.NormalSpellings.{normal_spelling}
-use Rattle.pf_whole.proofs.HeadLemmas.{at_last, before_directive, between, first_items, goes_further, stretch_has}
+use Rattle.pf_whole.proofs.HeadLemmas.{at_last, before_directive, between, first_items, less_left, stretch_has}
 use Rattle.pf_whole.proofs.Loops.{continues_from, ends_with, goes_past}
 use Rattle.pf_whole.proofs.canonical_texts.append_stretches.Goals as goal
 
@@ -27,17 +27,15 @@ returns-in-None c =
     let has = stretch_has t c.loop-stretch.at i.1 c.in-Some.stretch head c.requires.limit in
     let last = at_last t c.loop-stretch.at i.1 c.in-Some.stretch head c.in-None.is in
     let piece = c.in_ok-out.ensures in
-    let together = ends_with c.args.model i.0 i.1 (first_items i.1) (between t c.loop-stretch.at c.in-Some.stretch.end) i.2 piece.0 i.7 last.0 has.reads piece.1.canonical_is in (
+    let together = ends_with c.args.model i.0 i.1 (first_items i.1) (between t c.loop-stretch.at c.in-Some.stretch.end) i.2 piece.0 i.7 last.0 has.reads
+    piece.1.canonical_is in (
       i.2 ++ piece.0,
       record { accepted = c.requires; canonical_is = record { stretches = i.0; reads = i.3; together = together } },
       piece.2 ∙ ap (λ l. l ++ piece.0) i.6 ∙ append_assoc c.args.out.items i.2 piece.0,
     )
 
 pub loop-stretch-smaller : goal.loop-stretch-smaller
-loop-stretch-smaller c =
-    let placed = c.in-Some.ensures.placed in
-    let further = goes_further c.args.text.now c.loop-stretch.at c.in-Some.stretch _ placed c.in-Some-opaque.is in
-    omega (arith, further, placed.within)
+loop-stretch-smaller c = less_left c.args.text.now c.loop-stretch.at c.in-Some.stretch _ c.in-Some.ensures.placed c.in-Some-opaque.is
 
 pub loop-stretch-preserved : goal.loop-stretch-preserved
 loop-stretch-preserved c =
@@ -56,7 +54,8 @@ loop-stretch-preserved c =
       c.in-Some.ensures.placed.within,
       c.in_ok-out-in-Some-opaque.ensures ∙ ap (λ l. l ++ spelling) (piece.2 ∙ ap (λ l. l ++ piece.0) i.6 ∙ append_assoc c.args.out.items i.2 piece.0)
           ∙ append_assoc c.args.out.items (i.2 ++ piece.0) spelling,
-      goes_past c.args.model i.0 i.1 before.rest before.items (parts_of_opaque directive) (between t at c.in-Some.stretch.end) i.2 piece.0 i.7 before.left_is before.reads piece.1.canonical_is,
+      goes_past c.args.model i.0 i.1 before.rest before.items (parts_of_opaque directive)
+          (between t at c.in-Some.stretch.end) i.2 piece.0 i.7 before.left_is before.reads piece.1.canonical_is,
     )
 
 pub unreachable-requires : goal.unreachable-requires

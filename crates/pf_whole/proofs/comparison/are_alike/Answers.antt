@@ -1,7 +1,7 @@
 use Rattle.std.proofs.Common.{arith, refl}
 use Rattle.pf_posix.specs.OpaqueParts.{parts_of_opaque}
 use Rattle.pf_whole.proofs.Corresponding.{alike_is_corresponding}
-use Rattle.pf_whole.proofs.HeadLemmas.{at_last, before_directive, first_items, goes_further, stretch_has}
+use Rattle.pf_whole.proofs.HeadLemmas.{at_last, before_directive, first_items, less_left, stretch_has}
 use Rattle.pf_whole.proofs.Loops.{both_end, both_go_on, unlike_calls, unlike_stretches}
 use Rattle.pf_whole.proofs.comparison.are_alike.Goals as goal
 
@@ -36,7 +36,8 @@ pub returns-then-not-are_equivalent : goal.returns-then-not-are_equivalent
 returns-then-not-are_equivalent c =
     let i = c.loop-stretch.invariant in
     let first = stretch_has c.args.first.now c.loop-stretch.at i.0 c.in-Some.stretch (c.in-Some.ensures.head i.0 i.2) c.requires.first.limit in
-    let second = stretch_has c.args.second.now c.loop-stretch.from i.1 c.in-Some-next_stretch.other (c.in-Some-next_stretch.ensures.head i.1 i.3) c.requires.second.limit in
+    let second = stretch_has c.args.second.now c.loop-stretch.from i.1 c.in-Some-next_stretch.other
+    (c.in-Some-next_stretch.ensures.head i.1 i.3) c.requires.second.limit in
     let unlike = unlike_stretches c.args.model c.args.first.now c.args.second.now _ _ i.0 i.1 i.6 first.reads second.reads
     (λ same. let yes = c.are_equivalent.ensures.1 same in cc) in
     (λ e. cc, λ alike. absurd (unlike alike))
@@ -47,7 +48,8 @@ returns-then-not-make_one_call c =
     let directive = c.in-Some-opaque.directive in
     let other = c.in-Some-opaque-2.other_directive in
     let one = before_directive c.args.first.now c.loop-stretch.at i.0 c.in-Some.stretch directive (c.in-Some.ensures.head i.0 i.2) c.in-Some-opaque.is in
-    let two = before_directive c.args.second.now c.loop-stretch.from i.1 c.in-Some-next_stretch.other other (c.in-Some-next_stretch.ensures.head i.1 i.3) c.in-Some-opaque-2.is in
+    let two = before_directive c.args.second.now c.loop-stretch.from i.1 c.in-Some-next_stretch.other other
+    (c.in-Some-next_stretch.ensures.head i.1 i.3) c.in-Some-opaque-2.is in
     let unlike = unlike_calls c.args.model c.args.first.now c.args.second.now i.0 i.1 one.rest two.rest one.items two.items (parts_of_opaque directive)
     (parts_of_opaque other) i.6 one.left_is two.left_is (λ same. let yes = c.make_one_call.ensures.1 same in cc) in
     (λ e. cc, λ alike. absurd (unlike alike))
@@ -75,7 +77,8 @@ loop-stretch-preserved c =
     let directive = c.in-Some-opaque.directive in
     let other = c.in-Some-opaque-2.other_directive in
     let one = before_directive t c.loop-stretch.at i.0 c.in-Some.stretch directive (c.in-Some.ensures.head i.0 i.2) c.in-Some-opaque.is in
-    let two = before_directive u c.loop-stretch.from i.1 c.in-Some-next_stretch.other other (c.in-Some-next_stretch.ensures.head i.1 i.3) c.in-Some-opaque-2.is in
+    let two = before_directive u c.loop-stretch.from i.1 c.in-Some-next_stretch.other other
+    (c.in-Some-next_stretch.ensures.head i.1 i.3) c.in-Some-opaque-2.is in
     let same = c.are_equivalent.ensures.0 c.if-not-are_equivalent.false in
     let spelling = c.make_one_call.ensures.0 c.if-not-make_one_call.false in (
       one.rest,
@@ -84,12 +87,10 @@ loop-stretch-preserved c =
       two.later,
       c.in-Some.ensures.placed.within,
       c.in-Some-next_stretch.ensures.placed.within,
-      both_go_on c.args.model t u _ _ i.0 i.1 one.rest two.rest one.items two.items (parts_of_opaque directive) (parts_of_opaque other) i.6 one.left_is two.left_is
+      both_go_on c.args.model t u _ _ i.0 i.1 one.rest two.rest one.items two.items (parts_of_opaque directive)
+          (parts_of_opaque other) i.6 one.left_is two.left_is
           one.reads two.reads same spelling,
     )
 
 pub loop-stretch-smaller : goal.loop-stretch-smaller
-loop-stretch-smaller c =
-    let placed = c.in-Some.ensures.placed in
-    let further = goes_further c.args.first.now c.loop-stretch.at c.in-Some.stretch _ placed c.in-Some-opaque.is in
-    omega (arith, further, placed.within)
+loop-stretch-smaller c = less_left c.args.first.now c.loop-stretch.at c.in-Some.stretch _ c.in-Some.ensures.placed c.in-Some-opaque.is

@@ -1,5 +1,5 @@
 use Rattle.std.proofs.Common.{arith, refl}
-use Rattle.pf_whole.proofs.HeadLemmas.{first_items, goes_further, stretch_has}
+use Rattle.pf_whole.proofs.HeadLemmas.{first_items, less_left, stretch_has}
 use Rattle.pf_whole.proofs.OwnCanonical.{own_whole}
 use Rattle.pf_whole.proofs.OwnLoops.{own_first, own_last, own_next}
 use Rattle.pf_whole.proofs.lengths.are_canonical.Goals as goal
@@ -36,10 +36,7 @@ returns-then-not-is_normal c =
     (λ e. cc, λ own. let yes = c.is_normal.ensures.1 (next.own.0 own).1 in cc)
 
 pub loop-stretch-smaller : goal.loop-stretch-smaller
-loop-stretch-smaller c =
-    let placed = c.in-Some.ensures.placed in
-    let further = goes_further c.args.text.now c.loop-stretch.at c.in-Some.stretch _ placed c.in-Some-opaque.is in
-    omega (arith, further, placed.within)
+loop-stretch-smaller c = less_left c.args.text.now c.loop-stretch.at c.in-Some.stretch _ c.in-Some.ensures.placed c.in-Some-opaque.is
 
 pub loop-stretch-preserved : goal.loop-stretch-preserved
 loop-stretch-preserved c =

@@ -1,7 +1,7 @@
 use Rattle.std.proofs.Common.{◌≡◌, [], ◌++◌, length, length-append, refl, sym, ap, ◌∙◌, arith}
 use Rattle.pf_posix.specs.OpaqueParts.{parts_of_opaque}
 use Rattle.pf_whole.specs.meaning.NormalSpellings.{normal_spelling, posix_spelling_of}
-use Rattle.pf_whole.proofs.HeadLemmas.{at_last, before_directive, between, first_items, goes_further, goes_on_behind, stretch_few, stretch_has}
+use Rattle.pf_whole.proofs.HeadLemmas.{at_last, before_directive, between, first_items, less_left, goes_on_behind, stretch_few, stretch_has}
 use Rattle.pf_whole.proofs.Loops.{continues_from, ends_with, goes_past}
 use Rattle.pf_whole.proofs.lengths.len_of_stretches.Goals as goal
 
@@ -42,17 +42,15 @@ returns-in-None c =
     let has = stretch_has t c.loop-stretch.at i.1 c.in-Some.stretch head c.requires.limit in
     let last = at_last t c.loop-stretch.at i.1 c.in-Some.stretch head c.in-None.is in
     let piece = c.stretch_len-len.ensures in
-    let together = ends_with c.args.model i.0 i.1 (first_items i.1) (between t c.loop-stretch.at c.in-Some.stretch.end) i.2 piece.0 i.8 last.0 has.reads piece.1.canonical_is in (
+    let together = ends_with c.args.model i.0 i.1 (first_items i.1) (between t c.loop-stretch.at c.in-Some.stretch.end) i.2 piece.0 i.8 last.0 has.reads
+    piece.1.canonical_is in (
       i.2 ++ piece.0,
       record { accepted = c.requires; canonical_is = record { stretches = i.0; reads = i.3; together = together } },
       omega (arith, i.6, piece.2, length-append i.2 piece.0),
     )
 
 pub loop-stretch-smaller : goal.loop-stretch-smaller
-loop-stretch-smaller c =
-    let placed = c.in-Some.ensures.placed in
-    let further = goes_further c.args.text.now c.loop-stretch.at c.in-Some.stretch _ placed c.in-Some-opaque.is in
-    omega (arith, further, placed.within)
+loop-stretch-smaller c = less_left c.args.text.now c.loop-stretch.at c.in-Some.stretch _ c.in-Some.ensures.placed c.in-Some-opaque.is
 
 pub loop-stretch-preserved : goal.loop-stretch-preserved
 loop-stretch-preserved c =
@@ -76,7 +74,8 @@ loop-stretch-preserved c =
       placed.within,
       omega (arith, i.6, piece.2, spelled, length-append i.2 piece.0, length-append (i.2 ++ piece.0) spelling),
       omega (arith, i.7, piece.2, few, placed.begins, placed.ends, further, c.len.ensures.value, c.spell.ensures.short),
-      goes_past c.args.model i.0 i.1 before.rest before.items (parts_of_opaque directive) (between t at c.in-Some.stretch.end) i.2 piece.0 i.8 before.left_is before.reads piece.1.canonical_is,
+      goes_past c.args.model i.0 i.1 before.rest before.items (parts_of_opaque directive)
+          (between t at c.in-Some.stretch.end) i.2 piece.0 i.8 before.left_is before.reads piece.1.canonical_is,
     )
 
 pub unreachable-requires : goal.unreachable-requires

@@ -9,8 +9,21 @@ use Rattle.pf_whole.proofs.Corresponding.{alike_is_corresponding}
 use Rattle.pf_whole.proofs.CountLemmas.{counted, opaque_args}
 use Rattle.pf_whole.proofs.FindingLemmas.{shows_neutral, shows_probe}
 use Rattle.pf_whole.proofs.FindingLoops.{IsComparedUpTo, compared_from}
-use Rattle.pf_whole.proofs.HeadLemmas.{at_last, before_directive, between, between_few, first_items, goes_further, stretch_has}
-use Rattle.pf_whole.proofs.ShownLoops.{HasShownDifference, IsTypedUpTo, compared_end, compared_past, first_tells, first_types, other_before, other_last, shown_once, typed_end, typed_from, typed_past}
+use Rattle.pf_whole.proofs.HeadLemmas.{at_last, before_directive, between, between_few, first_items, less_left, stretch_has}
+use Rattle.pf_whole.proofs.ShownLoops.{
+  HasShownDifference,
+  IsTypedUpTo,
+  compared_end,
+  compared_past,
+  first_tells,
+  first_types,
+  other_before,
+  other_last,
+  shown_once,
+  typed_end,
+  typed_from,
+  typed_past,
+}
 use Rattle.pf_whole.proofs.verdicts.first_difference.Goals as goal
 
 pub loop-stretch-init : goal.loop-stretch-init
@@ -29,7 +42,8 @@ loop-stretch-init c =
       omega arith,
       omega arith,
       c.requires.shape a.stretches b.stretches a.reads b.reads,
-      subst (λ l. IsComparedUpTo c.args.model a.stretches b.stretches a.stretches b.stretches (shown_as l) false) none (compared_from c.args.model a.stretches b.stretches),
+      subst (λ l. IsComparedUpTo c.args.model a.stretches b.stretches a.stretches b.stretches (shown_as l) false) none
+          (compared_from c.args.model a.stretches b.stretches),
       subst (IsTypedUpTo c.args.model a.stretches a.stretches) none (typed_from c.args.model a.stretches),
     )
 
@@ -48,7 +62,8 @@ stretch_arguments-requires c =
       first_items i.2,
       first_items i.3,
       stretch_has c.args.first.now c.loop-stretch.at i.2 c.in-Some.stretch (c.in-Some.ensures.head i.2 i.6) c.requires.accepted_first.limit,
-      stretch_has c.args.second.now c.loop-stretch.from i.3 c.in-Some-next_stretch.other (c.in-Some-next_stretch.ensures.head i.3 i.7) c.requires.accepted_second.limit,
+      stretch_has c.args.second.now c.loop-stretch.from i.3 c.in-Some-next_stretch.other
+          (c.in-Some-next_stretch.ensures.head i.3 i.7) c.requires.accepted_second.limit,
       first_types c.args.model i.2 i.3 i.10,
     )
 
@@ -59,8 +74,10 @@ returns-in-Neutral c =
     let u = c.args.second.now in
     let model = c.args.model in
     let first = stretch_has t c.loop-stretch.at i.2 c.in-Some.stretch (c.in-Some.ensures.head i.2 i.6) c.requires.accepted_first.limit in
-    let second = stretch_has u c.loop-stretch.from i.3 c.in-Some-next_stretch.other (c.in-Some-next_stretch.ensures.head i.3 i.7) c.requires.accepted_second.limit in
-    let next = subst (AreShownNext model (between t c.loop-stretch.at c.in-Some.stretch.end) (between u c.loop-stretch.from c.in-Some-next_stretch.other.end) c.loop-stretch.is_found)
+    let second = stretch_has u c.loop-stretch.from i.3 c.in-Some-next_stretch.other
+    (c.in-Some-next_stretch.ensures.head i.3 i.7) c.requires.accepted_second.limit in
+    let next = subst (AreShownNext model (between t c.loop-stretch.at c.in-Some.stretch.end)
+    (between u c.loop-stretch.from c.in-Some-next_stretch.other.end) c.loop-stretch.is_found)
     c.in-Neutral.is c.in_ok-stretch_arguments.ensures in
     let tells = i.11.neutral (first_tells model i.2 i.3 i.10 (next (first_items i.2) (first_items i.3) first second)) in
     let neutral = shows_neutral model t u i.0 i.1 i.4 i.5 (c.requires.shape i.0 i.1 i.4 i.5) tells in
@@ -77,7 +94,8 @@ returns-in_default-opaque c = λ x y k l.
     let model = c.args.model in
     let head = c.in-Some.ensures.head i.2 i.6 in
     let first = stretch_has t c.loop-stretch.at i.2 c.in-Some.stretch head c.requires.accepted_first.limit in
-    let second = stretch_has u c.loop-stretch.from i.3 c.in-Some-next_stretch.other (c.in-Some-next_stretch.ensures.head i.3 i.7) c.requires.accepted_second.limit in
+    let second = stretch_has u c.loop-stretch.from i.3 c.in-Some-next_stretch.other
+    (c.in-Some-next_stretch.ensures.head i.3 i.7) c.requires.accepted_second.limit in
     let last = at_last t c.loop-stretch.at i.2 c.in-Some.stretch head c.in_default-opaque.is in
     let xs = first_items i.2 in
     let ys = first_items i.3 in
@@ -85,7 +103,8 @@ returns-in_default-opaque c = λ x y k l.
     let shown = c.loop-stretch.shown.items in
     let args = c.in-Shown.args.items in
     let found = c.loop-stretch.is_found in
-    let next = subst (AreShownNext model (between t c.loop-stretch.at c.in-Some.stretch.end) (between u c.loop-stretch.from c.in-Some-next_stretch.other.end) found)
+    let next = subst (AreShownNext model (between t c.loop-stretch.at c.in-Some.stretch.end)
+    (between u c.loop-stretch.from c.in-Some-next_stretch.other.end) found)
     c.in-Shown.is c.in_ok-stretch_arguments.ensures in
     let both = next xs ys first second in
     let compared = subst (λ b. IsComparedUpTo model i.0 i.1 (Last xs) b (shown_as shown) found) also
@@ -105,14 +124,12 @@ argument_count-requires c =
     let before = before_directive t c.loop-stretch.at i.2 stretch c.in-Some-opaque.field-0 (c.in-Some.ensures.head i.2 i.6) c.in-Some-opaque.is in
     let s = parts_of_opaque c.in-Some-opaque.field-0 in (
       types_of_opaque c.args.model s,
-      opaque_args c.args.model (between t stretch.end stretch.after) s before.spells (between_few t stretch.end stretch.after _ c.requires.accepted_first.limit),
+      opaque_args c.args.model (between t stretch.end stretch.after) s before.spells
+          (between_few t stretch.end stretch.after _ c.requires.accepted_first.limit),
     )
 
 pub loop-stretch-smaller : goal.loop-stretch-smaller
-loop-stretch-smaller c =
-    let placed = c.in-Some.ensures.placed in
-    let further = goes_further c.args.first.now c.loop-stretch.at c.in-Some.stretch _ placed c.in-Some-opaque.is in
-    omega (arith, further, placed.within)
+loop-stretch-smaller c = less_left c.args.first.now c.loop-stretch.at c.in-Some.stretch _ c.in-Some.ensures.placed c.in-Some-opaque.is
 
 pub loop-stretch-preserved : goal.loop-stretch-preserved
 loop-stretch-preserved c =
@@ -135,7 +152,8 @@ loop-stretch-preserved c =
     let next = subst (AreShownNext model (between t c.loop-stretch.at stretch.end) (between u c.loop-stretch.from c.in-Some-next_stretch.other.end) found)
     c.in-Shown.is c.in_ok-stretch_arguments.ensures in
     let both = next before.items other.items (record { reads = before.reads; limit = few }) (record { reads = other.reads; limit = few_other }) in
-    let own = opaque_args model (between t stretch.end stretch.after) s before.spells (between_few t stretch.end stretch.after _ c.requires.accepted_first.limit) in
+    let own = opaque_args model (between t stretch.end stretch.after) s before.spells
+    (between_few t stretch.end stretch.after _ c.requires.accepted_first.limit) in
     let count = counted model (between t stretch.end stretch.after) (types_of_opaque model s) c.argument_count.result own c.argument_count.ensures in
     let compared = subst (λ b. IsComparedUpTo model i.0 i.1 (Before before.items s before.rest) b (shown_as shown) found) other.more_is
     (subst (λ a. IsComparedUpTo model i.0 i.1 a i.3 (shown_as shown) found) before.left_is i.11) in
@@ -152,10 +170,12 @@ loop-stretch-preserved c =
       c.in-Some-next_stretch.ensures.placed.within,
       other.shape,
       subst (λ l. IsComparedUpTo model i.0 i.1 before.rest other.others (shown_as l) c.in-Shown.found) given
-          (compared_past model i.0 i.1 before.rest other.others before.items other.items s other.parts shown args c.argument_count.result found c.in-Shown.found compared both.1
+          (compared_past model i.0 i.1 before.rest other.others before.items other.items s other.parts shown args c.argument_count.result found
+          c.in-Shown.found compared both.1
           other.spelling count),
       subst (IsTypedUpTo model i.0 before.rest) given
-          (typed_past model i.0 before.rest before.items s shown args c.argument_count.result (subst (λ a. IsTypedUpTo model i.0 a shown) before.left_is i.12) both.0 count),
+          (typed_past model i.0 before.rest before.items s shown args c.argument_count.result
+          (subst (λ a. IsTypedUpTo model i.0 a shown) before.left_is i.12) both.0 count),
     )
 
 pub unreachable-requires-2 : goal.unreachable-requires-2

@@ -3,7 +3,7 @@ use Rattle.pf_posix.specs.OpaqueParts.{parts_of_opaque}
 use Rattle.pf_posix.specs.Stretches.{types_of_opaque}
 use Rattle.pf_posix.proofs.ReadOnce.{read_once}
 use Rattle.pf_whole.proofs.CountLemmas.{counted, opaque_args}
-use Rattle.pf_whole.proofs.HeadLemmas.{at_last, before_directive, between, between_few, first_items, goes_further, stretch_has}
+use Rattle.pf_whole.proofs.HeadLemmas.{at_last, before_directive, between, between_few, first_items, less_left, stretch_has}
 use Rattle.pf_whole.proofs.ShownLoops.{AreShownNeutrally, IsNeutralUpTo, IsTypedUpTo, neutral_end, neutral_past, typed_end, typed_from, typed_past}
 use Rattle.pf_whole.proofs.verdicts.neutral_arguments.Goals as goal
 
@@ -52,14 +52,14 @@ argument_count-requires c =
     let t = c.args.text.now in
     let stretch = c.in-Some.stretch in
     let before = before_directive t c.loop-stretch.at i.1 stretch c.in-Some-opaque.field-0 (c.in-Some.ensures.head i.1 i.3) c.in-Some-opaque.is in
-    let s = parts_of_opaque c.in-Some-opaque.field-0 in
-    (types_of_opaque c.args.model s, opaque_args c.args.model (between t stretch.end stretch.after) s before.spells (between_few t stretch.end stretch.after _ c.requires.limit))
+    let s = parts_of_opaque c.in-Some-opaque.field-0 in (
+      types_of_opaque c.args.model s,
+      opaque_args c.args.model (between t stretch.end stretch.after) s before.spells
+          (between_few t stretch.end stretch.after _ c.requires.limit),
+    )
 
 pub loop-stretch-smaller : goal.loop-stretch-smaller
-loop-stretch-smaller c =
-    let placed = c.in-Some.ensures.placed in
-    let further = goes_further c.args.text.now c.loop-stretch.at c.in-Some.stretch _ placed c.in-Some-opaque.is in
-    omega (arith, further, placed.within)
+loop-stretch-smaller c = less_left c.args.text.now c.loop-stretch.at c.in-Some.stretch _ c.in-Some.ensures.placed c.in-Some-opaque.is
 
 pub loop-stretch-preserved : goal.loop-stretch-preserved
 loop-stretch-preserved c =
@@ -81,9 +81,11 @@ loop-stretch-preserved c =
       before.later,
       c.in-Some.ensures.placed.within,
       subst (IsNeutralUpTo model i.0 before.rest) given
-          (neutral_past model i.0 before.rest before.items s shown args c.argument_count.result (subst (λ l. IsNeutralUpTo model i.0 l shown) before.left_is i.5) neutral.args_are count),
+          (neutral_past model i.0 before.rest before.items s shown args c.argument_count.result
+          (subst (λ l. IsNeutralUpTo model i.0 l shown) before.left_is i.5) neutral.args_are count),
       subst (IsTypedUpTo model i.0 before.rest) given
-          (typed_past model i.0 before.rest before.items s shown args c.argument_count.result (subst (λ l. IsTypedUpTo model i.0 l shown) before.left_is i.6) neutral.types_are count),
+          (typed_past model i.0 before.rest before.items s shown args c.argument_count.result
+          (subst (λ l. IsTypedUpTo model i.0 l shown) before.left_is i.6) neutral.types_are count),
     )
 
 pub unreachable-requires : goal.unreachable-requires
