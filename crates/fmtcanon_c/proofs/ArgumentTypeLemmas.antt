@@ -1,5 +1,5 @@
 -- Two formats that don't take the same arguments, and data models in which they do.
-use Rattle.std.proofs.Common.{◌≡◌, ◌∙◌, ◌++◌, ◌+◌, ◌<◌, Bool, true, false, List, ℕ, suc, Some, ap, arith, drop, get_or, length, slice_get, subst, sym, take}
+use Rattle.std.proofs.Common.{◌≡◌, ◌∙◌, ◌++◌, ◌+◌, ◌<◌, ◌≤◌, [], ◌∷◌, Bool, true, false, List, ℕ, suc, Some, ap, arith, drop, get_or, length, refl, slice_get, subst, sym, take}
 use Rattle.std.specs.List.{AllByRecursion}
 use Rattle.std.specs.Prelude.{◌↔◌, IsTrue}
 use Rattle.std.proofs.Math.Seq.{take-suc}
@@ -7,8 +7,9 @@ use Rattle.std.proofs.lemmas.Bool.{false≢true}
 use Rattle.std.proofs.lemmas.List.{drop_more, take-append-drop}
 use Rattle.pf_text.specs.declared.refusals.Refusal.{Refusal}
 use Rattle.pf_text.specs.declared.refusals.Side.{Side}
+use Rattle.pf_posix.specs.declared.types.ArgumentType.{ArgumentType}
 use Rattle.pf_posix.specs.Items.{IsPosixAccepted}
-use Rattle.pf_posix.specs.Laws.{ComparesArgumentTypes, FaultForFits}
+use Rattle.pf_posix.specs.Laws.{ComparesArgumentTypes, FaultForFits, HasCount, filled}
 use Rattle.pf_posix.proofs.Agreeing.{all_push}
 use Rattle.pf_posix.proofs.Unique.{one_list}
 use Rattle.pf_values.specs.declared.models.Model.{Model}
@@ -50,3 +51,14 @@ module _ (f g : Text) (models : List Model) (i : ℕ) (d : Model) (few : i < len
         accepted = h;
         refused = fault;
       }
+
+-- the elements at the front of a slice that has room for them
+taken_front : {X : Type 0} (old more : List X) → length more ≤ length old → take (length more) (filled old more) ≡ more
+taken_front [] [] few = refl
+taken_front [] (x ∷ more) few = absurd (omega (arith, few))
+taken_front (o ∷ old) [] few = refl
+taken_front (o ∷ old) (x ∷ more) few = ap (λ l. x ∷ l) (taken_front old more (omega (arith, few)))
+
+-- the types that a call has put there
+pub taken_types : (model : Model) (t : Text) (old new : List ArgumentType) (count : ℕ) (h : HasCount model t old new count) → length h.types ≤ length old → take count new ≡ h.types
+taken_types model t old new count h few = ap (λ n. take n new) h.count_is ∙ ap (take (length h.types)) h.front ∙ taken_front old h.types few
