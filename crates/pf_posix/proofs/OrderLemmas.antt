@@ -11,19 +11,14 @@ use Rattle.pf_posix.specs.declared.types.ArgumentType.{ArgumentType}
 use Rattle.pf_posix.specs.Items.{HasArguments}
 use Rattle.pf_posix.specs.Laws.{filled}
 use Rattle.pf_posix.specs.Readings.{Fault, Fetches, FetchTrace, Whole, conflicts, differs, fetch_trace, verdict_after, verdict, wanted_types}
+use Rattle.pf_posix.specs.Plain.{IsInOrder}
 use Rattle.pf_posix.specs.Refusals.{Follows, IsPosixRefusedAt, numbering_by}
 use Rattle.pf_posix.specs.Types.{fetch}
 use Rattle.pf_posix.proofs.Agreeing.{all_push}
 use Rattle.pf_posix.proofs.Bounds.{reading_bounded}
 use Rattle.pf_posix.proofs.Soundness.{Tells, told}
 use Rattle.pf_posix.proofs.Telling.{accepted, told_taken}
-use Rattle.pf_posix.proofs.Within.{IsBounded}
-
--- what was fetched has no numbers, and what is left is read so
-pub record IsInOrder (model : Model) (t : Text) (seen : List Fetch) (left : FetchTrace) : Type 0 where
-  pub verdict_is : verdict model t ≡ verdict_after seen left
-  pub unnumbered : AllByRecursion (λ f. f.number ≡ None) seen
-  pub bounded : IsBounded Unnumbered left
+use Rattle.pf_posix.specs.Within.{IsBounded}
 
 pub no_number : (o : Option ℕ) → Follows Unnumbered (Some (numbering_by o)) → o ≡ None
 no_number None h = refl

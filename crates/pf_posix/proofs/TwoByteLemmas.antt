@@ -39,7 +39,7 @@ unnumbered model (Float floats.F) = refl
 unnumbered model (Float _) = refl
 unnumbered model _ = refl
 
-two_bytes_step : (model : Model) (numbering : Numbering) (conversion : Conversion) → numbering ≢ Numbered → posix_step model numbering Opened (conversion_letter conversion) ≡ Ok (Between, Some (fetch None (conversion_type model (Integer lengths.None) conversion)))
+pub two_bytes_step : (model : Model) (numbering : Numbering) (conversion : Conversion) → numbering ≢ Numbered → posix_step model numbering Opened (conversion_letter conversion) ≡ Ok (Between, Some (fetch None (conversion_type model (Integer lengths.None) conversion)))
 two_bytes_step model Undecided conversion some = undecided model conversion
 two_bytes_step model Unnumbered conversion some = unnumbered model conversion
 two_bytes_step model Numbered conversion some = absurd (some refl)
