@@ -28,7 +28,16 @@ use Rattle.pf_posix.proofs.WalkLemmas.{run_passed}
 
 pub no_front : (model : Model) (t : Text) (old : List ArgumentType) → IsPlainFront model t 0 old old 0
 no_front model t old =
-    record { numbering = Undecided; seen = []; follows = inl refl; later = λ some. absurd (some refl); verdict_is = refl; unnumbered = tt; count_is = refl; front = sym (filled_none old) }
+    record {
+      numbering = Undecided;
+      seen = [];
+      follows = inl refl;
+      later = λ some. absurd (some refl);
+      verdict_is = refl;
+      unnumbered = tt;
+      count_is = refl;
+      front = sym (filled_none old);
+    }
 
 module _ (model : Model) (t : Text) (at : ℕ) (old new : List ArgumentType) (count : ℕ) (h : IsPlainFront model t at old new count) where
   ordered : IsOrdered model t h.seen (trace_from model h.numbering Between at (drop at t))
@@ -53,7 +62,8 @@ module _ (model : Model) (t : Text) (at : ℕ) (old new : List ArgumentType) (co
       let rest : length (take (length t - at) (drop at t)) ≡ length t - at = ap length (take_rest t at) ∙ length-drop at t in
       omega (arith, few, rest, low)
 
-  pub front_run : (n : ℕ) → length t ≤ MAX_TEXT_LEN → at ≤ length t → n ≤ length (take (length t - at) (drop at t)) → Nowhere (Passes (is_byte2 37 0) (take (length t - at) (drop at t))) 0 n
+  pub front_run : (n : ℕ) → length t ≤ MAX_TEXT_LEN → at ≤ length t → n ≤ length (take (length t - at) (drop at t))
+      → Nowhere (Passes (is_byte2 37 0) (take (length t - at) (drop at t))) 0 n
       → IsPlainFront model t (at + n) old new count
   front_run n short low few none =
       let within = run_within n low few in
@@ -72,8 +82,10 @@ module _ (model : Model) (t : Text) (at : ℕ) (old new : List ArgumentType) (co
     abbrev f : Fetch
     f = fetch None wanted
 
-    pub front_fetched : length t ≤ MAX_TEXT_LEN → at < length t → get_or t at 0 ≡ 37 → ((numbering : Numbering) → Follows numbering (Some Unnumbered) → IsFetchedFrom model numbering t Opened (at + 1) wanted stop)
-        → ((start before : List ArgumentType) → new ≡ filled start before → count ≡ length before → more ≡ filled start (before ++ wanted ∷ [])) → IsPlainFront model t stop old more (count + 1)
+    pub front_fetched : length t ≤ MAX_TEXT_LEN → at < length t → get_or t at 0 ≡ 37
+        → ((numbering : Numbering) → Follows numbering (Some Unnumbered) → IsFetchedFrom model numbering t Opened (at + 1) wanted stop)
+        → ((start before : List ArgumentType) → new ≡ filled start before → count ≡ length before → more ≡ filled start (before ++ wanted ∷ []))
+        → IsPlainFront model t stop old more (count + 1)
     front_fetched short less first read puts =
         let opened = led model h.numbering t short Between at Opened less (ap (posix_step model h.numbering Between) first) in
         let r = read h.numbering h.follows in
@@ -87,7 +99,9 @@ module _ (model : Model) (t : Text) (at : ℕ) (old new : List ArgumentType) (co
           verdict_is = next.verdict_is;
           unnumbered = next.unnumbered;
           count_is = omega (arith, h.count_is, longer);
-          front = puts old (wanted_types h.seen) h.front (h.count_is ∙ sym (length-map h.seen (λ g. g.wanted))) ∙ ap (filled old) (sym (map_push (λ g. g.wanted) h.seen f));
+          front =
+              puts old (wanted_types h.seen) h.front (h.count_is ∙ sym (length-map h.seen (λ g. g.wanted)))
+              ∙ ap (filled old) (sym (map_push (λ g. g.wanted) h.seen f));
         }
 
   -- the end of the text
@@ -124,22 +138,28 @@ module _ (model : Model) (t : Text) (at : ℕ) (old new : List ArgumentType) (co
       }
 
 -- with an argument before it
-pub first_ordered : (model : Model) (t : Text) (type : ArgumentType) (at : ℕ) (left : FetchTrace) (old new : List ArgumentType) → fetch_trace model t ≡ Fetches (fetch None type) at left → new ≡ filled old (type ∷ []) → IsOrderedFront model t left old new 1
-first_ordered model t type at left old new e put = record { seen = fetch None type ∷ []; in_order = first_in_order model t type at left e; count_is = refl; front = put }
+pub first_ordered : (model : Model) (t : Text) (type : ArgumentType) (at : ℕ) (left : FetchTrace) (old new : List ArgumentType)
+    → fetch_trace model t ≡ Fetches (fetch None type) at left → new ≡ filled old (type ∷ []) → IsOrderedFront model t left old new 1
+first_ordered model t type at left old new e put =
+    record { seen = fetch None type ∷ []; in_order = first_in_order model t type at left e; count_is = refl; front = put }
 
 module _ (model : Model) (t : Text) (old left : FetchTrace) (start new : List ArgumentType) (count : ℕ) (h : IsOrderedFront model t old start new count) where
   pub next_ordered : (f : Fetch) (at : ℕ) (more : List ArgumentType) → old ≡ Fetches f at left
-      → ((start before : List ArgumentType) → new ≡ filled start before → count ≡ length before → more ≡ filled start (before ++ f.wanted ∷ [])) → IsOrderedFront model t left start more (count + 1)
+      → ((start before : List ArgumentType) → new ≡ filled start before → count ≡ length before → more ≡ filled start (before ++ f.wanted ∷ []))
+      → IsOrderedFront model t left start more (count + 1)
   next_ordered f at more e puts =
       let longer = length_push h.seen f in
       record {
         seen = h.seen ++ f ∷ [];
         in_order = next_in_order model t h.seen old h.in_order f at left e;
         count_is = omega (arith, h.count_is, longer);
-        front = puts start (wanted_types h.seen) h.front (h.count_is ∙ sym (length-map h.seen (λ g. g.wanted))) ∙ ap (filled start) (sym (map_push (λ g. g.wanted) h.seen f));
+        front =
+            puts start (wanted_types h.seen) h.front (h.count_is ∙ sym (length-map h.seen (λ g. g.wanted)))
+            ∙ ap (filled start) (sym (map_push (λ g. g.wanted) h.seen f));
       }
 
-pub whole_ordered : (model : Model) (t : Text) (left : FetchTrace) (start new : List ArgumentType) (count : ℕ) (h : IsOrderedFront model t left start new count) → left ≡ Whole → HasCount model t start new count
+pub whole_ordered : (model : Model) (t : Text) (left : FetchTrace) (start new : List ArgumentType) (count : ℕ) (h : IsOrderedFront model t left start new count)
+    → left ≡ Whole → HasCount model t start new count
 whole_ordered model t left start new count h e =
     record {
       types = wanted_types h.seen;

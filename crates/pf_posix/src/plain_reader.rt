@@ -4,7 +4,7 @@ ghost use Rattle.std.specs.Prelude.{◌≡◌, ◌<◌, ◌≤◌, IfSome, None,
 ghost use Rattle.pf_values.specs.declared.limits.TheConstants.{MAX_TEXT_LEN as LIMIT};
 ghost use Rattle.pf_posix.specs.declared.partial_specification.Numbering.{Numbering as NumberingOf};
 ghost use Rattle.pf_posix.specs.declared.partial_specification.Numbering.TheVariants.{Unnumbered};
-ghost use Rattle.pf_posix.specs.Plain.{FlagsRead, IsBeforeModifier, IsFetchedFrom, IsPlainFront, PrecisionRead, TakesConversion, WidthRead};
+ghost use Rattle.pf_posix.specs.Plain.{FlagsRead, IsBeforeModifier, IsBeforeWidth, IsFetchedFrom, IsPlainFront, PrecisionRead, TakesConversion, WidthRead};
 ghost use Rattle.pf_posix.specs.Refusals.{Follows};
 ghost use Rattle.pf_posix.specs.Stages.{Opened, PosixState};
 
@@ -87,16 +87,40 @@ fn plain_fetch(model: Model, text: &[u8], start: usize) -> Option<(ArgumentType,
     }
 }
 
+// The type of the argument of a specification with more than a conversion, and where it ends. Most have no
+// flags, and the tests of these then fall away.
 #[inline(always)]
 fn fetch_with_parts(model: Model, text: &[u8], start: usize) -> Option<(ArgumentType, usize)>
-    requires start { start ≤ length text.now }
+    requires start { start < length text.now }
     requires short { length text.now ≤ LIMIT }
     ensures fetched { IfSome result (λ read. (numbering : NumberingOf) → Follows numbering (Some Unnumbered)
         → IsFetchedFrom model numbering text.now Opened start read.0 read.1) }
     ensures within { IfSome result (λ read. (start < read.1) × (read.1 ≤ length text.now)) }
 {
-    let (parts, at) = flags_from(text, start);
-    let (parts, at) = width_from(text, at, parts)?;
+    match flag_of(text[start]) {
+        None => fetch_after_flags(model, text, start, PartialSpecification::at(None)),
+        Some(_) => {
+            let (parts, at) = flags_from(text, start);
+            fetch_after_flags(model, text, at, parts)
+        }
+    }
+}
+
+#[inline(always)]
+fn fetch_after_flags(
+    model: Model,
+    text: &[u8],
+    start: usize,
+    parts: PartialSpecification,
+) -> Option<(ArgumentType, usize)>
+    requires start { start ≤ length text.now }
+    requires short { length text.now ≤ LIMIT }
+    ensures fetched { IfSome result (λ read. (numbering : NumberingOf) (state : PosixState)
+        → Follows numbering (Some Unnumbered) → IsBeforeWidth state parts
+        → IsFetchedFrom model numbering text.now state start read.0 read.1) }
+    ensures within { IfSome result (λ read. (start < read.1) × (read.1 ≤ length text.now)) }
+{
+    let (parts, at) = width_from(text, start, parts)?;
     let (parts, at) = precision_from(text, at, parts)?;
     fetch_after(model, text, at, parts)
 }

@@ -17,7 +17,8 @@ returns-then-front-eq0-clause-types c =
     let t = c.args.text.now in
     let front = c.plain_front-front in
     let same = front_unchanged model t front.result.at c.args.out.now front.new.out front.result.count front.ensures.front c.if-front-eq0.true in
-    subst (λ old. MatchResult c.read_by_bytes.result (λ count. HasCount model t old c.read_by_bytes.new.out count) (λ refusal. IsPosixRefusedAt model t refusal.kind refusal.at)) same
+    let read = c.read_by_bytes in
+    subst (λ old. MatchResult read.result (λ count. HasCount model t old read.new.out count) (λ refusal. IsPosixRefusedAt model t refusal.kind refusal.at)) same
     c.read_by_bytes.ensures.types
 
 pub returns-clause-types : goal.returns-clause-types

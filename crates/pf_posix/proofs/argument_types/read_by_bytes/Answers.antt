@@ -10,7 +10,12 @@ pub returns-in-End-clause-types : goal.returns-in-End-clause-types
 returns-in-End-clause-types c =
     let model = c.args.model in
     let t = c.args.text.now in
-    record { types = []; accepted = no_arguments model t (sym (c.new-reader.ensures.left model t) ∙ c.in-End.ensures.next); count_is = refl; front = sym (filled_none c.args.out.now) }
+    record {
+      types = [];
+      accepted = no_arguments model t (sym (c.new-reader.ensures.left model t) ∙ c.in-End.ensures.next);
+      count_is = refl;
+      front = sym (filled_none c.args.out.now);
+    }
 
 pub returns-in-Refused-clause-types : goal.returns-in-Refused-clause-types
 returns-in-Refused-clause-types c =

@@ -11,7 +11,8 @@ returns-then-start-text-clause-read c = modifier_alone c.args.text.now c.args.st
 
 pub returns-in-Some-clause-read : goal.returns-in-Some-clause-read
 returns-in-Some-clause-read c =
-    modifier_longer c.args.text.now c.args.start c.args.first c.in-Some.modifier (omega (arith, c.if-start-text.false)) (sym c.second_modifier.ensures ∙ c.in-Some.is)
+    modifier_longer c.args.text.now c.args.start c.args.first c.in-Some.modifier (omega (arith, c.if-start-text.false))
+    (sym c.second_modifier.ensures ∙ c.in-Some.is)
 
 pub returns-in-None-clause-read : goal.returns-in-None-clause-read
 returns-in-None-clause-read c = modifier_alone c.args.text.now c.args.start c.args.first

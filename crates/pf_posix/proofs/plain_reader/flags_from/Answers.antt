@@ -12,5 +12,6 @@ loop-at-preserved c =
       from = omega (arith, loop.invariant.from);
       within = omega (arith, c.loop-at-test.true);
       read = rw c.with_flag-parts.ensures
-          (flags_more c.args.text.now c.args.start loop.at loop.parts c.in-Some.flag loop.invariant.read c.loop-at-test.true (sym c.flag_of.ensures ∙ c.in-Some.is));
+          (flags_more c.args.text.now c.args.start loop.at loop.parts c.in-Some.flag loop.invariant.read c.loop-at-test.true
+          (sym c.flag_of.ensures ∙ c.in-Some.is));
     }

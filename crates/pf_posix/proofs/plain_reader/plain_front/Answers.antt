@@ -18,7 +18,9 @@ loop-at-preserved-then-text-at-ne37 c =
       within = run_within c.args.model t c.loop-at.at _ _ _ i.front run.result i.within run.ensures.within;
       few = omega (arith, i.few);
       same = i.same;
-      front = front_run c.args.model t c.loop-at.at _ _ _ i.front run.result (omega (arith, c.if-text-gt-MAX_TEXT_LEN.false)) i.within run.ensures.within run.ensures.none;
+      front =
+          front_run c.args.model t c.loop-at.at _ _ _ i.front run.result
+          (omega (arith, c.if-text-gt-MAX_TEXT_LEN.false)) i.within run.ensures.within run.ensures.none;
     }
 
 pub loop-at-preserved-then-has_byte : goal.loop-at-preserved-then-has_byte
@@ -30,7 +32,9 @@ loop-at-preserved-then-has_byte c =
       within = omega (arith, within);
       few = omega (arith, i.few);
       same = i.same;
-      front = front_percent c.args.model c.args.text.now c.loop-at.at _ _ _ i.front (omega (arith, c.if-text-gt-MAX_TEXT_LEN.false)) within c.if-text-at-ne37.false (eqb-true _ _ (sym second.same));
+      front =
+          front_percent c.args.model c.args.text.now c.loop-at.at _ _ _ i.front
+          (omega (arith, c.if-text-gt-MAX_TEXT_LEN.false)) within c.if-text-at-ne37.false (eqb-true _ _ (sym second.same));
     }
 
 pub loop-at-preserved : goal.loop-at-preserved
@@ -41,6 +45,8 @@ loop-at-preserved c =
       within = read.ensures.within.1;
       few = omega (arith, i.few, read.ensures.within.0);
       same = c.put.ensures.length ∙ i.same;
-      front = front_fetched c.args.model c.args.text.now c.loop-at.at _ _ _ i.front read.wanted read.stop c.put.new.out (omega (arith, c.if-text-gt-MAX_TEXT_LEN.false)) c.loop-at-test.true c.if-text-at-ne37.false
+      front =
+          front_fetched c.args.model c.args.text.now c.loop-at.at _ _ _ i.front read.wanted read.stop c.put.new.out
+          (omega (arith, c.if-text-gt-MAX_TEXT_LEN.false)) c.loop-at-test.true c.if-text-at-ne37.false
           read.ensures.fetched c.put.ensures.filled;
     }

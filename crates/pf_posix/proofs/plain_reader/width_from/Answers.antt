@@ -10,4 +10,5 @@ returns-clause-width c =
     let begins = c.if-not-begins_number.ensures in
     let read = c.in_ok-stop in
     rw c.with_width.ensures
-    (width_given c.args.text.now c.args.start c.from.result read.field-0-0 read.stop c.args.parts (begins.within refl) (sym begins.same) c.from.ensures read.ensures.read)
+    (width_given c.args.text.now c.args.start c.from.result read.field-0-0 read.stop c.args.parts
+    (begins.within refl) (sym begins.same) c.from.ensures read.ensures.read)
