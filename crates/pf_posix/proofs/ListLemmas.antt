@@ -25,7 +25,7 @@ all_there model t none made old new count again first room second =
     let all : new ≡ second.types = second.front ∙ all_filled old second.types (omega (arith, as_many, counted, room)) in
     subst (HasArguments model t) (sym all) second.accepted
 
--- the same of specifications
+-- the count of one reading of the specifications is the room of the next
 pub all_listed : (model : Model) (t : Text) (none made old new : List DirectiveSpan) (count again : ℕ) → HasDirectiveCount model t none made count → length old ≡ count → HasDirectiveCount model t old new again → HasDirectives model t new
 all_listed model t none made old new count again first room second =
     let as_many = ap length (directives_once model t first.directives second.directives first.listed second.listed) in

@@ -10,7 +10,7 @@ use Rattle.pf_posix.specs.declared.partial_specification.Numbering.TheVariants.{
 use Rattle.pf_posix.specs.declared.types.ArgumentType.{ArgumentType}
 use Rattle.pf_posix.specs.Items.{HasArguments}
 use Rattle.pf_posix.specs.Laws.{filled}
-use Rattle.pf_posix.specs.Readings.{Fault, Fetches, FetchTrace, Whole, conflicts, differs, fetch_trace, verdict_after, verdict, wanted_types}
+use Rattle.pf_posix.specs.Readings.{Fault, Fetches, FetchTrace, Whole, conflicts, differs, fetch_trace, verdict_after, wanted_types}
 use Rattle.pf_posix.specs.Plain.{IsInOrder}
 use Rattle.pf_posix.specs.Refusals.{Follows, IsPosixRefusedAt, numbering_by}
 use Rattle.pf_posix.specs.Types.{fetch}

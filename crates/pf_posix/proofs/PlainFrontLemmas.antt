@@ -1,7 +1,6 @@
 -- The front of a format in which no argument has a number.
-use Rattle.std.proofs.Common.{◌≡◌, ◌≢◌, ℕ, ◌+◌, ◌-◌, ◌<◌, ◌≤◌, List, [], ◌∷◌, ◌++◌, length, get_or, drop, take, refl, sym, ap, ◌∙◌, arith, subst, inl, inr}
-use Rattle.std.specs.Prelude.{Some, None, ◌⊎◌}
-use Rattle.std.specs.List.{AllByRecursion}
+use Rattle.std.proofs.Common.{◌≡◌, ◌≢◌, ℕ, ◌+◌, ◌-◌, ◌<◌, ◌≤◌, List, [], ◌∷◌, ◌++◌, length, get_or, drop, take, refl, sym, ap, ◌∙◌, arith, inl, inr}
+use Rattle.std.specs.Prelude.{Some, None}
 use Rattle.std.proofs.Math.Seq.{drop-length}
 use Rattle.std.proofs.lemmas.List.{length-drop, length-map, length_push, map_push, take_rest}
 use Rattle.memchr.specs.Find.{Nowhere, Passes, is_byte2}
@@ -12,9 +11,8 @@ use Rattle.pf_posix.specs.declared.fetches.Fetch.{Fetch}
 use Rattle.pf_posix.specs.declared.partial_specification.Numbering.{Numbering}
 use Rattle.pf_posix.specs.declared.partial_specification.Numbering.TheVariants.{Undecided, Unnumbered}
 use Rattle.pf_posix.specs.declared.types.ArgumentType.{ArgumentType}
-use Rattle.pf_posix.specs.Items.{HasArguments}
 use Rattle.pf_posix.specs.Laws.{HasCount, filled}
-use Rattle.pf_posix.specs.Plain.{IsFetchedFrom, IsInOrder, IsOrderedFront, IsPlainFront, Leads}
+use Rattle.pf_posix.specs.Plain.{IsFetchedFrom, IsOrderedFront, IsPlainFront, Leads}
 use Rattle.pf_posix.specs.Readings.{Fetches, FetchTrace, Whole, fetch_trace, trace_from, verdict_after, wanted_types}
 use Rattle.pf_posix.specs.Refusals.{Follows}
 use Rattle.pf_posix.specs.Stages.{Between, Opened}

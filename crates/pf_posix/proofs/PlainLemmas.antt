@@ -1,12 +1,10 @@
 -- Specifications with neither numbers of arguments nor `*`, read at places of a text.
-use Rattle.std.proofs.Common.{◌≡◌, ◌≢◌, ℕ, ◌+◌, ◌-◌, ◌*◌, ◌<◌, ◌≤◌, Bool, true, false, List, [], ◌∷◌, ◌++◌, length, get_or, drop, refl, sym, ap, ◌∙◌, arith}
+use Rattle.std.proofs.Common.{◌≡◌, ℕ, ◌+◌, ◌-◌, ◌*◌, ◌<◌, ◌≤◌, Bool, true, false, length, get_or, drop, refl, sym, ap, ◌∙◌, arith}
 use Rattle.std.proofs.Common.{subst, inl, inr, Ok}
-use Rattle.std.specs.Prelude.{Option, Some, None, ◌⊎◌, ◌==◌, nat_lt, if◌then◌else◌}
+use Rattle.std.specs.Prelude.{Some, None, ◌⊎◌, ◌==◌, nat_lt, if◌then◌else◌}
 use Rattle.std.proofs.lemmas.Bool.Decides.{nat_tests}
 use Rattle.std.proofs.lemmas.List.{drop_more}
-use Rattle.pf_values.specs.declared.conversions.Conv.TheVariants.{D}
 use Rattle.pf_values.specs.declared.flags.Flag.{Flag}
-use Rattle.pf_values.specs.declared.flags.Flag.TheVariants.{Minus, Plus, Space, Alt, Zero, Group}
 use Rattle.pf_values.specs.declared.lengths.Length.TheVariants as lengths
 use Rattle.pf_values.specs.declared.limits.TheConstants.{MAX_NUMBER, MAX_TEXT_LEN}
 use Rattle.pf_values.specs.declared.models.Model.{Model}
@@ -16,13 +14,10 @@ use Rattle.pf_text.specs.Letters.{flag_of}
 use Rattle.pf_text.specs.States.{is_digit}
 use Rattle.pf_text.proofs.Sound.{byte_of_flag}
 use Rattle.pf_posix.specs.declared.conversions.Conversion.{Conversion}
-use Rattle.pf_posix.specs.declared.conversions.Conversion.TheVariants.{Profile, Float}
-use Rattle.pf_posix.specs.declared.conversions.Floating.TheVariants as floats
 use Rattle.pf_posix.specs.declared.conversions.Modifier.{Modifier}
 use Rattle.pf_posix.specs.declared.conversions.Modifier.TheVariants.{Integer, LongDouble}
-use Rattle.pf_posix.specs.declared.fetches.Fetch.{Fetch}
 use Rattle.pf_posix.specs.declared.partial_specification.Numbering.{Numbering}
-use Rattle.pf_posix.specs.declared.partial_specification.Numbering.TheVariants.{Undecided, Unnumbered, Numbered}
+use Rattle.pf_posix.specs.declared.partial_specification.Numbering.TheVariants.{Unnumbered}
 use Rattle.pf_posix.specs.declared.partial_specification.PartialSpecification.{PartialSpecification}
 use Rattle.pf_posix.specs.declared.partial_specification.WidthOrPrecision.{WidthOrPrecision}
 use Rattle.pf_posix.specs.declared.partial_specification.WidthOrPrecision.TheVariants.{Width, Precision}
@@ -32,7 +27,7 @@ use Rattle.pf_posix.specs.Letters.{conversion_of, is_first_digit, length_modifie
 use Rattle.pf_posix.specs.PartsInText.{second_modifier}
 use Rattle.pf_posix.specs.Plain.{DigitsRead, FlagsRead, IsBeforeModifier, IsBeforePrecision, IsBeforeWidth, IsFetchedFrom, Leads, ModifierRead, PrecisionRead}
 use Rattle.pf_posix.specs.Plain.{TakesConversion, TakesDigit, WidthRead}
-use Rattle.pf_posix.specs.Readings.{Fetches, FetchTrace, moved, trace_from}
+use Rattle.pf_posix.specs.Readings.{moved, trace_from}
 use Rattle.pf_posix.specs.Refusals.{Follows}
 use Rattle.pf_posix.specs.Specifications.{conversion_letter}
 use Rattle.pf_posix.specs.Stages.{PosixState, Between, Opened, First, Flags, Digits, Modified, Point}
@@ -169,7 +164,7 @@ digits_later : (model : Model) (numbering : Numbering) (slot : WidthOrPrecision)
     → posix_step model numbering (Digits slot parts n) byte ≡ after_amount model slot parts byte
 digits_later model numbering slot parts n byte l = let digit = l.digit in rw digit refl
 
--- behind the digits of a width
+-- after the digits of a width
 module _ (model : Model) (numbering : Numbering) (parts : PartialSpecification) (later : PosixState) (n : ℕ) where
   first_wide : Follows numbering (Some Unnumbered) → parts ≡ parts_at None → later ≡ First n → IsBeforePrecision model numbering later (with_width parts)
   first_wide follows none e =
@@ -276,7 +271,7 @@ pub modifier_begun : (model : Model) (numbering : Numbering) (state : PosixState
     → posix_step model numbering state byte ≡ move_to (Modified parts first)
 modifier_begun model numbering state parts byte first h e = h.letter byte (high_modifier byte first e) ∙ rw e refl
 
--- a conversion behind a modifier, and behind none
+-- a conversion after a modifier, and after none
 pub modified_takes : (model : Model) (numbering : Numbering) (parts : PartialSpecification) (modifier : Modifier)
     → TakesConversion model numbering (Modified parts modifier) parts modifier
 modified_takes model numbering parts (Integer lengths.H) conversion = let tests = letter_tests conversion in rw (tests.no_h) refl

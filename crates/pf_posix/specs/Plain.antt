@@ -29,18 +29,18 @@ abbrev pub Leads : Model → Numbering → Text → PosixState → ℕ → Posix
 Leads model numbering t from start to stop =
     trace_from model numbering from start (drop start t) ≡ trace_from model numbering to stop (drop stop t)
 
--- before a field width, behind these flags
+-- before a field width, after these flags
 abbrev pub IsBeforeWidth : PosixState → PartialSpecification → Type 0
 IsBeforeWidth state parts = ((state ≡ Opened) × (parts ≡ parts_at None)) ⊎ ((state ≡ Flags parts) × (parts.position ≡ None))
 
--- before a precision, behind these parts: `.`, or a letter, is read as after a width
+-- before a precision, after these parts: `.`, or a letter, is read as after a width
 pub record IsBeforePrecision (model : Model) (numbering : Numbering) (state : PosixState)
     (parts : PartialSpecification) : Type 0 where
   pub position : parts.position ≡ None
   pub later : (byte : ℕ) → (byte ≡ point) ⊎ (57 < byte)
       → posix_step model numbering state byte ≡ after_amount model Width parts byte
 
--- before a length modifier, behind these parts: a letter is read as after numbers
+-- before a length modifier, after these parts: a letter is read as after numbers
 pub record IsBeforeModifier (model : Model) (numbering : Numbering) (state : PosixState)
     (parts : PartialSpecification) : Type 0 where
   pub position : parts.position ≡ None

@@ -61,7 +61,8 @@ fn by_step(
     }
 }
 
-// The same by the lists of their types, where one of the formats is refused or numbered.
+// Whether two formats take the same arguments, by the lists of their types: for where one of the formats
+// is refused or numbered.
 #[inline(never)]
 fn by_tables(model: Model, first: &[u8], second: &[u8]) -> Result<Option<u64>, (Side, Refusal)>
     requires { AreFew model first.now second.now }

@@ -63,7 +63,7 @@ impl Reader {
         Reader::unnumbered_at(0)
     }
 
-    /// A reader between two items at a place, behind specifications that aren't numbered.
+    /// A reader between two items at a place, after specifications that aren't numbered.
     #[inline(always)]
     pub(crate) fn unnumbered_at(at: usize) -> Reader
         ensures start { result.at ≡ at }

@@ -1,5 +1,4 @@
 use Rattle.std.proofs.Common.{◌∙◌, arith, refl}
-use Rattle.pf_posix.specs.Walks.{trace_left}
 use Rattle.pf_posix.proofs.OrderLemmas.{refused_in_order}
 use Rattle.pf_posix.proofs.PlainFrontLemmas.{next_ordered, whole_ordered}
 use Rattle.pf_posix.proofs.argument_types.in_order.Goals as goal
