@@ -29,7 +29,8 @@ pub no_conflict : (seen : List Fetch) (f : Fetch) → AllByRecursion (λ f. f.nu
 no_conflict [] f h = refl
 no_conflict (g ∷ seen) f h = let none : differs g f ≡ false = rw (h.0) refl in rw none (no_conflict seen f h.1)
 
-pub first_in_order : (model : Model) (t : Text) (type : ArgumentType) (at : ℕ) (left : FetchTrace) → fetch_trace model t ≡ Fetches (fetch None type) at left → IsInOrder model t (fetch None type ∷ []) left
+pub first_in_order : (model : Model) (t : Text) (type : ArgumentType) (at : ℕ) (left : FetchTrace) → fetch_trace model t ≡ Fetches (fetch None type) at left
+    → IsInOrder model t (fetch None type ∷ []) left
 first_in_order model t type at left e =
     let bounded = subst (IsBounded Undecided) e (reading_bounded model t) in
     record { verdict_is = ap (verdict_after []) e; unnumbered = (refl, tt); bounded = bounded.2 }
