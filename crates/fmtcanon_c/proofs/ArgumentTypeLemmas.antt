@@ -1,5 +1,6 @@
--- Two formats that don't take the same arguments, and data models in which they do.
-use Rattle.std.proofs.Common.{◌≡◌, ◌∙◌, ◌++◌, ◌+◌, ◌<◌, Bool, true, false, List, ℕ, suc, Some, ap, arith, drop, get_or, length, slice_get, subst, sym, take}
+-- Two formats that don't take the same arguments, data models in which they do, and types at the front of a slice.
+use Rattle.std.proofs.Common.{◌≡◌, ◌∙◌, ◌++◌, ◌+◌, ◌<◌, ◌≤◌, [], ◌∷◌, Bool, true, false, List, ℕ, suc, Some, ap, arith, drop, get_or, length, refl, slice_get}
+use Rattle.std.proofs.Common.{subst, sym, take}
 use Rattle.std.specs.List.{AllByRecursion}
 use Rattle.std.specs.Prelude.{◌↔◌, IsTrue}
 use Rattle.std.proofs.Math.Seq.{take-suc}
@@ -7,8 +8,9 @@ use Rattle.std.proofs.lemmas.Bool.{false≢true}
 use Rattle.std.proofs.lemmas.List.{drop_more, take-append-drop}
 use Rattle.pf_text.specs.declared.refusals.Refusal.{Refusal}
 use Rattle.pf_text.specs.declared.refusals.Side.{Side}
+use Rattle.pf_posix.specs.declared.types.ArgumentType.{ArgumentType}
 use Rattle.pf_posix.specs.Items.{IsPosixAccepted}
-use Rattle.pf_posix.specs.Laws.{ComparesArgumentTypes, FaultForFits}
+use Rattle.pf_posix.specs.Laws.{ComparesArgumentTypes, FaultForFits, HasCount, filled}
 use Rattle.pf_posix.proofs.Agreeing.{all_push}
 use Rattle.pf_posix.proofs.Unique.{one_list}
 use Rattle.pf_values.specs.declared.models.Model.{Model}
@@ -31,7 +33,8 @@ fits_not is Is e h so = false≢true (sym e ∙ h.1 so)
 
 module _ (f g : Text) (models : List Model) (i : ℕ) (d : Model) (few : i < length models) where
   -- one more data model accepts both
-  pub accepted_more : AllByRecursion (λ model. IsPosixAccepted model f × IsPosixAccepted model g) (take i models) → IsPosixAccepted (get_or models i d) f × IsPosixAccepted (get_or models i d) g
+  pub accepted_more : AllByRecursion (λ model. IsPosixAccepted model f × IsPosixAccepted model g) (take i models)
+      → IsPosixAccepted (get_or models i d) f × IsPosixAccepted (get_or models i d) g
       → AllByRecursion (λ model. IsPosixAccepted model f × IsPosixAccepted model g) (take (i + 1) models)
   accepted_more h a =
       let next : suc i ≡ i + 1 = omega arith in
@@ -39,7 +42,8 @@ module _ (f g : Text) (models : List Model) (i : ℕ) (d : Model) (few : i < len
       (all_push (λ model. IsPosixAccepted model f × IsPosixAccepted model g) (take i models) (get_or models i d) h a)
 
   -- or refuses one
-  pub stops_at : (refusal : Side × Refusal) → AllByRecursion (λ model. IsPosixAccepted model f × IsPosixAccepted model g) (take i models) → FaultForFits (get_or models i d) f g refusal
+  pub stops_at : (refusal : Side × Refusal) → AllByRecursion (λ model. IsPosixAccepted model f × IsPosixAccepted model g) (take i models)
+      → FaultForFits (get_or models i d) f g refusal
       → StopsFitsIn models f g refusal
   stops_at refusal h fault =
       record {
@@ -50,3 +54,15 @@ module _ (f g : Text) (models : List Model) (i : ℕ) (d : Model) (few : i < len
         accepted = h;
         refused = fault;
       }
+
+-- the elements at the front of a slice that has room for them
+taken_front : {X : Type 0} (old more : List X) → length more ≤ length old → take (length more) (filled old more) ≡ more
+taken_front [] [] few = refl
+taken_front [] (x ∷ more) few = absurd (omega (arith, few))
+taken_front (o ∷ old) [] few = refl
+taken_front (o ∷ old) (x ∷ more) few = ap (λ l. x ∷ l) (taken_front old more (omega (arith, few)))
+
+-- the types that a call has put there
+pub taken_types : (model : Model) (t : Text) (old new : List ArgumentType) (count : ℕ) (h : HasCount model t old new count) → length h.types ≤ length old
+    → take count new ≡ h.types
+taken_types model t old new count h few = ap (λ n. take n new) h.count_is ∙ ap (take (length h.types)) h.front ∙ taken_front old h.types few

@@ -1,7 +1,8 @@
 //! The types of the arguments that a format takes, in the profile and in the whole language.
-ghost use Rattle.std.specs.Prelude.{◌≡◌, ◌≤◌, ◌↔◌, ◌++◌, IsTrue, MatchResult, length, drop, map};
+ghost use Rattle.std.specs.Prelude.{◌≡◌, ◌≤◌, ◌↔◌, ◌++◌, IsTrue, MatchResult, length, drop, map, pos};
 ghost use Rattle.std.specs.List.{AllByRecursion};
 ghost use Rattle.pf_values.specs.TypeNumbers.{type_number};
+ghost use Rattle.fmtcanon_c.specs.Buffers.{put};
 ghost use Rattle.fmtcanon_c.specs.Calls.{AreModels, PutsTypes};
 ghost use Rattle.fmtcanon_c.specs.Models.{InModel};
 ghost use Rattle.pf_posix.specs.Items.{IsPosixAccepted};
@@ -11,7 +12,7 @@ ghost use Rattle.pf_values.specs.declared.models.TheConstants.Model.{ALL};
 ghost use Rattle.fmtcanon_c.specs.ArgumentTypes.{AnswersFit, AnswersFitModels, Fit, PutsArguments, StopsFitsIn};
 
 use crate::interface::{CError, NO_MEMORY, NO_MODEL, model_of, put_refusal};
-use pf_posix::{ArgumentType, arguments_vec, fits};
+use pf_posix::{ArgumentType, arguments, arguments_vec, fits};
 use pf_text::{Refusal, Side, TextFault, signature};
 use pf_values::{ArgType, Model};
 use std::alloc::Global;
@@ -82,6 +83,11 @@ pub extern "C" fn fmtcanon_arguments(
     }
 }
 
+// How many types are put with no allocation.
+const ROOM: usize = 32;
+
+// Puts the numbers of the types. Up to `ROOM` of them wait on the stack until the format is known to be
+// accepted.
 fn put_arguments(
     alloc: Global,
     model: Model,
@@ -91,17 +97,45 @@ fn put_arguments(
 ) -> i64
     ensures { PutsArguments model text.now out.old error.old result out.new error.new }
 {
-    match arguments_vec(alloc, model, text) {
-        Ok(types) => {
-            let types = types.as_slice();
-            if types.len() <= out.len() {
-                put_numbers(out, types);
+    let mut types = [ArgumentType::Profile(ArgType::Int); ROOM];
+    match arguments(model, text, &mut types) {
+        Ok(count) => {
+            if count > ROOM as u64 {
+                return put_many_arguments(alloc, model, text, out, error);
             }
-            types.len() as i64
+            put_listed(out, &types[..count as usize])
         }
+        Err(refusal) => put_refusal(error, Side::First, refusal),
+    }
+}
+
+// Puts the numbers of any number of arguments.
+#[inline(never)]
+fn put_many_arguments(
+    alloc: Global,
+    model: Model,
+    text: &[u8],
+    out: &mut [u8],
+    error: &mut CError,
+) -> i64
+    ensures { PutsArguments model text.now out.old error.old result out.new error.new }
+{
+    match arguments_vec(alloc, model, text) {
+        Ok(types) => put_listed(out, types.as_slice()),
         Err(TextFault::Refused(refusal)) => put_refusal(error, Side::First, refusal),
         Err(TextFault::Memory) => NO_MEMORY,
     }
+}
+
+// Puts the numbers of some types, if there is room for all, and returns how many there are.
+fn put_listed(out: &mut [u8], types: &[ArgumentType]) -> i64
+    ensures count { result ≡ pos (length types.now) }
+    ensures put { out.new ≡ put (map number_of_type types.now) out.old }
+{
+    if types.len() <= out.len() {
+        put_numbers(out, types);
+    }
+    types.len() as i64
 }
 
 fn put_numbers(out: &mut [u8], types: &[ArgumentType])

@@ -26,7 +26,7 @@ use Rattle.pf_posix.specs.States.{PosixStep, posix_step}
 use Rattle.pf_posix.specs.Types.{fetch, fetches, star_fetches, conversion_type}
 use Rattle.pf_posix.proofs.Agreeing.{all_back, all_push}
 use Rattle.pf_posix.proofs.Judging.{Arrives, Brings, Judges, judge}
-use Rattle.pf_posix.proofs.Within.{IsBounded, IsWithin}
+use Rattle.pf_posix.specs.Within.{IsBounded, IsWithin}
 
 pub all_append : {X : Type 0} (P : X → Type 0) (xs ys : List X) → AllByRecursion P xs → AllByRecursion P ys → AllByRecursion P (xs ++ ys)
 all_append P [] ys h g = g
@@ -146,3 +146,6 @@ bounded model (byte ∷ t) at numbering state part own h follows =
 -- each number that is read is within the limits
 pub reading_bounded : (model : Model) (t : Text) → IsBounded Undecided (fetch_trace model t)
 reading_bounded model t = bounded model t 0 Undecided Between [] [] (refl, refl) tt
+
+pub bounded_at : (model : Model) (numbering : Numbering) (at : ℕ) (t : Text) → IsBounded numbering (trace_from model numbering Between at t)
+bounded_at model numbering at t = bounded model t at numbering Between [] [] (refl, refl) tt

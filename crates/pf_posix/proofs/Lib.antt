@@ -4,13 +4,14 @@ pub mod Agreeing
 pub mod Reasons
 pub mod Wording
 pub mod Soundness
-pub mod Within
 pub mod Bounds
 pub mod TypeLists
 pub mod Telling
 pub mod WalkLemmas
 pub mod TwoByteLemmas
 pub mod OrderLemmas
+pub mod PlainLemmas
+pub mod PlainFrontLemmas
 pub mod TableLemmas
 pub mod Running
 pub mod Reaching

@@ -17,7 +17,8 @@ all_filled (o ∷ old) [] e = absurd (omega (arith, e))
 all_filled (o ∷ old) (x ∷ all) e = ap (λ l. x ∷ l) (all_filled old all (omega (arith, e)))
 
 -- the count of one reading is the room of the next
-pub all_there : (model : Model) (t : Text) (none made old new : List ArgumentType) (count again : ℕ) → HasCount model t none made count → length old ≡ count → HasCount model t old new again → HasArguments model t new
+pub all_there : (model : Model) (t : Text) (none made old new : List ArgumentType) (count again : ℕ) → HasCount model t none made count → length old ≡ count
+    → HasCount model t old new again → HasArguments model t new
 all_there model t none made old new count again first room second =
     let same = one_list model t first.types second.types first.accepted second.accepted in
     let as_many = ap length same in
@@ -25,8 +26,9 @@ all_there model t none made old new count again first room second =
     let all : new ≡ second.types = second.front ∙ all_filled old second.types (omega (arith, as_many, counted, room)) in
     subst (HasArguments model t) (sym all) second.accepted
 
--- the same of specifications
-pub all_listed : (model : Model) (t : Text) (none made old new : List DirectiveSpan) (count again : ℕ) → HasDirectiveCount model t none made count → length old ≡ count → HasDirectiveCount model t old new again → HasDirectives model t new
+-- the count of one reading of the specifications is the room of the next
+pub all_listed : (model : Model) (t : Text) (none made old new : List DirectiveSpan) (count again : ℕ) → HasDirectiveCount model t none made count
+    → length old ≡ count → HasDirectiveCount model t old new again → HasDirectives model t new
 all_listed model t none made old new count again first room second =
     let as_many = ap length (directives_once model t first.directives second.directives first.listed second.listed) in
     let counted = first.count_is in
@@ -34,5 +36,6 @@ all_listed model t none made old new count again first room second =
     subst (HasDirectives model t) (sym all) second.listed
 
 -- if the number of specifications is not 0, there is one
-pub some_listed : (model : Model) (t : Text) (none made : List DirectiveSpan) (count : ℕ) → HasDirectiveCount model t none made count → 0 < count → (ds : List DirectiveSpan) × HasDirectives model t ds × (ds ≢ [])
+pub some_listed : (model : Model) (t : Text) (none made : List DirectiveSpan) (count : ℕ) → HasDirectiveCount model t none made count → 0 < count
+    → (ds : List DirectiveSpan) × HasDirectives model t ds × (ds ≢ [])
 some_listed model t none made count h some = (h.directives, h.listed, λ e. omega (arith, some, h.count_is, ap length e))

@@ -10,20 +10,15 @@ use Rattle.pf_posix.specs.declared.partial_specification.Numbering.TheVariants.{
 use Rattle.pf_posix.specs.declared.types.ArgumentType.{ArgumentType}
 use Rattle.pf_posix.specs.Items.{HasArguments}
 use Rattle.pf_posix.specs.Laws.{filled}
-use Rattle.pf_posix.specs.Readings.{Fault, Fetches, FetchTrace, Whole, conflicts, differs, fetch_trace, verdict_after, verdict, wanted_types}
+use Rattle.pf_posix.specs.Readings.{Fault, Fetches, FetchTrace, Whole, conflicts, differs, fetch_trace, verdict_after, wanted_types}
+use Rattle.pf_posix.specs.Plain.{IsInOrder}
 use Rattle.pf_posix.specs.Refusals.{Follows, IsPosixRefusedAt, numbering_by}
 use Rattle.pf_posix.specs.Types.{fetch}
 use Rattle.pf_posix.proofs.Agreeing.{all_push}
 use Rattle.pf_posix.proofs.Bounds.{reading_bounded}
 use Rattle.pf_posix.proofs.Soundness.{Tells, told}
 use Rattle.pf_posix.proofs.Telling.{accepted, told_taken}
-use Rattle.pf_posix.proofs.Within.{IsBounded}
-
--- what was fetched has no numbers, and what is left is read so
-pub record IsInOrder (model : Model) (t : Text) (seen : List Fetch) (left : FetchTrace) : Type 0 where
-  pub verdict_is : verdict model t ≡ verdict_after seen left
-  pub unnumbered : AllByRecursion (λ f. f.number ≡ None) seen
-  pub bounded : IsBounded Unnumbered left
+use Rattle.pf_posix.specs.Within.{IsBounded}
 
 pub no_number : (o : Option ℕ) → Follows Unnumbered (Some (numbering_by o)) → o ≡ None
 no_number None h = refl
@@ -34,7 +29,8 @@ pub no_conflict : (seen : List Fetch) (f : Fetch) → AllByRecursion (λ f. f.nu
 no_conflict [] f h = refl
 no_conflict (g ∷ seen) f h = let none : differs g f ≡ false = rw (h.0) refl in rw none (no_conflict seen f h.1)
 
-pub first_in_order : (model : Model) (t : Text) (type : ArgumentType) (at : ℕ) (left : FetchTrace) → fetch_trace model t ≡ Fetches (fetch None type) at left → IsInOrder model t (fetch None type ∷ []) left
+pub first_in_order : (model : Model) (t : Text) (type : ArgumentType) (at : ℕ) (left : FetchTrace) → fetch_trace model t ≡ Fetches (fetch None type) at left
+    → IsInOrder model t (fetch None type ∷ []) left
 first_in_order model t type at left e =
     let bounded = subst (IsBounded Undecided) e (reading_bounded model t) in
     record { verdict_is = ap (verdict_after []) e; unnumbered = (refl, tt); bounded = bounded.2 }

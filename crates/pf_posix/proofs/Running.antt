@@ -74,14 +74,14 @@ pub record IsLater (byte : ℕ) : Type 0 where
   pub dollar : (byte == 36) ≡ false
   pub percent : (byte == 37) ≡ false
 
-letter_later : (byte : ℕ) → 57 < byte → IsLater byte
+pub letter_later : (byte : ℕ) → 57 < byte → IsLater byte
 letter_later byte h =
     record { flag = grind (arith, nat_tests); digit = grind (arith, nat_tests); first = grind (arith, nat_tests); star = grind (arith, nat_tests); dollar = grind (arith, nat_tests); percent = grind (arith, nat_tests) }
 
-point_later : IsLater 46
+pub point_later : IsLater 46
 point_later = record { flag = refl; digit = refl; first = refl; star = refl; dollar = refl; percent = refl }
 
-flag_tests : (flag : Flag) → (flag_of (flag_byte flag) ≡ Some flag) × ((flag_byte flag == 37) ≡ false) × (is_first_digit (flag_byte flag) ≡ false)
+pub flag_tests : (flag : Flag) → (flag_of (flag_byte flag) ≡ Some flag) × ((flag_byte flag == 37) ≡ false) × (is_first_digit (flag_byte flag) ≡ false)
 flag_tests Minus = (refl, refl, refl)
 flag_tests Plus = (refl, refl, refl)
 flag_tests Space = (refl, refl, refl)
@@ -127,7 +127,7 @@ module _ (model : Model) (slot : WidthOrPrecision) (numbering : Numbering) (own 
 
 module _ (model : Model) (numbering : Numbering) where
   -- the number of the argument
-  first_step : (byte : ℕ) → is_first_digit byte ≡ true → (byte == 37) ≡ false → posix_step model numbering Opened byte ≡ move_to (First (byte - 48))
+  pub first_step : (byte : ℕ) → is_first_digit byte ≡ true → (byte == 37) ≡ false → posix_step model numbering Opened byte ≡ move_to (First (byte - 48))
   first_step byte f p = rw p (go numbering) where
     go : (s : Numbering) → after_percent model s byte ≡ move_to (First (byte - 48))
     go Numbered = rw f refl
@@ -158,7 +158,7 @@ module _ (model : Model) (numbering : Numbering) where
       let one : posix_step model numbering (Flags parts) (flag_byte flag) ≡ move_to (Flags (record parts { flags = with_flag parts.flags flag })) = rw (tests.0) refl in
       ap (λ p. run model (went numbering [] p) (map flag_byte flags)) one ∙ more_flags flags (record parts { flags = with_flag parts.flags flag })
 
-  plain_percent : (byte : ℕ) → Follows numbering (Some Unnumbered) → is_first_digit byte ≡ false → (byte == 37) ≡ false → posix_step model numbering Opened byte ≡ among_flags model (parts_at None) byte
+  pub plain_percent : (byte : ℕ) → Follows numbering (Some Unnumbered) → is_first_digit byte ≡ false → (byte == 37) ≡ false → posix_step model numbering Opened byte ≡ among_flags model (parts_at None) byte
   plain_percent byte h f p = rw p (go numbering h) where
     go : (s : Numbering) → Follows s (Some Unnumbered) → after_percent model s byte ≡ among_flags model (parts_at None) byte
     go Numbered (inl e) = cc
@@ -197,10 +197,10 @@ module _ (model : Model) (numbering : Numbering) where
 
 -- after flags a `*`, or what comes after them
 module _ (model : Model) (numbering : Numbering) (parts : PartialSpecification) (byte : ℕ) (flag : flag_of byte ≡ None) where
-  flags_digit : is_digit byte ≡ true → among_flags model parts byte ≡ move_to (Digits Width (with_width parts) (byte - 48))
+  pub flags_digit : is_digit byte ≡ true → among_flags model parts byte ≡ move_to (Digits Width (with_width parts) (byte - 48))
   flags_digit d = rw (flag, d) refl
 
-  flags_other : is_digit byte ≡ false → (byte == 42) ≡ false → among_flags model parts byte ≡ after_amount model Width parts byte
+  pub flags_other : is_digit byte ≡ false → (byte == 42) ≡ false → among_flags model parts byte ≡ after_amount model Width parts byte
   flags_other d s = rw (flag, d, s) refl
 
 -- a `*`, with the number of its argument
@@ -302,7 +302,7 @@ module _ (model : Model) (numbering : Numbering) (position : Option ℕ) (set : 
             ∙ ap (λ f. after_amount model Width (flags_parts position f) byte) (sym h.set_is);
       }
 
-first_later : (model : Model) (numbering : Numbering) (n byte : ℕ) → Follows numbering (Some Unnumbered) → IsLater byte → posix_step model numbering (First n) byte ≡ after_amount model Width (with_width (parts_at None)) byte
+pub first_later : (model : Model) (numbering : Numbering) (n byte : ℕ) → Follows numbering (Some Unnumbered) → IsLater byte → posix_step model numbering (First n) byte ≡ after_amount model Width (with_width (parts_at None)) byte
 first_later model numbering n byte follows l = let digit = l.digit in let dollar = l.dollar in rw (digit, dollar) (go numbering follows) where
   go : (s : Numbering) → Follows s (Some Unnumbered) → after_first model s byte ≡ after_amount model Width (with_width (parts_at None)) byte
   go Numbered (inl e) = cc

@@ -29,7 +29,7 @@ use Rattle.pf_posix.proofs.Agreeing.{all_back, all_push, same_type}
 use Rattle.pf_posix.proofs.OrderLemmas.{no_conflict}
 use Rattle.pf_posix.proofs.Telling.{accepted, seen_within, told_taken}
 use Rattle.pf_posix.proofs.Unique.{one_list, types_of_verdict, arguments_verdict}
-use Rattle.pf_posix.proofs.Within.{IsWithin}
+use Rattle.pf_posix.specs.Within.{IsWithin}
 
 -- what was fetched has no numbers
 pub record IsOrdered (model : Model) (t : Text) (seen : List Fetch) (trace_left : FetchTrace) : Type 0 where

@@ -137,7 +137,7 @@ directive_items more (PosixByte x ∷ items) other h u = go (x == 37) refl h.2 w
       let yes : (x == 37) ≡ true = ap (λ b. b == 37) first in
       absurd (bool_no yes t)
 
--- the same of stretches
+-- what holds of the stretches that items make holds of those that a text is read as
 flat_read : (P : Stretches → Type 0) (t : Text) (left : Stretches) → ReadsWhole t left
     → ((items : List PosixItem) → ReadsPosix t items → AllByRecursion IsUnnumbered items → P (stretched items)) → P left
 flat_read P t left h go = subst P (stretches_back t left h) (go (flat left) (posix_reads t left h) (unnumbered t left h))

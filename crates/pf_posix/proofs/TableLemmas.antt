@@ -27,7 +27,7 @@ use Rattle.pf_posix.proofs.Bounds.{reading_bounded}
 use Rattle.pf_posix.proofs.Soundness.{Tells, told}
 use Rattle.pf_posix.proofs.Telling.{accepted, missing, seen_within, told_taken}
 use Rattle.pf_posix.proofs.TypeLists.{fetched_none, fetched_some, gap_is, length_listed, numbered_types, wanted_one}
-use Rattle.pf_posix.proofs.Within.{IsBounded, IsWithin}
+use Rattle.pf_posix.specs.Within.{IsBounded, IsWithin}
 
 wanted_push : (place : ℕ) (seen : List Fetch) (f : Fetch) (type : ArgumentType) → wanted_at place seen ≡ Some type → wanted_at place (seen ++ f ∷ []) ≡ Some type
 wanted_push place [] f type e = cc

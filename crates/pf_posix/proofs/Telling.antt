@@ -16,7 +16,7 @@ use Rattle.pf_posix.specs.Types.{HaveTypes}
 use Rattle.pf_posix.proofs.Bounds.{items_within}
 use Rattle.pf_posix.proofs.Soundness.{Taken, Tells, told}
 use Rattle.pf_posix.proofs.TypeLists.{types_or_gap}
-use Rattle.pf_posix.proofs.Within.{IsWithin}
+use Rattle.pf_posix.specs.Within.{IsWithin}
 
 module _ (model : Model) (t : Text) (fs : List Fetch) (h : Taken model t fs) where
   pub accepted : (types : List ArgumentType) → HaveTypes fs types → HasArguments model t types

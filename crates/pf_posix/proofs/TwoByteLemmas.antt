@@ -25,27 +25,35 @@ use Rattle.pf_posix.proofs.Judging.{byte_of_conversion}
 within_limit : (n : ℕ) → n < MAX_TEXT_LEN → nat_le MAX_TEXT_LEN n ≡ false
 within_limit n h = grind (arith, nat_tests)
 
-undecided : (model : Model) (conversion : Conversion) → posix_step model Undecided Opened (conversion_letter conversion) ≡ Ok (Between, Some (fetch None (conversion_type model (Integer lengths.None) conversion)))
+undecided : (model : Model) (conversion : Conversion)
+    → posix_step model Undecided Opened (conversion_letter conversion)
+    ≡ Ok (Between, Some (fetch None (conversion_type model (Integer lengths.None) conversion)))
 undecided model (Profile D) = refl
 undecided model (Profile _) = refl
 undecided model (Float floats.F) = refl
 undecided model (Float _) = refl
 undecided model _ = refl
 
-unnumbered : (model : Model) (conversion : Conversion) → posix_step model Unnumbered Opened (conversion_letter conversion) ≡ Ok (Between, Some (fetch None (conversion_type model (Integer lengths.None) conversion)))
+unnumbered : (model : Model) (conversion : Conversion)
+    → posix_step model Unnumbered Opened (conversion_letter conversion)
+    ≡ Ok (Between, Some (fetch None (conversion_type model (Integer lengths.None) conversion)))
 unnumbered model (Profile D) = refl
 unnumbered model (Profile _) = refl
 unnumbered model (Float floats.F) = refl
 unnumbered model (Float _) = refl
 unnumbered model _ = refl
 
-two_bytes_step : (model : Model) (numbering : Numbering) (conversion : Conversion) → numbering ≢ Numbered → posix_step model numbering Opened (conversion_letter conversion) ≡ Ok (Between, Some (fetch None (conversion_type model (Integer lengths.None) conversion)))
+pub two_bytes_step : (model : Model) (numbering : Numbering) (conversion : Conversion) → numbering ≢ Numbered
+    → posix_step model numbering Opened (conversion_letter conversion)
+    ≡ Ok (Between, Some (fetch None (conversion_type model (Integer lengths.None) conversion)))
 two_bytes_step model Undecided conversion some = undecided model conversion
 two_bytes_step model Unnumbered conversion some = unnumbered model conversion
 two_bytes_step model Numbered conversion some = absurd (some refl)
 
-pub two_bytes_read : (model : Model) (numbering : Numbering) (t : Text) (at : ℕ) (conversion : Conversion) → numbering ≢ Numbered → at + 1 < length t → at + 1 < MAX_TEXT_LEN → get_or t at 0 ≡ 37 → conversion_of (get_or t (at + 1) 0) ≡ Some conversion
-    → trace_from model numbering Between at (drop at t) ≡ Fetches (fetch None (conversion_type model (Integer lengths.None) conversion)) (at + 1) (trace_from model Unnumbered Between (at + 2) (drop (at + 2) t))
+pub two_bytes_read : (model : Model) (numbering : Numbering) (t : Text) (at : ℕ) (conversion : Conversion) → numbering ≢ Numbered → at + 1 < length t
+    → at + 1 < MAX_TEXT_LEN → get_or t at 0 ≡ 37 → conversion_of (get_or t (at + 1) 0) ≡ Some conversion
+    → trace_from model numbering Between at (drop at t)
+    ≡ Fetches (fetch None (conversion_type model (Integer lengths.None) conversion)) (at + 1) (trace_from model Unnumbered Between (at + 2) (drop (at + 2) t))
 two_bytes_read model numbering t at conversion some less short first e =
     let split = drop_more t at 0 (omega arith) in
     let behind = drop_more t (at + 1) 0 less in

@@ -13,7 +13,7 @@ use Rattle.pf_posix.specs.Readings.{greatest, is_number, listed, wanted_types, w
 use Rattle.pf_posix.specs.Refusals.{AreAgreed, HasGap, IsOneType, numbering_by}
 use Rattle.pf_posix.specs.Types.{AreInOrder, AreNumbered, HaveTypes, IsFetched, HasTypeIn}
 use Rattle.pf_posix.proofs.Agreeing.{all_map}
-use Rattle.pf_posix.proofs.Within.{IsWithin}
+use Rattle.pf_posix.specs.Within.{IsWithin}
 
 eqb-refl : (n : ℕ) → (n == n) ≡ true
 eqb-refl n = grind (arith, nat_tests)

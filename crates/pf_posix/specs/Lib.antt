@@ -25,3 +25,5 @@ pub mod StretchesInText
 pub mod Steps
 pub mod Directives
 pub mod DirectiveWalks
+pub mod Within
+pub mod Plain

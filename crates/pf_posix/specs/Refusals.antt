@@ -100,8 +100,9 @@ MixesNumbers (First n) numbering byte = ((numbering ≡ Unnumbered) × (byte ≡
     ⊎ ((numbering ≡ Numbered) × (is_digit byte ≡ false) × (byte ≢ dollar))
 MixesNumbers _ numbering byte = ⊥
 
--- The same behind a `*`: it is a digit, where the specification isn't numbered; or where it is, it is
--- in the place of a number or of its `$`, and is neither (POSIX fprintf on `*m$`).
+-- The byte after a `*` shows that numbered specifications and others are mixed: it is a digit, where the
+-- specification isn't numbered; or where it is, it is in the place of a number or of its `$`, and is
+-- neither (POSIX fprintf on `*m$`).
 abbrev pub MixesStar : Option ℕ → ℕ → Type 0
 MixesStar None byte = is_digit byte ≡ true
 MixesStar (Some n) byte = is_first_digit byte ≡ false

@@ -51,7 +51,7 @@ pub record SpellsUpToFlags (t : Text) (position : Option ℕ) (set : FlagSet) : 
   pub set_is : set ≡ flag_set flags
   pub whole : t ≡ percent ∷ place ++ map flag_byte flags
 
--- the same and a width (C11 7.21.6.1 p4)
+-- `%`, the number of the argument, flags, and a width (C11 7.21.6.1 p4)
 pub record SpellsUpToWidth (t : Text) (position : Option ℕ) (set : FlagSet)
     (width : Option Amount) : Type 0 where
   pub before : Text
@@ -60,7 +60,7 @@ pub record SpellsUpToWidth (t : Text) (position : Option ℕ) (set : FlagSet)
   pub width_is : SpellsPosixWidth text position width
   pub whole : t ≡ before ++ text
 
--- the same and a precision (C11 7.21.6.1 p4)
+-- `%`, the number of the argument, flags, a width, and a precision (C11 7.21.6.1 p4)
 pub record SpellsUpToPrecision (t : Text) (position : Option ℕ) (set : FlagSet)
     (width precision : Option Amount) : Type 0 where
   pub before : Text

@@ -13,7 +13,7 @@ abbrev pub push : Item → Stretches → Stretches
 push item (Last items) = Last (item ∷ items)
 push item (Before items s rest) = Before (item ∷ items) s rest
 
--- the same of several items
+-- several items before the first stretch, which has them then
 abbrev pub push_all : List Item → Stretches → Stretches
 push_all [] rest = rest
 push_all (item ∷ items) rest = push item (push_all items rest)

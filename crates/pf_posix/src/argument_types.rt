@@ -1,13 +1,15 @@
 //! The argument types of a format, in a slice or in a vector.
-ghost use Rattle.std.specs.Prelude.{◌≡◌, ◌<◌, ◌≤◌, ℕ, None, length, MatchResult, ◌+◌, IsTrue, is_some, IfErr, IfOk};
+ghost use Rattle.std.specs.Prelude.{◌≡◌, ◌<◌, ◌≤◌, ℕ, List, length, MatchResult, ◌+◌, IsTrue, is_some, IfErr, IfOk};
 ghost use Rattle.pf_posix.specs.Laws.{HasCount, FaultForArguments};
 ghost use Rattle.pf_posix.specs.Readings.{Fetches, fetch_trace};
 ghost use Rattle.pf_posix.specs.Refusals.{IsPosixRefusedAt};
-ghost use Rattle.pf_posix.specs.Types.{fetch};
+ghost use Rattle.pf_posix.specs.Plain.{IsOrderedFront};
+ghost use Rattle.pf_posix.specs.declared.types.ArgumentType.{ArgumentType as ArgumentTypeOf};
 ghost use Rattle.pf_posix.specs.Walks.{trace_left};
 ghost use Rattle.pf_posix.specs.Items.{HasArguments};
 
 use crate::fetches::Fetch;
+use crate::plain_reader::plain_front;
 use crate::reader::{NextFetch, Reader};
 use crate::tables::{Table, put};
 use crate::types::ArgumentType;
@@ -25,37 +27,64 @@ pub fn arguments(model: Model, text: &[u8], out: &mut [ArgumentType]) -> Result<
         (λ refusal. IsPosixRefusedAt model text.now refusal.kind refusal.at) }
     ensures length { length out.new ≡ length out.old }
 {
-    let mut reader = Reader::new();
-    match reader.next_fetch(model, text) {
-        NextFetch::End => Ok(0),
-        NextFetch::Refused(refusal) => Err(refusal),
-        NextFetch::Fetched(first) => match first.number {
-            None => in_order(model, text, reader, first.wanted, out),
-            Some(_) => by_number(model, text, reader, first, out),
-        },
+    let front = plain_front(model, text, out);
+    if front.at == text.len() {
+        return Ok(front.count as u64);
     }
+    if front.count == 0 {
+        return read_by_bytes(model, text, out);
+    }
+    in_order(
+        model,
+        text,
+        Reader::unnumbered_at(front.at),
+        front.count,
+        out,
+    )
 }
 
-// The types of a format that isn't numbered, of which the first argument was read.
-fn in_order(
-    model: Model,
-    text: &[u8],
-    after_first: Reader,
-    first: ArgumentType,
-    out: &mut [ArgumentType],
-) -> Result<u64, Refusal>
-    requires within { after_first.at ≤ length text.now }
-    requires some { 0 < after_first.at }
-    requires first { (at : ℕ)
-        × (fetch_trace model text.now ≡ Fetches (fetch None first) at (trace_left model text.now after_first)) }
+// The types of a format that the automaton reads from its first byte on.
+#[inline(never)]
+fn read_by_bytes(model: Model, text: &[u8], out: &mut [ArgumentType]) -> Result<u64, Refusal>
     ensures types { MatchResult result
         (λ count. HasCount model text.now out.old out.new count)
         (λ refusal. IsPosixRefusedAt model text.now refusal.kind refusal.at) }
     ensures length { length out.new ≡ length out.old }
 {
-    let mut reader = after_first;
-    put(out, 0, first);
-    let mut count: usize = 1;
+    let mut reader = Reader::new();
+    match reader.next_fetch(model, text) {
+        NextFetch::End => Ok(0),
+        NextFetch::Refused(refusal) => Err(refusal),
+        NextFetch::Fetched(first) => match first.number {
+            None => {
+                put(out, 0, first.wanted);
+                in_order(model, text, reader, 1, out)
+            }
+            Some(_) => by_number(model, text, reader, first, out),
+        },
+    }
+}
+
+// The types of a format that isn't numbered, of which some were read, which are at the front of `out`.
+#[inline(never)]
+fn in_order(
+    model: Model,
+    text: &[u8],
+    after_front: Reader,
+    front: usize,
+    out: &mut [ArgumentType],
+) -> Result<u64, Refusal>
+    requires within { after_front.at ≤ length text.now }
+    requires few { front ≤ after_front.at }
+    ensures types { (old : List ArgumentTypeOf)
+        → IsOrderedFront model text.now (trace_left model text.now after_front) old out.old front
+        → MatchResult result
+        (λ count. HasCount model text.now old out.new count)
+        (λ refusal. IsPosixRefusedAt model text.now refusal.kind refusal.at) }
+    ensures length { length out.new ≡ length out.old }
+{
+    let mut reader = after_front;
+    let mut count = front;
     loop {
         match reader.next_fetch(model, text) {
             NextFetch::Fetched(fetch) => {

@@ -20,10 +20,24 @@ pub fn fits(model: Model, first: &[u8], second: &[u8]) -> Result<Option<u64>, (S
     ensures { MatchResult result (ComparesArgumentTypes model first.now second.now)
         (FaultForFits model first.now second.now) }
 {
+    if first == second {
+        return with_itself(model, first);
+    }
     match compare_in_step(model, first, second) {
         InStepResult::Equal => Ok(None),
         InStepResult::Differ(index) => by_step(model, first, second, index),
         InStepResult::Other => by_tables(model, first, second),
+    }
+}
+
+// Whether a format takes the arguments that it takes: it does unless it is refused.
+fn with_itself(model: Model, text: &[u8]) -> Result<Option<u64>, (Side, Refusal)>
+    ensures { MatchResult result (ComparesArgumentTypes model text.now text.now)
+        (FaultForFits model text.now text.now) }
+{
+    match arguments(model, text, &mut []) {
+        Ok(_) => Ok(None),
+        Err(refusal) => Err((Side::First, refusal)),
     }
 }
 
@@ -47,7 +61,8 @@ fn by_step(
     }
 }
 
-// The same by the lists of their types, where one of the formats is refused or numbered.
+// Whether two formats take the same arguments, by the lists of their types: for where one of the formats
+// is refused or numbered.
 #[inline(never)]
 fn by_tables(model: Model, first: &[u8], second: &[u8]) -> Result<Option<u64>, (Side, Refusal)>
     requires { AreFew model first.now second.now }

@@ -15,6 +15,7 @@ mod opaque_directives;
 mod opaque_reader;
 mod pairs;
 mod partial_specification;
+mod plain_reader;
 mod reader;
 mod stretches;
 mod tables;

@@ -3,6 +3,7 @@
 ghost use Rattle.std.specs.Prelude.{◌≡◌, ◌≢◌, ◌+◌, ◌<◌, ◌≤◌, ◌==◌, IfSome, IsTrue, get_or, length};
 ghost use Rattle.pf_values.specs.declared.limits.TheConstants.{MAX_NUMBER};
 ghost use Rattle.pf_posix.specs.Letters.{is_first_digit};
+ghost use Rattle.pf_posix.specs.Plain.{DigitsRead, ModifierRead};
 ghost use Rattle.pf_posix.specs.PartsInText.{ConversionIs, DigitsAre, FlagsAre, IsAfterPoint, ModifierGoesOn, ModifierIs, PrecisionIs, SpecificationIs, WidthIs, second_modifier};
 
 use crate::conversions::{Conversion, Modifier};
@@ -113,7 +114,7 @@ pub(crate) fn has_byte(text: &[u8], at: usize, byte: u8) -> bool
 
 // Whether a place of a text has a digit from 1 to 9.
 #[inline(always)]
-fn begins_number(text: &[u8], at: usize) -> bool
+pub(crate) fn begins_number(text: &[u8], at: usize) -> bool
     ensures same { result ≡ is_first_digit (get_or text.now at 0) }
     ensures within { IsTrue result → at < length text.now }
 {
@@ -126,10 +127,11 @@ fn begins_number(text: &[u8], at: usize) -> bool
 // The number that begins with the digits of `first`, and goes on with those from a place on; and
 // where they end. None if the number passes the limit.
 #[inline(always)]
-fn digits_at(text: &[u8], start: usize, first: u16) -> Option<(u16, usize)>
+pub(crate) fn digits_at(text: &[u8], start: usize, first: u16) -> Option<(u16, usize)>
     requires within { start ≤ length text.now }
     requires small { first ≤ MAX_NUMBER }
     ensures number { DigitsAre text.now start first result }
+    ensures read { IfSome result (λ front. DigitsRead text.now start first front.0 front.1) }
     ensures within { IfSome result (λ front. (start ≤ front.1) × (front.1 ≤ length text.now)) }
 {
     let mut number = first;
@@ -167,9 +169,10 @@ fn modifier_at(text: &[u8], start: usize) -> (Modifier, usize)
 
 // The modifier that begins with this one of one letter, and where it ends.
 #[inline(always)]
-fn modifier_with(text: &[u8], start: usize, first: Modifier) -> (Modifier, usize)
+pub(crate) fn modifier_with(text: &[u8], start: usize, first: Modifier) -> (Modifier, usize)
     requires { start ≤ length text.now }
     ensures modifier { ModifierGoesOn text.now start first result.0 result.1 }
+    ensures read { ModifierRead text.now start first result.0 result.1 }
     ensures within { (start ≤ result.1) × (result.1 ≤ length text.now) }
 {
     if start >= text.len() {

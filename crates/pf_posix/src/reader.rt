@@ -60,10 +60,20 @@ impl Reader {
         ensures start { result.at ≡ 0 }
         ensures left { (model : ModelOf) (t : Text) → trace_left model t result ≡ unnumbered_trace model t }
     {
+        Reader::unnumbered_at(0)
+    }
+
+    /// A reader between two items at a place, after specifications that aren't numbered.
+    #[inline(always)]
+    pub(crate) fn unnumbered_at(at: usize) -> Reader
+        ensures start { result.at ≡ at }
+        ensures left { (model : ModelOf) (t : Text)
+            → trace_left model t result ≡ trace_from model Unnumbered Between at (drop at t) }
+    {
         Reader {
             automaton: Automaton::new(),
             numbering: Numbering::Unnumbered,
-            at: 0,
+            at,
         }
     }
 

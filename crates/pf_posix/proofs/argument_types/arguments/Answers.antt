@@ -1,15 +1,31 @@
-use Rattle.std.proofs.Common.{◌∙◌, [], refl, sym}
-use Rattle.pf_posix.proofs.OrderLemmas.{filled_none, no_arguments, refused_first}
+use Rattle.std.proofs.Common.{subst, sym}
+use Rattle.std.specs.Prelude.{MatchResult}
+use Rattle.pf_posix.specs.Laws.{HasCount}
+use Rattle.pf_posix.specs.Plain.{IsOrderedFront}
+use Rattle.pf_posix.specs.Refusals.{IsPosixRefusedAt}
+use Rattle.pf_posix.proofs.PlainFrontLemmas.{front_ordered, front_unchanged, front_whole}
 use Rattle.pf_posix.proofs.argument_types.arguments.Goals as goal
 
-pub returns-in-End-clause-types : goal.returns-in-End-clause-types
-returns-in-End-clause-types c =
-    let model = c.args.model in
-    let t = c.args.text.now in
-    record { types = []; accepted = no_arguments model t (sym (c.new-reader.ensures.left model t) ∙ c.in-End.ensures.next); count_is = refl; front = sym (filled_none c.args.out.now) }
+pub returns-then-front-text-clause-types : goal.returns-then-front-text-clause-types
+returns-then-front-text-clause-types c =
+    let front = c.plain_front-front in
+    front_whole c.args.model c.args.text.now front.result.at c.args.out.now front.new.out front.result.count front.ensures.front c.if-front-text.true
 
-pub returns-in-Refused-clause-types : goal.returns-in-Refused-clause-types
-returns-in-Refused-clause-types c =
+pub returns-then-front-eq0-clause-types : goal.returns-then-front-eq0-clause-types
+returns-then-front-eq0-clause-types c =
     let model = c.args.model in
     let t = c.args.text.now in
-    refused_first model t c.in-Refused.refusal.kind c.in-Refused.refusal.at (sym (c.new-reader.ensures.left model t) ∙ c.in-Refused.ensures.next)
+    let front = c.plain_front-front in
+    let same = front_unchanged model t front.result.at c.args.out.now front.new.out front.result.count front.ensures.front c.if-front-eq0.true in
+    let read = c.read_by_bytes in
+    subst (λ old. MatchResult read.result (λ count. HasCount model t old read.new.out count) (λ refusal. IsPosixRefusedAt model t refusal.kind refusal.at)) same
+    c.read_by_bytes.ensures.types
+
+pub returns-clause-types : goal.returns-clause-types
+returns-clause-types c =
+    let model = c.args.model in
+    let t = c.args.text.now in
+    let front = c.plain_front-front in
+    c.in_order.ensures.types c.args.out.now
+    (subst (λ left. IsOrderedFront model t left c.args.out.now front.new.out front.result.count) (sym (c.unnumbered_at.ensures.left model t))
+    (front_ordered model t front.result.at c.args.out.now front.new.out front.result.count front.ensures.front c.if-front-eq0.false))

@@ -1,22 +1,10 @@
-use Rattle.std.proofs.Common.{◌++◌, ◌∷◌, [], ◌∙◌, arith, ap, refl, sym}
-use Rattle.std.specs.Prelude.{None}
-use Rattle.std.proofs.lemmas.List.{length-map, length_push, map_push}
-use Rattle.pf_posix.specs.Laws.{filled}
-use Rattle.pf_posix.specs.Readings.{wanted_types}
-use Rattle.pf_posix.specs.Types.{fetch}
-use Rattle.pf_posix.proofs.OrderLemmas.{end_in_order, filled_none, first_in_order, next_in_order, refused_in_order}
+use Rattle.std.proofs.Common.{◌∙◌, arith, refl}
+use Rattle.pf_posix.proofs.OrderLemmas.{refused_in_order}
+use Rattle.pf_posix.proofs.PlainFrontLemmas.{next_ordered, whole_ordered}
 use Rattle.pf_posix.proofs.argument_types.in_order.Goals as goal
 
 pub loop-fetch-init : goal.loop-fetch-init
-loop-fetch-init c =
-    let first = c.requires.first in (
-      fetch None c.args.first ∷ [],
-      first_in_order c.args.model c.args.text.now c.args.first first.0 _ first.1,
-      refl,
-      c.put.ensures.filled c.args.out.now [] (sym (filled_none c.args.out.now)) refl,
-      omega (arith, c.requires.some),
-      c.requires.within,
-    )
+loop-fetch-init c = record { few = c.requires.few; within = c.requires.within; same = refl; front = λ old h. h }
 
 pub loop-fetch-preserved : goal.loop-fetch-preserved
 loop-fetch-preserved c =
@@ -24,26 +12,19 @@ loop-fetch-preserved c =
     let f = c.in-Fetched.fetch in
     let next = c.in-Fetched.ensures.next in
     let further = c.in-Fetched.ensures.further in
-    let longer = length_push i.0 f in (
-      i.0 ++ f ∷ [],
-      next_in_order c.args.model c.args.text.now i.0 _ i.1 f next.0 _ next.2,
-      omega (arith, i.2, longer),
-      c.put-in-Fetched.ensures.filled c.args.out.now (wanted_types i.0) i.3 (i.2 ∙ sym (length-map i.0 (λ g. g.wanted))) ∙ ap (filled c.args.out.now) (sym (map_push (λ g. g.wanted) i.0 f)),
-      omega (arith, i.4, further.0),
-      further.1,
-    )
-
-pub returns-in-End-clause-types : goal.returns-in-End-clause-types
-returns-in-End-clause-types c =
-    let i = c.loop-fetch.invariant in
     record {
-      types = wanted_types i.0;
-      accepted = end_in_order c.args.model c.args.text.now i.0 _ i.1 c.in-End.ensures.next;
-      count_is = i.2 ∙ sym (length-map i.0 (λ g. g.wanted));
-      front = i.3;
+      few = omega (arith, i.few, further.0);
+      within = further.1;
+      same = c.put.ensures.length ∙ i.same;
+      front = λ old h. next_ordered c.args.model c.args.text.now _ _ old _ _ (i.front old h) f next.0 c.put.new.out next.2 c.put.ensures.filled;
     }
 
-pub returns-in-Refused-clause-types : goal.returns-in-Refused-clause-types
-returns-in-Refused-clause-types c =
+pub returns-in-End-clause-types : goal.returns-in-End-clause-types
+returns-in-End-clause-types c old h =
     let i = c.loop-fetch.invariant in
-    refused_in_order c.args.model c.args.text.now i.0 _ i.1 c.in-Refused.refusal.kind c.in-Refused.refusal.at c.in-Refused.ensures.next
+    whole_ordered c.args.model c.args.text.now _ old _ _ (i.front old h) c.in-End.ensures.next
+
+pub returns-in-Refused-clause-types : goal.returns-in-Refused-clause-types
+returns-in-Refused-clause-types c old h =
+    let f = c.loop-fetch.invariant.front old h in
+    refused_in_order c.args.model c.args.text.now f.seen _ f.in_order c.in-Refused.refusal.kind c.in-Refused.refusal.at c.in-Refused.ensures.next

@@ -2,12 +2,15 @@ use Rattle.std.proofs.Common.{◌≤◌, ◌∙◌, arith, inl, inr, length, sym
 use Rattle.std.specs.Prelude.{◌⊎◌}
 use Rattle.pf_posix.proofs.DifferenceLemmas.{both_end, full, one_longer, over_lists, places_differ, places_same, same_lists, same_more}
 use Rattle.pf_posix.proofs.comparison.difference.Goals as goal
-use Rattle.pf_posix.proofs.comparison.difference.Goals.{then-loop-index-test+then-index-count+else-index-second_count, then-loop-index-test+else-index-count, else-loop-index-test}
+use Rattle.pf_posix.proofs.comparison.difference.Goals.{then-loop-index-test+then-index-count+else-index-second_count, then-loop-index-test+else-index-count}
+use Rattle.pf_posix.proofs.comparison.difference.Goals.{else-loop-index-test}
 
 pub returns-then-number : goal.returns-then-number
 returns-then-number c a b start from e f x y few =
     let k = c.loop-index.index in (
-      places_differ c.args.types.now c.args.others.now start from a b k _ _ c.number.result c.number-in-loop-index.result e f c.requires.room c.requires.same_room (omega (arith, c.loop-index-test.true)) (omega (arith, x, c.if-index-count.true)) (omega (arith, y, c.if-index-second_count.true))
+      places_differ c.args.types.now c.args.others.now start from a b k _ _ c.number.result c.number-in-loop-index.result e f
+          c.requires.room c.requires.same_room (omega (arith, c.loop-index-test.true))
+          (omega (arith, x, c.if-index-count.true)) (omega (arith, y, c.if-index-second_count.true))
           c.number.ensures c.number-in-loop-index.ensures c.if-number.true,
       c.loop-index.invariant.same a b start from e f x y,
     )
@@ -21,7 +24,9 @@ loop-index-preserved c =
       first = omega (arith, c.if-index-count.true);
       second = omega (arith, c.if-index-second_count.true);
       same = λ a b start from e f x y. same_more a b k (i.same a b start from e f x y)
-          (places_same c.args.types.now c.args.others.now start from a b k _ _ c.number.result c.number-in-loop-index.result e f c.requires.room c.requires.same_room (omega (arith, c.loop-index-test.true)) (omega (arith, x, c.if-index-count.true)) (omega (arith, y, c.if-index-second_count.true))
+          (places_same c.args.types.now c.args.others.now start from a b k _ _ c.number.result c.number-in-loop-index.result e f
+          c.requires.room c.requires.same_room (omega (arith, c.loop-index-test.true))
+          (omega (arith, x, c.if-index-count.true)) (omega (arith, y, c.if-index-second_count.true))
           c.number.ensures c.number-in-loop-index.ensures c.if-number.false);
     }
 
@@ -46,4 +51,5 @@ returns c a b start from e f x y few =
       | then-loop-index-test+else-index-count w ↦ inl (omega (arith, w.if-index-count.false))
       | else-loop-index-test w ↦ full c.args.count c.args.second_count k (length a) (length b) x y (omega (arith, w.loop-index-test.false)) few
     ] in
-    one_longer a b k (i.same a b start from e f x y) (λ same. c.if-count-second_count.false (x ∙ same ∙ sym y)) (omega (arith, i.first, x)) (omega (arith, i.second, y)) (over_lists c.args.count c.args.second_count k (length a) (length b) x y over)
+    one_longer a b k (i.same a b start from e f x y) (λ same. c.if-count-second_count.false (x ∙ same ∙ sym y))
+    (omega (arith, i.first, x)) (omega (arith, i.second, y)) (over_lists c.args.count c.args.second_count k (length a) (length b) x y over)

@@ -10,7 +10,8 @@ invariant-loop-index l = record {
   few : l.index ≤ ROOM;
   first : l.index ≤ l.count;
   second : l.index ≤ l.second_count;
-  same : (a b start from : List ArgumentType) → l.types ≡ filled start a → l.others ≡ filled from b → l.count ≡ length a → l.second_count ≡ length b → SameUpTo a b l.index;
+  same : (a b start from : List ArgumentType) → l.types ≡ filled start a → l.others ≡ filled from b → l.count ≡ length a → l.second_count ≡ length b
+      → SameUpTo a b l.index;
 }
 
 abbrev pub decreases-loop-index : goal.decreases-loop-index

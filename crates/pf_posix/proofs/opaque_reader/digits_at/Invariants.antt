@@ -1,5 +1,6 @@
 use Rattle.std.proofs.Common.{◌-◌, ◌≤◌, length}
 use Rattle.pf_values.specs.declared.limits.TheConstants.{MAX_NUMBER}
+use Rattle.pf_posix.specs.Plain.{DigitsRead}
 use Rattle.pf_posix.proofs.PartLemmas.{DigitsLeft}
 use Rattle.pf_posix.proofs.opaque_reader.digits_at.Given as goal
 
@@ -9,6 +10,7 @@ invariant-loop-at l = record {
   within : l.at ≤ length l.text;
   small : l.number ≤ MAX_NUMBER;
   left : DigitsLeft l.text l.start l.first l.at l.number;
+  read : DigitsRead l.text l.start l.first l.number l.at;
 }
 
 abbrev pub decreases-loop-at : goal.decreases-loop-at

@@ -1,0 +1,237 @@
+//! The front of a format in which no argument has a number and none is a `*`, read at places of the
+//! text. What it can't read is left to the automaton, which reads byte by byte.
+ghost use Rattle.std.specs.Prelude.{◌≡◌, ◌<◌, ◌≤◌, IfSome, None, Some, length};
+ghost use Rattle.pf_values.specs.declared.limits.TheConstants.{MAX_TEXT_LEN as LIMIT};
+ghost use Rattle.pf_posix.specs.declared.partial_specification.Numbering.{Numbering as NumberingOf};
+ghost use Rattle.pf_posix.specs.declared.partial_specification.Numbering.TheVariants.{Unnumbered};
+ghost use Rattle.pf_posix.specs.Plain.{FlagsRead, IsBeforeModifier, IsBeforeWidth, IsFetchedFrom, IsPlainFront, PrecisionRead, TakesConversion, WidthRead};
+ghost use Rattle.pf_posix.specs.Refusals.{Follows};
+ghost use Rattle.pf_posix.specs.Stages.{Opened, PosixState};
+
+use crate::conversions::Modifier;
+use crate::fetches::conversion_type;
+use crate::letters::{conversion_of, length_modifier_of};
+use crate::opaque_reader::{begins_number, digits_at, has_byte, modifier_with};
+use crate::partial_specification::PartialSpecification;
+use crate::tables::put;
+use crate::types::ArgumentType;
+use crate::undefined_combinations::undefined_as;
+use pf_text::{flag_of, literal_len};
+use pf_values::limits::MAX_TEXT_LEN;
+use pf_values::{Length, Model};
+
+/// The front of a format, up to a place between two items.
+#[derive(Clone, Copy, Debug)]
+pub(crate) struct PlainFront {
+    /// Where it ends.
+    pub(crate) at: usize,
+    /// How many arguments it takes.
+    pub(crate) count: usize,
+}
+
+/// Reads the front of a format whose arguments have no numbers and are no `*`, and puts their types at
+/// the front of `out`, as many as there is room for.
+pub(crate) fn plain_front(model: Model, text: &[u8], out: &mut [ArgumentType]) -> PlainFront
+    ensures front { IsPlainFront model text.now result.at out.old out.new result.count }
+    ensures length { length out.new ≡ length out.old }
+    ensures within { result.at ≤ length text.now }
+    ensures few { result.count ≤ result.at }
+{
+    let mut at = 0;
+    let mut count = 0;
+    if text.len() as u64 > MAX_TEXT_LEN {
+        return PlainFront { at, count };
+    }
+    while at < text.len() {
+        if text[at] != b'%' {
+            let run = literal_len(&text[at..]);
+            if run == 0 {
+                return PlainFront { at, count };
+            }
+            at += run;
+        } else if has_byte(text, at + 1, b'%') {
+            at += 2;
+        } else {
+            match plain_fetch(model, text, at + 1) {
+                Some((wanted, stop)) => {
+                    put(out, count, wanted);
+                    count += 1;
+                    at = stop;
+                }
+                None => return PlainFront { at, count },
+            }
+        }
+    }
+    PlainFront { at, count }
+}
+
+// The type of the argument of the specification after a `%`, and where it ends. None if it has a `*`,
+// or isn't accepted.
+#[inline(always)]
+fn plain_fetch(model: Model, text: &[u8], start: usize) -> Option<(ArgumentType, usize)>
+    requires start { start ≤ length text.now }
+    requires short { length text.now ≤ LIMIT }
+    ensures fetched { IfSome result (λ read. (numbering : NumberingOf) → Follows numbering (Some Unnumbered)
+        → IsFetchedFrom model numbering text.now Opened start read.0 read.1) }
+    ensures within { IfSome result (λ read. (start < read.1) × (read.1 ≤ length text.now)) }
+{
+    if start >= text.len() {
+        return None;
+    }
+    match conversion_of(text[start]) {
+        Some(conversion) => Some((
+            conversion_type(model, Modifier::Integer(Length::None), conversion),
+            start + 1,
+        )),
+        None => fetch_with_parts(model, text, start),
+    }
+}
+
+// The type of the argument of a specification with more than a conversion, and where it ends. Most have no
+// flags, and the tests of these then fall away.
+#[inline(always)]
+fn fetch_with_parts(model: Model, text: &[u8], start: usize) -> Option<(ArgumentType, usize)>
+    requires start { start < length text.now }
+    requires short { length text.now ≤ LIMIT }
+    ensures fetched { IfSome result (λ read. (numbering : NumberingOf) → Follows numbering (Some Unnumbered)
+        → IsFetchedFrom model numbering text.now Opened start read.0 read.1) }
+    ensures within { IfSome result (λ read. (start < read.1) × (read.1 ≤ length text.now)) }
+{
+    match flag_of(text[start]) {
+        None => fetch_after_flags(model, text, start, PartialSpecification::at(None)),
+        Some(_) => {
+            let (parts, at) = flags_from(text, start);
+            fetch_after_flags(model, text, at, parts)
+        }
+    }
+}
+
+#[inline(always)]
+fn fetch_after_flags(
+    model: Model,
+    text: &[u8],
+    start: usize,
+    parts: PartialSpecification,
+) -> Option<(ArgumentType, usize)>
+    requires start { start ≤ length text.now }
+    requires short { length text.now ≤ LIMIT }
+    ensures fetched { IfSome result (λ read. (numbering : NumberingOf) (state : PosixState)
+        → Follows numbering (Some Unnumbered) → IsBeforeWidth state parts
+        → IsFetchedFrom model numbering text.now state start read.0 read.1) }
+    ensures within { IfSome result (λ read. (start < read.1) × (read.1 ≤ length text.now)) }
+{
+    let (parts, at) = width_from(text, start, parts)?;
+    let (parts, at) = precision_from(text, at, parts)?;
+    fetch_after(model, text, at, parts)
+}
+
+// The flags from a place on, and where they end (C11 7.21.6.1, paragraph 6).
+#[inline(always)]
+fn flags_from(text: &[u8], start: usize) -> (PartialSpecification, usize)
+    requires { start ≤ length text.now }
+    ensures flags { FlagsRead text.now start result.0 result.1 }
+    ensures within { (start ≤ result.1) × (result.1 ≤ length text.now) }
+{
+    let mut parts = PartialSpecification::at(None);
+    let mut at = start;
+    while at < text.len() {
+        match flag_of(text[at]) {
+            Some(flag) => parts = parts.with_flag(flag),
+            None => return (parts, at),
+        }
+        at += 1;
+    }
+    (parts, at)
+}
+
+// These parts with the field width at a place, if there is one, and where it ends (C11 7.21.6.1,
+// paragraph 4).
+#[inline(always)]
+fn width_from(
+    text: &[u8],
+    start: usize,
+    parts: PartialSpecification,
+) -> Option<(PartialSpecification, usize)>
+    requires { start ≤ length text.now }
+    ensures width { IfSome result (λ read. WidthRead text.now start parts read.0 read.1) }
+    ensures within { IfSome result (λ read. (start ≤ read.1) × (read.1 ≤ length text.now)) }
+{
+    if !begins_number(text, start) {
+        return Some((parts, start));
+    }
+    let (_, stop) = digits_at(text, start + 1, u16::from(text[start] - b'0'))?;
+    Some((parts.with_width(), stop))
+}
+
+// These parts with the precision at a place, if there is one, and where it ends (C11 7.21.6.1,
+// paragraph 4).
+#[inline(always)]
+fn precision_from(
+    text: &[u8],
+    start: usize,
+    parts: PartialSpecification,
+) -> Option<(PartialSpecification, usize)>
+    requires { start ≤ length text.now }
+    ensures precision { IfSome result (λ read. PrecisionRead text.now start parts read.0 read.1) }
+    ensures within { IfSome result (λ read. (start ≤ read.1) × (read.1 ≤ length text.now)) }
+{
+    if !has_byte(text, start, b'.') {
+        return Some((parts, start));
+    }
+    let (_, stop) = digits_at(text, start + 1, 0)?;
+    Some((parts.with_precision(), stop))
+}
+
+// The type of the argument that a length modifier, if there is one, and a conversion after these parts
+// take, and where they end.
+#[inline(always)]
+fn fetch_after(
+    model: Model,
+    text: &[u8],
+    start: usize,
+    parts: PartialSpecification,
+) -> Option<(ArgumentType, usize)>
+    requires start { start ≤ length text.now }
+    requires short { length text.now ≤ LIMIT }
+    ensures fetched { IfSome result (λ read. (numbering : NumberingOf) (state : PosixState)
+        → IsBeforeModifier model numbering state parts
+        → IsFetchedFrom model numbering text.now state start read.0 read.1) }
+    ensures within { IfSome result (λ read. (start < read.1) × (read.1 ≤ length text.now)) }
+{
+    if start >= text.len() {
+        return None;
+    }
+    match length_modifier_of(text[start]) {
+        Some(first) => {
+            let (modifier, at) = modifier_with(text, start + 1, first);
+            fetch_by(model, text, at, parts, modifier)
+        }
+        None => fetch_by(model, text, start, parts, Modifier::Integer(Length::None)),
+    }
+}
+
+// The type of the argument that the conversion at a place takes, and where it ends.
+#[inline(always)]
+fn fetch_by(
+    model: Model,
+    text: &[u8],
+    at: usize,
+    parts: PartialSpecification,
+    modifier: Modifier,
+) -> Option<(ArgumentType, usize)>
+    requires start { at ≤ length text.now }
+    requires short { length text.now ≤ LIMIT }
+    ensures fetched { IfSome result (λ read. (numbering : NumberingOf) (state : PosixState)
+        → parts.position ≡ None → TakesConversion model numbering state parts modifier
+        → IsFetchedFrom model numbering text.now state at read.0 read.1) }
+    ensures within { IfSome result (λ read. (at < read.1) × (read.1 ≤ length text.now)) }
+{
+    if at >= text.len() {
+        return None;
+    }
+    let conversion = conversion_of(text[at])?;
+    match undefined_as(parts, modifier, conversion) {
+        Some(_) => None,
+        None => Some((conversion_type(model, modifier, conversion), at + 1)),
+    }
+}
