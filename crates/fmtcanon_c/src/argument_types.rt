@@ -13,9 +13,12 @@ ghost use Rattle.fmtcanon_c.specs.ArgumentTypes.{AnswersFit, AnswersFitModels, F
 
 use crate::interface::{CError, NO_MEMORY, NO_MODEL, model_of, put_refusal};
 use pf_posix::{ArgumentType, arguments, arguments_vec, fits};
-use pf_text::{Refusal, Side, TextFault, signature};
+use pf_text::{Refusal, Side, TextFault, known_types, signature};
 use pf_values::{ArgType, Model};
 use std::alloc::Global;
+
+// How many types are put with no allocation.
+const ROOM: usize = 32;
 
 /// Puts the codes of the types into a buffer that has room for them. The number of arguments, or
 /// the code of an error.
@@ -36,20 +39,45 @@ pub extern "C" fn fmtcanon_types(
     }
 }
 
+// Puts the codes of the types. Up to `ROOM` of them wait on the stack until the format is known to be
+// accepted.
 fn put_types(alloc: Global, model: Model, text: &[u8], out: &mut [u8], error: &mut CError) -> i64
     ensures { PutsTypes model text.now out.old error.old result out.new error.new }
 {
+    let mut types = [ArgType::Int; ROOM];
+    match known_types(model, text, &mut types) {
+        Some(count) => put_all(out, &types[..count]),
+        None => put_signature(alloc, model, text, out, error),
+    }
+}
+
+// Puts the codes of any number of types, or finds out why there are none.
+#[inline(never)]
+fn put_signature(
+    alloc: Global,
+    model: Model,
+    text: &[u8],
+    out: &mut [u8],
+    error: &mut CError,
+) -> i64
+    ensures { PutsTypes model text.now out.old error.old result out.new error.new }
+{
     match signature(alloc, model, text) {
-        Ok(signature) => {
-            let types = signature.as_slice();
-            if types.len() <= out.len() {
-                put_codes(out, types);
-            }
-            types.len() as i64
-        }
+        Ok(signature) => put_all(out, signature.as_slice()),
         Err(TextFault::Refused(refusal)) => put_refusal(error, Side::First, refusal),
         Err(TextFault::Memory) => NO_MEMORY,
     }
+}
+
+// Puts the codes of some types, if there is room for all, and returns how many there are.
+fn put_all(out: &mut [u8], types: &[ArgType]) -> i64
+    ensures count { result ≡ pos (length types.now) }
+    ensures put { out.new ≡ put (map type_number types.now) out.old }
+{
+    if types.len() <= out.len() {
+        put_codes(out, types);
+    }
+    types.len() as i64
 }
 
 fn put_codes(out: &mut [u8], types: &[ArgType])
@@ -82,9 +110,6 @@ pub extern "C" fn fmtcanon_arguments(
         None => NO_MODEL,
     }
 }
-
-// How many types are put with no allocation.
-const ROOM: usize = 32;
 
 // Puts the numbers of the types. Up to `ROOM` of them wait on the stack until the format is known to be
 // accepted.
