@@ -27,25 +27,25 @@ use Rattle.fmtcanon.specs.declared.questions.OneQuestion.TheVariants.{Any, Print
 
 refused_within : (bytes : Text) (kind : RefusalKind) (at : ℕ) → IsRefusedAt bytes kind at → at ≤ length bytes
 refused_within bytes kind at h =
-    let place = h.place in
+    let offset = h.offset in
     let split = ap length h.split in
     let both = length-append h.front h.rest in
-    omega (arith, place, split, both)
+    omega (arith, offset, split, both)
 
 posix_within : (model : Model) (bytes : Text) (kind : RefusalKind) (at : ℕ) → IsPosixRefusedAt model bytes kind at → at ≤ length bytes
 posix_within model bytes kind at h =
-    let place = h.place in
+    let offset = h.offset in
     let split = ap length h.split in
     let both = length-append h.front h.rest in
-    omega (arith, place, split, both)
+    omega (arith, offset, split, both)
 
 numbered_within : (bytes : Text) (at : ℕ) → IsNumberedAt bytes at → at ≤ length bytes
 numbered_within bytes at h =
     let front = h.whole ++ percent ∷ h.digits in
-    let place = h.place in
+    let offset = h.offset in
     let split = ap length h.split in
     let both = length-append front (dollar ∷ h.rest) in
-    omega (arith, place, split, both)
+    omega (arith, offset, split, both)
 
 unnumbered_within : (model : Model) (bytes : Text) (kind : RefusalKind) (at : ℕ) → IsWholeRefusedAt model bytes kind at → at ≤ length bytes
 unnumbered_within model bytes kinds.Numbered at h = numbered_within bytes at h.0
@@ -55,15 +55,15 @@ offset_there : (text bytes : Text) (index : ℕ) (found : Option ℕ)
     → MatchOption found (HasNoOffset text index) (IsOffsetOf text index) → IsSourceOf text bytes → index ≤ length bytes
     → IsOffsetOf text index (unwrap_or found index)
 offset_there text bytes index None none is within = let there = has_place text bytes index is within in absurd (none there.0 there.1)
-offset_there text bytes index (Some at) place is within = place
+offset_there text bytes index (Some at) offset is within = offset
 
 -- the offset of a byte in literals
 pub offset_in_literals : (given : GivenFormat) (index at : ℕ) (found : Option ℕ) → given.notation ≡ Literals
     → MatchOption found (HasNoOffset given.text.now index) (IsOffsetOf given.text.now index) → at ≡ unwrap_or found index
     → (bytes : Text) → IsFormat given bytes → index ≤ length bytes → IsOffsetInText given.notation given.text.now index at
-offset_in_literals given index at found is place e bytes gives within =
+offset_in_literals given index at found is offset e bytes gives within =
     let text = given.text.now in
-    let there = offset_there text bytes index found place (subst (λ n. HoldsFormat n text bytes) is gives) within in
+    let there = offset_there text bytes index found offset (subst (λ n. HoldsFormat n text bytes) is gives) within in
     subst (λ n. IsOffsetInText n text index at) (sym is) (subst (IsOffsetOf text index) (sym e) there)
 
 -- the offset of a fault is within the bytes, and no fault of literals is one of bytes

@@ -17,7 +17,7 @@ settled_kept model front w x y kept h = record { given = h.given; settles = h.se
 refused_kept : (model : Model) (start left w x y : Known) (refusal : Refusal) → Keeps x y → CopyStops model start left w x (faults.Refused refusal) → CopyStops model start left w y (faults.Refused refusal)
 refused_kept model start left w x y refusal kept (inl h) =
     let ends = h.1 in
-    inl (h.0, record { reader = ends.reader; end = ends.end; place = ends.place; kind = ends.kind; refused = ends.refused; out = settled_kept model h.0 w x y kept ends.out })
+    inl (h.0, record { reader = ends.reader; end = ends.end; offset = ends.offset; kind = ends.kind; refused = ends.refused; out = settled_kept model h.0 w x y kept ends.out })
 refused_kept model start left w x y refusal kept (inr h) =
     let stops = h.3.stops in
     inr (
@@ -27,7 +27,7 @@ refused_kept model start left w x y refusal kept (inr h) =
       record {
         reader = h.3.reader;
         few = h.3.few;
-        stops = record { place = stops.place; kind = stops.kind; refused = stops.refused; out = settled_kept model h.0 w x y kept stops.out };
+        stops = record { offset = stops.offset; kind = stops.kind; refused = stops.refused; out = settled_kept model h.0 w x y kept stops.out };
       },
     )
 

@@ -130,7 +130,7 @@ module _ (model : Model) (old new : Transducer) (start left : Known) (taken give
     pub refuses : (refusal : Refusal) (P : Type 0) → P → TakesByte model taken items given byte (Err refusal) new → (more : Text) × (IsRefusedBehind start left (taken ++ more) refusal × SettlesTo model (taken ++ more) given × IsReadFor model (taken ++ more) given × P)
     refuses refusal P p f =
         none_more (λ t. IsRefusedBehind start left t refusal × SettlesTo model t given × IsReadFor model t given × P) taken
-        (record { place = f.0; cause = inr (byte, not_truncated taken byte [] refusal.kind refusal.at f.0 (f.1 []), reader, f.1) }, through_settles model old taken given items through, read, p)
+        (record { offset = f.0; cause = inr (byte, not_truncated taken byte [] refusal.kind refusal.at f.0 (f.1 []), reader, f.1) }, through_settles model old taken given items through, read, p)
 
 module _ (model : Model) (r : Transducer) (start left : Known) (taken given : Text) (items : List Item) (through : IsThrough model r taken items given) (read : IsReadFor model taken given) (reader : Consumes start left taken) where
   -- the reader failed
@@ -153,7 +153,7 @@ module _ (model : Model) (r : Transducer) (start left : Known) (taken given : Te
     pub refuses_end : (refusal : Refusal) (P : Type 0) → P → SettlesEnd model taken items given (Err refusal) → (more : Text) × (IsRefusedBehind start left (taken ++ more) refusal × SettlesTo model (taken ++ more) given × IsReadFor model (taken ++ more) given × P)
     refuses_end refusal P p e =
         none_more (λ t. IsRefusedBehind start left t refusal × SettlesTo model t given × IsReadFor model t given × P) taken
-        (record { place = e.1; cause = inl (e.0, reader, end, e.2) }, through_settles model r taken given items through, read, p)
+        (record { offset = e.1; cause = inl (e.0, reader, end, e.2) }, through_settles model r taken given items through, read, p)
 
 pub consumed_none : (start a b : Known) (taken : Text) → Consumes start a taken → Consumes a b [] → Consumes start b taken
 consumed_none start a b taken h g = subst (Consumes start b) (append-nil taken) (Consumes-trans start a b taken [] h g)

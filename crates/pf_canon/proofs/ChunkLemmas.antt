@@ -130,7 +130,7 @@ refused_in model old new t out text items verbatim_len at byte refusal first h f
       rest = drop (at + 1) text;
       split = sym (take-append-drop at text) ∙ ap (λ u. take at text ++ u) first;
       kind = not_truncated fed byte [] refusal.kind refusal.at f.0 (f.1 []);
-      place = f.0;
+      offset = f.0;
       refused = f.1;
       settles = through_settles model old fed (out ++ take verbatim_len text) items h;
       few = let few = through_few model old fed (out ++ take verbatim_len text) items h in omega (arith, few);
@@ -334,7 +334,7 @@ module _ (model : Model) (t out more text : Text) (at : ℕ) where
             rest = behind;
             split = sym whole;
             settles = subst (SettlesTo model front) (append_assoc out more (take refused.verbatim_len (drop at text))) h.settles;
-            longest = refused_from front behind refused.refusal whole h.place (λ none. cc) (h.refused h.rest);
+            longest = refused_from front behind refused.refusal whole h.offset (λ none. cc) (h.refused h.rest);
           },
         ),
       )

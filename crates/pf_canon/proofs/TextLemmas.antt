@@ -28,7 +28,7 @@ pub not_truncated : (t : Text) (byte : ℕ) (rest : Text) (kind : RefusalKind) (
     → IsRefusedAt (t ++ byte ∷ rest) kind at → kind ≢ Truncated
 not_truncated t byte rest kind at place h =
     let same : h.rest ≡ byte ∷ rest =
-    sym (drop-append_seam h.front h.rest) ∙ ap (drop (length h.front)) (sym h.split) ∙ ap (λ n. drop n (t ++ byte ∷ rest)) (sym h.place ∙ place)
+    sym (drop-append_seam h.front h.rest) ∙ ap (drop (length h.front)) (sym h.split) ∙ ap (λ n. drop n (t ++ byte ∷ rest)) (sym h.offset ∙ place)
     ∙ drop-append_seam t (byte ∷ rest) in
     no_byte_truncates (at == MAX_TEXT_LEN) h.part byte kind (subst (λ u. HasCause at h.part u kind) same h.cause)
 

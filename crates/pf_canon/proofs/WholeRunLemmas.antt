@@ -53,8 +53,8 @@ module _ (model : Model) (t : Text) where
   -- the text is refused
   pub run_refused : (left : Known) (taken given : Text) (refusal : Refusal) → IsRefusedBehind (Some t) left taken refusal → SettlesTo model taken given → RunEnds model t left given (Err (faults.Refused refusal))
   run_refused left taken given refusal h settles = elim h.cause [
-    | inl end ↦ refused_at_end left taken given refusal h.place end.1 end.2 end.3 settles
-    | inr byte ↦ refused_at_byte left taken given byte.0 refusal h.place byte.2 byte.3 settles
+    | inl end ↦ refused_at_end left taken given refusal h.offset end.1 end.2 end.3 settles
+    | inr byte ↦ refused_at_byte left taken given byte.0 refusal h.offset byte.2 byte.3 settles
   ]
 
   -- a fault was answered

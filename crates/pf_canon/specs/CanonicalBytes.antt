@@ -112,7 +112,7 @@ pub record IsInTime (model : Model) (taken given : Text) (byte : ℕ) : Type 0 w
 
 -- after `taken` the text ends, or goes on with a byte that is refused however it goes on
 pub record IsRefusedBehind (start left : Known) (taken : Text) (refusal : Refusal) : Type 0 where
-  pub place : refusal.at ≡ length taken
+  pub offset : refusal.at ≡ length taken
   pub cause : (
       (refusal.kind ≡ Truncated) × Consumes start left taken × IsAtEnd left
       × IsRefusedAt taken refusal.kind refusal.at) ⊎ (

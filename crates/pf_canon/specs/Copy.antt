@@ -98,7 +98,7 @@ pub record FirstOut (model : Model) (taken : Text) (w x : Known) (written : ℕ)
 -- the byte `last` after `front` is refused, and just what `front` settles went out
 pub record IsRefusedAfter (model : Model) (front : Text) (last : ℕ) (w x : Known)
     (refusal : Refusal) : Type 0 where
-  pub place : refusal.at ≡ length front
+  pub offset : refusal.at ≡ length front
   pub kind : refusal.kind ≢ Truncated
   pub refused : StaysRefused front last refusal
   pub out : SettledOut model front w x
@@ -152,7 +152,7 @@ pub record EndsWithin (model : Model) (start left w x : Known) (front : Text)
     (refusal : Refusal) : Type 0 where
   pub reader : Consumes start left front
   pub end : IsAtEnd left
-  pub place : refusal.at ≡ length front
+  pub offset : refusal.at ≡ length front
   pub kind : refusal.kind ≡ Truncated
   pub refused : IsRefusedAt front refusal.kind refusal.at
   pub out : SettledOut model front w x

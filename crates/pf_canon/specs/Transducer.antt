@@ -149,7 +149,7 @@ pub record RefusesChunk (model : Model) (t out text : Text) (stop : ChunkRefusal
   pub rest : Text
   pub split : text ≡ fed ++ last ∷ rest
   pub kind : stop.refusal.kind ≢ Truncated
-  pub place : stop.refusal.at ≡ length (t ++ fed)
+  pub offset : stop.refusal.at ≡ length (t ++ fed)
   pub refused : StaysRefused (t ++ fed) last stop.refusal
   pub settles : SettlesTo model (t ++ fed) (out ++ take stop.verbatim_len text)
   pub few : length (out ++ take stop.verbatim_len text) < 2 ^ 128

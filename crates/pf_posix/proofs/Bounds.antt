@@ -58,7 +58,7 @@ spelled_within model t s h =
     let numbers = h.before_is in
     let flags = numbers.before_is.before_is in
     all_append IsWithin (star_fetches s.width ++ star_fetches s.precision) _ (to_precision_within h.before s.position s.flags s.width s.precision numbers)
-    (position_within flags.place s.position (conversion_type model s.modifier s.conversion) flags.place_is, tt)
+    (position_within flags.number s.position (conversion_type model s.modifier s.conversion) flags.number_is, tt)
 
 -- what items fetch
 pub items_within : (model : Model) (t : Text) (items : List PosixItem) → ReadsPosix t items → AllByRecursion IsWithin (fetched model items)

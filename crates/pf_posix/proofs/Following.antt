@@ -166,7 +166,7 @@ module _ (model : Model) where
     c = came model (numbering_of base) h.state h.good.part h.good.own h.good.at (followed (numbering_in h.state) h.good.numbering)
 
     part_follows : Follow model base h.rest h.good.part (0 + length h.good.whole) (stand (numbering_of base) Between []) (stand c.behind h.state h.good.own)
-    part_follows = follow model base h.rest h.good.part (0 + length h.good.whole) (stand (numbering_of base) Between []) (stand c.behind h.state h.good.own) (ap numbering_of (sym (append-nil base))) c.run_is agreed (omega (arith, long, h.place, h.limit))
+    part_follows = follow model base h.rest h.good.part (0 + length h.good.whole) (stand (numbering_of base) Between []) (stand c.behind h.state h.good.own) (ap numbering_of (sym (append-nil base))) c.run_is agreed (omega (arith, long, h.offset, h.limit))
 
     -- the walk through the part of a specification comes to its state
     came_here : run model (Ok (stand (numbering_of base) Between [])) h.good.part ≡ Ok (stand (numbering_of h.fetches) h.state h.good.own)
@@ -174,8 +174,8 @@ module _ (model : Model) where
 
     at_front : verdict model t ≡ verdict_after h.fetches (trace_from model (numbering_of h.fetches) h.state at h.rest)
     at_front =
-        let there : 0 + length h.good.whole + length h.good.part ≡ at = omega (arith, long, h.place) in
-        ap (λ u. verdict_after [] (trace_from model Undecided Between 0 u)) text ∙ reads_on h.good.items [] h.good.whole (h.good.part ++ h.rest) 0 h.good.reads (agreed_front base h.good.own agreed) (omega (arith, long, h.place, h.limit))
+        let there : 0 + length h.good.whole + length h.good.part ≡ at = omega (arith, long, h.offset) in
+        ap (λ u. verdict_after [] (trace_from model Undecided Between 0 u)) text ∙ reads_on h.good.items [] h.good.whole (h.good.part ++ h.rest) 0 h.good.reads (agreed_front base h.good.own agreed) (omega (arith, long, h.offset, h.limit))
         ∙ ap (λ f. verdict_after f (trace_from model (numbering_of base) Between (0 + length h.good.whole) (h.good.part ++ h.rest))) (sym (append-nil base)) ∙ part_follows.0
         ∙ ap (λ s. verdict_after (base ++ h.good.own) (trace_from model s h.state (0 + length h.good.whole + length h.good.part) h.rest)) part_follows.1
         ∙ ap (λ n. verdict_after (base ++ h.good.own) (trace_from model (numbering_of (base ++ h.good.own)) h.state n h.rest)) there
@@ -222,6 +222,6 @@ module _ (model : Model) where
     go : (rest : Text) → h.rest ≡ rest → IsPosixRefusalCause model h.fetches h.good.part h.state at rest kind → IsSaid t kind at
     go [] e (inl c) = inl (at_front t kind at h ∙ ap (λ r. verdict_after h.fetches (trace_from model (numbering_of h.fetches) h.state at r)) e ∙ ended_open h.fetches h.state at c.1 ∙ ap (λ k. Refused k at) (sym c.0))
     go [] e (inr c) =
-        let there : at ≡ length t = omega (arith, h.place, ap length h.split, length-append h.front h.rest, ap length e) in
+        let there : at ≡ length t = omega (arith, h.offset, ap length h.split, length-append h.front h.rest, ap length e) in
         inr (c.0, there, h.fetches, at_front t kind at h ∙ ap (λ r. verdict_after h.fetches (trace_from model (numbering_of h.fetches) h.state at r)) e ∙ ap (λ s. verdict_after h.fetches (trace_at_end s at)) c.1, c.2)
     go (byte ∷ rest) e c = inl (at_front t kind at h ∙ ap (λ r. verdict_after h.fetches (trace_from model (numbering_of h.fetches) h.state at r)) e ∙ byte_refused h.fetches h.state at byte rest kind h.limit (turned_down byte (at == MAX_TEXT_LEN) c))

@@ -226,11 +226,11 @@ module _ (model : Model) (numbering : Numbering) (part : Text) (own : List Fetch
     with_another_flag flag e = (
       (
         record {
-          place = h.place;
+          number = h.number;
           flags = h.flags ++ flag ∷ [];
-          place_is = h.place_is;
+          number_is = h.number_is;
           set_is = ap (λ f. with_flag f flag) h.set_is ∙ sym (fold-append with_flag no_flags h.flags (flag ∷ []));
-          whole = ap (λ t. t ++ byte ∷ []) h.whole ∙ append_assoc (37 ∷ h.place) (map flag_byte h.flags) (byte ∷ []) ∙ ap (λ b. 37 ∷ h.place ++ (map flag_byte h.flags ++ b ∷ [])) (byte_of_flag byte flag e) ∙ ap (λ t. 37 ∷ h.place ++ t) (sym (map_push flag_byte h.flags flag));
+          whole = ap (λ t. t ++ byte ∷ []) h.whole ∙ append_assoc (37 ∷ h.number) (map flag_byte h.flags) (byte ∷ []) ∙ ap (λ b. 37 ∷ h.number ++ (map flag_byte h.flags ++ b ∷ [])) (byte_of_flag byte flag e) ∙ ap (λ t. 37 ∷ h.number ++ t) (sym (map_push flag_byte h.flags flag));
         },
         λ e. omega (arith, ap length e, ap length h.whole, length_push part byte),
         w,
@@ -255,7 +255,7 @@ module _ (model : Model) (numbering : Numbering) (part : Text) (own : List Fetch
     judge_inside to h = h
 
   no_position : part ≡ 37 ∷ [] → SpellsUpToFlags part None no_flags
-  no_position h = record { place = []; flags = []; place_is = refl; set_is = refl; whole = h }
+  no_position h = record { number = []; flags = []; number_is = refl; set_is = refl; whole = h }
 
   judge_plain : part ≡ 37 ∷ [] → own ≡ [] → Follows numbering (Some Unnumbered) → is_first_digit byte ≡ false → Judges (among_flags model (parts_at None) byte)
   judge_plain h o follows f = judge_flags (parts_at None) follows (no_position h) refl refl o (λ e. absurd (bool_no e f)) where
@@ -274,7 +274,7 @@ module _ (model : Model) (numbering : Numbering) (part : Text) (own : List Fetch
     numbered : Follows numbering (Some Numbered) → (byte == 36) ≡ true → Arrives (Flags (parts_at (Some n)))
     numbered follows e = (
       (
-        record { place = digits ++ 36 ∷ []; flags = []; place_is = (digits, number, refl); set_is = refl; whole = pushed 36 e ∙ ap (λ t. t ++ 36 ∷ []) h ∙ sym (append-nil (37 ∷ digits ++ 36 ∷ [])) },
+        record { number = digits ++ 36 ∷ []; flags = []; number_is = (digits, number, refl); set_is = refl; whole = pushed 36 e ∙ ap (λ t. t ++ 36 ∷ []) h ∙ sym (append-nil (37 ∷ digits ++ 36 ∷ [])) },
         λ e. omega (arith, ap length e, ap length h, length_push part byte, length_some digits number),
         refl,
         refl,
@@ -293,7 +293,7 @@ module _ (model : Model) (numbering : Numbering) (part : Text) (own : List Fetch
     wide : Follows numbering (Some Unnumbered) → Judges (after_amount model Width (with_width (parts_at None)) byte)
     wide follows =
         judge_amount (with_width (parts_at None)) follows Width
-        (Some (Given n), record { before = 37 ∷ []; text = digits; before_is = record { place = []; flags = []; place_is = refl; set_is = refl; whole = refl }; width_is = number; whole = h }, refl, refl, o)
+        (Some (Given n), record { before = 37 ∷ []; text = digits; before_is = record { number = []; flags = []; number_is = refl; set_is = refl; whole = refl }; width_is = number; whole = h }, refl, refl, o)
 
     judge_after_first : (known : Numbering) → numbering ≡ known → Judges (after_first model known byte)
     judge_after_first Numbered s = judge_stray Mixed refl

@@ -115,7 +115,7 @@ spelled_here t s h d =
         before_is = record {
           before = flags;
           text = h.width;
-          before_is = record { place = []; flags = h.flags; place_is = refl; set_is = h.flags_are; whole = refl };
+          before_is = record { number = []; flags = h.flags; number_is = refl; set_is = h.flags_are; whole = refl };
           width_is = width_spelled h.width s.width h.width_is limits.0;
           whole = refl;
         };

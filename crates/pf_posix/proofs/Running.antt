@@ -177,7 +177,7 @@ flags_parts position set = record { position = position; flags = set; width = fa
 
 module _ (model : Model) (numbering : Numbering) where
   pub flags_run : (t : Text) (position : Option ℕ) (set : FlagSet) (h : SpellsUpToFlags t position set) → Follows numbering (Some (numbering_by position)) → run model (Ok (stand numbering Between [])) t ≡ Ok (stand numbering (at_flags position h.flags) [])
-  flags_run t position set h follows = ap (run model (Ok (stand numbering Between []))) h.whole ∙ go position h.place h.flags h.place_is follows where
+  flags_run t position set h follows = ap (run model (Ok (stand numbering Between []))) h.whole ∙ go position h.number h.flags h.number_is follows where
     go : (position : Option ℕ) (place : Text) (flags : List Flag) → SpellsPosition place position → Follows numbering (Some (numbering_by position))
         → run model (Ok (stand numbering Between [])) (37 ∷ place ++ map flag_byte flags) ≡ Ok (stand numbering (at_flags position flags) [])
     go (Some n) place flags p follows =
@@ -271,7 +271,7 @@ module _ (model : Model) (numbering : Numbering) (position : Option ℕ) (set : 
   wide_of t h = ap (λ f. record { position = position; flags = f; width = true; precision = false }) (sym h.set_is)
 
   pub not_opened : (t : Text) (h : SpellsUpToFlags t position set) → t ≢ 37 ∷ [] → at_flags position h.flags ≡ Flags (flags_parts position set)
-  not_opened t h some = go position h.place h.flags h.place_is h.whole h.set_is where
+  not_opened t h some = go position h.number h.flags h.number_is h.whole h.set_is where
     go : (p : Option ℕ) (place : Text) (flags : List Flag) → SpellsPosition place p → t ≡ 37 ∷ place ++ map flag_byte flags → set ≡ flag_set flags → at_flags p flags ≡ Flags (flags_parts p set)
     go None place [] d e s = absurd (some (e ∙ ap (λ q. 37 ∷ q ++ []) d))
     go None place (flag ∷ flags) d e s = ap (λ f. Flags (flags_parts None f)) (sym s)
@@ -353,7 +353,7 @@ ready_point model numbering t parts own r =
 
 module _ (model : Model) (numbering : Numbering) (position : Option ℕ) (set : FlagSet) (follows : Follows numbering (Some (numbering_by position))) where
   given_reached : (before text : Text) (n : ℕ) → SpellsUpToFlags before position set → SpellsPositive text n → Reached model numbering Width (before ++ text) (wide model numbering position set follows) []
-  given_reached before text n h number = go position h.place h.flags follows h.place_is h.whole h.set_is where
+  given_reached before text n h number = go position h.number h.flags follows h.number_is h.whole h.set_is where
     go : (p : Option ℕ) (place : Text) (flags : List Flag) (follows : Follows numbering (Some (numbering_by p))) → SpellsPosition place p → before ≡ 37 ∷ place ++ map flag_byte flags → set ≡ flag_set flags
         → Reached model numbering Width (before ++ text) (wide model numbering p set follows) []
     go None place [] follows d e s =
@@ -365,11 +365,11 @@ module _ (model : Model) (numbering : Numbering) (position : Option ℕ) (set : 
         }
     go None place (flag ∷ flags) follows d e s =
         digits_reached model numbering before (wide model numbering None set follows) [] Width text n
-        (ready_width model numbering None set follows before (record { place = place; flags = flag ∷ flags; place_is = d; set_is = s; whole = e }))
+        (ready_width model numbering None set follows before (record { number = place; flags = flag ∷ flags; number_is = d; set_is = s; whole = e }))
         (λ f. omega (arith, ap length f, ap length e, length-append place (flag_byte flag ∷ map flag_byte flags))) number
     go (Some m) place flags follows d e s =
         digits_reached model numbering before (wide model numbering (Some m) set follows) [] Width text n
-        (ready_width model numbering (Some m) set follows before (record { place = place; flags = flags; place_is = d; set_is = s; whole = e }))
+        (ready_width model numbering (Some m) set follows before (record { number = place; flags = flags; number_is = d; set_is = s; whole = e }))
         (λ f. omega (arith, ap length f, ap length e, ap length d.2, length-append place (map flag_byte flags), length-append d.0 (36 ∷ []))) number
 
   abbrev pub width_parts : Option Amount → PartialSpecification

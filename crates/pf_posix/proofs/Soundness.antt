@@ -126,7 +126,7 @@ module _ (model : Model) where
 
   -- the text ends in a state
   at_end : (front : Text) (seen : List Fetch) (state : PosixState) → IsGoodPosixFront model front seen state → length front ≤ MAX_TEXT_LEN → (state ≢ Between → IsPosixRefusedAt model (front ++ []) Truncated (length front))
-  at_end front seen state g few open_ = record { front = front; rest = []; fetches = seen; state = state; split = refl; place = refl; limit = few; good = g; cause = inl (refl, open_) }
+  at_end front seen state g few open_ = record { front = front; rest = []; fetches = seen; state = state; split = refl; offset = refl; limit = few; good = g; cause = inl (refl, open_) }
 
   pub sound_end : (front : Text) (seen : List Fetch) (state : PosixState) → IsGoodPosixFront model front seen state → length front ≤ MAX_TEXT_LEN → Tells model (front ++ []) (verdict_after seen (trace_at_end state (length front)))
   sound_end front seen Between g few =
@@ -149,7 +149,7 @@ module _ (model : Model) where
 
   module _ (front rest : Text) (seen : List Fetch) (state : PosixState) (g : IsGoodPosixFront model front seen state) (few : length front ≤ MAX_TEXT_LEN) (byte : ℕ) where
     pub at_byte : (kind : RefusalKind) → IsPosixRefusalCause model seen g.part state (length front) (byte ∷ rest) kind → IsPosixRefusedAt model (front ++ (byte ∷ rest)) kind (length front)
-    at_byte kind cause = record { front = front; rest = byte ∷ rest; fetches = seen; state = state; split = refl; place = refl; limit = few; good = g; cause = cause }
+    at_byte kind cause = record { front = front; rest = byte ∷ rest; fetches = seen; state = state; split = refl; offset = refl; limit = few; good = g; cause = cause }
 
     no_conflict : (f : Fetch) → conflicts seen f ≡ true → ¬ AllByRecursion (IsOneType f) seen
     no_conflict f e all = let none = conflicts_not seen f all in cc

@@ -55,7 +55,7 @@ module _ (P : ℕ → Type 0) (c : Covers P) where
 
   up_to_flags : (t : Text) (position : Option ℕ) (set : FlagSet) → SpellsUpToFlags t position set → IsCovered t
   up_to_flags t position set h =
-      record { rest = h.place ++ map flag_byte h.flags; whole = h.whole; all = all_append P h.place (map flag_byte h.flags) (position_all h.place position h.place_is) (flags_all h.flags) }
+      record { rest = h.number ++ map flag_byte h.flags; whole = h.whole; all = all_append P h.number (map flag_byte h.flags) (position_all h.number position h.number_is) (flags_all h.flags) }
 
   pub up_to_width : (t : Text) (position : Option ℕ) (set : FlagSet) (width : Option Amount) → SpellsUpToWidth t position set width → IsCovered t
   up_to_width t position set width h =

@@ -69,7 +69,7 @@ front_parts before None set width precision e h = record {
   whole = h.whole
       ∙ ap (λ u. u ++ h.text) (h.before_is.whole
       ∙ ap (λ u. u ++ h.before_is.text) (h.before_is.before_is.whole
-      ∙ ap (λ u. 37 ∷ (u ++ map flag_byte h.before_is.before_is.flags)) h.before_is.before_is.place_is));
+      ∙ ap (λ u. 37 ∷ (u ++ map flag_byte h.before_is.before_is.flags)) h.before_is.before_is.number_is));
 }
 
 pub parts_of : (t : Text) (s : PosixSpecification) → SpellsPosix t s → s.position ≡ None → HasParts t s

@@ -29,94 +29,94 @@ use Rattle.pf_posix.proofs.Telling.{accepted, missing, seen_within, told_taken}
 use Rattle.pf_posix.proofs.TypeLists.{fetched_none, fetched_some, gap_is, length_listed, numbered_types, wanted_one}
 use Rattle.pf_posix.specs.Within.{IsBounded, IsWithin}
 
-wanted_push : (place : ℕ) (seen : List Fetch) (f : Fetch) (type : ArgumentType) → wanted_at place seen ≡ Some type → wanted_at place (seen ++ f ∷ []) ≡ Some type
-wanted_push place [] f type e = cc
-wanted_push place (g ∷ seen) f type e = go (is_number g.number (place + 1)) e (wanted_push place seen f type) where
-  go : (b : Bool) → (if b then Some g.wanted else wanted_at place seen) ≡ Some type → (wanted_at place seen ≡ Some type → wanted_at place (seen ++ f ∷ []) ≡ Some type)
-      → (if b then Some g.wanted else wanted_at place (seen ++ f ∷ [])) ≡ Some type
+wanted_push : (index : ℕ) (seen : List Fetch) (f : Fetch) (type : ArgumentType) → wanted_at index seen ≡ Some type → wanted_at index (seen ++ f ∷ []) ≡ Some type
+wanted_push index [] f type e = cc
+wanted_push index (g ∷ seen) f type e = go (is_number g.number (index + 1)) e (wanted_push index seen f type) where
+  go : (b : Bool) → (if b then Some g.wanted else wanted_at index seen) ≡ Some type → (wanted_at index seen ≡ Some type → wanted_at index (seen ++ f ∷ []) ≡ Some type)
+      → (if b then Some g.wanted else wanted_at index (seen ++ f ∷ [])) ≡ Some type
   go true e rest = e
   go false e rest = rest e
 
-wanted_new : (place : ℕ) (seen : List Fetch) (f : Fetch) → wanted_at place seen ≡ None → wanted_at place (seen ++ f ∷ []) ≡ (if is_number f.number (place + 1) then Some f.wanted else None)
-wanted_new place [] f e = refl
-wanted_new place (g ∷ seen) f e = go (is_number g.number (place + 1)) e (wanted_new place seen f) where
-  go : (b : Bool) → (if b then Some g.wanted else wanted_at place seen) ≡ None → (wanted_at place seen ≡ None → wanted_at place (seen ++ f ∷ []) ≡ (if is_number f.number (place + 1) then Some f.wanted else None))
-      → (if b then Some g.wanted else wanted_at place (seen ++ f ∷ [])) ≡ (if is_number f.number (place + 1) then Some f.wanted else None)
+wanted_new : (index : ℕ) (seen : List Fetch) (f : Fetch) → wanted_at index seen ≡ None → wanted_at index (seen ++ f ∷ []) ≡ (if is_number f.number (index + 1) then Some f.wanted else None)
+wanted_new index [] f e = refl
+wanted_new index (g ∷ seen) f e = go (is_number g.number (index + 1)) e (wanted_new index seen f) where
+  go : (b : Bool) → (if b then Some g.wanted else wanted_at index seen) ≡ None → (wanted_at index seen ≡ None → wanted_at index (seen ++ f ∷ []) ≡ (if is_number f.number (index + 1) then Some f.wanted else None))
+      → (if b then Some g.wanted else wanted_at index (seen ++ f ∷ [])) ≡ (if is_number f.number (index + 1) then Some f.wanted else None)
   go true e rest = cc
   go false e rest = rest e
 
-wanted_other : (place : ℕ) (seen : List Fetch) (f : Fetch) → is_number f.number (place + 1) ≡ false → wanted_at place (seen ++ f ∷ []) ≡ wanted_at place seen
-wanted_other place seen f other = go (wanted_at place seen) refl where
-  go : (o : Option ArgumentType) → wanted_at place seen ≡ o → wanted_at place (seen ++ f ∷ []) ≡ wanted_at place seen
-  go None e = wanted_new place seen f e ∙ rw other (sym e)
-  go (Some type) e = wanted_push place seen f type e ∙ sym e
+wanted_other : (index : ℕ) (seen : List Fetch) (f : Fetch) → is_number f.number (index + 1) ≡ false → wanted_at index (seen ++ f ∷ []) ≡ wanted_at index seen
+wanted_other index seen f other = go (wanted_at index seen) refl where
+  go : (o : Option ArgumentType) → wanted_at index seen ≡ o → wanted_at index (seen ++ f ∷ []) ≡ wanted_at index seen
+  go None e = wanted_new index seen f e ∙ rw other (sym e)
+  go (Some type) e = wanted_push index seen f type e ∙ sym e
 
 greatest_push : (seen : List Fetch) (f : Fetch) → greatest (seen ++ f ∷ []) ≡ max (greatest seen) (unwrap_or f.number 0)
 greatest_push [] f = omega arith
 greatest_push (g ∷ seen) f = let rest = greatest_push seen f in omega (arith, rest)
 
 -- what wasn't fetched doesn't conflict
-none_same : (place : ℕ) (seen : List Fetch) (f : Fetch) → f.number ≡ Some (place + 1) → ¬ IsFetched place seen → AllByRecursion (IsOneType f) seen
-none_same place [] f n none = tt
-none_same place (g ∷ seen) f n none = ((λ m a b. let same : Some m ≡ Some (place + 1) = sym a ∙ n in absurd (none (inl (b ∙ same)))), none_same place seen f n (λ h. none (inr h)))
+none_same : (index : ℕ) (seen : List Fetch) (f : Fetch) → f.number ≡ Some (index + 1) → ¬ IsFetched index seen → AllByRecursion (IsOneType f) seen
+none_same index [] f n none = tt
+none_same index (g ∷ seen) f n none = ((λ m a b. let same : Some m ≡ Some (index + 1) = sym a ∙ n in absurd (none (inl (b ∙ same)))), none_same index seen f n (λ h. none (inr h)))
 
 -- and what was fetched with this type doesn't
-all_same : (place : ℕ) (all seen : List Fetch) (f : Fetch) → f.number ≡ Some (place + 1) → wanted_at place all ≡ Some f.wanted → AllByRecursion (λ g. AllByRecursion (IsOneType g) all) seen → AllByRecursion (IsOneType f) seen
-all_same place all [] f n e h = tt
-all_same place all (g ∷ seen) f n e h = ((λ m a b. let same : Some m ≡ Some (place + 1) = sym a ∙ n in wanted_one place all g h.0 (b ∙ same) f.wanted e), all_same place all seen f n e h.1)
+all_same : (index : ℕ) (all seen : List Fetch) (f : Fetch) → f.number ≡ Some (index + 1) → wanted_at index all ≡ Some f.wanted → AllByRecursion (λ g. AllByRecursion (IsOneType g) all) seen → AllByRecursion (IsOneType f) seen
+all_same index all [] f n e h = tt
+all_same index all (g ∷ seen) f n e h = ((λ m a b. let same : Some m ≡ Some (index + 1) = sym a ∙ n in wanted_one index all g h.0 (b ∙ same) f.wanted e), all_same index all seen f n e h.1)
 
-module _ (table : Table) (seen : List Fetch) (h : TableHolds table seen) (place : ℕ) (wanted : ArgumentType) (room : place < ROOM) where
+module _ (table : Table) (seen : List Fetch) (h : TableHolds table seen) (index : ℕ) (wanted : ArgumentType) (room : index < ROOM) where
   abbrev f : Fetch
-  f = fetch (Some (place + 1)) wanted
+  f = fetch (Some (index + 1)) wanted
 
-  count_is : max table.count (place + 1) ≡ greatest (seen ++ f ∷ [])
+  count_is : max table.count (index + 1) ≡ greatest (seen ++ f ∷ [])
   count_is = omega (arith, h.count, greatest_push seen f)
 
-  few : max table.count (place + 1) ≤ ROOM
+  few : max table.count (index + 1) ≤ ROOM
   few = omega (arith, h.room, room)
 
   -- the argument has its type already
-  module _ (e : wanted_at place seen ≡ Some wanted) where
+  module _ (e : wanted_at index seen ≡ Some wanted) where
     clear : AllByRecursion (IsOneType f) seen
-    clear = all_same place seen seen f refl e h.one_type
+    clear = all_same index seen seen f refl e h.one_type
 
-    pub kept_again : (conflicts seen f ≡ false) × TableHolds (record table { count = max table.count (place + 1) }) (seen ++ f ∷ [])
-    kept_again = (conflicts_not seen f clear, record { full = h.full; types = λ p less. h.types p less ∙ at p (cases_eq p place); count = count_is; room = few; one_type = one_type_push seen f h.one_type clear }) where
-      at : (p : ℕ) → ((p ≡ place) ⊎ (p ≢ place)) → wanted_at p seen ≡ wanted_at p (seen ++ f ∷ [])
+    pub kept_again : (conflicts seen f ≡ false) × TableHolds (record table { count = max table.count (index + 1) }) (seen ++ f ∷ [])
+    kept_again = (conflicts_not seen f clear, record { full = h.full; types = λ p less. h.types p less ∙ at p (cases_eq p index); count = count_is; room = few; one_type = one_type_push seen f h.one_type clear }) where
+      at : (p : ℕ) → ((p ≡ index) ⊎ (p ≢ index)) → wanted_at p seen ≡ wanted_at p (seen ++ f ∷ [])
       at p (inl q) = let here : wanted_at p seen ≡ Some wanted = ap (λ k. wanted_at k seen) q ∙ e in here ∙ sym (wanted_push p seen f wanted here)
-      at p (inr q) = let other = ne_eqb (place + 1) (p + 1) (λ same. q (omega (arith, same))) in sym (wanted_other p seen f other)
+      at p (inr q) = let other = ne_eqb (index + 1) (p + 1) (λ same. q (omega (arith, same))) in sym (wanted_other p seen f other)
 
   -- it has another one
-  pub other_type : (there : ArgumentType) → wanted_at place seen ≡ Some there → there ≢ wanted → conflicts seen f ≡ true
+  pub other_type : (there : ArgumentType) → wanted_at index seen ≡ Some there → there ≢ wanted → conflicts seen f ≡ true
   other_type there e other = go (conflicts seen f) refl where
     go : (b : Bool) → conflicts seen f ≡ b → b ≡ true
     go true c = refl
-    go false c = absurd (other (wanted_one place seen f (conflicts_no seen f c) refl there e))
+    go false c = absurd (other (wanted_one index seen f (conflicts_no seen f c) refl there e))
 
   -- it has none yet
-  module _ (e : wanted_at place seen ≡ None) where
+  module _ (e : wanted_at index seen ≡ None) where
     unlike : AllByRecursion (IsOneType f) seen
-    unlike = none_same place seen f refl (fetched_none place seen e)
+    unlike = none_same index seen f refl (fetched_none index seen e)
 
-    pub kept_new : (conflicts seen f ≡ false) × TableHolds (record { types = set table.types place (Some wanted); count = max table.count (place + 1) }) (seen ++ f ∷ [])
-    kept_new = (conflicts_not seen f unlike, record { full = length-set table.types place (Some wanted) ∙ h.full; types = λ p less. at p less (cases_eq p place); count = count_is; room = few; one_type = one_type_push seen f h.one_type unlike }) where
-      at : (p : ℕ) → p < ROOM → ((p ≡ place) ⊎ (p ≢ place)) → get_or (set table.types place (Some wanted)) p None ≡ wanted_at p (seen ++ f ∷ [])
+    pub kept_new : (conflicts seen f ≡ false) × TableHolds (record { types = set table.types index (Some wanted); count = max table.count (index + 1) }) (seen ++ f ∷ [])
+    kept_new = (conflicts_not seen f unlike, record { full = length-set table.types index (Some wanted) ∙ h.full; types = λ p less. at p less (cases_eq p index); count = count_is; room = few; one_type = one_type_push seen f h.one_type unlike }) where
+      at : (p : ℕ) → p < ROOM → ((p ≡ index) ⊎ (p ≢ index)) → get_or (set table.types index (Some wanted)) p None ≡ wanted_at p (seen ++ f ∷ [])
       at p less (inl q) =
-          let yes : is_number (Some (place + 1)) (place + 1) ≡ true = grind (arith, nat_tests) in
-          ap (λ k. get_or (set table.types place (Some wanted)) k None) q ∙ get_or-set_same table.types place (Some wanted) None (omega (arith, h.full, room))
-          ∙ sym (ap (λ k. wanted_at k (seen ++ f ∷ [])) q ∙ wanted_new place seen f e ∙ rw yes refl)
+          let yes : is_number (Some (index + 1)) (index + 1) ≡ true = grind (arith, nat_tests) in
+          ap (λ k. get_or (set table.types index (Some wanted)) k None) q ∙ get_or-set_same table.types index (Some wanted) None (omega (arith, h.full, room))
+          ∙ sym (ap (λ k. wanted_at k (seen ++ f ∷ [])) q ∙ wanted_new index seen f e ∙ rw yes refl)
       at p less (inr q) =
-          let other = ne_eqb (place + 1) (p + 1) (λ same. q (omega (arith, same))) in
-          get_or-set_other table.types place p (Some wanted) None q ∙ h.types p less ∙ sym (wanted_other p seen f other)
+          let other = ne_eqb (index + 1) (p + 1) (λ same. q (omega (arith, same))) in
+          get_or-set_other table.types index p (Some wanted) None q ∙ h.types p less ∙ sym (wanted_other p seen f other)
 
   -- an argument that is there with a type
-  pub told_some : (there : ArgumentType) (a b : ℕ) → get_or table.types place None ≡ Some there → a ≡ number_of_type there → b ≡ number_of_type wanted
-      → MatchBool (a == b) ((conflicts seen f ≡ false) × TableHolds (record table { count = max table.count (place + 1) }) (seen ++ f ∷ [])) (conflicts seen f ≡ true)
+  pub told_some : (there : ArgumentType) (a b : ℕ) → get_or table.types index None ≡ Some there → a ≡ number_of_type there → b ≡ number_of_type wanted
+      → MatchBool (a == b) ((conflicts seen f ≡ false) × TableHolds (record table { count = max table.count (index + 1) }) (seen ++ f ∷ [])) (conflicts seen f ≡ true)
   told_some there a b e x y = go (a == b) refl where
-    here : wanted_at place seen ≡ Some there
-    here = sym (h.types place room) ∙ e
+    here : wanted_at index seen ≡ Some there
+    here = sym (h.types index room) ∙ e
 
-    go : (c : Bool) → (a == b) ≡ c → MatchBool c ((conflicts seen f ≡ false) × TableHolds (record table { count = max table.count (place + 1) }) (seen ++ f ∷ [])) (conflicts seen f ≡ true)
+    go : (c : Bool) → (a == b) ≡ c → MatchBool c ((conflicts seen f ≡ false) × TableHolds (record table { count = max table.count (index + 1) }) (seen ++ f ∷ [])) (conflicts seen f ≡ true)
     go true c = kept_again (here ∙ ap Some (same_type there wanted (sym x ∙ eqb-true a b c ∙ y)))
     go false c = other_type there here (λ same. eqb_no a b c (x ∙ ap number_of_type same ∙ sym y)) where
       eqb_no : (a b : ℕ) → (a == b) ≡ false → a ≢ b
@@ -128,14 +128,14 @@ listed_push seen from (suc n) =
     let same : from + 1 + n ≡ from + suc n = omega arith in
     ap (λ l. unwrap_or (wanted_at from seen) int_type ∷ l) (listed_push seen (from + 1) n ∙ ap (λ k. listed seen (from + 1) n ++ unwrap_or (wanted_at k seen) int_type ∷ []) same)
 
-pub listed_more : (table : Table) (seen : List Fetch) (place : ℕ) → TableHolds table seen → place < ROOM → listed seen 0 place ++ unwrap_or (get_or table.types place None) int_type ∷ [] ≡ listed seen 0 (place + 1)
-listed_more table seen place h less =
-    let next : suc place ≡ place + 1 = omega arith in
-    let same : 0 + place ≡ place = omega arith in
-    ap (λ o. listed seen 0 place ++ unwrap_or o int_type ∷ []) (h.types place less) ∙ ap (λ k. listed seen 0 place ++ unwrap_or (wanted_at k seen) int_type ∷ []) (sym same) ∙ sym (listed_push seen 0 place) ∙ ap (listed seen 0) next
+pub listed_more : (table : Table) (seen : List Fetch) (index : ℕ) → TableHolds table seen → index < ROOM → listed seen 0 index ++ unwrap_or (get_or table.types index None) int_type ∷ [] ≡ listed seen 0 (index + 1)
+listed_more table seen index h less =
+    let next : suc index ≡ index + 1 = omega arith in
+    let same : 0 + index ≡ index = omega arith in
+    ap (λ o. listed seen 0 index ++ unwrap_or o int_type ∷ []) (h.types index less) ∙ ap (λ k. listed seen 0 index ++ unwrap_or (wanted_at k seen) int_type ∷ []) (sym same) ∙ sym (listed_push seen 0 index) ∙ ap (listed seen 0) next
 
-pub length_of_listed : (seen : List Fetch) (place : ℕ) → place ≡ length (listed seen 0 place)
-length_of_listed seen place = sym (length_listed seen 0 place)
+pub length_of_listed : (seen : List Fetch) (index : ℕ) → index ≡ length (listed seen 0 index)
+length_of_listed seen index = sym (length_listed seen 0 index)
 
 -- a numbered format, read one argument after another
 pub record IsByNumber (model : Model) (t : Text) (seen : List Fetch) (f : Fetch) (at : ℕ) (left : FetchTrace) : Type 0 where
@@ -161,8 +161,8 @@ module _ (model : Model) (t : Text) (seen : List Fetch) (f : Fetch) (at : ℕ) (
     pub all_numbered : AllByRecursion (λ g. numbering_by g.number ≡ Numbered) (seen ++ f ∷ [])
     all_numbered = all_push _ seen f h.numbered h.number
 
-    pub next_by_number : (g : Fetch) (place : ℕ) (rest : FetchTrace) → left ≡ Fetches g place rest → IsByNumber model t (seen ++ f ∷ []) g place rest
-    next_by_number g place rest e =
+    pub next_by_number : (g : Fetch) (index : ℕ) (rest : FetchTrace) → left ≡ Fetches g index rest → IsByNumber model t (seen ++ f ∷ []) g index rest
+    next_by_number g index rest e =
         let bounded = subst (IsBounded Numbered) e h.bounded in
         let n = follows g.number bounded.1 in
         record { verdict_is = goes_on ∙ ap (verdict_after (seen ++ f ∷ [])) e; within = bounded.0; number = n; numbered = all_numbered; bounded = subst (λ s. IsBounded s rest) n bounded.2 } where
@@ -173,8 +173,8 @@ module _ (model : Model) (t : Text) (seen : List Fetch) (f : Fetch) (at : ℕ) (
     pub end_by_number : left ≡ Whole → verdict model t ≡ Takes (seen ++ f ∷ [])
     end_by_number e = goes_on ∙ ap (verdict_after (seen ++ f ∷ [])) e
 
-    pub refused_by_number : (kind : RefusalKind) (place : ℕ) → left ≡ Fault kind place → IsPosixRefusedAt model t kind place
-    refused_by_number kind place e = subst (Tells model t) (goes_on ∙ ap (verdict_after (seen ++ f ∷ [])) e) (told model t)
+    pub refused_by_number : (kind : RefusalKind) (index : ℕ) → left ≡ Fault kind index → IsPosixRefusedAt model t kind index
+    refused_by_number kind index e = subst (Tells model t) (goes_on ∙ ap (verdict_after (seen ++ f ∷ [])) e) (told model t)
 
 pub same_fetch : (f : Fetch) (m : ℕ) → numbering_by f.number ≡ Numbered → IsWithin f → m ≡ unwrap_or f.number 1 → fetch (Some (m - 1 + 1)) f.wanted ≡ f
 same_fetch f m n w e = go f.number refl n where
@@ -192,7 +192,7 @@ numbered_of (Some n) e = refl
 
 -- the end of a text
 pub finished : (model : Model) (t : Text) (table : Table) (seen : List Fetch) (at : ℕ) (r : Result (Unit {0}) Refusal) → verdict model t ≡ Takes seen → AllByRecursion (λ g. numbering_by g.number ≡ Numbered) seen → TableHolds table seen → at ≡ length t
-    → MatchResult r (λ _. (place : ℕ) → place < table.count → IsFetched place seen) (λ refusal. (refusal ≡ record { kind = MissingArgument; at = at }) × HasGap seen)
+    → MatchResult r (λ _. (index : ℕ) → index < table.count → IsFetched index seen) (λ refusal. (refusal ≡ record { kind = MissingArgument; at = at }) × HasGap seen)
     → MatchResult r (λ _. IsTabled model t table) (λ refusal. IsPosixRefusedAt model t refusal.kind refusal.at)
 finished model t table seen at (Ok done) v n k e h = record { seen = seen; verdict_is = v; kept = k; numbered = n; all = h }
 finished model t table seen at (Err refusal) v n k e h =
@@ -204,22 +204,22 @@ tabled_types model t table h =
     let count = h.kept.count in
     accepted model t h.seen taken (listed h.seen 0 table.count) (inr (subst (λ n. AreNumbered h.seen (listed h.seen 0 n)) (sym count) (numbered_types h.seen taken.agreed (seen_within model t h.seen taken) h.numbered (λ p less. h.all p (omega (arith, less, count))))))
 
--- a place that is empty, and one that isn't
-module _ (table : Table) (seen : List Fetch) (h : TableHolds table seen) (place : ℕ) (room : place < ROOM) where
-  at_place : get_or table.types place None ≡ wanted_at place seen
-  at_place = h.types place room
+-- a index that is empty, and one that isn't
+module _ (table : Table) (seen : List Fetch) (h : TableHolds table seen) (index : ℕ) (room : index < ROOM) where
+  at_index : get_or table.types index None ≡ wanted_at index seen
+  at_index = h.types index room
 
-  pub none_there : place < table.count → is_some (get_or table.types place None) ≡ false → HasGap seen
-  none_there less e = gap_is seen place (omega (arith, less, h.count)) (fetched_none place seen (sym at_place ∙ none_of _ e)) where
+  pub none_there : index < table.count → is_some (get_or table.types index None) ≡ false → HasGap seen
+  none_there less e = gap_is seen index (omega (arith, less, h.count)) (fetched_none index seen (sym at_index ∙ none_of _ e)) where
     none_of : (o : Option ArgumentType) → is_some o ≡ false → o ≡ None
     none_of None e = refl
     none_of (Some type) e = cc
 
-  pub one_more : ((p : ℕ) → p < place → IsFetched p seen) → is_some (get_or table.types place None) ≡ true → (p : ℕ) → p < place + 1 → IsFetched p seen
-  one_more all some p less = elim (cases_eq p place) [
-    | inl e ↦ subst (λ k. IsFetched k seen) (sym e) (here (wanted_at place seen) refl)
+  pub one_more : ((p : ℕ) → p < index → IsFetched p seen) → is_some (get_or table.types index None) ≡ true → (p : ℕ) → p < index + 1 → IsFetched p seen
+  one_more all some p less = elim (cases_eq p index) [
+    | inl e ↦ subst (λ k. IsFetched k seen) (sym e) (here (wanted_at index seen) refl)
     | inr e ↦ all p (omega arith)
   ] where
-    here : (o : Option ArgumentType) → wanted_at place seen ≡ o → IsFetched place seen
-    here None e = let no : is_some (get_or table.types place None) ≡ false = ap is_some (at_place ∙ e) in cc
-    here (Some type) e = fetched_some place seen type e
+    here : (o : Option ArgumentType) → wanted_at index seen ≡ o → IsFetched index seen
+    here None e = let no : is_some (get_or table.types index None) ≡ false = ap is_some (at_index ∙ e) in cc
+    here (Some type) e = fetched_some index seen type e

@@ -30,7 +30,7 @@ module _ (model : Model) (t : Text) (fs : List Fetch) (h : Taken model t fs) whe
         fetches = fs;
         state = Between;
         split = sym (append-nil t);
-        place = refl;
+        offset = refl;
         limit = h.limit;
         good = record {
           items = h.items;

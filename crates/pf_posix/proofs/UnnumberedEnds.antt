@@ -107,10 +107,10 @@ module _ (model : Model) where
   numbered_ends t at h =
       let part = 37 ∷ h.digits in
       let long = length-append h.whole part in
-      let place : 0 + length h.whole + length part ≡ at = omega (arith, h.place, long) in
+      let place : 0 + length h.whole + length part ≡ at = omega (arith, h.offset, long) in
       let split : t ≡ h.whole ++ (part ++ 36 ∷ h.rest) = h.split ∙ append_assoc h.whole part (36 ∷ h.rest) in
       ap (λ s. ending (unnumbered_trace model s)) split
-      ∙ end_after_items h.items h.whole (part ++ 36 ∷ h.rest) 0 h.reads h.unnumbered (omega (arith, h.limit, h.place, long))
+      ∙ end_after_items h.items h.whole (part ++ 36 ∷ h.rest) 0 h.reads h.unnumbered (omega (arith, h.limit, h.offset, long))
       ∙ end_after model (36 ∷ h.rest) part (0 + length h.whole) (stand Unnumbered Between []) (stand Unnumbered (First h.n) [])
       (first_run model Unnumbered [] h.digits h.n h.number)
       (omega (arith, h.limit, place))
@@ -120,7 +120,7 @@ module _ (model : Model) where
         last n few = let room = within_limit n few in rw room refl
 
   dollar_there : (t : Text) (at : ℕ) → IsNumberedAt t at → get_or t at 0 ≡ 36
-  dollar_there t at h = ap (λ s. get_or s at 0) h.split ∙ ap (λ n. get_or ((h.whole ++ 37 ∷ h.digits) ++ 36 ∷ h.rest) n 0) h.place
+  dollar_there t at h = ap (λ s. get_or s at 0) h.split ∙ ap (λ n. get_or ((h.whole ++ 37 ∷ h.digits) ++ 36 ∷ h.rest) n 0) h.offset
       ∙ get_or-append_seam (h.whole ++ 37 ∷ h.digits) 36 h.rest 0
 
 -- a front of a text, and another one that is longer
@@ -137,14 +137,14 @@ split_front (x ∷ a) b (y ∷ f) r e less =
 refused_by_front : (model : Model) (base b c : Text) (kind : RefusalKind) (at : ℕ) → IsPosixRefusedAt model (base ++ b) kind at → at < length base
     → IsPosixRefusedAt model (base ++ c) kind at
 refused_by_front model base b c kind at h less =
-    let parts = split_front base b h.front h.rest h.split (omega (arith, less, h.place)) in
+    let parts = split_front base b h.front h.rest h.split (omega (arith, less, h.offset)) in
     record {
       front = h.front;
       rest = parts.0 ∷ (parts.1 ++ c);
       fetches = h.fetches;
       state = h.state;
       split = ap (λ u. u ++ c) parts.2 ∙ append_assoc h.front (parts.0 ∷ parts.1) c;
-      place = h.place;
+      offset = h.offset;
       limit = h.limit;
       good = h.good;
       cause = subst (λ r. IsPosixRefusalCause model h.fetches h.good.part h.state at r kind) parts.3 h.cause;
@@ -164,7 +164,7 @@ wide_spelled digits n h =
         before_is = record {
           before = 37 ∷ [];
           text = digits;
-          before_is = record { place = []; flags = []; place_is = refl; set_is = refl; whole = refl };
+          before_is = record { number = []; flags = []; number_is = refl; set_is = refl; whole = refl };
           width_is = h;
           whole = refl;
         };
@@ -188,10 +188,10 @@ module _ (model : Model) where
         reads = subst (λ u. ReadsPosix u (h.items ++ Specification (wide h.n) ∷ [])) (sym (append_assoc h.whole (37 ∷ h.digits) (100 ∷ [])))
             (reads_push h.whole (37 ∷ h.digits ++ 100 ∷ []) h.items (Specification (wide h.n)) h.reads (wide_spelled h.digits h.n h.number, refl));
         unnumbered = all_push IsUnnumbered h.items (Specification (wide h.n)) h.unnumbered refl;
-        limit = omega (arith, longer, h.place, h.limit);
+        limit = omega (arith, longer, h.offset, h.limit);
       }) in
       let there = refused_by_front model base (36 ∷ h.rest) (100 ∷ []) kind place (subst (λ u. IsPosixRefusedAt model u kind place) h.split r)
-      (omega (arith, less, h.place)) in
+      (omega (arith, less, h.offset)) in
       never_both model (base ++ 100 ∷ []) (whole_types model other.stretches) kind place (accepted_types (base ++ 100 ∷ []) other) there
 
   -- no reading has the kind Numbered

@@ -160,7 +160,7 @@ dollar_numbers model front rest seen n byte p less e =
         unnumbered = free_items model g.items (all_front (λ f. f.number ≡ None) (fetched model g.items) g.own (subst AreFree g.fetches_are p.free));
         number = g.at.1;
         split = ap (λ u. u ++ byte ∷ rest) split ∙ ap (λ b. (g.whole ++ 37 ∷ g.at.0) ++ b ∷ rest) same;
-        place = ap length split;
+        offset = ap length split;
         limit = less;
       },
     )

@@ -1,4 +1,4 @@
--- The first stretch of a text from a place on, and the opaque directive after it.
+-- The first stretch of a text from an offset on, and the opaque directive after it.
 use Rattle.std.specs.Prelude.{◌≡◌, ℕ, ◌-◌, ◌<◌, ◌≤◌, drop, take, length, None, IsSome, IsSomeAnd}
 use Rattle.pf_values.specs.meaning.Items.{Reads}
 use Rattle.pf_values.specs.meaning.Text.{Text}
@@ -7,7 +7,7 @@ use Rattle.pf_posix.specs.Opaque.{SpellsOpaque}
 use Rattle.pf_posix.specs.OpaqueParts.{parts_of_opaque}
 use Rattle.pf_posix.specs.Stretches.{Stretches, Last, Before, ReadsWhole}
 
--- The stretch begins the text from this place on, which is read so. Its items are read from its bytes;
+-- The stretch begins the text from this offset on, which is read so. Its items are read from its bytes;
 -- the last stretch ends the text, and each other one ends where its opaque directive begins.
 abbrev pub IsHead : Text → ℕ → Stretches → Stretch → Type 0
 IsHead t from (Last items) stretch = (stretch.opaque ≡ None) × (stretch.end ≡ length t)
@@ -18,7 +18,7 @@ IsHead t from (Before items s rest) stretch =
     × SpellsOpaque (take (stretch.after - stretch.end) (drop stretch.end t)) s
     × ReadsWhole (drop stretch.after t) rest
 
--- the places of a stretch are in the text, and a directive has some bytes
+-- the offsets of a stretch are in the text, and a directive has some bytes
 pub record IsPlaced (t : Text) (from : ℕ) (stretch : Stretch) : Type 0 where
   pub begins : from ≤ stretch.end
   pub ends : stretch.end ≤ stretch.after

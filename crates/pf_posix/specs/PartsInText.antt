@@ -1,4 +1,4 @@
--- What the parts of a specification without numbers are from a place of a text on, as the code reads
+-- What the parts of a specification without numbers are from an offset of a text on, as the code reads
 -- them. Each says what is answered if the part is spelled there, and nothing that could belong to the
 -- part comes after it. No public contract names these.
 use Rattle.std.specs.Prelude.{◌≡◌, ℕ, ◌<◌, ◌≤◌, Bool, false, ◌||◌, ◌==◌, List, [], ◌∷◌, ◌++◌, drop, map, Option, Some, None, IsSomeAnd, if◌then◌else◌, ⊤}
@@ -78,7 +78,7 @@ second_modifier (Integer lengths.H) byte = if byte == 104 then Some (Integer len
 second_modifier (Integer lengths.L) byte = if byte == 108 then Some (Integer lengths.Ll) else None
 second_modifier _ byte = None
 
--- a modifier that begins with the letter before this place, before a conversion
+-- a modifier that begins with the letter before this offset, before a conversion
 abbrev pub ModifierGoesOn : Text → ℕ → Modifier → Modifier → ℕ → Type 0
 ModifierGoesOn t start first result stop =
     (letter : ℕ) (modifier : Modifier) (conversion : Conversion) (rest : Text)

@@ -1,4 +1,4 @@
--- A format's front with neither numbers of arguments nor `*`, as the code reads it at places of the text.
+-- A format's front with neither numbers of arguments nor `*`, as the code reads it at offsets of the text.
 -- No public contract names these.
 use Rattle.std.specs.Prelude.{◌≡◌, ◌≢◌, ℕ, ◌+◌, ◌-◌, ◌<◌, ◌≤◌, true, List, drop, length, Some, None, ◌⊎◌}
 use Rattle.std.specs.List.{AllByRecursion}
@@ -24,7 +24,7 @@ use Rattle.pf_posix.specs.States.{after_amount, after_numbers, conversion_at, pa
 use Rattle.pf_posix.specs.Types.{fetch}
 use Rattle.pf_posix.specs.Within.{IsBounded}
 
--- from a place on in one state the text is read as from another place on in another state
+-- from an offset on in one state the text is read as from another offset on in another state
 abbrev pub Leads : Model → Numbering → Text → PosixState → ℕ → PosixState → ℕ → Type 0
 Leads model numbering t from start to stop =
     trace_from model numbering from start (drop start t) ≡ trace_from model numbering to stop (drop stop t)
@@ -92,7 +92,7 @@ ModifierRead t start first modifier stop = (model : Model) (numbering : Numberin
     (parts : PartialSpecification) → length t ≤ MAX_TEXT_LEN
     → Leads model numbering t (Modified parts first) start (Modified parts modifier) stop
 
--- the rest of a specification fetches an argument of this type, and ends at this place
+-- the rest of a specification fetches an argument of this type, and ends at this offset
 abbrev pub IsFetchedFrom : Model → Numbering → Text → PosixState → ℕ → ArgumentType → ℕ → Type 0
 IsFetchedFrom model numbering t state start wanted stop = (last : ℕ) × (stop ≡ last + 1)
     × (trace_from model numbering state start (drop start t)
@@ -113,7 +113,7 @@ pub record IsOrderedFront (model : Model) (t : Text) (left : FetchTrace) (old ne
   pub count_is : count ≡ length seen
   pub front : new ≡ filled old (wanted_types seen)
 
--- up to a place between two items no argument has a number, and the types are at the front of a slice
+-- up to an offset between two items no argument has a number, and the types are at the front of a slice
 pub record IsPlainFront (model : Model) (t : Text) (at : ℕ) (old new : List ArgumentType)
     (count : ℕ) : Type 0 where
   pub numbering : Numbering

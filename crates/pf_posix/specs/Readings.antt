@@ -81,19 +81,19 @@ abbrev pub is_number : Option ℕ → ℕ → Bool
 is_number None n = false
 is_number (Some m) n = m == n
 
--- the type of the first fetch of the argument at a place, counted from 0
+-- the type of the first fetch of the argument with an index, counted from 0
 abbrev pub wanted_at : ℕ → List Fetch → Option ArgumentType
-wanted_at place [] = None
-wanted_at place (f ∷ fetched) =
-    if is_number f.number (place + 1) then Some f.wanted else wanted_at place fetched
+wanted_at index [] = None
+wanted_at index (f ∷ fetched) =
+    if is_number f.number (index + 1) then Some f.wanted else wanted_at index fetched
 
 -- the greatest number of an argument that is fetched
 abbrev pub greatest : List Fetch → ℕ
 greatest [] = 0
 greatest (f ∷ fetched) = max (unwrap_or f.number 0) (greatest fetched)
 
--- so many types, from a place on
+-- `n` types, from an index on
 abbrev pub listed : List Fetch → ℕ → ℕ → List ArgumentType
-listed fetched place zero = []
-listed fetched place (suc n) =
-    unwrap_or (wanted_at place fetched) int_type ∷ listed fetched (place + 1) n
+listed fetched index zero = []
+listed fetched index (suc n) =
+    unwrap_or (wanted_at index fetched) int_type ∷ listed fetched (index + 1) n

@@ -62,8 +62,8 @@ pub record AreAgreed (fetched : List Fetch) : Type 0 where
 
 -- An argument is fetched, and one before it isn't (POSIX fprintf on `%n$`).
 abbrev pub HasGap : List Fetch → Type 0
-HasGap fetched = (place : ℕ) × (later : ℕ) × (place < later) × IsFetched later fetched
-    × ¬ IsFetched place fetched
+HasGap fetched = (index : ℕ) × (later : ℕ) × (index < later) × IsFetched later fetched
+    × ¬ IsFetched index fetched
 
 -- Items, and the front of one more. Each is defined, its numbers are within the limits, and what was
 -- fetched agrees.
@@ -92,7 +92,7 @@ IsPastPercent Opened = ⊥
 IsPastPercent _ = ⊤
 
 -- The byte shows that numbered specifications and others are mixed, which is undefined (POSIX
--- fprintf): it is a `$`, where earlier ones aren't numbered; or where they are, it is in the place of
+-- fprintf): it is a `$`, where earlier ones aren't numbered; or where they are, it is instead of
 -- a number or of its `$`, and is neither.
 abbrev pub MixesNumbers : PosixState → Numbering → ℕ → Type 0
 MixesNumbers Opened numbering byte = (numbering ≡ Numbered) × (is_first_digit byte ≡ false)
@@ -101,7 +101,7 @@ MixesNumbers (First n) numbering byte = ((numbering ≡ Unnumbered) × (byte ≡
 MixesNumbers _ numbering byte = ⊥
 
 -- The byte after a `*` shows that numbered specifications and others are mixed: it is a digit, where the
--- specification isn't numbered; or where it is, it is in the place of a number or of its `$`, and is
+-- specification isn't numbered; or where it is, it is instead of a number or of its `$`, and is
 -- neither (POSIX fprintf on `*m$`).
 abbrev pub MixesStar : Option ℕ → ℕ → Type 0
 MixesStar None byte = is_digit byte ≡ true
@@ -195,7 +195,7 @@ pub record IsPosixRefusedAt (model : Model) (t : Text) (kind : RefusalKind)
   pub fetches : List Fetch
   pub state : PosixState
   pub split : t ≡ front ++ rest
-  pub place : at ≡ length front
+  pub offset : at ≡ length front
   pub limit : at ≤ MAX_TEXT_LEN
   pub good : IsGoodPosixFront model front fetches state
   pub cause : IsPosixRefusalCause model fetches good.part state at rest kind

@@ -45,11 +45,11 @@ SpellsPosixPrecision t position (Some (Fetched number)) =
 -- `%`, the number of the argument, and flags in any order and number (C11 7.21.6.1 p4, POSIX
 -- fprintf)
 pub record SpellsUpToFlags (t : Text) (position : Option ℕ) (set : FlagSet) : Type 0 where
-  pub place : Text
+  pub number : Text
   pub flags : List Flag
-  pub place_is : SpellsPosition place position
+  pub number_is : SpellsPosition number position
   pub set_is : set ≡ flag_set flags
-  pub whole : t ≡ percent ∷ place ++ map flag_byte flags
+  pub whole : t ≡ percent ∷ number ++ map flag_byte flags
 
 -- `%`, the number of the argument, flags, and a width (C11 7.21.6.1 p4)
 pub record SpellsUpToWidth (t : Text) (position : Option ℕ) (set : FlagSet)

@@ -41,7 +41,7 @@ abbrev pub parts_at : Option ℕ → PartialSpecification
 parts_at position =
     record { position = position; flags = no_flags; width = false; precision = false }
 
--- why a byte is refused in a place where it isn't allowed: a zero byte and `%` have reasons of their
+-- why a byte is refused where it isn't allowed: a zero byte and `%` have reasons of their
 -- own
 abbrev pub stray : ℕ → RefusalKind → RefusalKind
 stray byte kind = if byte == 0 then NulByte else if byte == percent then BadPercent else kind
@@ -51,7 +51,7 @@ abbrev pub judgement : Option RefusalKind → Fetch → PosixStep
 judgement None f = Ok (Between, Some f)
 judgement (Some kind) f = Err kind
 
--- a byte in the place of the conversion (C11 7.21.6.1 p8)
+-- a byte instead of the conversion (C11 7.21.6.1 p8)
 abbrev pub conversion_by : Model → PartialSpecification → Modifier → ℕ → Option Conversion → PosixStep
 conversion_by model parts modifier byte None = Err (stray byte Unexpected)
 conversion_by model parts modifier byte (Some conversion) = judgement

@@ -18,7 +18,7 @@ abbrev pub push_all : List Item → Stretches → Stretches
 push_all [] rest = rest
 push_all (item ∷ items) rest = push item (push_all items rest)
 
--- the text from a place on is read as stretches, and begins with these items or this directive
+-- the text from an offset on is read as stretches, and begins with these items or this directive
 abbrev pub IsFound : Text → ℕ → Stretches → Found → Type 0
 IsFound t at left (found.Items stop) = (items : List Item) × (bytes : Text) × (later : Stretches)
     × Reads bytes items × ReadsWhole (drop stop t) later × (drop at t ≡ bytes ++ drop stop t)
@@ -27,7 +27,7 @@ IsFound t at left (found.Opaque directive stop) = (bytes : Text) × (later : Str
     × SpellsOpaque bytes (parts_of_opaque directive) × ReadsWhole (drop stop t) later
     × (drop at t ≡ bytes ++ drop stop t) × (left ≡ Before [] (parts_of_opaque directive) later)
 
--- where that ends, which is behind the place
+-- where that ends, which is behind the offset
 abbrev pub EndsBehind : Text → ℕ → Found → Type 0
 EndsBehind t at (found.Items stop) = (at < stop) × (stop ≤ length t)
 EndsBehind t at (found.Opaque directive stop) = (at < stop) × (stop ≤ length t)

@@ -11,10 +11,10 @@ use Rattle.pf_posix.specs.Readings.{Takes, greatest, verdict, wanted_at}
 use Rattle.pf_posix.specs.Refusals.{IsOneType, numbering_by}
 use Rattle.pf_posix.specs.Types.{IsFetched}
 
--- each place has the type of its first fetch
+-- each index has the type of its first fetch
 pub record TableHolds (table : Table) (seen : List Fetch) : Type 0 where
   pub full : length table.types ≡ ROOM
-  pub types : (place : ℕ) → place < ROOM → slice_index_or table.types place None ≡ wanted_at place seen
+  pub types : (index : ℕ) → index < ROOM → slice_index_or table.types index None ≡ wanted_at index seen
   pub count : table.count ≡ greatest seen
   pub room : table.count ≤ ROOM
   pub one_type : AllByRecursion (λ f. AllByRecursion (IsOneType f) seen) seen
@@ -25,4 +25,4 @@ pub record IsTabled (model : Model) (t : Text) (table : Table) : Type 0 where
   pub verdict_is : verdict model t ≡ Takes seen
   pub kept : TableHolds table seen
   pub numbered : AllByRecursion (λ f. numbering_by f.number ≡ Numbered) seen
-  pub all : (place : ℕ) → place < table.count → IsFetched place seen
+  pub all : (index : ℕ) → index < table.count → IsFetched index seen

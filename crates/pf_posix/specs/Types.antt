@@ -84,12 +84,12 @@ fetches model s =
 -- the argument that is fetched has its type in a list
 abbrev pub HasTypeIn : List ArgumentType → Fetch → Type 0
 HasTypeIn types f =
-    (place : ℕ) × (f.number ≡ Some (place + 1)) × (slice_get types place ≡ Some f.wanted)
+    (index : ℕ) × (f.number ≡ Some (index + 1)) × (slice_get types index ≡ Some f.wanted)
 
--- the argument at a place, counted from 0, is fetched
+-- the argument with an index, counted from 0, is fetched
 abbrev pub IsFetched : ℕ → List Fetch → Type 0
-IsFetched place [] = ⊥
-IsFetched place (f ∷ fetched) = (f.number ≡ Some (place + 1)) ⊎ IsFetched place fetched
+IsFetched index [] = ⊥
+IsFetched index (f ∷ fetched) = (f.number ≡ Some (index + 1)) ⊎ IsFetched index fetched
 
 -- unnumbered specifications fetch the next argument each time (C11 7.21.6.1 p3)
 pub record AreInOrder (fetched : List Fetch) (types : List ArgumentType) : Type 0 where
@@ -99,7 +99,7 @@ pub record AreInOrder (fetched : List Fetch) (types : List ArgumentType) : Type 
 -- numbered ones fetch each argument at least once, always with one type (POSIX fprintf on `%n$`)
 pub record AreNumbered (fetched : List Fetch) (types : List ArgumentType) : Type 0 where
   pub each : AllByRecursion (HasTypeIn types) fetched
-  pub all : (place : ℕ) → place < length types → IsFetched place fetched
+  pub all : (index : ℕ) → index < length types → IsFetched index fetched
 
 -- the types of the arguments that are fetched; a format never has specifications of both kinds
 -- (POSIX fprintf)

@@ -49,7 +49,7 @@ pub record IsNumberedAt (t : Text) (at : ℕ) : Type 0 where
   pub unnumbered : AllByRecursion IsUnnumbered items
   pub number : SpellsPositive digits n
   pub split : t ≡ (whole ++ percent ∷ digits) ++ dollar ∷ rest
-  pub place : at ≡ length (whole ++ percent ∷ digits)
+  pub offset : at ≡ length (whole ++ percent ∷ digits)
   pub limit : at < MAX_TEXT_LEN
 
 -- A text is refused at this offset. Numbered: a `$` there numbers an argument, and the text is refused
@@ -58,9 +58,9 @@ pub record IsNumberedAt (t : Text) (at : ℕ) : Type 0 where
 abbrev pub IsWholeRefusedAt : Model → Text → RefusalKind → ℕ → Type 0
 IsWholeRefusedAt model t Numbered at =
     IsNumberedAt t at
-    × ((kind : RefusalKind) (place : ℕ) → IsPosixRefusedAt model t kind place → ¬ (place < at))
+    × ((kind : RefusalKind) (other : ℕ) → IsPosixRefusedAt model t kind other → ¬ (other < at))
 IsWholeRefusedAt model t kind at =
-    IsPosixRefusedAt model t kind at × ((place : ℕ) → IsNumberedAt t place → at < place)
+    IsPosixRefusedAt model t kind at × ((other : ℕ) → IsNumberedAt t other → at < other)
 
 -- a text is accepted or refused, and never both
 abbrev pub IsJudged : Model → Text → Type 0

@@ -419,7 +419,7 @@ fn too_large(slot: WidthOrPrecision) -> RefusalKind
     }
 }
 
-// Why a byte is refused in a place where it isn't allowed.
+// Why a byte is refused where it isn't allowed.
 fn stray(byte: u8, kind: RefusalKind) -> RefusalKind
     ensures { result ≡ stray byte kind }
 {

@@ -1,5 +1,5 @@
 //! Laws of the definitions: a text has one list of argument types, or is refused for one reason and
-//! at one place.
+//! at one offset.
 ghost use Rattle.std.specs.Prelude.{◌≡◌, ◌≢◌, false, ◌++◌, ◌<◌, ℕ, List, None, length, map};
 ghost use Rattle.pf_values.specs.declared.models.Model.{Model as model_of_data};
 ghost use Rattle.pf_values.specs.meaning.Items.{HasItems, IsAccepted, Item, types};
@@ -43,7 +43,7 @@ pub fn directives_once()
         → HasDirectives model t directives → HasDirectives model t others → directives ≡ others }
 {}
 
-/// A text is refused for one reason at one place.
+/// A text is refused for one reason at one offset.
 pub fn refused_once()
     ensures { (model : model_of_data) (t : Text) (kind other : RefusalKind) (p q : ℕ)
         → IsPosixRefusedAt model t kind p → IsPosixRefusedAt model t other q → (kind ≡ other) × (p ≡ q) }
@@ -88,7 +88,7 @@ pub fn judged_unnumbered()
     ensures { (model : model_of_data) (t : Text) → IsJudged model t }
 {}
 
-/// Where arguments may have no numbers, a text is refused for one reason at one place.
+/// Where arguments may have no numbers, a text is refused for one reason at one offset.
 pub fn refused_unnumbered_once()
     ensures { (model : model_of_data) (t : Text) (kind other : RefusalKind) (p q : ℕ)
         → IsWholeRefusedAt model t kind p → IsWholeRefusedAt model t other q

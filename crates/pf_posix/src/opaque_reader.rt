@@ -35,7 +35,7 @@ pub(crate) fn specification_at(text: &[u8], start: usize) -> Option<(OpaqueDirec
     Some((directive, at + 1))
 }
 
-// The flags from a place on, and where they end (C11 7.21.6.1, paragraph 6).
+// The flags from an offset on, and where they end (C11 7.21.6.1, paragraph 6).
 #[inline(always)]
 fn flags_at(text: &[u8], start: usize) -> (FlagSet, usize)
     requires { start ≤ length text.now }
@@ -54,7 +54,7 @@ fn flags_at(text: &[u8], start: usize) -> (FlagSet, usize)
     (flags, at)
 }
 
-// The field width at a place, and where it ends (C11 7.21.6.1, paragraphs 4 and 5).
+// The field width at an offset, and where it ends (C11 7.21.6.1, paragraphs 4 and 5).
 #[inline(always)]
 fn width_at(text: &[u8], start: usize) -> Option<(Option<OpaqueAmount>, usize)>
     requires { start ≤ length text.now }
@@ -71,7 +71,7 @@ fn width_at(text: &[u8], start: usize) -> Option<(Option<OpaqueAmount>, usize)>
     Some((Some(OpaqueAmount::Number(number)), stop))
 }
 
-// The precision at a place, and where it ends (C11 7.21.6.1, paragraphs 4 and 5).
+// The precision at an offset, and where it ends (C11 7.21.6.1, paragraphs 4 and 5).
 #[inline(always)]
 fn precision_at(text: &[u8], start: usize) -> Option<(Option<OpaqueAmount>, usize)>
     requires { start ≤ length text.now }
@@ -99,7 +99,7 @@ fn after_point(text: &[u8], start: usize) -> Option<(OpaqueAmount, usize)>
     Some((OpaqueAmount::Number(number), stop))
 }
 
-/// Whether a place of a text has this byte, which isn't zero.
+/// Whether an offset of a text has this byte, which isn't zero.
 #[inline(always)]
 pub(crate) fn has_byte(text: &[u8], at: usize, byte: u8) -> bool
     requires { byte ≢ 0 }
@@ -112,7 +112,7 @@ pub(crate) fn has_byte(text: &[u8], at: usize, byte: u8) -> bool
     text[at] == byte
 }
 
-// Whether a place of a text has a digit from 1 to 9.
+// Whether an offset of a text has a digit from 1 to 9.
 #[inline(always)]
 pub(crate) fn begins_number(text: &[u8], at: usize) -> bool
     ensures same { result ≡ is_first_digit (get_or text.now at 0) }
@@ -124,7 +124,7 @@ pub(crate) fn begins_number(text: &[u8], at: usize) -> bool
     matches!(text[at], b'1'..=b'9')
 }
 
-// The number that begins with the digits of `first`, and goes on with those from a place on; and
+// The number that begins with the digits of `first`, and goes on with those from an offset on; and
 // where they end. None if the number passes the limit.
 #[inline(always)]
 pub(crate) fn digits_at(text: &[u8], start: usize, first: u16) -> Option<(u16, usize)>
@@ -151,7 +151,7 @@ pub(crate) fn digits_at(text: &[u8], start: usize, first: u16) -> Option<(u16, u
     Some((number, at))
 }
 
-// The length modifier at a place, and where it ends (C11 7.21.6.1, paragraph 7).
+// The length modifier at an offset, and where it ends (C11 7.21.6.1, paragraph 7).
 #[inline(always)]
 fn modifier_at(text: &[u8], start: usize) -> (Modifier, usize)
     requires { start ≤ length text.now }
@@ -202,7 +202,7 @@ fn second_modifier(first: Modifier, byte: u8) -> Option<Modifier>
     }
 }
 
-// The conversion at a place (C11 7.21.6.1, paragraph 8).
+// The conversion at an offset (C11 7.21.6.1, paragraph 8).
 #[inline(always)]
 fn conversion_at(text: &[u8], at: usize) -> Option<Conversion>
     requires { at ≤ length text.now }

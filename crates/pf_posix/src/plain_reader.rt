@@ -1,4 +1,4 @@
-//! The front of a format in which no argument has a number and none is a `*`, read at places of the
+//! The front of a format in which no argument has a number and none is a `*`, read at offsets of the
 //! text. What it can't read is left to the automaton, which reads byte by byte.
 ghost use Rattle.std.specs.Prelude.{◌≡◌, ◌<◌, ◌≤◌, IfSome, None, Some, length};
 ghost use Rattle.pf_values.specs.declared.limits.TheConstants.{MAX_TEXT_LEN as LIMIT};
@@ -20,7 +20,7 @@ use pf_text::{flag_of, literal_len};
 use pf_values::limits::MAX_TEXT_LEN;
 use pf_values::{Length, Model};
 
-/// The front of a format, up to a place between two items.
+/// The front of a format, up to an offset between two items.
 #[derive(Clone, Copy, Debug)]
 pub(crate) struct PlainFront {
     /// Where it ends.
@@ -125,7 +125,7 @@ fn fetch_after_flags(
     fetch_after(model, text, at, parts)
 }
 
-// The flags from a place on, and where they end (C11 7.21.6.1, paragraph 6).
+// The flags from an offset on, and where they end (C11 7.21.6.1, paragraph 6).
 #[inline(always)]
 fn flags_from(text: &[u8], start: usize) -> (PartialSpecification, usize)
     requires { start ≤ length text.now }
@@ -144,7 +144,7 @@ fn flags_from(text: &[u8], start: usize) -> (PartialSpecification, usize)
     (parts, at)
 }
 
-// These parts with the field width at a place, if there is one, and where it ends (C11 7.21.6.1,
+// These parts with the field width at an offset, if there is one, and where it ends (C11 7.21.6.1,
 // paragraph 4).
 #[inline(always)]
 fn width_from(
@@ -163,7 +163,7 @@ fn width_from(
     Some((parts.with_width(), stop))
 }
 
-// These parts with the precision at a place, if there is one, and where it ends (C11 7.21.6.1,
+// These parts with the precision at an offset, if there is one, and where it ends (C11 7.21.6.1,
 // paragraph 4).
 #[inline(always)]
 fn precision_from(
@@ -210,7 +210,7 @@ fn fetch_after(
     }
 }
 
-// The type of the argument that the conversion at a place takes, and where it ends.
+// The type of the argument that the conversion at an offset takes, and where it ends.
 #[inline(always)]
 fn fetch_by(
     model: Model,

@@ -32,7 +32,7 @@ pub(crate) enum NextFetch {
     Refused(Refusal),
 }
 
-/// A reader of a text: its place, the automaton, and whether arguments are numbered.
+/// A reader of a text: its offset, the automaton, and whether arguments are numbered.
 #[derive(Clone, Copy, Debug)]
 pub(crate) struct Reader {
     automaton: Automaton,
@@ -63,7 +63,7 @@ impl Reader {
         Reader::unnumbered_at(0)
     }
 
-    /// A reader between two items at a place, after specifications that aren't numbered.
+    /// A reader between two items at an offset, after specifications that aren't numbered.
     #[inline(always)]
     pub(crate) fn unnumbered_at(at: usize) -> Reader
         ensures start { result.at ≡ at }
@@ -77,7 +77,7 @@ impl Reader {
         }
     }
 
-    /// The place behind the byte at which the last argument was fetched.
+    /// The offset behind the byte at which the last argument was fetched.
     #[inline(always)]
     pub(crate) fn at(&self) -> usize
         ensures { result ≡ self.now.at }

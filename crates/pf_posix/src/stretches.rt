@@ -20,12 +20,12 @@ pub struct Stretch {
     pub after: usize,
 }
 
-// What begins at a place between items.
+// What begins at an offset between items.
 #[derive(Clone, Copy)]
 enum Found {
-    /// Items of the profile, which end at this place.
+    /// Items of the profile, which end at this offset.
     Items(usize),
-    /// An opaque directive, which ends at this place.
+    /// An opaque directive, which ends at this offset.
     Opaque(OpaqueDirective, usize),
 }
 

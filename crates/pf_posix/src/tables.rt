@@ -19,7 +19,7 @@ use pf_values::{ArgType, Model, RefusalKind};
 /// As many arguments as a numbered format can have.
 pub(crate) const ROOM: usize = 4095;
 
-/// The type of each fetched argument, at its place, and the greatest number of them.
+/// The type of each fetched argument, at its index, and the greatest number of them.
 #[derive(Drop)]
 pub(crate) struct Table {
     types: [Option<ArgumentType>; ROOM],
@@ -76,19 +76,19 @@ impl Table {
     }
 
     // Adds an argument; `false` where it is there with another type.
-    fn add_fetch(&mut self, place: usize, wanted: ArgumentType) -> bool
-        requires { place < ROOM }
+    fn add_fetch(&mut self, index: usize, wanted: ArgumentType) -> bool
+        requires { index < ROOM }
         ensures { (seen : List FetchOf) → TableHolds self.old seen
             → MatchBool result
-            ((conflicts seen (fetch (Some (place + 1)) wanted) ≡ false)
-            × TableHolds self.new (seen ++ fetch (Some (place + 1)) wanted ∷ []))
-            (conflicts seen (fetch (Some (place + 1)) wanted) ≡ true) }
+            ((conflicts seen (fetch (Some (index + 1)) wanted) ≡ false)
+            × TableHolds self.new (seen ++ fetch (Some (index + 1)) wanted ∷ []))
+            (conflicts seen (fetch (Some (index + 1)) wanted) ≡ true) }
     {
-        self.count = larger(self.count, place + 1);
-        match self.types[place] {
+        self.count = larger(self.count, index + 1);
+        match self.types[index] {
             Some(there) => there.number() == wanted.number(),
             None => {
-                self.types[place] = Some(wanted);
+                self.types[index] = Some(wanted);
                 true
             }
         }
@@ -98,15 +98,15 @@ impl Table {
     fn finish(&self, at: usize) -> Result<(), Refusal>
         requires room { self.now.count ≤ ROOM }
         ensures { (seen : List FetchOf) → TableHolds self.now seen → MatchResult result
-            (λ _. (place : ℕ) → place < self.now.count → IsFetched place seen)
+            (λ _. (index : ℕ) → index < self.now.count → IsFetched index seen)
             (λ refusal. (refusal ≡ record { kind = MissingArgument; at = at }) × HasGap seen) }
     {
-        let mut place = 0;
-        while place < self.count {
-            if self.types[place].is_none() {
+        let mut index = 0;
+        while index < self.count {
+            if self.types[index].is_none() {
                 return Err(refusal(RefusalKind::MissingArgument, at));
             }
-            place += 1;
+            index += 1;
         }
         Ok(())
     }
@@ -118,14 +118,14 @@ impl Table {
             → out.new ≡ filled out.old (listed seen 0 self.now.count) }
         ensures length { length out.new ≡ length out.old }
     {
-        let mut place = 0;
-        while place < self.count {
+        let mut index = 0;
+        while index < self.count {
             put(
                 out,
-                place,
-                self.types[place].unwrap_or(ArgumentType::Profile(ArgType::Int)),
+                index,
+                self.types[index].unwrap_or(ArgumentType::Profile(ArgType::Int)),
             );
-            place += 1;
+            index += 1;
         }
     }
 }
@@ -148,14 +148,14 @@ fn refusal(kind: RefusalKind, at: usize) -> Refusal
     }
 }
 
-/// Sets the element at a place, if the slice has that place.
+/// Sets the element at a index, if the slice has that index.
 #[inline(always)]
-pub(crate) fn put<T: Copy>(out: &mut [T], place: usize, element: T)
+pub(crate) fn put<T: Copy>(out: &mut [T], index: usize, element: T)
     ensures length { length out.new ≡ length out.old }
     ensures filled { (start before : List T) → out.old ≡ filled start before
-        → place ≡ length before → out.new ≡ filled start (before ++ element ∷ []) }
+        → index ≡ length before → out.new ≡ filled start (before ++ element ∷ []) }
 {
-    if place < out.len() {
-        out[place] = element;
+    if index < out.len() {
+        out[index] = element;
     }
 }

@@ -132,7 +132,7 @@ module _ (old now : Pieces) (inside : (t read : Text) (items : List Item) → Ha
                 rest = byte ∷ after;
                 part = i.scanned.part;
                 split = whole;
-                place = f.0;
+                offset = f.0;
                 good = i.scanned.good;
               };
           over = λ closed. absurd (not_both old.is_over closed going);
@@ -170,7 +170,7 @@ module _ (old now : Pieces) (inside : (t read : Text) (items : List Item) → Ha
                 rest = [];
                 part = i.scanned.part;
                 split = whole ∙ sym (append-nil (read ++ i.fed));
-                place = f.1;
+                offset = f.1;
                 good = i.scanned.good;
               };
           over = λ closed. absurd (not_both old.is_over closed going);

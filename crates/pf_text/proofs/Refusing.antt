@@ -64,7 +64,7 @@ module _ (t part : Text) (items : List Item) (state : State) (h : IsSplit t item
           part = part;
           rest = byte ∷ more;
           split = refl;
-          place = refl;
+          offset = refl;
           limit = omega arith;
           good = good;
           longest = λ front after others other same few g. longest_at more front after other others same g;
@@ -88,7 +88,7 @@ module _ (t part : Text) (items : List Item) (state : State) (h : IsSplit t item
         part = part;
         rest = byte ∷ more;
         split = refl;
-        place = refl;
+        offset = refl;
         limit = omega arith;
         good = good;
         longest = λ front after others other same few g. none_longer front few full;
@@ -111,7 +111,7 @@ module _ (t part : Text) (items : List Item) (state : State) (h : IsSplit t item
         part = part;
         rest = [];
         split = sym (append-nil t);
-        place = refl;
+        offset = refl;
         limit = few;
         good = good;
         longest = λ front after others other same limit g. no_more front after same;

@@ -16,7 +16,7 @@ use Rattle.pf_values.specs.meaning.Flags.{flag_byte, flag_set, no_flags, with_fl
 use Rattle.pf_values.specs.meaning.Spelling.{SpellsPrecision, SpellsWidth}
 use Rattle.pf_values.specs.meaning.Text.{Text}
 use Rattle.pf_text.specs.Letters.{flag_of}
-use Rattle.pf_text.specs.Places.{ContinuesNumber, HasBytes}
+use Rattle.pf_text.specs.Offsets.{ContinuesNumber, HasBytes}
 use Rattle.pf_text.specs.States.{is_digit}
 use Rattle.pf_text.proofs.Complete.{digit_is, small}
 use Rattle.pf_text.proofs.NumberDigits.{below-push, digit_of, glyph_push}

@@ -162,18 +162,18 @@ module _ (t : Text) (kind other : RefusalKind) (p q : ℕ) (h : IsRefusedAt t ki
   same_front = go (cuts h.front h.rest g.front g.rest (sym h.split ∙ g.split)) where
     go : Cuts h.front h.rest g.front g.rest → (h.front ≡ g.front) × (h.rest ≡ g.rest)
     go (Later x e f) =
-        let few : length (h.front ++ x) ≤ MAX_TEXT_LEN = omega (arith, g.place, g.limit, ap length e) in
+        let few : length (h.front ++ x) ≤ MAX_TEXT_LEN = omega (arith, g.offset, g.limit, ap length e) in
         let none = h.longest x g.rest g.items g.part f few (subst (λ u. IsGoodFront u g.items g.part) e g.good) in
         (sym (e ∙ ap (λ x. h.front ++ x) none ∙ append-nil h.front), f ∙ ap (λ x. x ++ g.rest) none)
     go (Sooner x e f) =
-        let few : length (g.front ++ x) ≤ MAX_TEXT_LEN = omega (arith, h.place, h.limit, ap length e) in
+        let few : length (g.front ++ x) ≤ MAX_TEXT_LEN = omega (arith, h.offset, h.limit, ap length e) in
         let none = g.longest x h.rest h.items h.part f few (subst (λ u. IsGoodFront u h.items h.part) e h.good) in
         (e ∙ ap (λ x. g.front ++ x) none ∙ append-nil g.front, sym (f ∙ ap (λ x. x ++ h.rest) none))
 
   -- A text is refused for one reason at one place.
   pub IsRefusedAt-unique : (kind ≡ other) × (p ≡ q)
   IsRefusedAt-unique =
-      let places : p ≡ q = h.place ∙ ap length same_front.0 ∙ sym g.place in
+      let places : p ≡ q = h.offset ∙ ap length same_front.0 ∙ sym g.offset in
       let parts = same_part g.front h.part g.part h.items g.items (subst (λ u. IsGoodFront u h.items h.part) same_front.0 h.good) g.good in
       let cause : HasCause q g.part g.rest kind = subst (λ n. HasCause n g.part g.rest kind) places (subst (λ u. HasCause p u g.rest kind) parts (subst (λ u. HasCause p h.part u kind) same_front.1 h.cause)) in
       (same_cause q g.part g.rest kind other cause g.cause, places)

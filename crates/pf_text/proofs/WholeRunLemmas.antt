@@ -59,5 +59,5 @@ module _ (t read : Text) (old : Pieces) (given : List Piece) (h : HasGiven old t
 
   pub pieces_refused : (refusal : Refusal) → NextIsRefusal t (flat_map items_of given) refusal → HasRun t (flat_map items_of given) (Err refusal)
   pieces_refused refusal g =
-      let front : g.front ≡ take refusal.at t = sym (take-append_seam g.front g.rest) ∙ ap (take (length g.front)) (sym g.split) ∙ ap (λ n. take n t) (sym g.place) in
+      let front : g.front ≡ take refusal.at t = sym (take-append_seam g.front g.rest) ∙ ap (take (length g.front)) (sym g.split) ∙ ap (λ n. take n t) (sym g.offset) in
       (g.refused, (g.part, subst (λ u. IsGoodFront u (flat_map items_of given) g.part) front g.good))

@@ -36,16 +36,16 @@ pub record IsAfter (scanner : Scanner) (t : Text) (whole : List Item) : Type 0 w
 abbrev pub HasRefused : Scanner → Refusal → Type 0
 HasRefused scanner refusal = scanner.refused ≡ Some refusal
 
--- a refusal at the scanner's place
+-- a refusal at the scanner's offset
 abbrev pub refusal_by : Scanner → RefusalKind → Refusal
 refusal_by scanner kind = record { kind = kind; at = scanner.offset }
 
--- the answer for a byte that is taken, or refused at the scanner's place
+-- the answer for a byte that is taken, or refused at the scanner's offset
 abbrev pub refused_by : Scanner → Result Step RefusalKind → Result Step Refusal
 refused_by scanner (Ok step) = Ok step
 refused_by scanner (Err kind) = Err (refusal_by scanner kind)
 
--- the scanner, with a refusal at its place
+-- the scanner, with a refusal at its offset
 abbrev pub refusing : Scanner → RefusalKind → Scanner
 refusing scanner kind = record scanner { refused = Some (refusal_by scanner kind) }
 

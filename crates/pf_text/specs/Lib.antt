@@ -2,7 +2,7 @@ pub mod Stages
 pub mod Moves
 pub mod Fronts
 pub mod Letters
-pub mod Places
+pub mod Offsets
 pub mod Marks
 pub mod States
 pub mod History

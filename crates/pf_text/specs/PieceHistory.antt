@@ -73,7 +73,7 @@ pub record NextIsRefusal (t : Text) (items : List Item) (refusal : Refusal) : Ty
   pub rest : Text
   pub part : Text
   pub split : t ≡ front ++ rest
-  pub place : refusal.at ≡ length front
+  pub offset : refusal.at ≡ length front
   pub good : IsGoodFront front items part
 
 -- a piece, the refusal, or the end of an accepted text

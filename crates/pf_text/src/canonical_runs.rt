@@ -4,7 +4,7 @@ ghost use Rattle.memchr.specs.Find.{Passes, is_byte2};
 ghost use Rattle.pf_values.specs.meaning.Items.{Item, Reads};
 ghost use Rattle.pf_values.specs.declared.models.Model.{Model};
 ghost use Rattle.pf_text.specs.CanonicalRuns.{BeginsSilent, IsCanonicalRun, alternative_bytes, has_canonical_parts, is_kept_modifier, silents};
-ghost use Rattle.pf_text.specs.Places.{HasBytes};
+ghost use Rattle.pf_text.specs.Offsets.{HasBytes};
 ghost use Rattle.pf_values.specs.meaning.Text.{percent};
 
 use crate::letters::conv_of;
@@ -46,20 +46,20 @@ fn len_by_marks(text: &[u8]) -> usize
     let marks = marks_of(text);
     let mut at = 0;
     while at < text.len() {
-        let Some(place) = next_marked(marks, at) else {
+        let Some(offset) = next_marked(marks, at) else {
             return text.len();
         };
-        if place >= text.len() {
+        if offset >= text.len() {
             return text.len();
         }
-        if text[place] != b'%' {
+        if text[offset] != b'%' {
             return len_by_search(text);
         }
-        let len = item_len(&text[place..]);
+        let len = item_len(&text[offset..]);
         if len == 0 {
-            return place;
+            return offset;
         }
-        at = place + len;
+        at = offset + len;
     }
     at
 }

@@ -24,7 +24,7 @@ pub fn reads_once()
         → items ≡ others }
 {}
 
-/// A text is refused for one reason and at one place.
+/// A text is refused for one reason and at one offset.
 pub fn refused_once()
     ensures { (t : Text) (kind other : RefusalKind) (p q : ℕ) → IsRefusedAt t kind p
         → IsRefusedAt t other q → (kind ≡ other) × (p ≡ q) }

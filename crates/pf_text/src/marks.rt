@@ -56,7 +56,7 @@ fn marks_at<const N: usize>(text: &[u8], at: usize) -> u64
 pub(crate) fn next_marked(marks: u64, at: usize) -> Option<usize>
     requires { at < 64 }
     ensures { MatchOption result (HasNoMark marks at 64)
-        (λ place. (at ≤ place) × (place < 128) × HasNoMark marks at place) }
+        (λ offset. (at ≤ offset) × (offset < 128) × HasNoMark marks at offset) }
 {
     let left = marks >> at as u32;
     if left == 0 {

@@ -35,14 +35,14 @@ fn is_read_by_marks(text: &[u8]) -> bool
     let marks = marks_of(text);
     let mut at = 0;
     while at < text.len() {
-        let Some(place) = next_marked(marks, at) else {
+        let Some(offset) = next_marked(marks, at) else {
             return true;
         };
-        let len = item_len(text, place);
+        let len = item_len(text, offset);
         if len == 0 {
             return false;
         }
-        at = place + len;
+        at = offset + len;
     }
     true
 }
@@ -66,7 +66,7 @@ fn is_read_by_runs(text: &[u8]) -> bool
     true
 }
 
-// How many bytes at a place are literal, or are an item of the other kinds; 0 if that isn't known.
+// How many bytes at an offset are literal, or are an item of the other kinds; 0 if that isn't known.
 #[inline(always)]
 fn front_len(text: &[u8], at: usize) -> usize
     requires { at < length text.now }
@@ -79,7 +79,7 @@ fn front_len(text: &[u8], at: usize) -> usize
     item_len(text, at)
 }
 
-// How many bytes has the `%%` or the directive at a place; 0 if it isn't known that there is one.
+// How many bytes has the `%%` or the directive at an offset; 0 if it isn't known that there is one.
 #[inline(always)]
 fn item_len(text: &[u8], at: usize) -> usize
     requires { at + 1 < 2 ^ 64 }

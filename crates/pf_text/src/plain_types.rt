@@ -43,12 +43,12 @@ fn types_by_marks(model: Model, text: &[u8], types: &mut [ArgType]) -> Option<us
     let mut count = 0;
     let mut at = 0;
     while at < text.len() {
-        let Some(place) = next_marked(marks, at) else {
+        let Some(offset) = next_marked(marks, at) else {
             return Some(count);
         };
-        let (arg_type, len) = typed_item(model, text, place)?;
+        let (arg_type, len) = typed_item(model, text, offset)?;
         count = put_if_any(types, count, arg_type)?;
-        at = place + len;
+        at = offset + len;
     }
     Some(count)
 }
@@ -90,7 +90,7 @@ fn put_if_any(types: &mut [ArgType], count: usize, arg_type: Option<ArgType>) ->
     Some(count + 1)
 }
 
-// The type of the argument that the item at a place takes, if it takes one, and how many bytes it, or
+// The type of the argument that the item at an offset takes, if it takes one, and how many bytes it, or
 // a run of literal bytes there, has. None if it isn't known that there is either.
 #[inline(always)]
 fn typed_front(model: Model, text: &[u8], at: usize) -> Option<(Option<ArgType>, usize)>
@@ -108,7 +108,7 @@ fn typed_front(model: Model, text: &[u8], at: usize) -> Option<(Option<ArgType>,
     Some((None, len))
 }
 
-// The type of the argument that the `%%` or the directive at a place takes, if it takes one, and how
+// The type of the argument that the `%%` or the directive at an offset takes, if it takes one, and how
 // many bytes it has. None if it isn't known that there is one.
 #[inline(always)]
 fn typed_item(model: Model, text: &[u8], at: usize) -> Option<(Option<ArgType>, usize)>

@@ -122,11 +122,11 @@ fn literals_at<const N: usize>(text: &[u8], at: usize) -> usize
     ensures none { Nowhere (Passes (is_byte2 37 0) text.now) at (at + result) }
     ensures ended { result < N → Passes (is_byte2 37 0) text.now (at + result) }
 {
-    let places = ends_at::<N>(text, at);
-    if places == 0 {
+    let ends = ends_at::<N>(text, at);
+    if ends == 0 {
         return N;
     }
-    places.trailing_zeros() as usize
+    ends.trailing_zeros() as usize
 }
 
 /// Which bytes of a vector end a run of literal bytes, with a bit for each.

@@ -14,7 +14,7 @@ ghost use Rattle.pf_values.specs.meaning.Items as items;
 ghost use Rattle.pf_values.specs.meaning.Lengths.{length_letters};
 ghost use Rattle.pf_values.specs.meaning.Spelling.{SpellsPrecision, SpellsWidth};
 ghost use Rattle.pf_values.specs.meaning.Text.{Text, percent};
-ghost use Rattle.pf_text.specs.Places.{ContinuesNumber, HasBytes};
+ghost use Rattle.pf_text.specs.Offsets.{ContinuesNumber, HasBytes};
 
 use crate::letters::{conv_of, flag_of, modifier_of};
 use pf_values::limits::MAX_NUMBER;
@@ -98,7 +98,7 @@ fn suits_text(flags: FlagSet, length: Length) -> bool
     }
 }
 
-// The flags from a place on, and where they end (C11 7.21.6.1, paragraph 6).
+// The flags from an offset on, and where they end (C11 7.21.6.1, paragraph 6).
 #[inline(always)]
 fn flags_at(text: &[u8], start: usize) -> (FlagSet, usize)
     requires { start ≤ length text.now }
@@ -117,7 +117,7 @@ fn flags_at(text: &[u8], start: usize) -> (FlagSet, usize)
     (flags, at)
 }
 
-// The field width at a place, and where it ends (C11 7.21.6.1, paragraph 4).
+// The field width at an offset, and where it ends (C11 7.21.6.1, paragraph 4).
 #[inline(always)]
 fn width_at(text: &[u8], start: usize) -> (Option<u16>, usize)
     requires { start ≤ length text.now }
@@ -136,7 +136,7 @@ fn width_at(text: &[u8], start: usize) -> (Option<u16>, usize)
     }
 }
 
-// The precision at a place, and where it ends (C11 7.21.6.1, paragraph 4).
+// The precision at an offset, and where it ends (C11 7.21.6.1, paragraph 4).
 #[inline(always)]
 fn precision_at(text: &[u8], start: usize) -> (Option<u16>, usize)
     requires { start ≤ length text.now }
@@ -153,7 +153,7 @@ fn precision_at(text: &[u8], start: usize) -> (Option<u16>, usize)
     (Some(number), stop)
 }
 
-// The number that begins with the digits of `first`, and goes on with those from a place on; and
+// The number that begins with the digits of `first`, and goes on with those from an offset on; and
 // where they end, which is before a digit with which it would pass the limit.
 #[inline(always)]
 fn digits_at(text: &[u8], start: usize, first: u16) -> (u16, usize)
@@ -180,7 +180,7 @@ fn digits_at(text: &[u8], start: usize, first: u16) -> (u16, usize)
     (number, at)
 }
 
-/// The length modifier at a place, and where it ends (C11 7.21.6.1, paragraph 7).
+/// The length modifier at an offset, and where it ends (C11 7.21.6.1, paragraph 7).
 #[inline(always)]
 pub(crate) fn modifier_at(text: &[u8], start: usize) -> (Length, usize)
     requires { start ≤ length text.now }
@@ -212,7 +212,7 @@ fn modifier_with(text: &[u8], start: usize, first: Length) -> (Length, usize)
     }
 }
 
-/// The conversion at a place (C11 7.21.6.1, paragraph 8).
+/// The conversion at an offset (C11 7.21.6.1, paragraph 8).
 #[inline(always)]
 pub(crate) fn conv_at(text: &[u8], at: usize) -> Option<Conv>
     requires { at ≤ length text.now }

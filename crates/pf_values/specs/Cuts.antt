@@ -4,13 +4,13 @@ use Rattle.std.specs.declared.io.ErrorKind.{ErrorKind}
 use Rattle.pf_values.specs.meaning.Text.{Text}
 use Rattle.pf_values.specs.declared.devices.cut.Cut.{Cut}
 
--- the bytes that it has taken, which fill the front of its place
+-- the bytes that it has taken, which fill the front of its buffer
 abbrev pub taken_of : Cut → Text
-taken_of cut = take cut.len cut.place.now
+taken_of cut = take cut.len cut.buffer.now
 
 -- how many more bytes it takes
 abbrev pub room_of : Cut → ℕ
-room_of cut = length cut.place.now - cut.len
+room_of cut = length cut.buffer.now - cut.len
 
 -- how many bytes a call takes at most
 abbrev pub step_of : Cut → ℕ
@@ -24,9 +24,9 @@ error_kind_of cut = cut.kind
 abbrev pub flush_fails_of : Cut → Bool
 flush_fails_of cut = cut.flush_fails
 
--- what a write leaves as it was: the size of the place, and what `new` was given beside it
+-- what a write leaves as it was: the size of the buffer, and what `new` was given beside it
 pub record KeepsSettings (old new : Cut) : Type 0 where
-  pub size : length new.place.now ≡ length old.place.now
+  pub size : length new.buffer.now ≡ length old.buffer.now
   pub step : step_of new ≡ step_of old
   pub kind : error_kind_of new ≡ error_kind_of old
   pub flush : flush_fails_of new ≡ flush_fails_of old

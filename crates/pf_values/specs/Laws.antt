@@ -19,7 +19,7 @@ PrintsOnce model =
     (s : Specification) (argument : Argument) → HasType model argument (arg_type model s)
     → (out : Text) × PrintsOnly model s argument out
 
--- a value is at one place of a list and at no other; this project's own
+-- a value is at one index of a list and at no other; this project's own
 pub record OccursOnce {A : Type 0} (all : List A) (v : A) : Type 0 where
   pub before : List A
   pub after : List A

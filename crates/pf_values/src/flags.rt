@@ -9,7 +9,7 @@ pub enum Flag {
     Minus,
     /// `+`: always a sign.
     Plus,
-    /// A space in the place of a missing sign.
+    /// A space instead of a missing sign.
     Space,
     /// `#`: the alternative form.
     Alt,

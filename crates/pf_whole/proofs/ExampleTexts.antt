@@ -97,7 +97,7 @@ opaque model flags width precision modifier conversion defined is = record {
         before_is = record {
           before = 37 ∷ map flag_byte flags;
           text = width.text;
-          before_is = record { place = []; flags = flags; place_is = refl; set_is = refl; whole = refl };
+          before_is = record { number = []; flags = flags; number_is = refl; set_is = refl; whole = refl };
           width_is = width.spelled;
           whole = refl;
         };

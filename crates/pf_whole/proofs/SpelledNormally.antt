@@ -74,7 +74,7 @@ spelled_normally model t s h =
         before_is = record {
           before = 37 ∷ map flag_byte flags;
           text = posix_width_spelled s.width;
-          before_is = record { place = []; flags = flags; place_is = refl; set_is = sym (set_kept set); whole = refl };
+          before_is = record { number = []; flags = flags; number_is = refl; set_is = sym (set_kept set); whole = refl };
           width_is = width_here h.width s.width h.width_is;
           whole = refl;
         };

@@ -122,7 +122,7 @@ pub record IsRefusedAt (t : Text) (kind : RefusalKind) (at : ℕ) : Type 0 where
   pub part : Text
   pub rest : Text
   pub split : t ≡ front ++ rest
-  pub place : at ≡ length front
+  pub offset : at ≡ length front
   pub limit : at ≤ MAX_TEXT_LEN
   pub good : IsGoodFront front items part
   pub longest : (more after : Text) (items : List Item) (part : Text) → rest ≡ more ++ after

@@ -4,15 +4,15 @@ ghost use Rattle.std.specs.Prelude.{◌≡◌, ◌≤◌, length};
 use std::io;
 use std::io::{Error, ErrorKind, Write};
 
-/// A writer into a place in memory. A call takes as many bytes as there is room for, and at most a
-/// step of them. Where the place is full, a write of some bytes fails.
+/// A writer into a buffer. A call takes as many bytes as there is room for, and at most a
+/// step of them. If the buffer is full, a write of some bytes fails.
 pub struct Cut<'a> {
-    place: &'a mut [u8],
+    buffer: &'a mut [u8],
     len: usize,
     step: usize,
     kind: ErrorKind,
     flush_fails: bool,
-    ghost len_fits: { len ≤ length place.now },
+    ghost len_fits: { len ≤ length buffer.now },
     ghost moves: { 1 ≤ step },
 }
 
@@ -31,7 +31,7 @@ impl<'a> Cut<'a> {
         ensures flush { flush_fails_of result ≡ flush_fails }
     {
         Cut {
-            place: buf,
+            buffer: buf,
             len: 0,
             step,
             kind,
@@ -43,14 +43,14 @@ impl<'a> Cut<'a> {
     pub fn taken(&self) -> &[u8]
         ensures { result.now ≡ taken_of self.now }
     {
-        &self.place[..self.len]
+        &self.buffer[..self.len]
     }
 }
 
 impl<'a> Drop for Cut<'a> {
     fn drop(self) {
         let Cut {
-            place: _,
+            buffer: _,
             len: _,
             step: _,
             kind: _,
@@ -78,13 +78,13 @@ impl<'a> Write for Cut<'a> {
         ensures kind { IfErr result (λ e. error_kind e ≡ error_kind_of self.old) }
         ensures settings { KeepsSettings self.old self.new }
     {
-        let room = self.place.len() - self.len;
+        let room = self.buffer.len() - self.len;
         if room == 0 && !buf.is_empty() {
             return Err(Error::from(self.kind));
         }
         let count = buf.len().min(room.min(self.step));
         let start = self.len;
-        self.place[start..start + count].copy_from_slice(&buf[..count]);
+        self.buffer[start..start + count].copy_from_slice(&buf[..count]);
         self.len += count;
         Ok(count)
     }

@@ -6,7 +6,7 @@ ghost use Rattle.pf_values.specs.FaultPlaces.{fault_after_bytes, up_to_fault};
 use std::io;
 use std::io::{Error, ErrorKind, Read};
 
-/// A reader of some bytes. A call hands out at most a step of them, and none past the place where
+/// A reader of some bytes. A call hands out at most a step of them, and none past the offset at which
 /// it is to fail. There one call fails; then it goes on.
 #[derive(Debug, Drop)]
 pub struct Feed<'a> {

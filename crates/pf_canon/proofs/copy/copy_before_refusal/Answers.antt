@@ -44,7 +44,7 @@ returns-in-Ok-put-clause-copied g c model front out text start len same writer c
       h.rest,
       h.split,
       record {
-        place = h.place;
+        offset = h.offset;
         kind = h.kind;
         refused = h.refused;
         out = record {

@@ -16,4 +16,4 @@ returns-in-Err-write_output-clause-copied g c model taken start0 left start read
 pub returns-in-Err-clause-copied : goal.returns-in-Err-clause-copied
 returns-in-Err-clause-copied g c model taken start0 left start reader end h =
     let e = c.in-Err.ensures.ended model taken h.out h.items h.through in
-    inl (taken, record { reader = reader; end = end; place = e.1; kind = e.0; refused = e.2; out = settled_out model c.args.transducer.now taken start _ c.args.written h })
+    inl (taken, record { reader = reader; end = end; offset = e.1; kind = e.0; refused = e.2; out = settled_out model c.args.transducer.now taken start _ c.args.written h })

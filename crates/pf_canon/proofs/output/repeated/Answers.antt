@@ -1,6 +1,6 @@
 use Rattle.std.proofs.Common.{arith}
 use Rattle.pf_values.specs.declared.padding.TheConstants.{MAX_RUN}
-use Rattle.pf_canon.proofs.PlaceLemmas.{few_repeated, many_repeated}
+use Rattle.pf_canon.proofs.OffsetLemmas.{few_repeated, many_repeated}
 use Rattle.pf_canon.proofs.output.repeated.Goals as goal
 
 pub returns-then-count : goal.returns-then-count

@@ -4,7 +4,7 @@ use Rattle.std.proofs.lemmas.List.{take_rest}
 use Rattle.pf_values.specs.meaning.Canonical.{item_spelling}
 use Rattle.pf_text.specs.CanonicalRuns.{silents}
 use Rattle.pf_canon.specs.Output.{IsFrontOf}
-use Rattle.pf_canon.proofs.PlaceLemmas.{silent_at}
+use Rattle.pf_canon.proofs.OffsetLemmas.{silent_at}
 use Rattle.pf_canon.proofs.output.silent_front.Goals as goal
 
 pub returns : goal.returns

@@ -4,7 +4,7 @@ use Rattle.std.proofs.lemmas.Nat.{div-add-mod'}
 use Rattle.std.proofs.Math.Nat.{mod-lt}
 use Rattle.pf_canon.specs.declared.limits.TheConstants.{BLOCK}
 use Rattle.pf_values.specs.declared.padding.TheConstants.{MAX_RUN}
-use Rattle.pf_canon.proofs.PlaceLemmas.{take_block}
+use Rattle.pf_canon.proofs.OffsetLemmas.{take_block}
 use Rattle.pf_canon.proofs.SinkLemmas.{blocks, repeated_all, repeated_more, repeated_none}
 use Rattle.pf_canon.proofs.sink.put_repeated.Goals as goal
 

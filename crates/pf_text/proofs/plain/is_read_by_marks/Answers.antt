@@ -16,11 +16,11 @@ returns-in_default c e =
 pub loop-at-preserved : goal.loop-at-preserved
 loop-at-preserved c =
     let text = c.args.text.now in
-    let place = c.in-Some.place in
+    let offset = c.in-Some.offset in
     let len = c.item_len-len.result in
     let read = c.loop-at.invariant.read in
     let more = c.item_len-len.ensures.read in
-    let within : place + len ≤ length text = c.item_len-len.ensures.within (omega (arith, c.if-len-eq0.false)) in
-    let run = unmarked_read c.marks_of-marks.result text c.loop-at.at place read.0 c.in-Some.ensures.0 (omega (arith, within))
+    let within : offset + len ≤ length text = c.item_len-len.ensures.within (omega (arith, c.if-len-eq0.false)) in
+    let run = unmarked_read c.marks_of-marks.result text c.loop-at.at offset read.0 c.in-Some.ensures.0 (omega (arith, within))
     c.marks_of-marks.ensures c.in-Some.ensures.2 read.1 in
-    record { within = within; read = (_ ++ more.0, read_more text place len _ more.0 run more.1) }
+    record { within = within; read = (_ ++ more.0, read_more text offset len _ more.0 run more.1) }

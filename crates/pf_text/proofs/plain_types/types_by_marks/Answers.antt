@@ -20,15 +20,15 @@ pub loop-at-preserved : goal.loop-at-preserved
 loop-at-preserved c =
     let model = c.args.model in
     let text = c.args.text.now in
-    let place = c.in-Some.place in
+    let offset = c.in-Some.offset in
     let front = c.in_ok-arg_type in
     let found = take c.loop-at.count c.loop-at.types in
-    let within : place + front.len ≤ length text = front.ensures.1 in
-    let run = unmarked_typed model c.marks_of-marks.result text c.loop-at.at place found
+    let within : offset + front.len ≤ length text = front.ensures.1 in
+    let run = unmarked_typed model c.marks_of-marks.result text c.loop-at.at offset found
     c.in-Some.ensures.0 (omega (arith, within)) c.marks_of-marks.ensures c.in-Some.ensures.2 c.loop-at.invariant.typed in
-    let typed = typed_more model text place front.len found (option_to_list front.arg_type) run front.ensures.2 in
+    let typed = typed_more model text offset front.len found (option_to_list front.arg_type) run front.ensures.2 in
     record {
       within = within;
       room = c.in_ok-count.ensures.0;
-      typed = subst (ReadsTyped model (take (place + front.len) text)) (sym c.in_ok-count.ensures.1) typed;
+      typed = subst (ReadsTyped model (take (offset + front.len) text)) (sym c.in_ok-count.ensures.1) typed;
     }

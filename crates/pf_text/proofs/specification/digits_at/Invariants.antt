@@ -1,7 +1,7 @@
 use Rattle.std.proofs.Common.{◌-◌, ◌≤◌, length}
 use Rattle.pf_values.specs.declared.limits.TheConstants.{MAX_NUMBER}
 use Rattle.pf_values.specs.meaning.Text.{Text}
-use Rattle.pf_text.specs.Places.{ContinuesNumber, HasBytes}
+use Rattle.pf_text.specs.Offsets.{ContinuesNumber, HasBytes}
 use Rattle.pf_text.proofs.specification.digits_at.Given as goal
 
 abbrev pub invariant-loop-at : goal.invariant-loop-at

@@ -1,7 +1,7 @@
 use Rattle.std.proofs.Common.{◌-◌, ◌≡◌, List, length, map}
 use Rattle.pf_values.specs.declared.flags.Flag.{Flag}
 use Rattle.pf_values.specs.meaning.Flags.{flag_byte, flag_set}
-use Rattle.pf_text.specs.Places.{HasBytes}
+use Rattle.pf_text.specs.Offsets.{HasBytes}
 use Rattle.pf_text.proofs.specification.flags_at.Given as goal
 
 abbrev pub invariant-loop-at : goal.invariant-loop-at

@@ -4,8 +4,8 @@ use Rattle.pf_posix.specs.Tabled.{TableHolds}
 use Rattle.pf_posix.specs.Types.{IsFetched}
 use Rattle.pf_posix.proofs.tables.Table.finish.Given as goal
 
-abbrev pub invariant-loop-place : goal.invariant-loop-place
-invariant-loop-place l = (seen : List Fetch) → TableHolds l.self seen → (place : ℕ) → place < l.place → IsFetched place seen
+abbrev pub invariant-loop-index : goal.invariant-loop-index
+invariant-loop-index l = (seen : List Fetch) → TableHolds l.self seen → (index : ℕ) → index < l.index → IsFetched index seen
 
-abbrev pub decreases-loop-place : goal.decreases-loop-place
-decreases-loop-place l = l.self.count - l.place
+abbrev pub decreases-loop-index : goal.decreases-loop-index
+decreases-loop-index l = l.self.count - l.index

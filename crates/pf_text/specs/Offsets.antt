@@ -1,11 +1,11 @@
--- The bytes between two places of a text, and further digits of a number. This project's own.
+-- The bytes between two offsets of a text, and further digits of a number. This project's own.
 use Rattle.std.specs.Prelude.{◌≡◌, ℕ, ◌<◌, ◌≤◌, false, List, ◌++◌, length, map, take}
 use Rattle.std.specs.Fmt.{digit_glyph}
 use Rattle.std.specs.Int.Digits.{number_from_digits_after}
 use Rattle.std.specs.List.{AllByRecursion}
 use Rattle.pf_values.specs.meaning.Text.{Text}
 
--- a text has these bytes from one place up to another
+-- a text has these bytes from one offset up to another
 pub record HasBytes (t : Text) (start stop : ℕ) (bytes : Text) : Type 0 where
   pub from : start ≤ stop
   pub within : stop ≤ length t
