@@ -185,12 +185,13 @@ int64_t fmtcanon_is_canonical(int model, const char *text, size_t len, fmtcanon_
 int64_t fmtcanon_canonical_length(int model, const char *text, size_t len, fmtcanon_error *error);
 
 /* Returns the length of the canonical text, and writes it into `out` with a NUL after it. It fits if the
- * length is below `cap`. Allocates that length. */
+ * length is below `cap`. Allocates that length, and only if the format or its canonical text has more
+ * than 128 bytes. */
 int64_t fmtcanon_canonical(int model, const char *text, size_t len, char *out, size_t cap,
                            fmtcanon_error *error);
 
 /* Returns the number of arguments, and writes the type of each, an enum fmtcanon_type in one byte, into
- * `out`. Allocates only for more than eight. */
+ * `out`. Allocates only for more than 32, or if the format is rejected after more than eight. */
 int64_t fmtcanon_types(int model, const char *text, size_t len, unsigned char *out, size_t cap,
                        fmtcanon_error *error);
 
@@ -214,7 +215,8 @@ int64_t fmtcanon_compare(int model, const char *first, size_t first_len, const c
                          fmtcanon_comparison *comparison, fmtcanon_error *error);
 
 /* Returns the number of arguments of a format of the whole language, and writes the type of each, an enum
- * fmtcanon_type in one byte, into `out`. A `*` takes an int. Allocates one byte per argument. */
+ * fmtcanon_type in one byte, into `out`. A `*` takes an int. Allocates one byte per
+ * argument, and only for more than 32. */
 int64_t fmtcanon_arguments(int model, const char *text, size_t len, unsigned char *out, size_t cap,
                            fmtcanon_error *error);
 

@@ -412,11 +412,13 @@ static int64_t growing(int call, char *out, size_t cap, fmtcanon_comparison *fou
                        fmtcanon_error *e)
 {
     static const char many[] = "%d%d%d%d%d%d%d%d%d%d%4095d%4095d";
+    /* 33 arguments: one more than wait on the stack. */
+    static const char more[] = "%d%d%d%d%d%d%d%d%d%d%d%d%d%d%d%d%d%d%d%d%d%d%d%d%d%d%d%d%d%d%d%d%d";
     if (call == 0) return fmtcanon_canonical(LP64, many, sizeof many - 1, out, cap, e);
-    if (call == 1) return fmtcanon_types(LP64, many, sizeof many - 1, (unsigned char *)out, cap, e);
+    if (call == 1) return fmtcanon_types(LP64, more, sizeof more - 1, (unsigned char *)out, cap, e);
     if (call == 2) return fmtcanon_decode_literal("\"a\\n\"", 5, out, cap, e);
     if (call == 3) return fmtcanon_encode_literal("a\n", 2, out, cap);
-    if (call == 4) return fmtcanon_arguments(LP64, "%*.*f", 5, (unsigned char *)out, cap, e);
+    if (call == 4) return fmtcanon_arguments(LP64, more, sizeof more - 1, (unsigned char *)out, cap, e);
     if (call == 6) return fmtcanon_directives(LP64, "%*.*f", 5, (void *)out, cap / sizeof(fmtcanon_directive), e);
     return fmtcanon_compare(LP64, "%d%s", 4, "%d%.4095s", 9, out, cap, found, e);
 }
@@ -485,7 +487,10 @@ static void without_memory(void)
     fmtcanon_canonical_length(LP64, "%4095d", 6, &e);
     fmtcanon_same(LP64, "%4095d%5c", 9, "%4095d    %c", 12, &e);
     fmtcanon_same_models("%4095d%5c", 9, "%4095d    %c", 12, &e);
-    fmtcanon_types(LP64, "%d%d%d%d%d%d%d%d", 16, out, 8, &e);
+    fmtcanon_types(LP64, "%d%d%d%d%d%d%d%d%d", 18, out, 8, &e);
+    fmtcanon_arguments(LP64, "%*.*f%2$d", 9, out, 8, &e);
+    fmtcanon_arguments(LP64, "%*.*f", 5, out, 8, &e);
+    fmtcanon_canonical(LP64, "%5d%i%zu", 8, (char *)out, 8, &e);
     fmtcanon_compare(LP64, "%i", 2, "%d", 2, NULL, 0, &found, &e);
     fmtcanon_compare(LP64, "%i", 2, "%s", 2, NULL, 0, &found, &e);
     fmtcanon_canonical(LP64, "%y", 2, NULL, 0, &e);

@@ -1,0 +1,70 @@
+#!/usr/bin/env python3
+"""Counts the instructions of the C library's calls over real formats, compared with `parse_printf_format`.
+
+    bench/library.py FOLDER
+
+FOLDER has libfmtcanon.a, as `make library` leaves it. The formats are those of shapes.nul, and those of them alone that
+have a directive with a flag, a width, a precision, `i`, or a length modifier other than `h`, `hh`, `l` and `ll`.
+It needs gcc and valgrind, and prints the table of docs/PERFORMANCE.md.
+"""
+import re
+import subprocess
+import sys
+import tempfile
+from concurrent.futures import ThreadPoolExecutor
+from pathlib import Path
+
+sys.dont_write_bytecode = True
+
+from formats import records, shapes
+
+BENCH = Path(__file__).resolve().parent
+HEADERS = BENCH.parent / "include"
+ONE = ["check", "types", "arguments", "is_canonical", "canonical", "canonical_length"]
+TWO = ["fits, itself", "same, itself", "same, first byte changed", "same, a byte appended", "same, last byte changed"]
+PLAIN = re.compile(rb"(?:[^%]|%(?:%|#?(?:hh?|ll?)?[duoxXbcs]))*")
+
+
+def build(folder, work):
+    driver = work / "library"
+    words = ["gcc", "-std=gnu11", "-Wall", "-Wextra", "-O2", f"-I{HEADERS}", BENCH / "library.c", folder / "libfmtcanon.a"]
+    subprocess.run([*words, "-Wl,-z,now", "-o", driver], check=True)
+    return driver
+
+
+def count(driver, call, rounds, file):
+    """The instructions of a whole process."""
+    words = ["valgrind", "--tool=callgrind", "--callgrind-out-file=/dev/null", driver, call, str(rounds), file]
+    done = subprocess.run(words, capture_output=True, text=True, check=True)
+    return int(re.search(r"Collected : (\d+)", done.stderr).group(1))
+
+
+def named(call):
+    name, comma, rest = call.partition(",")
+    return f"`{name}`{comma}{rest}"
+
+
+def main(words):
+    if len(words) != 1:
+        sys.exit(__doc__)
+    texts = shapes()
+    sets = [texts, [text for text in texts if not PLAIN.fullmatch(text)]]
+    calls = ["nothing", "parse_printf_format", *ONE, *TWO]
+    with tempfile.TemporaryDirectory() as work, ThreadPoolExecutor() as workers:
+        work = Path(work)
+        driver = build(Path(words[0]), work)
+        costs = []
+        for place, formats in enumerate(sets):
+            file = work / f"{place}.nul"
+            file.write_bytes(records(formats))
+            counts = workers.map(lambda call: (count(driver, call, 3, file) - count(driver, call, 1, file)) / 2, calls)
+            found = dict(zip(calls, counts))
+            costs.append({call: (found[call] - found["nothing"]) / len(formats) for call in calls})
+    print(f"| Call | {len(sets[0]):,} formats | Ratio | {len(sets[1])} of them | Ratio |\n|---|---|---|---|---|")
+    for call in [*ONE, *TWO, "parse_printf_format"]:
+        known = [cost["parse_printf_format"] * (2 if call in TWO else 1) for cost in costs]
+        cells = [f"{cost[call]:,.0f} | {cost[call] / base:.2f}" for cost, base in zip(costs, known)]
+        print(f"| {named(call)} | {' | '.join(cells)} |")
+
+
+main(sys.argv[1:])
