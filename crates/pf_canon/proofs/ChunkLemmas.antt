@@ -57,7 +57,7 @@ use Rattle.pf_canon.specs.Transducer.{
   GrowsByChunk,
   HasScannedByte,
   IsThrough,
-  TakesDirective,
+  GrowsByDirective,
   TakesVerbatim,
   TakesText,
   RefusesChunk,
@@ -165,7 +165,7 @@ pub directive_taken : (model : Model) (r new : Transducer) (t out text : Text) (
     → len ≤ length text → IsThrough model r t items out → new.model ≡ r.model → scanned.TakesDirective t items text len new.scanner d
     → ((out : Text) (items rest : List Item) → SettlesDirective r.model d items rest out r.silents output new.silents) → new.silents ≤ r.silents + 1
     → length (output_text output) + 4 * new.silents ≤ 4 * r.silents + most_len (Directive d ∷ [])
-    → TakesDirective model t out text len (output_text output) new
+    → GrowsByDirective model t out text len (output_text output) new
 directive_taken model r new t out text items len d output some within h same takes settles one short =
     let more = items ++ Directive d ∷ [] in
     let long : 1 ≤ length (take len text) = omega (arith, some, within, length-take len text) in
@@ -177,7 +177,7 @@ directive_taken model r new t out text items len d output some within h same tak
 
 -- a chunk that ends with a directive
 pub directive_made : (model : Model) (new : Transducer) (t out text : Text) (verbatim_len at len : ℕ) (output : Output)
-    → TakesDirective model (t ++ take at text) (out ++ take verbatim_len text) (drop at text) len (output_text output) new
+    → GrowsByDirective model (t ++ take at text) (out ++ take verbatim_len text) (drop at text) len (output_text output) new
     → GrowsByChunk model t out text (record { verbatim_len = verbatim_len; start = at; len = at + len; item_output = outputs.Output output }) new
 directive_made model new t out text verbatim_len at len output h =
     let o = out ++ take verbatim_len text in
@@ -192,7 +192,7 @@ directive_made model new t out text verbatim_len at len output h =
 -- verbatim bytes and a directive that were taken one after another
 pub items_taken : (model : Model) (mid new : Transducer) (text out settled : Text) (at run len : ℕ)
     → TakesVerbatim model (take at text) out (drop at text) run mid
-    → ((t out : Text) (items : List Item) → IsThrough model mid t items out → TakesDirective model t out (drop (at + run) text) len settled new)
+    → ((t out : Text) (items : List Item) → IsThrough model mid t items out → GrowsByDirective model t out (drop (at + run) text) len settled new)
     → (now : List Item) × IsThrough model new (take (at + run + len) text) now (out ++ (take run (drop at text) ++ settled))
 items_taken model mid new text out settled at run len v d =
     let mid_through = subst (λ u. IsThrough model mid u v.items (out ++ take run (drop at text))) (sym (take-add at run text)) v.through in

@@ -177,7 +177,7 @@ pub record HasScannedByte (model : Model) (r : Transducer) (t : Text) (items : L
   pub takes : scanned.Takes (t ++ take at text) items byte step r.scanner
 
 -- the first `len` bytes of a text were taken, which are a directive that settles `settled`
-pub record TakesDirective (model : Model) (t out text : Text) (len : ℕ) (settled : Text)
+pub record GrowsByDirective (model : Model) (t out text : Text) (len : ℕ) (settled : Text)
     (new : Transducer) : Type 0 where
   pub items : List Item
   pub through : IsThrough model new (t ++ take len text) items (out ++ settled)

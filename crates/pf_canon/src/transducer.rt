@@ -7,7 +7,7 @@ ghost use Rattle.pf_text.specs.History.{offset_of};
 ghost use Rattle.pf_canon.specs.Answers.{most_len};
 ghost use Rattle.pf_canon.specs.declared.limits.TheConstants.{MAX_DIRECTIVE_LEN};
 ghost use Rattle.pf_canon.specs.Output.{output_text};
-ghost use Rattle.pf_canon.specs.Transducer.{SettlesEnd, GrowsByChunk, HasScannedByte, IsChunkWithin, IsThrough, IsUpTo, TakesVerbatim, TakesText, Settles, TakesByte, SettlesDirective, TakesChunk, TakesDirective, chunk_output_text, byte_output_text, data_model_of, more_of, scanner_of, held_silents_of};
+ghost use Rattle.pf_canon.specs.Transducer.{SettlesEnd, GrowsByChunk, HasScannedByte, IsChunkWithin, IsThrough, IsUpTo, TakesVerbatim, TakesText, Settles, TakesByte, SettlesDirective, TakesChunk, GrowsByDirective, chunk_output_text, byte_output_text, data_model_of, more_of, scanner_of, held_silents_of};
 
 use crate::chunk::{Chunk, ChunkRefusal};
 use crate::output::{Output, StepOutput};
@@ -219,7 +219,7 @@ impl Transducer {
         ensures fed { (model : Model) (t out : Text) (items : List Item)
             → IsThrough model self.old t items out
             → IfSome result (λ front.
-            TakesDirective model t out text.now front.1 (output_text front.0) self.new) }
+            GrowsByDirective model t out text.now front.1 (output_text front.0) self.new) }
         ensures within { MatchOption result (self.new ≡ self.old)
             (λ front. (0 < front.1) × (front.1 ≤ length text.now)) }
         ensures few { IfSome result (λ front. length (output_text front.0) + 4 * held_silents_of self.new

@@ -1,7 +1,7 @@
 use Rattle.pf_text.proofs.SearchLemmas.{first_ended, first_few, first_none, none_in}
 use Rattle.pf_text.proofs.search.literals_at.Goals as goal
 
-pub returns-then-ends-eq0-clause-none : goal.returns-then-places-eq0-clause-none
+pub returns-then-ends-eq0-clause-none : goal.returns-then-ends-eq0-clause-none
 returns-then-ends-eq0-clause-none g c = none_in c.args.text.now c.args.at g.row.N c.requires.room c.requires.few c.ends_at-ends.result
     c.ends_at-ends.ensures c.if-ends-eq0.true
 
