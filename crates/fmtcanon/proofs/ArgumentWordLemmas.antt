@@ -1,5 +1,6 @@
 -- What words give no number, and that they give one argument at most.
-use Rattle.std.proofs.Common.{◌≡◌, ℕ, ℤ, ◌-◌, ◌≤◌, Bool, true, false, [], ◌∷◌, ◌++◌, length, get_or, take, drop, pos, refl, sym, ap, subst, ◌∙◌, arith, Option, Some, None, IfNone}
+use Rattle.std.proofs.Common.{◌≡◌, ℕ, ℤ, ◌-◌, ◌≤◌, Bool, true, false, [], ◌∷◌, ◌++◌, length, get_or, take, drop, pos, refl, sym, ap, subst, ◌∙◌, arith, Option}
+use Rattle.std.proofs.Common.{Some, None, IfNone}
 use Rattle.std.proofs.lemmas.List.{take_rest}
 use Rattle.pf_values.specs.meaning.Arguments.{Argument, Number, String}
 use Rattle.pf_values.specs.meaning.Text.{Text}
@@ -25,7 +26,8 @@ no_minus digits rest n h e =
     let digit = read.bytes_are 0 0 read.some in
     omega (arith, digit.0)
 
-digits_behind_minus : (b : Bool) (t rest digits : Text) (n : ℕ) → t ≡ 45 ∷ rest → t ≡ minus_if b ++ digits → SpellsMagnitude digits n → (b ≡ true) × (rest ≡ digits)
+digits_behind_minus : (b : Bool) (t rest digits : Text) (n : ℕ) → t ≡ 45 ∷ rest → t ≡ minus_if b ++ digits → SpellsMagnitude digits n
+    → (b ≡ true) × (rest ≡ digits)
 digits_behind_minus true t rest digits n e h s = (refl, ap (drop 1) (sym e ∙ h))
 digits_behind_minus false t rest digits n e h s = absurd (no_minus digits rest n s (sym h ∙ e))
 
@@ -43,7 +45,8 @@ no_number_without_minus t other none z h =
     let same = digits_without_minus h.is_negative t h.unsigned other h.whole in
     none h.magnitude (subst (λ u. SpellsMagnitude u h.magnitude) (sym same.1) h.spelled)
 
-pub none_without_minus : (r : Option ℤ) (t : Text) → (get_or t 0 0 ≡ 45 → 1 ≤ length t → ⊥) → IfNone r ((n : ℕ) → SpellsMagnitude t n → ⊥) → IfNone r ((z : ℤ) → SpellsNumber t z → ⊥)
+pub none_without_minus : (r : Option ℤ) (t : Text) → (get_or t 0 0 ≡ 45 → 1 ≤ length t → ⊥) → IfNone r ((n : ℕ) → SpellsMagnitude t n → ⊥)
+    → IfNone r ((z : ℤ) → SpellsNumber t z → ⊥)
 none_without_minus (Some n) t other h = h
 none_without_minus None t other h = no_number_without_minus t other h
 
@@ -72,7 +75,8 @@ same_magnitude digits m n h g = (read_only digits m h).number ∙ sym (read_only
 same_negated : (b : Bool) (u v : Text) (m n : ℕ) → u ≡ v → SpellsMagnitude u m → SpellsMagnitude v n → negated_if b (pos m) ≡ negated_if b (pos n)
 same_negated b u v m n e h g = ap (λ k. negated_if b (pos k)) (same_magnitude v m n (subst (λ t. SpellsMagnitude t m) e h) g)
 
-same_number_of : (a b : Bool) (t u v : Text) (m n : ℕ) → t ≡ minus_if a ++ u → t ≡ minus_if b ++ v → SpellsMagnitude u m → SpellsMagnitude v n → negated_if a (pos m) ≡ negated_if b (pos n)
+same_number_of : (a b : Bool) (t u v : Text) (m n : ℕ) → t ≡ minus_if a ++ u → t ≡ minus_if b ++ v → SpellsMagnitude u m → SpellsMagnitude v n
+    → negated_if a (pos m) ≡ negated_if b (pos n)
 same_number_of true true t u v m n e f h g = same_negated true u v m n (ap (drop 1) (sym e ∙ f)) h g
 same_number_of true false t u v m n e f h g = absurd (no_minus v u n g (sym f ∙ e))
 same_number_of false true t u v m n e f h g = absurd (no_minus u v m h (sym e ∙ f))

@@ -26,7 +26,8 @@ all_give (word ∷ words) (argument ∷ arguments) h = ((argument, h.0), all_giv
 module _ (words : List (Bor Text)) (at : ℕ) (given : List UntypedArg)
     (before : SpellArguments (map (λ s. s.now) (take at words)) (map argument_given given)) (here : at < length words) where
   pub given_so_far : length given ≡ at
-  given_so_far = sym (length-map given argument_given) ∙ AllZip-long SpellsArgument _ _ before ∙ length-map (take at words) (λ s. s.now) ∙ length-take-le at words (omega arith)
+  given_so_far = sym (length-map given argument_given) ∙ AllZip-long SpellsArgument _ _ before ∙ length-map (take at words) (λ s. s.now)
+      ∙ length-take-le at words (omega arith)
 
   module _ (d : Bor Text) (word : Text) (is_here : word ≡ (get_or words at d).now) where
     pub one_more_spelled : (argument : UntypedArg) → SpellsArgument word (argument_given argument)
@@ -38,7 +39,8 @@ module _ (words : List (Bor Text)) (at : ℕ) (given : List UntypedArg)
     pub first_bad_word : (SpellsSomeArgument word → ⊥) → IsFirstBadWord (map (λ s. s.now) words) at
     first_bad_word bad = record {
       word = word;
-      here = slice_get-map (λ (s : Bor Text). s.now) words at ∙ ap (λ (o : Option (Bor Text)). option_map (λ s. s.now) o) (slice_get-get_or words at d here) ∙ ap Some (sym is_here);
+      here = slice_get-map (λ (s : Bor Text). s.now) words at ∙ ap (λ (o : Option (Bor Text)). option_map (λ s. s.now) o) (slice_get-get_or words at d here)
+          ∙ ap Some (sym is_here);
       bad = bad;
       good_before = rw take-map (all_give _ _ before);
     }
@@ -51,7 +53,8 @@ pub record AreTyped (model : Model) (given : List UntypedArg) (wanted : List Arg
 
 module _ (model : Model) (given : List UntypedArg) (wanted : List ArgType) (args : List Arg) (at : ℕ) (before : AreTyped model given wanted args at) where
   pub typed_so_far : at < length given → length args ≡ at
-  typed_so_far here = sym (length-map args argument_of) ∙ ap length before.same ∙ length-map (take at given) argument_given ∙ length-take-le at given (omega arith)
+  typed_so_far here = sym (length-map args argument_of) ∙ ap length before.same ∙ length-map (take at given) argument_given
+      ∙ length-take-le at given (omega arith)
 
   module _ (argument : UntypedArg) (type : ArgType) (here : at < length given) (type_here : at < length wanted)
       (is_here : (d : UntypedArg) → argument ≡ get_or given at d) (type_is_here : (d : ArgType) → type ≡ get_or wanted at d) where
@@ -63,22 +66,26 @@ module _ (model : Model) (given : List UntypedArg) (wanted : List ArgType) (args
         let pushed : List Argument → Argument → List Argument = λ xs x. xs ++ x ∷ [] in
         record {
           same = map-append argument_of args (arg ∷ []) ∙ ap₂ pushed before.same (same ∙ ap argument_given (is_here argument)) ∙ sym first;
-          types_are = map-append type_of args (arg ∷ []) ∙ ap₂ (λ (xs : List ArgType) x. xs ++ x ∷ []) before.types_are (type_is ∙ type_is_here type) ∙ sym second;
-          typed = rw (first, second, ← is_here argument, ← type_is_here type) (all_zipped_more (HasType model) _ _ (argument_given argument) type before.typed typed);
+          types_are = map-append type_of args (arg ∷ []) ∙ ap₂ (λ (xs : List ArgType) x. xs ++ x ∷ []) before.types_are (type_is ∙ type_is_here type)
+              ∙ sym second;
+          typed = rw (first, second, ← is_here argument, ← type_is_here type)
+              (all_zipped_more (HasType model) _ _ (argument_given argument) type before.typed typed);
         }
 
     pub first_wrong_type : (HasType model (argument_given argument) type → ⊥) → IsFirstWrongType model (map argument_given given) wanted at
     first_wrong_type wrong = record {
       argument = argument_given argument;
       type = type;
-      here = slice_get-map argument_given given at ∙ ap (option_map argument_given) (slice_get-get_or given at argument here ∙ ap Some (sym (is_here argument)));
+      here = slice_get-map argument_given given at ∙ ap (option_map argument_given)
+          (slice_get-get_or given at argument here ∙ ap Some (sym (is_here argument)));
       type_here = slice_get-get_or wanted at type type_here ∙ ap Some (sym (type_is_here type));
       wrong = wrong;
       right_before = rw take-map before.typed;
     }
 
 -- there are more or fewer words than the format takes arguments
-pub wrong_count_hinders : (model : Model) (format : Text) (words : List Text) (wanted : List ArgType) → signatures.TakesTypes model format wanted → (arguments : List Argument) → SpellArguments words arguments
+pub wrong_count_hinders : (model : Model) (format : Text) (words : List Text) (wanted : List ArgType) → signatures.TakesTypes model format wanted
+    → (arguments : List Argument) → SpellArguments words arguments
     → (count given : ℕ) → count ≡ length wanted → given ≡ length arguments → count ≢ given → IsArgumentFault model format words (WrongCount count given)
 wrong_count_hinders model format words wanted takes arguments spelled count given is_count is_given differ = (
   takes.items,

@@ -14,7 +14,8 @@ use Rattle.pf_values.specs.declared.refusals.RefusalKind.TheVariants as kinds
 use Rattle.pf_values.specs.meaning.Refusals.{IsRefusedAt}
 use Rattle.pf_values.specs.meaning.Text.{Text, dollar, percent}
 use Rattle.fmtcanon.specs.Languages.{Language, Profile, Numbered, RefusesText, Unnumbered}
-use Rattle.fmtcanon.specs.Answers.{IsFormatFault, IsPairFault, IsGivenFault, IsGivenPairFault, IsOneFault, IsRefusalOfFirst, IsFaultInTexts, IsFaultInText, side_of}
+use Rattle.fmtcanon.specs.Answers.{IsFormatFault, IsPairFault, IsGivenFault, IsGivenPairFault, IsOneFault, IsRefusalOfFirst, IsFaultInTexts, IsFaultInText}
+use Rattle.fmtcanon.specs.Answers.{side_of}
 use Rattle.fmtcanon.specs.FormatArguments.{IsArgumentFault}
 use Rattle.fmtcanon.specs.Formats.{HoldsFormat, IsFormat, IsOffsetInText}
 use Rattle.fmtcanon.specs.Questions.{language_of_format}

@@ -1,5 +1,6 @@
 -- Bytes that spell a number without sign.
-use Rattle.std.proofs.Common.{take_all, FitsSigned, to_z, of_z, ◌+ℤ◌, ◌*ℤ◌, ℤ, pos, ◌≡◌, ℕ, ◌+◌, ◌-◌, ◌*◌, ◌^◌, ◌<◌, ◌≤◌, false, List, [], ◌∷◌, length, get_or, take, map, refl, sym, ap, ap₂, subst, ◌∙◌, arith, lit<}
+use Rattle.std.proofs.Common.{take_all, FitsSigned, to_z, of_z, ◌+ℤ◌, ◌*ℤ◌, ℤ, pos, ◌≡◌, ℕ, ◌+◌, ◌-◌, ◌*◌, ◌^◌, ◌<◌, ◌≤◌, false, List, [], ◌∷◌, length, get_or}
+use Rattle.std.proofs.Common.{take, map, refl, sym, ap, ap₂, subst, ◌∙◌, arith, lit<}
 use mir.Syntax.{w128}
 use Rattle.std.specs.Fmt.{digit_glyph}
 use Rattle.std.proofs.lemmas.Int.{ints}
@@ -107,7 +108,8 @@ module _ (bytes : Text) (at : ℕ) (here : at < length bytes) (few : length byte
   pub read_before-lt : number_read (take at bytes) < 10 ^ 19
   read_before-lt = number_read-lt (take at bytes) before (omega (arith, length-take at bytes))
 
-  module _ (z digit : ℤ) (z_is : z ≡ pos (number_read (take at bytes))) (digit_is : digit ≡ pos (get_or bytes at 0 - 48)) (is_digit : IsDigitByte (get_or bytes at 0)) where
+  module _ (z digit : ℤ) (z_is : z ≡ pos (number_read (take at bytes))) (digit_is : digit ≡ pos (get_or bytes at 0 - 48))
+      (is_digit : IsDigitByte (get_or bytes at 0)) where
     pub product_fits : FitsSigned w128 (z *ℤ pos 10)
     product_fits = let lt = read_before-lt in omega (arith, ints)
 

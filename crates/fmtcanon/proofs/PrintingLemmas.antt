@@ -16,7 +16,8 @@ use Rattle.pf_values.specs.meaning.Text.{Text}
 use Rattle.fmtcanon.specs.FormatArguments.{AreArgumentsFor}
 
 -- the type that an argument has by the list of types
-type_at : (args : List Arg) (index : ℕ) (arg : Arg) (wanted : ArgType) → slice_get args index ≡ Some arg → slice_get (map type_of args) index ≡ Some wanted → type_of arg ≡ wanted
+type_at : (args : List Arg) (index : ℕ) (arg : Arg) (wanted : ArgType) → slice_get args index ≡ Some arg → slice_get (map type_of args) index ≡ Some wanted
+    → type_of arg ≡ wanted
 type_at [] index arg wanted e f = absurd (cc)
 type_at (a ∷ args) zero arg wanted e f =
     let here : a ≡ arg = cc in
@@ -25,7 +26,8 @@ type_at (a ∷ args) zero arg wanted e f =
 type_at (a ∷ args) (suc index) arg wanted e f = type_at args index arg wanted e f
 
 -- each of the arguments is of its type
-typed_at : (model : Model) (args : List Arg) (index : ℕ) (arg : Arg) → HasTypes model (map argument_of args) (map type_of args) → slice_get args index ≡ Some arg
+typed_at : (model : Model) (args : List Arg) (index : ℕ) (arg : Arg) → HasTypes model (map argument_of args) (map type_of args)
+    → slice_get args index ≡ Some arg
     → HasType model (argument_of arg) (type_of arg)
 typed_at model [] index arg h e = absurd (cc)
 typed_at model (a ∷ args) zero arg h e =
@@ -45,7 +47,8 @@ module _ (model : Model) (format : Text) (words : List Text) (args : List Arg) (
   only_memory_hinders Memory h = refl
   only_memory_hinders (Refused refusal) h =
       absurd (h.not_accepted (gives.items, gives.given.accepted))
-  only_memory_hinders (WrongCount wanted given) h = absurd (h.differ (h.wanted_is ∙ ap length (its_types h.types h.takes) ∙ length-map args type_of ∙ sym h.given_is))
+  only_memory_hinders (WrongCount wanted given) h = absurd (h.differ
+      (h.wanted_is ∙ ap length (its_types h.types h.takes) ∙ length-map args type_of ∙ sym h.given_is))
   only_memory_hinders (WrongType index) h =
       let wanted = sym (ap (λ ts. slice_get ts index) (its_types h.types h.takes)) ∙ h.wanted_is in
       let same = type_at args index h.arg h.wanted h.arg_is wanted in

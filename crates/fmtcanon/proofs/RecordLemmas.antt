@@ -5,7 +5,8 @@ use Rattle.std.proofs.lemmas.List.{flat_map_more}
 use Rattle.pf_values.specs.declared.counted.Counted.{Counted}
 use Rattle.pf_values.specs.Counting.{Known, WritesAll, is_flushed}
 use Rattle.pf_values.specs.meaning.Text.{Text}
-use Rattle.fmtcanon.specs.RecordRuns.{AddsReply, HasAsked, HasFirst, HasReplies, HasSaid, HasSaidFirst, HasStopped, HasRepliedTo, RecordsFinish, RecordsEndEarly, WritesReplies, first_of, waiting_text}
+use Rattle.fmtcanon.specs.RecordRuns.{AddsReply, HasAsked, HasFirst, HasReplies, HasSaid, HasSaidFirst, HasStopped, HasRepliedTo, RecordsFinish}
+use Rattle.fmtcanon.specs.RecordRuns.{RecordsEndEarly, WritesReplies, first_of, waiting_text}
 use Rattle.fmtcanon.specs.Questions.{formats_wanted}
 use Rattle.fmtcanon.specs.Records.{AreReplies, IsReply, RepliesAll, RepliesFirst, Reply, last_record}
 use Rattle.fmtcanon.specs.declared.questions.RecordQuestion.{RecordQuestion}

@@ -1,5 +1,6 @@
 -- How a text is cut into records, as more of it comes.
-use Rattle.std.proofs.Common.{◌≡◌, ◌∙◌, ℕ, zero, suc, ◌+◌, ◌≢◌, Bool, true, false, List, [], ◌∷◌, ◌++◌, None, Some, add-one, append-nil, append_assoc, ap, arith, drop, get_or, length, refl, subst, sym, take, take-append-drop}
+use Rattle.std.proofs.Common.{◌≡◌, ◌∙◌, ℕ, zero, suc, ◌+◌, ◌≢◌, Bool, true, false, List, [], ◌∷◌, ◌++◌, None, Some, add-one, append-nil, append_assoc, ap}
+use Rattle.std.proofs.Common.{arith, drop, get_or, length, refl, subst, sym, take, take-append-drop}
 use Rattle.std.specs.Prelude.{◌==◌, flat_map}
 use Rattle.std.specs.List.{AllByRecursion}
 use Rattle.std.proofs.Math.Seq.{take-add, take-suc}

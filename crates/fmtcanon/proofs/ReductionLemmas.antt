@@ -38,17 +38,32 @@ spaces_read zero = refl
 spaces_read (suc n) = (space ∷ [], flat_map item_spelling (map Byte (replicate n space)), (λ e. cc, refl), spaces_read n, refl)
 
 -- the text of a directive before spaces
-core_reads : (model : Model) (core : Core) (trail : ℕ) → IsNormalCore model core → Reads (flat_map item_spelling (Directive (core_of core) ∷ map Byte (replicate trail space))) (Directive (core_of core) ∷ map Byte (replicate trail space))
-core_reads model core trail h = (spelling_of (core_of core), flat_map item_spelling (map Byte (replicate trail space)), (spelled_read (core_of core) (core_defined model core h), core_defined model core h), spaces_read trail, refl)
+core_reads : (model : Model) (core : Core) (trail : ℕ) → IsNormalCore model core
+    → Reads (flat_map item_spelling (Directive (core_of core) ∷ map Byte (replicate trail space))) (Directive (core_of core) ∷ map Byte (replicate trail space))
+core_reads model core trail h = (
+  spelling_of (core_of core),
+  flat_map item_spelling (map Byte (replicate trail space)),
+  (spelled_read (core_of core) (core_defined model core h), core_defined model core h),
+  spaces_read trail,
+  refl,
+)
 
-zeros_read : (n : ℕ) (items : List Item) → Reads (flat_map item_spelling items) items → Reads (flat_map item_spelling (map Byte (replicate n zero_digit) ++ items)) (map Byte (replicate n zero_digit) ++ items)
+zeros_read : (n : ℕ) (items : List Item) → Reads (flat_map item_spelling items) items
+    → Reads (flat_map item_spelling (map Byte (replicate n zero_digit) ++ items)) (map Byte (replicate n zero_digit) ++ items)
 zeros_read zero items h = h
 zeros_read (suc n) items h = (zero_digit ∷ [], flat_map item_spelling (map Byte (replicate n zero_digit) ++ items), (λ e. cc, refl), zeros_read n items h, refl)
 
 padding_reads : (n m : ℕ) (items : List Item) → Reads (flat_map item_spelling items) items
-    → Reads (flat_map item_spelling (map Byte (replicate n space ++ replicate m zero_digit) ++ items)) (map Byte (replicate n space ++ replicate m zero_digit) ++ items)
+    → Reads (flat_map item_spelling (map Byte (replicate n space ++ replicate m zero_digit) ++ items))
+    (map Byte (replicate n space ++ replicate m zero_digit) ++ items)
 padding_reads zero m items h = zeros_read m items h
-padding_reads (suc n) m items h = (space ∷ [], flat_map item_spelling (map Byte (replicate n space ++ replicate m zero_digit) ++ items), (λ e. cc, refl), padding_reads n m items h, refl)
+padding_reads (suc n) m items h = (
+  space ∷ [],
+  flat_map item_spelling (map Byte (replicate n space ++ replicate m zero_digit) ++ items),
+  (λ e. cc, refl),
+  padding_reads n m items h,
+  refl,
+)
 
 -- bytes are canonical after anything but a silent directive
 bytes_canonical : (model : Model) (bytes : Text) → AreCanonical model (map Byte bytes)
@@ -59,7 +74,8 @@ before_canonical : (model : Model) (bytes : Text) (items : List Item) → AreCan
 before_canonical model [] items h = h
 before_canonical model (b ∷ bytes) items h = before_canonical model bytes items h
 
-core_canonical : (model : Model) (core : Core) (trail : ℕ) → IsNormalCore model core → (core ≡ Silent → trail ≡ 0) → AreCanonical model (Directive (core_of core) ∷ map Byte (replicate trail space))
+core_canonical : (model : Model) (core : Core) (trail : ℕ) → IsNormalCore model core → (core ≡ Silent → trail ≡ 0)
+    → AreCanonical model (Directive (core_of core) ∷ map Byte (replicate trail space))
 core_canonical model (Normal n) trail h none = (inl h.1, bytes_canonical model (replicate trail space))
 core_canonical model Silent zero h none = (inr (refl, tt), tt)
 core_canonical model Silent (suc n) h none = absurd (let e = none refl in omega (arith, e))
@@ -71,7 +87,8 @@ reduction_text r = flat_map item_spelling (reduced_items r)
 reduction_reads : (model : Model) (s : Specification) (r : Reduced) → IsReducedTo model s r → ReadsCanonically model (reduction_text r) (reduced_items r)
 reduction_reads model s r h = record {
   reads = padding_reads r.spaces r.zeros (Directive (core_of r.core) ∷ map Byte (replicate r.trail space)) (core_reads model r.core r.trail h.normal);
-  canonical = before_canonical model (replicate r.spaces space ++ replicate r.zeros zero_digit) (Directive (core_of r.core) ∷ map Byte (replicate r.trail space))
+  canonical = before_canonical model (replicate r.spaces space ++ replicate r.zeros zero_digit)
+      (Directive (core_of r.core) ∷ map Byte (replicate r.trail space))
       (core_canonical model r.core r.trail h.normal (λ e. (h.silent e).2));
   whole = refl;
 }
@@ -80,8 +97,10 @@ same_items : (model : Model) (s : Specification) (r q : Reduced) → IsReducedTo
 same_items model s r q h g =
     let one = reduction_reads model s r h in
     let two = reduction_reads model s q g in
-    let alike = alike_trans model (reduced_items r) (Directive s ∷ []) (reduced_items q) (alike_sym model (Directive s ∷ []) (reduced_items r) (reduced_alike model s r h)) (reduced_alike model s q g) in
-    let text = equivalent_one model (reduction_text r) (reduction_text q) (reduced_items r, one) (reduced_items q, two) (alike-equivalent model _ _ (reduced_items r) (reduced_items q) one.reads two.reads alike) in
+    let alike = alike_trans model (reduced_items r) (Directive s ∷ []) (reduced_items q)
+    (alike_sym model (Directive s ∷ []) (reduced_items r) (reduced_alike model s r h)) (reduced_alike model s q g) in
+    let text = equivalent_one model (reduction_text r) (reduction_text q) (reduced_items r, one) (reduced_items q, two)
+    (alike-equivalent model _ _ (reduced_items r) (reduced_items q) one.reads two.reads alike) in
     Reads-unique (reduction_text r) (reduced_items r) (reduced_items q) one.reads (subst (λ t. Reads t (reduced_items q)) (sym text) two.reads)
 
 same_bytes : (x y : Text) → map Byte x ≡ map Byte y → x ≡ y
@@ -100,7 +119,8 @@ record AreSameParts (x y : Text) (c d : Specification) (u v : Text) : Type 0 whe
   pub core : c ≡ d
   pub behind : u ≡ v
 
-split_items : (x y : Text) (c d : Specification) (u v : Text) → map Byte x ++ (Directive c ∷ map Byte u) ≡ map Byte y ++ (Directive d ∷ map Byte v) → AreSameParts x y c d u v
+split_items : (x y : Text) (c d : Specification) (u v : Text) → map Byte x ++ (Directive c ∷ map Byte u) ≡ map Byte y ++ (Directive d ∷ map Byte v)
+    → AreSameParts x y c d u v
 split_items [] [] c d u v e = let tails : map Byte u ≡ map Byte v = cc in record { before = refl; core = cc; behind = same_bytes u v tails }
 split_items [] (b ∷ y) c d u v e = absurd (cc)
 split_items (a ∷ x) [] c d u v e = absurd (cc)
@@ -159,6 +179,12 @@ one_reduction model s r q h g =
 
 -- the line of a directive, of which a reduction is known
 pub shown_directive : (model : Model) {E : Type 0} (shown : Shown) (s : Specification) (old new : Text) (result : Result (Unit {0}) E) → shown ≡ Specified s
-    → IfOk result (λ x. (r : Reduced) × IsReducedTo model s r × (new ≡ old ++ reduced_line model s r)) → IfOk result (λ x. (part : Text) × IsLineOf model shown part × (new ≡ old ++ part))
+    → IfOk result (λ x. (r : Reduced) × IsReducedTo model s r × (new ≡ old ++ reduced_line model s r))
+    → IfOk result (λ x. (part : Text) × IsLineOf model shown part × (new ≡ old ++ part))
 shown_directive model shown s old new result e h =
-    IfOk-weaker result _ _ (λ x g. (reduced_line model s g.0, subst (λ y. IsLineOf model y (reduced_line model s g.0)) (sym e) (g.0, g.1, λ other is. one_reduction model s other g.0 is g.1, refl), g.2)) h
+    IfOk-weaker result _ _ (λ x g. (
+      reduced_line model s g.0,
+      subst (λ y. IsLineOf model y (reduced_line model s g.0)) (sym e)
+          (g.0, g.1, λ other is. one_reduction model s other g.0 is g.1, refl),
+      g.2,
+    )) h

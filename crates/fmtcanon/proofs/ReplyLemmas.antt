@@ -1,5 +1,6 @@
 -- What replies have gone out, and what is added to them.
-use Rattle.std.proofs.Common.{◌≡◌, ◌∙◌, ℕ, ◌+◌, ◌++◌, [], ◌∷◌, List, append-nil, append_assoc, ap, arith, length, length-append, max, min, refl, subst, sym, take, take_all, Result, Ok, Err}
+use Rattle.std.proofs.Common.{◌≡◌, ◌∙◌, ℕ, ◌+◌, ◌++◌, [], ◌∷◌, List, append-nil, append_assoc, ap, arith, length, length-append, max, min, refl, subst, sym}
+use Rattle.std.proofs.Common.{take, take_all, Result, Ok, Err}
 use Rattle.std.specs.Prelude.{MatchResult, OnErr, OnOk}
 use Rattle.std.proofs.lemmas.List.{flat_map_more}
 use Rattle.std.proofs.lemmas.List.Sums.{fold-append}

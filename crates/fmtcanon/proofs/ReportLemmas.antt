@@ -8,6 +8,7 @@ use Rattle.pf_values.specs.meaning.Text.{Text}
 use Rattle.fmtcanon.specs.Reports.{WritesReport}
 
 -- whatever the writer answered
-pub reports : {W : Type 0} (contents : W → Known) (old new : Counted W) (text : Text) (answered : Result (Unit {0}) ShortWrite) → Writes contents old new text answered → WritesReport contents old new text
+pub reports : {W : Type 0} (contents : W → Known) (old new : Counted W) (text : Text) (answered : Result (Unit {0}) ShortWrite)
+    → Writes contents old new text answered → WritesReport contents old new text
 reports contents old new text (Ok done) h = inl h
 reports contents old new text (Err short) h = inr (short.written, h.1, h.0)

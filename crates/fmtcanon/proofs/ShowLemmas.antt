@@ -28,7 +28,8 @@ unfolding digits
 silent_spelled = refl
 
 -- what was written, if it was
-pub if_written : {E : Type 0} (r : Result (Unit {0}) E) (old new added : Text) → new ≡ (if is_ok r then old ++ added else old) → IfOk r (λ x. new ≡ old ++ added)
+pub if_written : {E : Type 0} (r : Result (Unit {0}) E) (old new added : Text) → new ≡ (if is_ok r then old ++ added else old)
+    → IfOk r (λ x. new ≡ old ++ added)
 if_written (Ok done) old new added h = h
 if_written (Err x) old new added h = tt
 
@@ -39,7 +40,8 @@ joined before old new part added e f = e ∙ ap (λ u. u ++ added) f ∙ append_
 -- a text is cut so where this comes after it
 abbrev pub IsCutBefore : Text → Text → List Shown → Type 0
 IsCutBefore after t [] = t ≡ []
-IsCutBefore after t (Run bytes ∷ xs) = (bytes ≢ []) × AllByRecursion IsLiteral bytes × (rest : Text) × IsCutBefore after rest xs × (t ≡ bytes ++ rest) × BeginsNoRun (rest ++ after)
+IsCutBefore after t (Run bytes ∷ xs) = (bytes ≢ []) × AllByRecursion IsLiteral bytes × (rest : Text) × IsCutBefore after rest xs × (t ≡ bytes ++ rest)
+    × BeginsNoRun (rest ++ after)
 IsCutBefore after t (Percent ∷ xs) = (rest : Text) × IsCutBefore after rest xs × (t ≡ percent ∷ percent ∷ rest)
 IsCutBefore after t (Specified s ∷ xs) = (part rest : Text) × Spells part s × IsDefined s × IsCutBefore after rest xs × (t ≡ part ++ rest)
 
@@ -51,7 +53,8 @@ cut_whole (Percent ∷ xs) t h = (h.0, cut_whole xs h.0 h.1, h.2)
 cut_whole (Specified s ∷ xs) t h = (h.0, h.1, h.2, h.3, cut_whole xs h.1 h.4, h.5)
 
 -- one more
-cut_more : (xs : List Shown) (x : Shown) (t last after : Text) → IsCutBefore (last ++ after) t xs → IsCutBefore after last (x ∷ []) → IsCutBefore after (t ++ last) (xs ++ x ∷ [])
+cut_more : (xs : List Shown) (x : Shown) (t last after : Text) → IsCutBefore (last ++ after) t xs → IsCutBefore after last (x ∷ [])
+    → IsCutBefore after (t ++ last) (xs ++ x ∷ [])
 cut_more [] x t last after h one = subst (λ u. IsCutBefore after (u ++ last) (x ∷ [])) (sym h) one
 cut_more (Run bytes ∷ xs) x t last after h one = (
   h.0,
@@ -72,9 +75,18 @@ ends_run t (byte ∷ rest) (inl e) few = λ literal. literal.0 e
 ends_run t (byte ∷ rest) (inr (inl e)) few = λ literal. literal.1 e
 ends_run t (byte ∷ rest) (inr (inr e)) few = let long = length-append t (byte ∷ rest) in absurd (omega (arith, few, e, long))
 
-piece_cut : (piece : Piece) (read more after : Text) → IsTextOf piece more → IsPieceBefore piece (read ++ more) after → length ((read ++ more) ++ after) ≤ MAX_TEXT_LEN
+piece_cut : (piece : Piece) (read more after : Text) → IsTextOf piece more → IsPieceBefore piece (read ++ more) after
+    → length ((read ++ more) ++ after) ≤ MAX_TEXT_LEN
     → IsCutBefore after more (shown_of piece ∷ [])
-piece_cut (pieces.Literal run) read more after is w few = (w.some, w.literal, [], refl, is ∙ sym (append-nil run.now), ends_run (read ++ more) after w.longest few)
+piece_cut (pieces.Literal run) read more after is w few = (
+  w.some,
+  w.literal,
+  [],
+  refl,
+  is
+      ∙ sym (append-nil run.now),
+  ends_run (read ++ more) after w.longest few,
+)
 piece_cut pieces.Percent read more after is w few = ([], refl, is)
 piece_cut (pieces.Directive d) read more after is w few = (more, [], is.0, is.1, refl, sym (append-nil more))
 

@@ -14,10 +14,21 @@ use Rattle.pf_canon.specs.declared.faults.CopyFault.TheVariants as faults
 settled_kept : (model : Model) (front : Text) (w x y : Known) → Keeps x y → SettledOut model front w x → SettledOut model front w y
 settled_kept model front w x y kept h = record { given = h.given; settles = h.settles; writer = Appends-kept w x y h.given h.writer kept }
 
-refused_kept : (model : Model) (start left w x y : Known) (refusal : Refusal) → Keeps x y → CopyStops model start left w x (faults.Refused refusal) → CopyStops model start left w y (faults.Refused refusal)
+refused_kept : (model : Model) (start left w x y : Known) (refusal : Refusal) → Keeps x y → CopyStops model start left w x (faults.Refused refusal)
+    → CopyStops model start left w y (faults.Refused refusal)
 refused_kept model start left w x y refusal kept (inl h) =
     let ends = h.1 in
-    inl (h.0, record { reader = ends.reader; end = ends.end; offset = ends.offset; kind = ends.kind; refused = ends.refused; out = settled_kept model h.0 w x y kept ends.out })
+    inl (
+      h.0,
+      record {
+        reader = ends.reader;
+        end = ends.end;
+        offset = ends.offset;
+        kind = ends.kind;
+        refused = ends.refused;
+        out = settled_kept model h.0 w x y kept ends.out;
+      },
+    )
 refused_kept model start left w x y refusal kept (inr h) =
     let stops = h.3.stops in
     inr (
@@ -31,12 +42,20 @@ refused_kept model start left w x y refusal kept (inr h) =
       },
     )
 
-pub stop_kept : (model : Model) (start left w x y : Known) (fault : CopyFault) (refusal : Refusal) → fault ≡ faults.Refused refusal → Keeps x y → CopyStops model start left w x fault → CopyStops model start left w y (faults.Refused refusal)
+pub stop_kept : (model : Model) (start left w x y : Known) (fault : CopyFault) (refusal : Refusal) → fault ≡ faults.Refused refusal → Keeps x y
+    → CopyStops model start left w x fault → CopyStops model start left w y (faults.Refused refusal)
 stop_kept model start left w x y fault refusal e kept h = refused_kept model start left w x y refusal kept (subst (λ f. CopyStops model start left w x f) e h)
 
-pub read_well : {R : Type 0} (old new : Counted R) (fault : CopyFault) (refusal : Refusal) → fault ≡ faults.Refused refusal → ReadCounts {E = ℕ} old new (Err fault) → failures_of new ≡ failures_of old
+pub read_well : {R : Type 0} (old new : Counted R) (fault : CopyFault) (refusal : Refusal) → fault ≡ faults.Refused refusal
+    → ReadCounts {E = ℕ} old new (Err fault) → failures_of new ≡ failures_of old
 read_well old new fault refusal e h = subst (λ f. ReadCounts {E = ℕ} old new (Err f)) e h
 
 -- the flush after a refusal is the one call of the writer that may have failed
-pub one_flush : {W : Type 0} (old mid new : Counted W) (fault : CopyFault) (refusal : Refusal) (failed : Bool) → fault ≡ faults.Refused refusal → WriteCounts {E = ℕ} old mid (Err fault) → failures_of new ≡ failures_after (failures_of mid) failed → (b : Bool) × (failures_of new ≡ failures_after (failures_of old) b)
-one_flush old mid new fault refusal failed e h flush = (failed, flush ∙ ap (λ n. failures_after n failed) (subst (λ f. WriteCounts {E = ℕ} old mid (Err f)) e h))
+pub one_flush : {W : Type 0} (old mid new : Counted W) (fault : CopyFault) (refusal : Refusal) (failed : Bool) → fault ≡ faults.Refused refusal
+    → WriteCounts {E = ℕ} old mid (Err fault) → failures_of new ≡ failures_after (failures_of mid) failed
+    → (b : Bool) × (failures_of new ≡ failures_after (failures_of old) b)
+one_flush old mid new fault refusal failed e h flush = (
+  failed,
+  flush
+      ∙ ap (λ n. failures_after n failed) (subst (λ f. WriteCounts {E = ℕ} old mid (Err f)) e h),
+)

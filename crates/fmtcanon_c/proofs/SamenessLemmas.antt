@@ -1,5 +1,6 @@
 -- The data models in which something is so, as a sum.
-use Rattle.std.proofs.Common.{Bool, true, false, ◌≡◌, ℕ, suc, ◌+◌, ◌*◌, ◌<◌, List, [], ◌∷◌, ◌++◌, length, get_or, take, refl, sym, ap, ◌∙◌, subst, arith, inl, inr}
+use Rattle.std.proofs.Common.{Bool, true, false, ◌≡◌, ℕ, suc, ◌+◌, ◌*◌, ◌<◌, List, [], ◌∷◌, ◌++◌, length, get_or, take, refl, sym, ap, ◌∙◌, subst, arith, inl}
+use Rattle.std.proofs.Common.{inr}
 use Rattle.std.specs.Prelude.{◌⊎◌}
 use Rattle.std.proofs.Math.Seq.{take-suc}
 use Rattle.std.proofs.lemmas.Bool.{false≢true}
@@ -23,7 +24,8 @@ abbrev pub Adds : Type 0 → ℕ → ℕ → Type 0
 Adds Is weight more = (Is × (more ≡ weight)) ⊎ ((¬ Is) × (more ≡ 0))
 
 module _ (Is : Model → Type 0) where
-  one_of_more : (model : Model) (more weight : ℕ) (models : List Model) (sum : ℕ) → AreModels Is weight models sum → Adds (Is model) (weight_after weight models) more
+  one_of_more : (model : Model) (more weight : ℕ) (models : List Model) (sum : ℕ) → AreModels Is weight models sum
+      → Adds (Is model) (weight_after weight models) more
       → AreModels Is weight (models ++ model ∷ []) (sum + more)
   one_of_more model more weight [] sum h (inl added) = (0, refl, inl (added.0, omega (arith, h, added.1)))
   one_of_more model more weight [] sum h (inr added) = (0, refl, inr (added.0, omega (arith, h, added.1)))

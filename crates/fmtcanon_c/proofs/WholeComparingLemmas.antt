@@ -34,7 +34,8 @@ not_same (Types index) shows e = shows
 not_same (Directives index) shows e = shows
 not_same (Args shown) shows e = absurd (cc)
 
-pub words_may_want_memory : (model : Model) (f g : Text) (v : WholeVerdict) → IsComparison model f g v → ShowsArguments v → FaultForWholeCompare model f g Memory
+pub words_may_want_memory : (model : Model) (f g : Text) (v : WholeVerdict) → IsComparison model f g v → ShowsArguments v
+    → FaultForWholeCompare model f g Memory
 words_may_want_memory model f g v c shows =
     let is = c.is in
     let shape = shape_by model f g is.first.stretches is.second.stretches v is.first.reads is.second.reads is.is shows in (

@@ -85,7 +85,8 @@ module _ (model : Model) where
       prints_apart t u a b apart h g (append_cancel_left (printed items) (printed a) (printed b) both)
 
   -- two texts that read as common items up to a byte, and then go on with different ordinary characters
-  pub apart_after : (f g : Text) (common : ℕ) → AreCommon f g common → BeginApart (drop common f) (drop common g) → length f ≤ MAX_TEXT_LEN → length g ≤ MAX_TEXT_LEN
+  pub apart_after : (f g : Text) (common : ℕ) → AreCommon f g common → BeginApart (drop common f) (drop common g) → length f ≤ MAX_TEXT_LEN
+      → length g ≤ MAX_TEXT_LEN
       → IsAccepted (take common f) → IsAccepted (drop common f) → IsAccepted (drop common g) → AreTextsSame model f g false
   apart_after f g common same apart f_short g_short front one other =
       let front_of_g : take common f ++ drop common g ≡ g = ap (λ t. t ++ drop common g) same.same ∙ take-append-drop common g in

@@ -1,5 +1,6 @@
 -- Two texts that are compared.
-use Rattle.std.proofs.Common.{Some, ◌≡◌, ℕ, ◌+◌, ◌≤◌, ◌++◌, length, take, drop, sym, ap, ◌∙◌, ◌≢◌, ◌<◌, Bool, true, false, [], ◌∷◌, None, Result, Ok, Err, refl, subst, arith, inl, inr}
+use Rattle.std.proofs.Common.{Some, ◌≡◌, ℕ, ◌+◌, ◌≤◌, ◌++◌, length, take, drop, sym, ap, ◌∙◌, ◌≢◌, ◌<◌, Bool, true, false, [], ◌∷◌, None, Result, Ok, Err, refl}
+use Rattle.std.proofs.Common.{subst, arith, inl, inr}
 use Rattle.std.proofs.Math.Seq.{take-add}
 use Rattle.std.proofs.lemmas.List.{take-append-le, append-nil, append_assoc, append_cancel_left, length-append, length-take, take-append-drop}
 use Rattle.std.specs.Prelude.{◌⊎◌}

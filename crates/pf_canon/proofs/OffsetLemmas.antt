@@ -1,5 +1,6 @@
 -- What a text has from a place on.
-use Rattle.std.proofs.Common.{◌≡◌, ℕ, zero, suc, ◌+◌, ◌-◌, ◌*◌, ◌%◌, ◌<◌, ◌≤◌, [], ◌++◌, length, take, drop, replicate, refl, sym, ap, ◌∙◌, subst, arith, inl, inr}
+use Rattle.std.proofs.Common.{◌≡◌, ℕ, zero, suc, ◌+◌, ◌-◌, ◌*◌, ◌%◌, ◌<◌, ◌≤◌, [], ◌++◌, length, take, drop, replicate, refl, sym, ap, ◌∙◌, subst, arith, inl}
+use Rattle.std.proofs.Common.{inr}
 use Rattle.std.specs.Prelude.{flat_map}
 use Rattle.std.proofs.Math.Nat.{mod-eq_of_lt, mod-eq-sub-mod}
 use Rattle.std.proofs.Math.Seq.{drop-append-add}
@@ -35,12 +36,14 @@ take_block block most len byte e few = ap (take len) e ∙ take-replicate len mo
 
 -- a block of one byte, or less
 pub few_repeated : (block : Text) (most count byte : ℕ) → block ≡ replicate most byte → count < most → IsFrontOf (replicate count byte) (take count block)
-few_repeated block most count byte e few = subst (IsFrontOf (replicate count byte)) (sym (take_block block most count byte e (omega (arith, few)))) (front_all (replicate count byte))
+few_repeated block most count byte e few = subst (IsFrontOf (replicate count byte)) (sym (take_block block most count byte e (omega (arith, few))))
+    (front_all (replicate count byte))
 
 pub many_repeated : (block : Text) (most count byte : ℕ) → 0 < most → block ≡ replicate most byte → most ≤ count → IsFrontOf (replicate count byte) block
 many_repeated block most count byte some e many = record {
   behind = replicate (count - most) byte;
-  whole = let n : most + (count - most) ≡ count = omega (arith, many) in ap (λ n. replicate n byte) (sym n) ∙ sym (replicate-append-replicate most (count - most) byte) ∙ ap (λ t. t ++ replicate (count - most) byte) (sym e);
+  whole = let n : most + (count - most) ≡ count = omega (arith, many) in ap (λ n. replicate n byte) (sym n)
+      ∙ sym (replicate-append-replicate most (count - most) byte) ∙ ap (λ t. t ++ replicate (count - most) byte) (sym e);
   some = λ none. absurd (omega (arith, some, ap length e, length-replicate most byte, ap length none));
 }
 

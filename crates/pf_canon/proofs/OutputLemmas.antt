@@ -23,10 +23,16 @@ four_silents = refl
 
 pub length-silents : (count : ℕ) → length (flat_map item_spelling (silents count)) ≡ 4 * count
 length-silents zero = omega arith
-length-silents (suc count) = omega (arith, length-append (spelling_of silent) (flat_map item_spelling (silents count)), ap length spelled_silent, length-silents count)
+length-silents (suc count) = omega (
+  arith,
+  length-append (spelling_of silent) (flat_map item_spelling (silents count)),
+  ap length spelled_silent,
+  length-silents count,
+)
 
 -- how many there are
-pub length-whole : (spaces zeros count : ℕ) (bytes : Text) (trail : ℕ) → length (whole_text spaces zeros count bytes trail) ≡ spaces + (zeros + (4 * count + (length bytes + trail)))
+pub length-whole : (spaces zeros count : ℕ) (bytes : Text) (trail : ℕ)
+    → length (whole_text spaces zeros count bytes trail) ≡ spaces + (zeros + (4 * count + (length bytes + trail)))
 length-whole spaces zeros count bytes trail =
     let a = replicate spaces space in
     let b = replicate zeros zero_digit in

@@ -1,5 +1,6 @@
 -- Texts between spaces.
-use Rattle.std.proofs.Common.{◌≡◌, ◌≢◌, ℕ, zero, suc, ◌+◌, ◌<◌, Bool, true, false, [], ◌∷◌, ◌++◌, length, replicate, nat_eq, refl, sym, ap, ◌∙◌, arith, inl, inr}
+use Rattle.std.proofs.Common.{◌≡◌, ◌≢◌, ℕ, zero, suc, ◌+◌, ◌<◌, Bool, true, false, [], ◌∷◌, ◌++◌, length, replicate, nat_eq, refl, sym, ap, ◌∙◌, arith, inl}
+use Rattle.std.proofs.Common.{inr}
 use Rattle.std.proofs.lemmas.Bool.Decides.{nat_tests}
 use Rattle.std.proofs.lemmas.List.{append-nil, append_assoc, length-append, length-replicate, replicate-append-replicate}
 use Rattle.pf_values.specs.declared.models.Model.{Model}
@@ -73,7 +74,13 @@ spaces_between : (a : ℕ) (x : Text) (b : ℕ) → 0 < length x → Lacks space
 spaces_between a x b l h = ap spaces_of (append_assoc (replicate a space) x (replicate b space)) ∙ spaces_before a x (replicate b space) l h
 
 pub length_between : (a : ℕ) (x : Text) (b : ℕ) → length (between_spaces a x b) ≡ a + length x + b
-length_between a x b = omega (arith, length-append (replicate a space ++ x) (replicate b space), length-append (replicate a space) x, length-replicate {A = ℕ} a space, length-replicate {A = ℕ} b space)
+length_between a x b = omega (
+  arith,
+  length-append (replicate a space ++ x) (replicate b space),
+  length-append (replicate a space) x,
+  length-replicate {A = ℕ} a space,
+  length-replicate {A = ℕ} b space,
+)
 
 only_spaces : (a : ℕ) (x : Text) (b : ℕ) → length x ≡ 0 → between_spaces a x b ≡ replicate (a + b) space
 only_spaces a [] b h = ap (λ t. t ++ replicate b space) (append-nil (replicate a space)) ∙ replicate-append-replicate a b space
@@ -88,7 +95,8 @@ pub differ_in_length : (p q : Text) (k n : ℕ) → length p ≡ k → length q 
 differ_in_length p q k n e f other = λ same. other (sym e ∙ ap length same ∙ f)
 
 -- equal texts between as many spaces in all differ where they lie apart
-pub told_apart : (x : Text) (a b c d : ℕ) → Lacks space x → a + length x + b ≡ c + length x + d → (told : Bool) → DoLieApart (length x) a c told → DoTextsDiffer (between_spaces a x b) (between_spaces c x d) told
+pub told_apart : (x : Text) (a b c d : ℕ) → Lacks space x → a + length x + b ≡ c + length x + d → (told : Bool) → DoLieApart (length x) a c told
+    → DoTextsDiffer (between_spaces a x b) (between_spaces c x d) told
 told_apart x a b c d h e true g = λ same. g.1 (sym (spaces_between a x b g.0 h) ∙ ap spaces_of same ∙ spaces_between c x d g.0 h)
 told_apart x a b c d h e false (inl none) = only_spaces a x b none ∙ ap (λ n. replicate n space) (omega (arith, none, e)) ∙ sym (only_spaces c x d none)
 told_apart x a b c d h e false (inr same) =

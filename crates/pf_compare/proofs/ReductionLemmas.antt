@@ -1,5 +1,6 @@
 -- Two directives by what they are reduced to.
-use Rattle.std.proofs.Common.{◌≡◌, ◌≢◌, ℕ, zero, suc, ◌+◌, List, [], ◌∷◌, ◌++◌, length, map, replicate, refl, sym, ap, ◌∙◌, subst, arith, inl, inr, Bool, true, false, IsFalse, IsTrue, MatchBool}
+use Rattle.std.proofs.Common.{◌≡◌, ◌≢◌, ℕ, zero, suc, ◌+◌, List, [], ◌∷◌, ◌++◌, length, map, replicate, refl, sym, ap, ◌∙◌, subst, arith, inl, inr, Bool, true}
+use Rattle.std.proofs.Common.{false, IsFalse, IsTrue, MatchBool}
 use Rattle.std.proofs.lemmas.List.{length-replicate}
 use Rattle.pf_values.specs.declared.models.Model.{Model}
 use Rattle.pf_values.specs.meaning.Arguments.{HasTypes}
@@ -51,7 +52,8 @@ trails_equal (suc a) (suc b) e = ap suc (trails_equal a b (cc))
 -- the items of a reduction have its parts
 parts_of_items : (r q : Reduced) → reduced_items r ≡ reduced_items q → HaveSameParts r q
 parts_of_items r q e =
-    let parts = parted (replicate r.spaces space ++ replicate r.zeros zero_digit) (replicate q.spaces space ++ replicate q.zeros zero_digit) (core_of r.core) (core_of q.core) (map Byte (replicate r.trail space)) (map Byte (replicate q.trail space)) e in
+    let parts = parted (replicate r.spaces space ++ replicate r.zeros zero_digit) (replicate q.spaces space ++ replicate q.zeros zero_digit) (core_of r.core)
+    (core_of q.core) (map Byte (replicate r.trail space)) (map Byte (replicate q.trail space)) e in
     let padding = runs_equal space zero_digit r.spaces r.zeros q.spaces q.zeros (λ same. absurd (omega (arith, same))) parts.0 in
     record { spaces = padding.0; zeros = padding.1; core = parts.1; trail = trails_equal r.trail q.trail parts.2 }
 
@@ -74,7 +76,8 @@ canonical_behind : (model : Model) (bytes : Text) (items : List Item) → AreCan
 canonical_behind model [] items h = h
 canonical_behind model (byte ∷ bytes) items h = canonical_behind model bytes items h
 
-core_canonical : (model : Model) (core : Core) (trail : ℕ) → IsNormalCore model core → (core ≡ Silent → trail ≡ 0) → AreCanonical model (Directive (core_of core) ∷ map Byte (replicate trail space))
+core_canonical : (model : Model) (core : Core) (trail : ℕ) → IsNormalCore model core → (core ≡ Silent → trail ≡ 0)
+    → AreCanonical model (Directive (core_of core) ∷ map Byte (replicate trail space))
 core_canonical model (Normal n) trail h g = (inl h.1, bytes_canonical model (replicate trail space))
 core_canonical model Silent trail h g = (
   inr (refl, subst (λ n. BeginsWithNoByte (map Byte (replicate n space))) (sym (g refl)) tt),
@@ -110,7 +113,8 @@ module _ (model : Model) (s t : Specification) (r q : Reduced) (first : IsReduce
         let typed : HasTypes model p (types model (Directive s ∷ [])) = probe_typed model (types model (Directive s ∷ [])) p probe in
         let also : HasTypes model p (types model (Directive t ∷ [])) = subst (λ type. HasTypes model p (type ∷ [])) same_type typed in
         sym (first_alike.same_bytes p typed)
-        ∙ same p (all_printed model (Directive s ∷ []) p) (all_printed model (Directive t ∷ []) p) probe (all_printed-is model (Directive s ∷ []) p typed) (all_printed-is model (Directive t ∷ []) p also)
+        ∙ same p (all_printed model (Directive s ∷ []) p) (all_printed model (Directive t ∷ []) p) probe (all_printed-is model (Directive s ∷ []) p typed)
+        (all_printed-is model (Directive t ∷ []) p also)
         ∙ second_alike.same_bytes p also
 
     -- and those that no candidate tells apart are reduced to the same
@@ -121,6 +125,7 @@ module _ (model : Model) (s t : Specification) (r q : Reduced) (first : IsReduce
         (tail_claim model (length (reduced_items r) + length (reduced_items q)) (reduced_items r) (reduced_items q) [] (omega arith)
         (reduced_canonical model s r first) (reduced_canonical model t q second) reduced_types (agree same) (inl refl)).1
 
-    pub alike_by_parts : (told : Bool) → (IsTrue told → HaveSameParts r q) → (IsFalse told → ¬ HaveSameParts r q) → MatchBool told (PrintAlike model (Directive s ∷ []) (Directive t ∷ [])) (¬ PrintAlikeOnCandidates model s t)
+    pub alike_by_parts : (told : Bool) → (IsTrue told → HaveSameParts r q) → (IsFalse told → ¬ HaveSameParts r q)
+        → MatchBool told (PrintAlike model (Directive s ∷ []) (Directive t ∷ [])) (¬ PrintAlikeOnCandidates model s t)
     alike_by_parts true h g = same_parts_alike (h refl)
     alike_by_parts false h g = λ alike. g refl (alike_same_parts alike)

@@ -1,5 +1,6 @@
 -- A source is read as its bytes, and a text that is none as its fault.
-use Rattle.std.proofs.Common.{◌≡◌, ◌≢◌, ℕ, suc, ◌+◌, ◌-◌, true, false, List, [], ◌∷◌, ◌++◌, length, map, refl, sym, ap, ap₂, ◌∙◌, arith, inl, inr, length-append}
+use Rattle.std.proofs.Common.{◌≡◌, ◌≢◌, ℕ, suc, ◌+◌, ◌-◌, true, false, List, [], ◌∷◌, ◌++◌, length, map, refl, sym, ap, ap₂, ◌∙◌, arith, inl, inr}
+use Rattle.std.proofs.Common.{length-append}
 use Rattle.std.specs.Prelude.{◌==◌, flat_map, Option, Some, None}
 use Rattle.std.specs.List.{AllByRecursion}
 use Rattle.std.proofs.lemmas.Bool.{ne_eqb}
@@ -13,7 +14,8 @@ use Rattle.pf_literals.specs.declared.tokens.Context.TheVariants.{Before, Inside
 use Rattle.pf_literals.specs.declared.tokens.Token.{Token}
 use Rattle.pf_literals.specs.declared.tokens.Token.TheVariants.{White, Character, Invalid}
 use Rattle.pf_literals.specs.Elements.{AreElements, Bytes, Element, Numeric, Plain, Simple, begins_no_trigraph, quote, may_precede, value, written}
-use Rattle.pf_literals.specs.Sources.{AreWhite, IsStringLiteral, IsSource, StringLiteral, literal_bytes, close_of, element_offsets, is_white, literal_text, offsets}
+use Rattle.pf_literals.specs.Sources.{AreWhite, IsStringLiteral, IsSource, StringLiteral, literal_bytes, close_of, element_offsets, is_white, literal_text}
+use Rattle.pf_literals.specs.Sources.{offsets}
 use Rattle.pf_literals.specs.Faults.{AreOpen, IsFaultCause, IsFaultAt, open_text}
 use Rattle.pf_literals.specs.Tokens.{token_inside, token_outside, token_at}
 use Rattle.pf_literals.specs.Readings.{Fault, SourceReading, Whole, reading_at_end, prefixed, read_from, after_token}
@@ -29,7 +31,8 @@ prefixed-none (Whole bytes found close) = refl
 prefixed-none (Fault kind at) = refl
 
 -- bytes that are passed over
-pub read_from-skip : (context : Context) (passed rest : Bytes) (at : ℕ) → read_from context (length passed) at (passed ++ rest) ≡ read_from context 0 (at + length passed) rest
+pub read_from-skip : (context : Context) (passed rest : Bytes) (at : ℕ)
+    → read_from context (length passed) at (passed ++ rest) ≡ read_from context 0 (at + length passed) rest
 read_from-skip context [] rest at = let same : at ≡ at + 0 = omega arith in ap (λ n. read_from context 0 n rest) same
 read_from-skip context (byte ∷ passed) rest at =
     let same : at + 1 + length passed ≡ at + suc (length passed) = omega arith in
@@ -60,7 +63,8 @@ read_from-elements [] rest at h = let same : at ≡ at + 0 = omega arith in ap (
 read_from-elements (element ∷ elements) rest at h =
     let text = flat_map written elements ++ rest in
     let next = at + length (written element) in
-    let long : next + length (flat_map written elements) ≡ at + length (written element ++ flat_map written elements) = omega (arith, length-append (written element) (flat_map written elements)) in
+    let long : next + length (flat_map written elements) ≡ at + length (written element ++ flat_map written elements) = omega
+    (arith, length-append (written element) (flat_map written elements)) in
     ap (read_from Inside 0 at) (append_assoc (written element) (flat_map written elements) rest)
     ∙ read_from-element element text at (value element) (token_inside-element element text h.0 h.1)
     ∙ ap (prefixed (value element ∷ []) (at ∷ [])) (read_from-elements elements rest next h.2)
@@ -106,7 +110,8 @@ module _ (context : Context) (out : (t : Bytes) → token_at context t ≡ token
 -- behind a literal and its white space
 pub read_from-behind : (elements : List Element) (white rest : Bytes) (at : ℕ) → AreElements elements (quote ∷ []) → AreWhite white
     → read_from Inside 0 at (flat_map written elements ++ (quote ∷ white) ++ rest)
-    ≡ prefixed (map value elements) (element_offsets at elements) (read_from (Behind (at + length (flat_map written elements))) 0 (at + length (flat_map written elements ++ (quote ∷ white))) rest)
+    ≡ prefixed (map value elements) (element_offsets at elements)
+    (read_from (Behind (at + length (flat_map written elements))) 0 (at + length (flat_map written elements ++ (quote ∷ white))) rest)
 read_from-behind elements white rest at h clear =
     let text = flat_map written elements in
     let long : at + length text + 1 + length white ≡ at + length (text ++ (quote ∷ white)) = omega (arith, length-append text (quote ∷ white)) in
@@ -122,9 +127,11 @@ abbrev pub context_behind : Context → ℕ → List StringLiteral → Context
 context_behind context at [] = context
 context_behind context at (l ∷ literals) = context_behind (Behind (at + 1 + length (flat_map written l.elements))) (at + length (literal_text l)) literals
 
-pub read_from-literals : (literals : List StringLiteral) (context : Context) (rest : Bytes) (at : ℕ) → ((t : Bytes) → token_at context t ≡ token_outside t) → AllByRecursion IsStringLiteral literals
+pub read_from-literals : (literals : List StringLiteral) (context : Context) (rest : Bytes) (at : ℕ) → ((t : Bytes) → token_at context t ≡ token_outside t)
+    → AllByRecursion IsStringLiteral literals
     → read_from context 0 at (flat_map literal_text literals ++ rest)
-    ≡ prefixed (literal_bytes literals) (offsets at literals) (read_from (context_behind context at literals) 0 (at + length (flat_map literal_text literals)) rest)
+    ≡ prefixed (literal_bytes literals) (offsets at literals) (read_from (context_behind context at literals) 0
+    (at + length (flat_map literal_text literals)) rest)
 read_from-literals [] context rest at out h = let same : at ≡ at + 0 = omega arith in ap (λ n. read_from context 0 n rest) same ∙ sym (prefixed-none _)
 read_from-literals (l ∷ literals) context rest at out h =
     let body = flat_map written l.elements ++ (quote ∷ l.behind) in
@@ -142,36 +149,42 @@ read_from-literals (l ∷ literals) context rest at out h =
     ∙ ap (λ n. prefixed (literal_bytes (l ∷ literals)) (offsets at (l ∷ literals)) (read_from (context_behind context at (l ∷ literals)) 0 n rest)) long
 
 -- the last one closes there
-closed_there : (literals : List StringLiteral) (before at end : ℕ) → reading_at_end (context_behind (Behind before) at literals) end ≡ Whole [] [] (close_of before at literals)
+closed_there : (literals : List StringLiteral) (before at end : ℕ)
+    → reading_at_end (context_behind (Behind before) at literals) end ≡ Whole [] [] (close_of before at literals)
 closed_there [] before at end = refl
 closed_there (l ∷ literals) before at end = closed_there literals (at + 1 + length (flat_map written l.elements)) (at + length (literal_text l)) end
 
-closed_some : (literals : List StringLiteral) (at end : ℕ) → literals ≢ [] → reading_at_end (context_behind Before at literals) end ≡ Whole [] [] (close_of 0 at literals)
+closed_some : (literals : List StringLiteral) (at end : ℕ) → literals ≢ []
+    → reading_at_end (context_behind Before at literals) end ≡ Whole [] [] (close_of 0 at literals)
 closed_some [] at end some = absurd (some refl)
 closed_some (l ∷ literals) at end some = closed_there literals (at + 1 + length (flat_map written l.elements)) (at + length (literal_text l)) end
 
 -- what comes behind white space and literals
 pub read_from-front : (front rest : Bytes) (literals : List StringLiteral) → AreWhite front → AllByRecursion IsStringLiteral literals
     → read_from Before 0 0 (front ++ flat_map literal_text literals ++ rest)
-    ≡ prefixed (literal_bytes literals) (offsets (length front) literals) (read_from (context_behind Before (length front) literals) 0 (length (front ++ flat_map literal_text literals)) rest)
+    ≡ prefixed (literal_bytes literals) (offsets (length front) literals)
+    (read_from (context_behind Before (length front) literals) 0 (length (front ++ flat_map literal_text literals)) rest)
 read_from-front front rest literals clear each =
     let same : 0 + length front ≡ length front = omega arith in
     ap (read_from Before 0 0) (append_assoc front (flat_map literal_text literals) rest)
     ∙ read_from-white Before (λ t. refl) front (flat_map literal_text literals ++ rest) 0 clear
     ∙ ap (λ n. read_from Before 0 n (flat_map literal_text literals ++ rest)) same
     ∙ read_from-literals literals Before rest (length front) (λ t. refl) each
-    ∙ ap (λ n. prefixed (literal_bytes literals) (offsets (length front) literals) (read_from (context_behind Before (length front) literals) 0 n rest)) (sym (length-append front (flat_map literal_text literals)))
+    ∙ ap (λ n. prefixed (literal_bytes literals) (offsets (length front) literals) (read_from (context_behind Before (length front) literals) 0 n rest))
+    (sym (length-append front (flat_map literal_text literals)))
 
 pub read_from-source : (t : Bytes) (literals : List StringLiteral) (s : IsSource t literals)
     → read_from Before 0 0 t ≡ Whole (literal_bytes literals) (offsets (length s.front) literals) (close_of 0 (length s.front) literals)
 read_from-source t literals s =
     ap (read_from Before 0 0) (s.whole ∙ sym (append-nil (s.front ++ flat_map literal_text literals)))
     ∙ read_from-front s.front [] literals s.front_white s.each
-    ∙ ap (prefixed (literal_bytes literals) (offsets (length s.front) literals)) (closed_some literals (length s.front) (length (s.front ++ flat_map literal_text literals)) s.some)
+    ∙ ap (prefixed (literal_bytes literals) (offsets (length s.front) literals))
+    (closed_some literals (length s.front) (length (s.front ++ flat_map literal_text literals)) s.some)
     ∙ ap₂ (λ b p. Whole b p (close_of 0 (length s.front) literals)) (append-nil (literal_bytes literals)) (append-nil (offsets (length s.front) literals))
 
 -- the context after white space, literals, or an open literal is outside of one, or in it
-outside_behind : (literals : List StringLiteral) (context : Context) (at : ℕ) → ((t : Bytes) → token_at context t ≡ token_outside t) → (t : Bytes) → token_at (context_behind context at literals) t ≡ token_outside t
+outside_behind : (literals : List StringLiteral) (context : Context) (at : ℕ) → ((t : Bytes) → token_at context t ≡ token_outside t) → (t : Bytes)
+    → token_at (context_behind context at literals) t ≡ token_outside t
 outside_behind [] context at out = out
 outside_behind (l ∷ literals) context at out = outside_behind literals _ _ (λ t. refl)
 
@@ -184,15 +197,18 @@ unfolding fault_by
 stopped [] kind on at h = let same : at ≡ at + 0 = omega arith in ap (Fault Unterminated) same ∙ ap (fault_by at) h
 stopped (byte ∷ rest) kind on at h = ap (λ t. after_token at Inside t (λ p skip. read_from p skip (at + 1) rest)) h
 
-stray : (byte : ℕ) (after : Bytes) (context : Context) (at : ℕ) → ((t : Bytes) → token_at context t ≡ token_outside t) → byte ≢ quote → is_white byte ≡ false → read_from context 0 at (byte ∷ after) ≡ Fault NoLiteral (at + 0)
+stray : (byte : ℕ) (after : Bytes) (context : Context) (at : ℕ) → ((t : Bytes) → token_at context t ≡ token_outside t) → byte ≢ quote → is_white byte ≡ false
+    → read_from context 0 at (byte ∷ after) ≡ Fault NoLiteral (at + 0)
 stray byte after context at out other black =
     let no = ne_eqb byte 34 other in
     let is : token_outside (byte ∷ after) ≡ Invalid NoLiteral 0 = rw (no, black) refl in
     ap (λ t. after_token at context t (λ p skip. read_from p skip (at + 1) after)) (out (byte ∷ after) ∙ is)
 
 -- what is read of a fault's rest
-cause : (literals : List StringLiteral) (begun : Option (List Element)) (rest : Bytes) (kind : LiteralKind) (on at from : ℕ) → AreOpen begun rest → IsFaultCause literals begun rest kind on
-    → (bytes found : List ℕ) → prefixed bytes found (read_from (context_behind Before from literals) 0 at (open_text begun ++ rest)) ≡ Fault kind (at + length (open_text begun) + on)
+cause : (literals : List StringLiteral) (begun : Option (List Element)) (rest : Bytes) (kind : LiteralKind) (on at from : ℕ) → AreOpen begun rest
+    → IsFaultCause literals begun rest kind on
+    → (bytes found : List ℕ) → prefixed bytes found (read_from (context_behind Before from literals) 0 at (open_text begun ++ rest)) ≡ Fault kind
+    (at + length (open_text begun) + on)
 cause literals (Some elements) rest kind on at from open_ h bytes found =
     let context = context_behind Before from literals in
     let text = flat_map written elements in
@@ -220,5 +236,6 @@ read_from-fault t kind at f =
     let there : length front + length begun + f.on ≡ at = omega (arith, f.offset, length-append front begun) in
     ap (read_from Before 0 0) (f.whole ∙ append_assoc front begun f.rest)
     ∙ read_from-front f.front (begun ++ f.rest) f.literals f.front_white f.each
-    ∙ cause f.literals f.begun f.rest kind f.on (length front) (length f.front) f.elements_are f.cause (literal_bytes f.literals) (offsets (length f.front) f.literals)
+    ∙ cause f.literals f.begun f.rest kind f.on (length front) (length f.front) f.elements_are f.cause (literal_bytes f.literals)
+    (offsets (length f.front) f.literals)
     ∙ ap (Fault kind) there

@@ -18,7 +18,8 @@ module _ (t : Bytes) (out offsets : List ℕ) (old : SourceReading) (so_far : so
   pub moved : (more others : List ℕ) (new : SourceReading) → old ≡ prefixed more others new → source_reading t ≡ prefixed (out ++ more) (offsets ++ others) new
   moved more others new e = so_far ∙ ap (prefixed out offsets) e ∙ prefixed-prefixed out more offsets others new
 
-  pub appended : (more others grown : List ℕ) (new : SourceReading) → old ≡ prefixed more others new → grown ≡ out ++ more → source_reading t ≡ prefixed grown (offsets ++ others) new
+  pub appended : (more others grown : List ℕ) (new : SourceReading) → old ≡ prefixed more others new → grown ≡ out ++ more
+      → source_reading t ≡ prefixed grown (offsets ++ others) new
   appended more others grown new e g = moved more others new e ∙ ap (λ bytes. prefixed bytes (offsets ++ others) new) (sym g)
 
   pub all_read : (close : ℕ) → old ≡ Whole [] [] close → IsSourceOf t out × HasOffsets t offsets close
@@ -35,12 +36,15 @@ some_bytes out more rest some e =
     omega (arith, none, long, part, some)
 
 -- memory wants for a part
-pub hindered : (t : Bytes) (out offsets more others : List ℕ) (old : SourceReading) (cursor : Cursor) (fault : LiteralFault) → source_reading t ≡ prefixed out offsets old
+pub hindered : (t : Bytes) (out offsets more others : List ℕ) (old : SourceReading) (cursor : Cursor) (fault : LiteralFault)
+    → source_reading t ≡ prefixed out offsets old
     → old ≡ prefixed more others (reading_left t cursor) → 0 < length more → IsDecodingFault t cursor fault → FaultForDecode t fault
 hindered t out offsets more others old cursor (Refused refusal) so_far e some stop =
-    refused t (out ++ more) (offsets ++ others) (reading_left t cursor) (moved t out offsets old so_far more others (reading_left t cursor) e) refusal.kind refusal.at stop
+    refused t (out ++ more) (offsets ++ others) (reading_left t cursor)
+    (moved t out offsets old so_far more others (reading_left t cursor) e) refusal.kind refusal.at stop
 hindered t out offsets more others old cursor Memory so_far e some (bytes, found, close, stop) = (
   out ++ more ++ bytes,
-  (read_whole t (out ++ more ++ bytes) (offsets ++ others ++ found) close (moved t out offsets old so_far more others (reading_left t cursor) e ∙ ap (prefixed (out ++ more) (offsets ++ others)) stop)).0,
+  (read_whole t (out ++ more ++ bytes) (offsets ++ others ++ found) close
+      (moved t out offsets old so_far more others (reading_left t cursor) e ∙ ap (prefixed (out ++ more) (offsets ++ others)) stop)).0,
   some_bytes out more bytes some,
 )

@@ -27,7 +27,8 @@ pub spelled-verbatim : (verbatim rest : Bytes) → IsVerbatim verbatim → spell
 spelled-verbatim [] rest h = refl
 spelled-verbatim (byte ∷ verbatim) rest h = spelled-one false byte (verbatim ++ rest) h.0 ∙ ap (λ t. byte ∷ t) (spelled-verbatim verbatim rest h.1)
 
-pub spelled-some : (after : Bool) (verbatim rest : Bytes) → IsVerbatim verbatim → 0 < length verbatim → spelled after (verbatim ++ rest) ≡ verbatim ++ spelled false rest
+pub spelled-some : (after : Bool) (verbatim rest : Bytes) → IsVerbatim verbatim → 0 < length verbatim
+    → spelled after (verbatim ++ rest) ≡ verbatim ++ spelled false rest
 spelled-some after [] rest h some = absurd (omega arith)
 spelled-some after (byte ∷ verbatim) rest h some = spelled-one after byte (verbatim ++ rest) h.0 ∙ ap (λ t. byte ∷ t) (spelled-verbatim verbatim rest h.1)
 
@@ -40,11 +41,13 @@ spelled-part after t len few verbatim some =
     ∙ ap (λ n. take len t ++ spelled false (drop n t)) (sym long)
 
 -- a run at the front, and what is behind it
-pub encoded_verbatim : (t : Bytes) (verbatim : ℕ) → verbatim ≤ length t → IsVerbatim (take verbatim t) → spelled false t ≡ take verbatim t ++ spelled false (drop verbatim t)
+pub encoded_verbatim : (t : Bytes) (verbatim : ℕ) → verbatim ≤ length t → IsVerbatim (take verbatim t)
+    → spelled false t ≡ take verbatim t ++ spelled false (drop verbatim t)
 encoded_verbatim t verbatim few is = ap (spelled false) (sym (take-append-drop verbatim t)) ∙ spelled-verbatim (take verbatim t) (drop verbatim t) is
 
 -- a quote, the run, what is behind it, and a quote
-pub encoded : (t : Bytes) (verbatim : ℕ) (none a b c d : Bytes) → verbatim ≤ length t → IsVerbatim (take verbatim t) → none ≡ [] → a ≡ none ++ (quote ∷ []) → b ≡ a ++ take verbatim t
+pub encoded : (t : Bytes) (verbatim : ℕ) (none a b c d : Bytes) → verbatim ≤ length t → IsVerbatim (take verbatim t) → none ≡ [] → a ≡ none ++ (quote ∷ [])
+    → b ≡ a ++ take verbatim t
     → c ≡ b ++ spelled false (drop verbatim t) → d ≡ c ++ (quote ∷ []) → d ≡ encoding t
 encoded t verbatim none a b c d few is e f g h i =
     let rest = spelled false (drop verbatim t) in

@@ -5,7 +5,8 @@ use Rattle.std.proofs.lemmas.Bool.{and_parts, eqb-true, not_from_false}
 use Rattle.std.proofs.lemmas.Bool.Decides.{nat_tests}
 use Rattle.std.proofs.lemmas.List.{append-nil}
 use Rattle.pf_literals.specs.declared.notations.Notation.TheVariants.{Octal}
-use Rattle.pf_literals.specs.Elements.{AreEscapeDigits, AreElements, Bytes, Element, IsElement, Numeric, Plain, Simple, begins_no_trigraph, digit_value, ends_trigraph, is_escape_digit, is_line_end, escape_number, simple_byte, question, quote, may_precede, value, written}
+use Rattle.pf_literals.specs.Elements.{AreEscapeDigits, AreElements, Bytes, Element, IsElement, Numeric, Plain, Simple, begins_no_trigraph, digit_value}
+use Rattle.pf_literals.specs.Elements.{ends_trigraph, is_escape_digit, is_line_end, escape_number, simple_byte, question, quote, may_precede, value, written}
 use Rattle.pf_literals.specs.Encoding.{element_by, element_for, elements_for, encoding, is_printed, octal_digits, simple_letter, spelled}
 use Rattle.pf_literals.specs.Laws.{AreCStringBytes}
 use Rattle.pf_literals.specs.Sources.{IsSourceOf}
@@ -98,7 +99,8 @@ question_stands : (bytes : Bytes) → ends_trigraph (spelled true bytes ++ (quot
 question_stands [] = refl
 question_stands (byte ∷ bytes) =
     let h = head_behind byte in
-    ap (λ t. ends_trigraph (t ++ spelled (byte == question) bytes ++ (quote ∷ []))) h.is ∙ no_trigraph h.head (h.more ++ spelled (byte == question) bytes ++ (quote ∷ [])) h.other
+    ap (λ t. ends_trigraph (t ++ spelled (byte == question) bytes ++ (quote ∷ []))) h.is
+    ∙ no_trigraph h.head (h.more ++ spelled (byte == question) bytes ++ (quote ∷ [])) h.other
 
 full_stands : (byte : ℕ) (t : Bytes) → may_precede (Numeric Octal (octal_digits byte)) t ≡ true
 full_stands byte [] = refl
@@ -108,7 +110,8 @@ letter_stands : (byte letter : ℕ) (rest : Bytes) → simple_letter byte ≡ So
 letter_stands byte letter rest e = let other : (letter == question) ≡ false = grind (arith, nat_tests) in rw other refl
 
 -- each element has all its digits, and begins no trigraph
-stands_by : (byte : ℕ) (bytes : Bytes) (o : Option ℕ) → simple_letter byte ≡ o → may_precede (element_by o byte) (spelled (byte == question) bytes ++ (quote ∷ [])) ≡ true
+stands_by : (byte : ℕ) (bytes : Bytes) (o : Option ℕ) → simple_letter byte ≡ o
+    → may_precede (element_by o byte) (spelled (byte == question) bytes ++ (quote ∷ [])) ≡ true
 stands_by byte bytes (Some letter) e = letter_stands byte letter (spelled (byte == question) bytes ++ (quote ∷ [])) e
 stands_by byte bytes None e = go (is_printed byte) where
   plain : (b : Bool) → not (b && ends_trigraph (spelled b bytes ++ (quote ∷ []))) ≡ true
@@ -121,7 +124,8 @@ stands_by byte bytes None e = go (is_printed byte) where
 
 stands_for : (after : Bool) (byte : ℕ) (bytes : Bytes) → may_precede (element_for after byte) (spelled (byte == question) bytes ++ (quote ∷ [])) ≡ true
 stands_for after byte bytes = go (after && byte == question) refl where
-  go : (b : Bool) → (after && byte == question) ≡ b → may_precede (if b then Simple question question else element_by (simple_letter byte) byte) (spelled (byte == question) bytes ++ (quote ∷ [])) ≡ true
+  go : (b : Bool) → (after && byte == question) ≡ b → may_precede (if b then Simple question question else element_by (simple_letter byte) byte)
+      (spelled (byte == question) bytes ++ (quote ∷ [])) ≡ true
   go true e = subst (λ b. not (ends_trigraph (spelled b bytes ++ (quote ∷ []))) ≡ true) (sym (and_parts _ _ e).1) (not_from_false _ (question_stands bytes))
   go false e = stands_by byte bytes (simple_letter byte) refl
 

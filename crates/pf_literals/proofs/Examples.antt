@@ -17,7 +17,8 @@ empty = read_whole _ [] [] 1 refl
 side_by_side : IsReadAs (codes "\"%\" \"d\" ") (codes "%d") (1 ∷ 5 ∷ []) 6
 side_by_side = read_whole _ (codes "%d") (1 ∷ 5 ∷ []) 6 refl
 
-simple_escapes : IsReadAs (codes "\"\\a\\b\\t\\n\\v\\f\\r\\\"\\\\\\'\\?\"") (7 ∷ 8 ∷ 9 ∷ 10 ∷ 11 ∷ 12 ∷ 13 ∷ 34 ∷ 92 ∷ 39 ∷ 63 ∷ []) (1 ∷ 3 ∷ 5 ∷ 7 ∷ 9 ∷ 11 ∷ 13 ∷ 15 ∷ 17 ∷ 19 ∷ 21 ∷ []) 23
+simple_escapes : IsReadAs (codes "\"\\a\\b\\t\\n\\v\\f\\r\\\"\\\\\\'\\?\"") (7 ∷ 8 ∷ 9 ∷ 10 ∷ 11 ∷ 12 ∷ 13 ∷ 34 ∷ 92 ∷ 39 ∷ 63 ∷ [])
+    (1 ∷ 3 ∷ 5 ∷ 7 ∷ 9 ∷ 11 ∷ 13 ∷ 15 ∷ 17 ∷ 19 ∷ 21 ∷ []) 23
 simple_escapes = read_whole _ _ _ _ refl
 
 -- as many digits as there are, and no more than three octal ones

@@ -9,7 +9,8 @@ use Rattle.pf_literals.specs.declared.faults.LiteralKind.{LiteralKind}
 use Rattle.pf_literals.specs.declared.faults.LiteralKind.TheVariants.{NoLiteral, Unterminated, BadEscape, EscapeTooLarge, ZeroByte, Trigraph}
 use Rattle.pf_literals.specs.declared.notations.Notation.{Notation}
 use Rattle.pf_literals.specs.declared.notations.Notation.TheVariants.{Octal, Hexadecimal}
-use Rattle.pf_literals.specs.Elements.{AreEscapeDigits, AreElements, Bytes, Element, IsElement, Numeric, Plain, Simple, base, begins_no_trigraph, escape, has_more_digits, is_escape_digit, is_full, is_line_end, escape_number, quote, may_precede, written}
+use Rattle.pf_literals.specs.Elements.{AreEscapeDigits, AreElements, Bytes, Element, IsElement, Numeric, Plain, Simple, base, begins_no_trigraph, escape}
+use Rattle.pf_literals.specs.Elements.{has_more_digits, is_escape_digit, is_full, is_line_end, escape_number, quote, may_precede, written}
 use Rattle.pf_literals.specs.Faults.{AreOpen, IsFaultCause, IsUnfinishedEscape, IsFaultAt, IsElementFault, IsTrigraph, open_text}
 use Rattle.pf_literals.specs.Laws.{CanGoOn}
 use Rattle.pf_literals.specs.Sources.{AreWhite, IsStringLiteral, IsSource, StringLiteral, literal_bytes, literal_text}
@@ -74,7 +75,8 @@ stopped_sure rest ZeroByte on ((after, inr h), g) less = sure_as rest _ h.5 (esc
 stopped_sure rest Trigraph on (inl ((third, after, whole, is), g)) less = record { byte = 63; after = 63 ∷ third ∷ after; whole = whole; sure = inr (λ e. cc) }
 stopped_sure rest Trigraph on (inr (trigraph, whole, is, g)) less = record { byte = 92; after = trigraph; whole = whole; sure = inl refl }
 
-goes_longer : (notation : Notation) (count : ℕ) (rest more : Bytes) → (is_full notation count ≡ true) ⊎ (rest ≢ []) → has_more_digits notation count rest ≡ false → has_more_digits notation count (rest ++ more) ≡ false
+goes_longer : (notation : Notation) (count : ℕ) (rest more : Bytes) → (is_full notation count ≡ true) ⊎ (rest ≢ [])
+    → has_more_digits notation count rest ≡ false → has_more_digits notation count (rest ++ more) ≡ false
 goes_longer notation count [] [] h none = refl
 goes_longer notation count [] (b ∷ more) (inl full) none = and_left (not (is_full notation count)) (is_escape_digit notation b) (not_from_true _ full)
 goes_longer notation count [] (b ∷ more) (inr some) none = absurd (some refl)
@@ -108,7 +110,11 @@ stopped_longer rest more ZeroByte on ((after, inr (notation, digits, some, are, 
       notation,
       digits,
       some,
-      record { digits_are = are.digits_are; last = last_longer _ after more are.last; no_more = goes_longer notation (length digits) after more are.last are.no_more },
+      record {
+        digits_are = are.digits_are;
+        last = last_longer _ after more are.last;
+        no_more = goes_longer notation (length digits) after more are.last are.no_more;
+      },
       none,
       ap (λ r. r ++ more) e ∙ append_assoc (escape notation digits) after more,
     ),
@@ -118,11 +124,14 @@ stopped_longer rest more ZeroByte on ((after, inr (notation, digits, some, are, 
 stopped_longer rest more Trigraph on (inl (t, g)) less = inl (trigraph_longer rest more t, g)
 stopped_longer rest more Trigraph on (inr (trigraph, whole, t, g)) less = inr (trigraph ++ more, ap (λ r. r ++ more) whole, trigraph_longer trigraph more t, g)
 
-open_longer : (literals : List StringLiteral) (begun : Option (List Element)) (rest more : Bytes) (kind : LiteralKind) (on : ℕ) → AreOpen begun rest → IsFaultCause literals begun rest kind on → on < length rest
+open_longer : (literals : List StringLiteral) (begun : Option (List Element)) (rest more : Bytes) (kind : LiteralKind) (on : ℕ) → AreOpen begun rest
+    → IsFaultCause literals begun rest kind on → on < length rest
     → AreOpen begun (rest ++ more) × IsFaultCause literals begun (rest ++ more) kind on
 open_longer literals None rest more kind on are (is, none, inl (e, empty)) less = let nothing = ap length e in absurd (omega (arith, less, nothing))
-open_longer literals None rest more kind on are (is, none, inr (byte, after, e, other, black)) less = (tt, (is, none, inr (byte, after ++ more, ap (λ r. r ++ more) e, other, black)))
-open_longer literals (Some elements) rest more kind on are h less = (elements_longer elements rest more (stopped_sure rest kind on h less) are, stopped_longer rest more kind on h less)
+open_longer literals None rest more kind on are (is, none, inr (byte, after, e, other, black)) less =
+    (tt, (is, none, inr (byte, after ++ more, ap (λ r. r ++ more) e, other, black)))
+open_longer literals (Some elements) rest more kind on are h less =
+    (elements_longer elements rest more (stopped_sure rest kind on h less) are, stopped_longer rest more kind on h less)
 
 pub refused_longer : (t more : Bytes) (kind : LiteralKind) (at : ℕ) → IsFaultAt t kind at → at < length t → IsFaultAt (t ++ more) kind at
 refused_longer t more kind at f less =
@@ -145,20 +154,24 @@ refused_longer t more kind at f less =
     }
 
 -- a text that ends in a literal is closed by a quote, behind a digit where one is wanted
-all_push : (literals : List StringLiteral) (l : StringLiteral) → AllByRecursion IsStringLiteral literals → IsStringLiteral l → AllByRecursion IsStringLiteral (literals ++ l ∷ [])
+all_push : (literals : List StringLiteral) (l : StringLiteral) → AllByRecursion IsStringLiteral literals → IsStringLiteral l
+    → AllByRecursion IsStringLiteral (literals ++ l ∷ [])
 all_push [] l each is = (is, tt)
 all_push (x ∷ literals) l each is = (each.0, all_push literals l each.1 is)
 
 texts_push : (literals : List StringLiteral) (l : StringLiteral) → flat_map literal_text (literals ++ l ∷ []) ≡ flat_map literal_text literals ++ literal_text l
 texts_push [] l = append-nil (literal_text l)
-texts_push (x ∷ literals) l = ap (λ r. literal_text x ++ r) (texts_push literals l) ∙ sym (append_assoc (literal_text x) (flat_map literal_text literals) (literal_text l))
+texts_push (x ∷ literals) l = ap (λ r. literal_text x ++ r) (texts_push literals l)
+    ∙ sym (append_assoc (literal_text x) (flat_map literal_text literals) (literal_text l))
 
 pushed_literal : (literals : List StringLiteral) (l : StringLiteral) → literals ++ l ∷ [] ≢ []
 pushed_literal [] l e = cc
 pushed_literal (x ∷ literals) l e = cc
 
-closes : (t front : Bytes) (literals : List StringLiteral) (elements : List Element) → AreWhite front → AllByRecursion IsStringLiteral literals → AreElements elements (quote ∷ [])
-    → t ≡ front ++ flat_map literal_text literals ++ (quote ∷ (flat_map written elements ++ (quote ∷ []))) → IsSource t (literals ++ (record { elements = elements; behind = [] }) ∷ [])
+closes : (t front : Bytes) (literals : List StringLiteral) (elements : List Element) → AreWhite front → AllByRecursion IsStringLiteral literals
+    → AreElements elements (quote ∷ [])
+    → t ≡ front ++ flat_map literal_text literals ++ (quote ∷ (flat_map written elements ++ (quote ∷ [])))
+    → IsSource t (literals ++ (record { elements = elements; behind = [] }) ∷ [])
 closes t front literals elements clear each are e =
     let l : StringLiteral = record { elements = elements; behind = [] } in
     record {
@@ -187,14 +200,16 @@ elements_closed : (elements : List Element) → AreElements elements [] → AreE
 elements_closed [] are = tt
 elements_closed (element ∷ elements) are = (are.0, stands_closed element (flat_map written elements) are.1, elements_closed elements are.2)
 
-written_push : (elements : List Element) (element : Element) (rest : Bytes) → flat_map written (elements ++ element ∷ []) ++ rest ≡ flat_map written elements ++ (written element ++ rest)
+written_push : (elements : List Element) (element : Element) (rest : Bytes)
+    → flat_map written (elements ++ element ∷ []) ++ rest ≡ flat_map written elements ++ (written element ++ rest)
 written_push [] element rest = ap (λ r. r ++ rest) (append-nil (written element))
 written_push (x ∷ elements) element rest =
     append_assoc (written x) (flat_map written (elements ++ element ∷ [])) rest
     ∙ ap (λ r. written x ++ r) (written_push elements element rest)
     ∙ sym (append_assoc (written x) (flat_map written elements) (written element ++ rest))
 
-elements_push : (elements : List Element) (element : Element) (rest : Bytes) → AreElements elements (written element ++ rest) → IsElement element → may_precede element rest ≡ true
+elements_push : (elements : List Element) (element : Element) (rest : Bytes) → AreElements elements (written element ++ rest) → IsElement element
+    → may_precede element rest ≡ true
     → AreElements (elements ++ element ∷ []) rest
 elements_push [] element rest are is stands = (is, stands, tt)
 elements_push (x ∷ elements) element rest are is stands =
@@ -213,9 +228,11 @@ times_zero Octal n e = omega (arith, e)
 times_zero Hexadecimal n e = omega (arith, e)
 
 -- one more digit, which is 1
-one_more : (notation : Notation) (digits : Bytes) → AreEscapeDigits notation digits → escape_number notation digits ≡ 0 → is_full notation (length digits) ≡ false → IsElement (Numeric notation (digits ++ 49 ∷ []))
+one_more : (notation : Notation) (digits : Bytes) → AreEscapeDigits notation digits → escape_number notation digits ≡ 0
+    → is_full notation (length digits) ≡ false → IsElement (Numeric notation (digits ++ 49 ∷ []))
 one_more notation digits are none room =
-    let n : escape_number notation (digits ++ 49 ∷ []) ≡ 1 = number_after-push notation digits 0 49 ∙ times_zero notation (escape_number notation digits) none in
+    let n : escape_number notation (digits ++ 49 ∷ []) ≡ 1 = number_after-push notation digits 0 49
+    ∙ times_zero notation (escape_number notation digits) none in
     record { digits_are = AreDigits-push notation digits 49 are room (one_is_digit notation); some = omega (arith, n); fits = omega (arith, n) }
 
 one_stands : (notation : Notation) (digits : Bytes) → may_precede (Numeric notation digits) (quote ∷ []) ≡ true
@@ -229,23 +246,29 @@ module _ (t front : Bytes) (literals : List StringLiteral) (clear : AreWhite fro
   close_bare e none = goes_on_by t (quote ∷ quote ∷ []) ([] ++ (record { elements = []; behind = [] }) ∷ [])
       (closes (t ++ (quote ∷ quote ∷ [])) front [] [] clear tt tt (ap (λ r. r ++ (quote ∷ quote ∷ [])) e))
 
-  close_open : (elements : List Element) (rest : Bytes) → t ≡ front ++ flat_map literal_text literals ++ (quote ∷ flat_map written elements) ++ rest → rest ≡ [] → AreElements elements rest → CanGoOn t
+  close_open : (elements : List Element) (rest : Bytes) → t ≡ front ++ flat_map literal_text literals ++ (quote ∷ flat_map written elements) ++ rest
+      → rest ≡ [] → AreElements elements rest → CanGoOn t
   close_open elements rest e none are =
       let text = flat_map written elements in
       let before = front ++ flat_map literal_text literals in
-      goes_on_by t (quote ∷ []) _ (closes (t ++ (quote ∷ [])) front literals elements clear each (elements_closed elements (subst (AreElements elements) none are)) (
+      goes_on_by t (quote ∷ []) _ (closes (t ++ (quote ∷ [])) front literals elements clear each
+      (elements_closed elements (subst (AreElements elements) none are)) (
       ap (λ r. r ++ (quote ∷ [])) (e ∙ ap (λ r. before ++ (quote ∷ text) ++ r) none ∙ append-nil (before ++ (quote ∷ text)))
       ∙ append_assoc before (quote ∷ text) (quote ∷ [])
       ))
 
-  close_begun : (elements : List Element) (rest : Bytes) → t ≡ front ++ flat_map literal_text literals ++ (quote ∷ flat_map written elements) ++ rest → IsUnfinishedEscape rest → AreElements elements rest → CanGoOn t
+  close_begun : (elements : List Element) (rest : Bytes) → t ≡ front ++ flat_map literal_text literals ++ (quote ∷ flat_map written elements) ++ rest
+      → IsUnfinishedEscape rest → AreElements elements rest → CanGoOn t
   close_begun elements rest e h are =
       let text = flat_map written elements in
       let before = front ++ flat_map literal_text literals in
       let last = Numeric h.notation (h.digits ++ 49 ∷ []) in
-      let end : rest ++ (49 ∷ quote ∷ []) ≡ written last ++ (quote ∷ []) = ap (λ r. r ++ (49 ∷ quote ∷ [])) h.whole ∙ escape-push h.notation h.digits (quote ∷ []) 49 in
-      let longer = elements_longer elements rest (49 ∷ quote ∷ []) (sure_as rest _ (h.whole ∙ sym (append-nil (escape h.notation h.digits))) (escape_sure h.notation h.digits [])) are in
-      let all = elements_push elements last (quote ∷ []) (subst (AreElements elements) end longer) (one_more h.notation h.digits h.digits_are h.zeros h.room) (one_stands h.notation (h.digits ++ 49 ∷ [])) in
+      let end : rest ++ (49 ∷ quote ∷ []) ≡ written last ++ (quote ∷ []) = ap (λ r. r ++ (49 ∷ quote ∷ [])) h.whole
+      ∙ escape-push h.notation h.digits (quote ∷ []) 49 in
+      let longer = elements_longer elements rest (49 ∷ quote ∷ []) (sure_as rest _ (h.whole ∙ sym (append-nil (escape h.notation h.digits)))
+      (escape_sure h.notation h.digits [])) are in
+      let all = elements_push elements last (quote ∷ []) (subst (AreElements elements) end longer) (one_more h.notation h.digits h.digits_are h.zeros h.room)
+      (one_stands h.notation (h.digits ++ 49 ∷ [])) in
       goes_on_by t (49 ∷ quote ∷ []) _ (closes (t ++ (49 ∷ quote ∷ [])) front literals (elements ++ last ∷ []) clear each all (
       ap (λ r. r ++ (49 ∷ quote ∷ [])) e
       ∙ append_assoc (before ++ (quote ∷ text)) rest (49 ∷ quote ∷ [])
@@ -273,10 +296,12 @@ stopped_at_end rest ZeroByte on ((after, inr h), g) e =
 stopped_at_end rest Trigraph on (inl (t, g)) e = absurd (omega (arith, some_byte rest 63 _ t.2, g, e))
 stopped_at_end rest Trigraph on (inr (trigraph, whole, t, g)) e = let long = ap length whole in absurd (omega (arith, long, some_byte trigraph 63 _ t.2, g, e))
 
-ends_begun : (t front : Bytes) (literals : List StringLiteral) (begun : Option (List Element)) (rest : Bytes) (kind : LiteralKind) (on : ℕ) → AreWhite front → AllByRecursion IsStringLiteral literals → AreOpen begun rest
+ends_begun : (t front : Bytes) (literals : List StringLiteral) (begun : Option (List Element)) (rest : Bytes) (kind : LiteralKind) (on : ℕ) → AreWhite front
+    → AllByRecursion IsStringLiteral literals → AreOpen begun rest
     → t ≡ front ++ flat_map literal_text literals ++ open_text begun ++ rest → IsFaultCause literals begun rest kind on → on ≡ length rest → CanGoOn t
 ends_begun t front literals None rest kind on clear each are e (is, none, inl (nothing, empty)) there =
-    close_bare t front literals clear each (e ∙ ap (λ ls. front ++ flat_map literal_text ls ++ [] ++ rest) empty ∙ ap (λ r. front ++ [] ++ [] ++ r) nothing ∙ append-nil (front ++ [] ++ []) ∙ append-nil (front ++ [])) empty
+    close_bare t front literals clear each (e ∙ ap (λ ls. front ++ flat_map literal_text ls ++ [] ++ rest) empty ∙ ap (λ r. front ++ [] ++ [] ++ r) nothing
+    ∙ append-nil (front ++ [] ++ []) ∙ append-nil (front ++ [])) empty
 ends_begun t front literals None rest kind on clear each are e (is, none, inr h) there = absurd (omega (arith, some_byte rest h.0 h.1 h.2, none, there))
 ends_begun t front literals (Some elements) rest kind on clear each are e h there = elim (stopped_at_end rest kind on h there) [
   | inl nothing ↦ close_open t front literals clear each elements rest e nothing are

@@ -1,5 +1,6 @@
 -- Each byte of a source has an offset, and so does the last closing quote after them, each before its end.
-use Rattle.std.proofs.Common.{◌≡◌, ◌≢◌, ℕ, zero, suc, get_or, subst, ◌+◌, ◌<◌, ◌≤◌, List, [], ◌∷◌, ◌++◌, length, map, refl, sym, ap, ap₂, ◌∙◌, arith, length-append}
+use Rattle.std.proofs.Common.{◌≡◌, ◌≢◌, ℕ, zero, suc, get_or, subst, ◌+◌, ◌<◌, ◌≤◌, List, [], ◌∷◌, ◌++◌, length, map, refl, sym, ap, ap₂, ◌∙◌, arith}
+use Rattle.std.proofs.Common.{length-append}
 use Rattle.std.specs.Prelude.{Some, flat_map, slice_get}
 use Rattle.std.specs.List.{AllByRecursion}
 use Rattle.std.proofs.lemmas.Option.{slice_get-get_or}
@@ -51,12 +52,14 @@ literals_within bound at (l ∷ literals) h =
     (elements_within bound (at + 1) l.elements (omega (arith, h, long, one)))
     (literals_within bound (at + length (literal_text l)) literals (omega (arith, h, long)))
 
-close_within : (bound before at : ℕ) (literals : List StringLiteral) → before < bound → at + length (flat_map literal_text literals) ≤ bound → close_of before at literals < bound
+close_within : (bound before at : ℕ) (literals : List StringLiteral) → before < bound → at + length (flat_map literal_text literals) ≤ bound
+    → close_of before at literals < bound
 close_within bound before at [] b h = b
 close_within bound before at (l ∷ literals) b h =
     let long = length-append (literal_text l) (flat_map literal_text literals) in
     let one = literal_length l in
-    close_within bound (at + 1 + length (flat_map written l.elements)) (at + length (literal_text l)) literals (omega (arith, h, long, one)) (omega (arith, h, long))
+    close_within bound (at + 1 + length (flat_map written l.elements)) (at + length (literal_text l)) literals (omega (arith, h, long, one))
+    (omega (arith, h, long))
 
 some_bytes : (literals : List StringLiteral) → literals ≢ [] → 0 < length (flat_map literal_text literals)
 some_bytes [] h = absurd (h refl)
@@ -81,5 +84,12 @@ has_offset t bytes index (literals, source, same) within =
     let long : length all ≡ length found + 1 = length-append found (close ∷ []) in
     let few = count_offsets (length source.front) literals in
     let as_many = ap length same in
-    let less : index < length all = omega (arith, long, few, as_many, within) in
-    (get_or all index 0, (found, close, record { literals = literals; source = source; offsets_are = refl; close_is = refl }, slice_get-get_or all index 0 less))
+    let less : index < length all = omega (arith, long, few, as_many, within) in (
+      get_or all index 0,
+      (
+        found,
+        close,
+        record { literals = literals; source = source; offsets_are = refl; close_is = refl },
+        slice_get-get_or all index 0 less,
+      ),
+    )

@@ -48,7 +48,8 @@ some_count n h = grind (arith, nat_tests)
 
 module _ (notation : Notation) where
   -- one more digit
-  pub goes : (count d : ℕ) (rest : Bytes) → is_full notation count ≡ false → is_escape_digit notation d ≡ true → has_more_digits notation count (d ∷ rest) ≡ true
+  pub goes : (count d : ℕ) (rest : Bytes) → is_full notation count ≡ false → is_escape_digit notation d ≡ true
+      → has_more_digits notation count (d ∷ rest) ≡ true
   goes count d rest room digit = and_from _ _ (not_from_false _ room) digit
 
   numeric_token-one : (count number d : ℕ) (rest : Bytes) → has_more_digits notation count (d ∷ rest) ≡ true → base notation * number + digit_value d ≤ 255
@@ -57,7 +58,8 @@ module _ (notation : Notation) where
 
   -- digits of a number that fits
   pub numeric_token-digits : (digits rest : Bytes) (count number : ℕ) → Each notation digits → AllowsDigitCount notation (count + length digits)
-      → escape_number_after notation number digits ≤ 255 → numeric_token notation count number (digits ++ rest) ≡ numeric_token notation (count + length digits) (escape_number_after notation number digits) rest
+      → escape_number_after notation number digits ≤ 255 → numeric_token notation count number (digits ++ rest) ≡ numeric_token notation
+      (count + length digits) (escape_number_after notation number digits) rest
   numeric_token-digits [] rest count number h room few = let same : count ≡ count + 0 = omega arith in ap (λ c. numeric_token notation c number rest) same
   numeric_token-digits (d ∷ ds) rest count number h room few =
       let more = number_after-ge notation ds (base notation * number + digit_value d) in
@@ -77,11 +79,13 @@ module _ (notation : Notation) where
       let same : count + 1 + length ds ≡ count + suc (length ds) = omega arith in
       elim (cases_lt 255 next) [
         | inl more ↦ let over = large next more in rw (on, over) refl
-        | inr le ↦ numeric_token-one count number d (ds ++ rest) on le ∙ numeric_token-large ds rest (count + 1) next h.1 (same_room notation _ _ (sym same) room) le many
+        | inr le ↦ numeric_token-one count number d (ds ++ rest) on le
+            ∙ numeric_token-large ds rest (count + 1) next h.1 (same_room notation _ _ (sym same) room) le many
       ]
 
   -- no more digits
-  pub numeric_token-ends : (rest : Bytes) (count number : ℕ) → has_more_digits notation count rest ≡ false → 0 < count → 0 < number → numeric_token notation count number rest ≡ Character number (before_digits notation + count)
+  pub numeric_token-ends : (rest : Bytes) (count number : ℕ) → has_more_digits notation count rest ≡ false → 0 < count → 0 < number
+      → numeric_token notation count number rest ≡ Character number (before_digits notation + count)
   numeric_token-ends [] count number none some value =
       let a = some_count count some in
       let b = some_count number value in
@@ -91,7 +95,8 @@ module _ (notation : Notation) where
       let b = some_count number value in
       rw (none, b, a) refl
 
-  numeric_token-off : (rest : Bytes) (count number : ℕ) → has_more_digits notation count rest ≡ false → rest ≢ [] → numeric_token notation count number rest ≡ finished_numeric notation count number
+  numeric_token-off : (rest : Bytes) (count number : ℕ) → has_more_digits notation count rest ≡ false → rest ≢ []
+      → numeric_token notation count number rest ≡ finished_numeric notation count number
   numeric_token-off [] count number none some = absurd (some refl)
   numeric_token-off (byte ∷ rest) count number none some = rw none refl
 
@@ -104,4 +109,5 @@ module _ (notation : Notation) where
     stops_full full = so_far ∙ go (drop count text) where
       go : (rest : Bytes) → numeric_token notation count number rest ≡ finished_numeric notation count number
       go [] = end_full count number full
-      go (byte ∷ rest) = numeric_token-off (byte ∷ rest) count number (and_left (not (is_full notation count)) (is_escape_digit notation byte) (not_from_true _ full)) (cons_some byte rest)
+      go (byte ∷ rest) = numeric_token-off (byte ∷ rest) count number
+          (and_left (not (is_full notation count)) (is_escape_digit notation byte) (not_from_true _ full)) (cons_some byte rest)

@@ -38,7 +38,8 @@ offsets_read t found close h = (
   read_from-source t h.literals h.source ∙ ap₂ (λ p c. Whole (literal_bytes h.literals) p c) (sym h.offsets_are) (sym h.close_is),
 )
 
-same_offsets : (bytes found : List ℕ) (close : ℕ) (others there : List ℕ) (last : ℕ) → Whole bytes found close ≡ Whole others there last → (found ≡ there) × (close ≡ last)
+same_offsets : (bytes found : List ℕ) (close : ℕ) (others there : List ℕ) (last : ℕ) → Whole bytes found close ≡ Whole others there last
+    → (found ≡ there) × (close ≡ last)
 same_offsets bytes found close others there last e = (cc, cc)
 
 pub one_offset : (t found others : List ℕ) (close last : ℕ) → HasOffsets t found close → HasOffsets t others last → (found ≡ others) × (close ≡ last)
@@ -81,24 +82,30 @@ module _ (t : Bytes) (bytes found : List ℕ) (old : SourceReading) (so_far : so
     at_end index left (Some at) all h = last_is index left at all h.0 h.1
 
   -- an offset that is found in what comes next
-  found_there : (more others : List ℕ) (new : SourceReading) (index left at : ℕ) → old ≡ prefixed more others new → index ≡ length found + left → slice_get others left ≡ Some at → HasNoFault new → IsOffsetOf t index at
+  found_there : (more others : List ℕ) (new : SourceReading) (index left at : ℕ) → old ≡ prefixed more others new → index ≡ length found + left
+      → slice_get others left ≡ Some at → HasNoFault new → IsOffsetOf t index at
   found_there more others new index left at e all is (rest, last, close, whole) =
       let all_found = found ++ others ++ last in
-      let known = read_whole t (bytes ++ more ++ rest) all_found close (moved t bytes found old so_far more others new e ∙ ap (prefixed (bytes ++ more) (found ++ others)) whole) in
+      let known = read_whole t (bytes ++ more ++ rest) all_found close
+      (moved t bytes found old so_far more others new e ∙ ap (prefixed (bytes ++ more) (found ++ others)) whole) in
       let there : slice_get (found ++ others) index ≡ Some at = ap (slice_get (found ++ others)) all ∙ get_behind found others left ∙ is in
       (all_found, close, known.1, get_front all_found (close ∷ []) index at (get_front (found ++ others) last index at there))
 
-  none_there : (more others : List ℕ) (new : SourceReading) (index at : ℕ) (kind : LiteralKind) → old ≡ prefixed more others new → new ≡ Fault kind at → HasNoOffset t index
-  none_there more others new index at kind e stop = no_offset t index at kind (moved t bytes found old so_far more others new e ∙ ap (prefixed (bytes ++ more) (found ++ others)) stop)
+  none_there : (more others : List ℕ) (new : SourceReading) (index at : ℕ) (kind : LiteralKind) → old ≡ prefixed more others new → new ≡ Fault kind at
+      → HasNoOffset t index
+  none_there more others new index at kind e stop = no_offset t index at kind
+      (moved t bytes found old so_far more others new e ∙ ap (prefixed (bytes ++ more) (found ++ others)) stop)
 
-  pub there_or_not : (more others : List ℕ) (cursor : Cursor) (index left at : ℕ) (result : Option ℕ) → old ≡ prefixed more others (rest_of t cursor) → index ≡ length found + left
+  pub there_or_not : (more others : List ℕ) (cursor : Cursor) (index left at : ℕ) (result : Option ℕ) → old ≡ prefixed more others (rest_of t cursor)
+      → index ≡ length found + left
       → Some at ≡ slice_get others left → IsFoundOffset t cursor at result → MatchOption result (HasNoOffset t index) (IsOffsetOf t index)
   there_or_not more others cursor index left at None e all is (kind, context, stop) = none_there more others (rest_of t cursor) index context kind e stop
   there_or_not more others cursor index left at (Some there) e all is (same, whole) =
       found_there more others (rest_of t cursor) index left there e all (sym is ∙ ap Some (sym same)) whole
 
   -- one part further
-  pub further : (more others : List ℕ) (new : SourceReading) (index left len : ℕ) → old ≡ prefixed more others new → index ≡ length found + left → len ≡ length others → len ≤ left
+  pub further : (more others : List ℕ) (new : SourceReading) (index left len : ℕ) → old ≡ prefixed more others new → index ≡ length found + left
+      → len ≡ length others → len ≤ left
       → (b p : List ℕ) × (source_reading t ≡ prefixed b p new) × (index ≡ length p + (left - len))
   further more others new index left len e all long few = (
     bytes ++ more,

@@ -1,5 +1,6 @@
 -- A text is a source, or it has a fault.
-use Rattle.std.proofs.Common.{◌≡◌, ◌≢◌, ℕ, zero, suc, ◌+◌, ◌<◌, ◌≤◌, Bool, true, false, List, [], ◌∷◌, ◌++◌, length, refl, sym, ap, ◌∙◌, subst, arith, inl, inr, length-append}
+use Rattle.std.proofs.Common.{◌≡◌, ◌≢◌, ℕ, zero, suc, ◌+◌, ◌<◌, ◌≤◌, Bool, true, false, List, [], ◌∷◌, ◌++◌, length, refl, sym, ap, ◌∙◌, subst, arith, inl, inr}
+use Rattle.std.proofs.Common.{length-append}
 use Rattle.std.specs.Prelude.{◌⊎◌, flat_map, Option, Some, None}
 use Rattle.std.specs.List.{AllByRecursion}
 use Rattle.std.proofs.lemmas.Bool.{cases_eq}
@@ -15,15 +16,18 @@ use Rattle.pf_literals.proofs.Judging.{Judgement, Quote, Found, Stuck, judge}
 
 -- outside of a literal: white space, literals, and the end or a fault
 pub data Outside (t : Bytes) : Type 0 where
-  Good : (front : Bytes) (literals : List StringLiteral) → AreWhite front → AllByRecursion IsStringLiteral literals → t ≡ front ++ flat_map literal_text literals → Outside t
+  Good : (front : Bytes) (literals : List StringLiteral) → AreWhite front → AllByRecursion IsStringLiteral literals
+      → t ≡ front ++ flat_map literal_text literals → Outside t
   Bad : (front : Bytes) (literals : List StringLiteral) (begun : Option (List Element)) (rest : Bytes) (kind : LiteralKind) (on : ℕ)
       → AreWhite front → AllByRecursion IsStringLiteral literals → AreOpen begun rest → ((others : List StringLiteral) → IsFaultCause others begun rest kind on)
       → t ≡ front ++ flat_map literal_text literals ++ open_text begun ++ rest → Outside t
 
 -- in a literal: elements that end in a quote or in a fault
 pub data Inside (t : Bytes) : Type 0 where
-  Closed : (elements : List Element) (rest : Bytes) → AreElements elements (quote ∷ []) → Outside rest → t ≡ flat_map written elements ++ (quote ∷ rest) → Inside t
-  Open : (elements : List Element) (rest : Bytes) (kind : LiteralKind) (on : ℕ) → AreElements elements rest → IsElementFault rest kind on → t ≡ flat_map written elements ++ rest → Inside t
+  Closed : (elements : List Element) (rest : Bytes) → AreElements elements (quote ∷ []) → Outside rest → t ≡ flat_map written elements ++ (quote ∷ rest)
+      → Inside t
+  Open : (elements : List Element) (rest : Bytes) (kind : LiteralKind) (on : ℕ) → AreElements elements rest → IsElementFault rest kind on
+      → t ≡ flat_map written elements ++ rest → Inside t
 
 written_some : (element : Element) (rest : Bytes) → length rest < length (written element ++ rest)
 written_some (Plain byte) rest = omega arith

@@ -1,9 +1,11 @@
 -- Where a search finds the end of verbatim bytes.
-use Rattle.std.proofs.Common.{◌≡◌, ◌≢◌, ℕ, zero, suc, ◌+◌, ◌%◌, ◌^◌, ◌<◌, ◌≤◌, Bool, true, false, cond, ◌||◌, not, List, [], ◌∷◌, length, get_or, map, take, bit_or, Fits, w8, refl, sym, ap, ap₂, ◌∙◌, arith}
+use Rattle.std.proofs.Common.{◌≡◌, ◌≢◌, ℕ, zero, suc, ◌+◌, ◌%◌, ◌^◌, ◌<◌, ◌≤◌, Bool, true, false, cond, ◌||◌, not, List, [], ◌∷◌, length, get_or, map, take}
+use Rattle.std.proofs.Common.{bit_or, Fits, w8, refl, sym, ap, ap₂, ◌∙◌, arith}
 use Rattle.std.specs.Prelude.{◌==◌, nat_lt}
 use Rattle.std.specs.List.{prefix_len}
 use Rattle.std.proofs.lemmas.List.{length-map}
-use Rattle.std.proofs.lemmas.Simd.{chunk-fits, length-chunk, mask_l-mod, none_from_empty_mask, run_in_chunk_fails, run_in_chunk_le, run_in_chunk_stops, trailing_mask_l}
+use Rattle.std.proofs.lemmas.Simd.{chunk-fits, length-chunk, mask_l-mod, none_from_empty_mask, run_in_chunk_fails, run_in_chunk_le, run_in_chunk_stops}
+use Rattle.std.proofs.lemmas.Simd.{trailing_mask_l}
 use Rattle.std.proofs.lemmas.Bool.{agree_below_at}
 use lib.Bits.{bit_xor}
 use lib.Count.{count_trailing_zeros}
@@ -51,7 +53,8 @@ lanes_set [] fit = refl
 lanes_set (b ∷ bytes) fit = ap₂ (λ x xs. x ∷ xs) (lane_set b (fit.0).fits) (lanes_set bytes fit.1)
 
 -- what the mask says of the bytes that one vector holds
-module _ (text : Bytes) (i n : ℕ) (room : i + n ≤ length text) (few : n ≤ 64) (fit : (k : ℕ) → Fits w8 (get_or text k 0)) (z : List ℕ) (lanes : z ≡ map lane (chunk i n text)) where
+module _ (text : Bytes) (i n : ℕ) (room : i + n ≤ length text) (few : n ≤ 64) (fit : (k : ℕ) → Fits w8 (get_or text k 0)) (z : List ℕ)
+    (lanes : z ≡ map lane (chunk i n text)) where
   abbrev mask : ℕ
   mask = mask_l (map (top 7) z) % 2 ^ 64
 
@@ -66,7 +69,8 @@ module _ (text : Bytes) (i n : ℕ) (room : i + n ≤ length text) (few : n ≤ 
   module _ (some : mask ≢ 0) where
     counted : count_trailing_zeros 64 mask ≡ prefix_len (λ b. not (is_special b)) (chunk i n text)
     counted =
-        ap (count_trailing_zeros 64) mask_is ∙ trailing_mask_l is_special 64 (chunk i n text) (omega (arith, length-chunk i n text room)) (omega (arith, some, mask_is))
+        ap (count_trailing_zeros 64) mask_is ∙ trailing_mask_l is_special 64 (chunk i n text) (omega (arith, length-chunk i n text room))
+        (omega (arith, some, mask_is))
 
     pub first_few : count_trailing_zeros 64 mask ≤ n
     first_few = run_in_chunk_le is_special text i n _ 0 room counted

@@ -30,15 +30,19 @@ fits-if n true x y p q = p
 fits-if n false x y p q = q
 
 finished_numeric-fits : (notation : Notation) (count number n : ℕ) → before_digits notation + count ≤ n → Fits n (finished_numeric notation count number)
-finished_numeric-fits Octal count number n h = fits-if n (count == 0) _ _ (omega arith) (fits-if n (number == 0) _ _ (omega arith) (omega arith, omega (arith, h)))
-finished_numeric-fits Hexadecimal count number n h = fits-if n (count == 0) _ _ (omega arith) (fits-if n (number == 0) _ _ (omega arith) (omega arith, omega (arith, h)))
+finished_numeric-fits Octal count number n h = fits-if n (count == 0) _ _ (omega arith)
+    (fits-if n (number == 0) _ _ (omega arith) (omega arith, omega (arith, h)))
+finished_numeric-fits Hexadecimal count number n h = fits-if n (count == 0) _ _ (omega arith)
+    (fits-if n (number == 0) _ _ (omega arith) (omega arith, omega (arith, h)))
 
-numeric_token-fits : (notation : Notation) (rest : Bytes) (count number n : ℕ) → before_digits notation + count + length rest ≤ n → Fits n (numeric_token notation count number rest)
+numeric_token-fits : (notation : Notation) (rest : Bytes) (count number n : ℕ) → before_digits notation + count + length rest ≤ n
+    → Fits n (numeric_token notation count number rest)
 numeric_token-fits notation [] count number n h =
     fits-if n (number == 0 && not (is_full notation count)) _ _ (omega (arith, h)) (finished_numeric-fits notation count number n (omega (arith, h)))
 numeric_token-fits notation (byte ∷ rest) count number n h =
     fits-if n (has_more_digits notation count (byte ∷ rest)) _ _
-    (fits-if n (nat_lt 255 (base notation * number + digit_value byte)) _ _ (omega arith) (numeric_token-fits notation rest (count + 1) (base notation * number + digit_value byte) n (omega (arith, h))))
+    (fits-if n (nat_lt 255 (base notation * number + digit_value byte)) _ _ (omega arith)
+    (numeric_token-fits notation rest (count + 1) (base notation * number + digit_value byte) n (omega (arith, h))))
     (finished_numeric-fits notation count number n (omega (arith, h)))
 
 by_letter-fits : (o : Option ℕ) (byte : ℕ) (rest : Bytes) (n : ℕ) → 2 + length rest ≤ n → Fits n (escape_by_letter o byte rest)
@@ -90,13 +94,15 @@ module _ (t : Bytes) (context : Context) (at : ℕ) (less : at < length t) where
   here : Bytes
   here = drop (at + 1) t
 
-  pub turned : (next : Token) → token_at context (drop at t) ≡ next → from t context at ≡ after_token at context next (λ p skip. read_from p skip (at + 1) (drop (at + 1) t))
+  pub turned : (next : Token) → token_at context (drop at t) ≡ next
+      → from t context at ≡ after_token at context next (λ p skip. read_from p skip (at + 1) (drop (at + 1) t))
   turned next e =
       let split = drop_more t at 0 less in
       ap (read_from context 0 at) split
       ∙ ap (λ n. after_token at context n (λ p skip. read_from p skip (at + 1) (drop (at + 1) t))) (ap (token_at context) (sym split) ∙ e)
 
-  pub gave : (value len : ℕ) → token_at context (drop at t) ≡ Character value len → from t context at ≡ prefixed (value ∷ []) (at ∷ []) (from t context (at + len))
+  pub gave : (value len : ℕ) → token_at context (drop at t) ≡ Character value len
+      → from t context at ≡ prefixed (value ∷ []) (at ∷ []) (from t context (at + len))
   gave value len e =
       let fits : (0 < len) × (len ≤ length (drop at t)) = subst (Fits (length (drop at t))) e (turn-fits context (drop at t)) in
       let long = length-drop at t in
@@ -123,7 +129,8 @@ verbatim-byte byte rest h =
     let none = and_left (byte == 63) (ends_trigraph rest) tests.4 in
     rw (tests.0, tests.1, tests.2, tests.3, none) refl
 
-read_from-verbatim : (verbatim rest : Bytes) (at : ℕ) → IsVerbatim verbatim → read_from Inside 0 at (verbatim ++ rest) ≡ prefixed verbatim (range_with_len at (length verbatim)) (read_from Inside 0 (at + length verbatim) rest)
+read_from-verbatim : (verbatim rest : Bytes) (at : ℕ) → IsVerbatim verbatim
+    → read_from Inside 0 at (verbatim ++ rest) ≡ prefixed verbatim (range_with_len at (length verbatim)) (read_from Inside 0 (at + length verbatim) rest)
 read_from-verbatim [] rest at h = let same : at ≡ at + 0 = omega arith in ap (λ n. read_from Inside 0 n rest) same ∙ sym (prefixed-none _)
 read_from-verbatim (byte ∷ verbatim) rest at h =
     let same : at + 1 + length verbatim ≡ at + suc (length verbatim) = omega arith in
@@ -144,13 +151,15 @@ ran t at len few verbatim =
     )
 
 -- what a turn takes is there, in the whole text
-pub gives_within : (t : Bytes) (context : Context) (at value len : ℕ) → token_at context (drop at t) ≡ Character value len → at < length t → (0 < len) × (at + len ≤ length t)
+pub gives_within : (t : Bytes) (context : Context) (at value len : ℕ) → token_at context (drop at t) ≡ Character value len → at < length t
+    → (0 < len) × (at + len ≤ length t)
 gives_within t context at value len e less =
     let fits : (0 < len) × (len ≤ length (drop at t)) = subst (Fits (length (drop at t))) e (turn-fits context (drop at t)) in
     let long = length-drop at t in
     (fits.0, omega (arith, fits.1, long))
 
-pub stops_within : (t : Bytes) (context : Context) (at on : ℕ) (kind : LiteralKind) → token_at context (drop at t) ≡ Invalid kind on → at < length t → at + on ≤ length t
+pub stops_within : (t : Bytes) (context : Context) (at on : ℕ) (kind : LiteralKind) → token_at context (drop at t) ≡ Invalid kind on → at < length t
+    → at + on ≤ length t
 stops_within t context at on kind e less =
     let fits : on ≤ length (drop at t) = subst (Fits (length (drop at t))) e (turn-fits context (drop at t)) in
     let long = length-drop at t in

@@ -69,7 +69,8 @@ differs_not f g h = go f.number g.number refl refl where
   go None b x y = refl
   go (Some n) None x y = refl
   go (Some n) (Some m) x y = elim (cases_eq n m) [
-    | inl e ↦ subst (λ k. differs_at (Some n) (Some k) f g ≡ false) e (same n (number_of_type f.wanted) (number_of_type g.wanted) (ap number_of_type (h n x (y ∙ ap Some (sym e)))))
+    | inl e ↦ subst (λ k. differs_at (Some n) (Some k) f g ≡ false) e
+        (same n (number_of_type f.wanted) (number_of_type g.wanted) (ap number_of_type (h n x (y ∙ ap Some (sym e)))))
     | inr e ↦ other n m (number_of_type f.wanted) (number_of_type g.wanted) e
   ]
 
@@ -79,7 +80,8 @@ turned f g h n a b = sym (h n b a)
 pub conflicts_no : (seen : List Fetch) (f : Fetch) → conflicts seen f ≡ false → AllByRecursion (IsOneType f) seen
 conflicts_no [] f e = tt
 conflicts_no (g ∷ seen) f e = go (differs g f) refl e (conflicts_no seen f) where
-  go : (c : Bool) → differs g f ≡ c → (c || conflicts seen f) ≡ false → (conflicts seen f ≡ false → AllByRecursion (IsOneType f) seen) → AllByRecursion (IsOneType f) (g ∷ seen)
+  go : (c : Bool) → differs g f ≡ c → (c || conflicts seen f) ≡ false → (conflicts seen f ≡ false → AllByRecursion (IsOneType f) seen)
+      → AllByRecursion (IsOneType f) (g ∷ seen)
   go true c e rest = cc
   go false c e rest = (turned g f (differs_no g f c), rest e)
 
@@ -88,7 +90,8 @@ conflicts_not [] f h = refl
 conflicts_not (g ∷ seen) f h = let one = differs_not g f (turned f g h.0) in rw one (conflicts_not seen f h.1)
 
 -- the numbering of what was fetched stays
-pub numbering_push : (seen : List Fetch) (f : Fetch) → Follows (numbering_of seen) (Some (numbering_by f.number)) → numbering_of (seen ++ f ∷ []) ≡ numbering_by f.number
+pub numbering_push : (seen : List Fetch) (f : Fetch) → Follows (numbering_of seen) (Some (numbering_by f.number))
+    → numbering_of (seen ++ f ∷ []) ≡ numbering_by f.number
 numbering_push [] f h = refl
 numbering_push (g ∷ seen) f (inr h) = h
 numbering_push (g ∷ seen) f (inl h) = go g.number h where
@@ -99,26 +102,32 @@ numbering_push (g ∷ seen) f (inl h) = go g.number h where
 own_type : (f : Fetch) → IsOneType f f
 own_type f n a b = refl
 
-pub one_type_push : (seen : List Fetch) (f : Fetch) → AllByRecursion (λ g. AllByRecursion (IsOneType g) seen) seen → AllByRecursion (IsOneType f) seen → AllByRecursion (λ g. AllByRecursion (IsOneType g) (seen ++ f ∷ [])) (seen ++ f ∷ [])
+pub one_type_push : (seen : List Fetch) (f : Fetch) → AllByRecursion (λ g. AllByRecursion (IsOneType g) seen) seen → AllByRecursion (IsOneType f) seen
+    → AllByRecursion (λ g. AllByRecursion (IsOneType g) (seen ++ f ∷ [])) (seen ++ f ∷ [])
 one_type_push seen f same clear =
     all_push (λ g. AllByRecursion (IsOneType g) (seen ++ f ∷ [])) seen f
-    (all_map (λ g. AllByRecursion (IsOneType g) seen × IsOneType f g) _ seen (λ g p. all_push (IsOneType g) seen f p.0 (turned f g p.1)) (all_zip _ _ seen same clear))
+    (all_map (λ g. AllByRecursion (IsOneType g) seen × IsOneType f g) _ seen (λ g p. all_push (IsOneType g) seen f p.0 (turned f g p.1))
+    (all_zip _ _ seen same clear))
     (all_push (IsOneType f) seen f clear (own_type f))
 
-pub agreed_push : (seen : List Fetch) (f : Fetch) → AreAgreed seen → Follows (numbering_of seen) (Some (numbering_by f.number)) → conflicts seen f ≡ false → AreAgreed (seen ++ f ∷ [])
+pub agreed_push : (seen : List Fetch) (f : Fetch) → AreAgreed seen → Follows (numbering_of seen) (Some (numbering_by f.number)) → conflicts seen f ≡ false
+    → AreAgreed (seen ++ f ∷ [])
 agreed_push seen f h follows e =
     let clear = conflicts_no seen f e in
     record {
-      one_numbering = all_push (λ g. numbering_by g.number ≡ numbering_of (seen ++ f ∷ [])) seen f (numberings seen h.one_numbering follows) (sym (numbering_push seen f follows));
+      one_numbering = all_push (λ g. numbering_by g.number ≡ numbering_of (seen ++ f ∷ [])) seen f (numberings seen h.one_numbering follows)
+          (sym (numbering_push seen f follows));
       one_type = one_type_push seen f h.one_type clear;
     } where
-      numberings : (seen : List Fetch) → AllByRecursion (λ g. numbering_by g.number ≡ numbering_of seen) seen → Follows (numbering_of seen) (Some (numbering_by f.number))
+      numberings : (seen : List Fetch) → AllByRecursion (λ g. numbering_by g.number ≡ numbering_of seen) seen
+          → Follows (numbering_of seen) (Some (numbering_by f.number))
           → AllByRecursion (λ g. numbering_by g.number ≡ numbering_of (seen ++ f ∷ [])) seen
       numberings [] h follows = tt
       numberings (g ∷ seen) h follows = h
 
 -- what agrees with another behind it does so alone
-one_front : (seen more : List Fetch) → AllByRecursion (λ g. numbering_by g.number ≡ numbering_of (seen ++ more)) (seen ++ more) → AllByRecursion (λ g. numbering_by g.number ≡ numbering_of seen) seen
+one_front : (seen more : List Fetch) → AllByRecursion (λ g. numbering_by g.number ≡ numbering_of (seen ++ more)) (seen ++ more)
+    → AllByRecursion (λ g. numbering_by g.number ≡ numbering_of seen) seen
 one_front [] more h = tt
 one_front (g ∷ seen) more h = all_front _ (g ∷ seen) more h
 
@@ -134,7 +143,8 @@ agreed_follows [] more f h = inl refl
 agreed_follows (g ∷ seen) more f h = inr (sym (all_back (λ x. numbering_by x.number ≡ numbering_by g.number) seen (f ∷ more) h.one_numbering.1).0)
 
 pub agreed_clear : (seen more : List Fetch) (f : Fetch) → AreAgreed (seen ++ (f ∷ more)) → conflicts seen f ≡ false
-agreed_clear seen more f h = conflicts_not seen f (all_front (IsOneType f) seen (f ∷ more) (all_back (λ g. AllByRecursion (IsOneType g) (seen ++ (f ∷ more))) seen (f ∷ more) h.one_type).0)
+agreed_clear seen more f h = conflicts_not seen f (all_front (IsOneType f) seen (f ∷ more)
+    (all_back (λ g. AllByRecursion (IsOneType g) (seen ++ (f ∷ more))) seen (f ∷ more) h.one_type).0)
 
 pub agreed_none : AreAgreed []
 agreed_none = record { one_numbering = tt; one_type = tt }

@@ -45,13 +45,16 @@ width_within t position None s = tt
 width_within t position (Some (Given n)) s = tt
 width_within t position (Some (Fetched number)) s = (position_within s.digits number int_type s.digits_are, tt)
 
-amount_within : (t : Text) (position : Option ℕ) (precision : Option Amount) → SpellsPosixPrecision t position precision → AllByRecursion IsWithin (star_fetches precision)
+amount_within : (t : Text) (position : Option ℕ) (precision : Option Amount) → SpellsPosixPrecision t position precision
+    → AllByRecursion IsWithin (star_fetches precision)
 amount_within t position None s = tt
 amount_within t position (Some (Given n)) s = tt
 amount_within t position (Some (Fetched number)) s = (position_within s.1.digits number int_type s.1.digits_are, tt)
 
-to_precision_within : (t : Text) (position : Option ℕ) (set : FlagSet) (width precision : Option Amount) → SpellsUpToPrecision t position set width precision → AllByRecursion IsWithin (star_fetches width ++ star_fetches precision)
-to_precision_within t position set width precision h = all_append IsWithin (star_fetches width) (star_fetches precision) (width_within h.before_is.text position width h.before_is.width_is) (amount_within h.text position precision h.precision_is)
+to_precision_within : (t : Text) (position : Option ℕ) (set : FlagSet) (width precision : Option Amount) → SpellsUpToPrecision t position set width precision
+    → AllByRecursion IsWithin (star_fetches width ++ star_fetches precision)
+to_precision_within t position set width precision h = all_append IsWithin (star_fetches width) (star_fetches precision)
+    (width_within h.before_is.text position width h.before_is.width_is) (amount_within h.text position precision h.precision_is)
 
 spelled_within : (model : Model) (t : Text) (s : PosixSpecification) → SpellsPosix t s → AllByRecursion IsWithin (fetches model s)
 spelled_within model t s h =
@@ -64,7 +67,8 @@ spelled_within model t s h =
 pub items_within : (model : Model) (t : Text) (items : List PosixItem) → ReadsPosix t items → AllByRecursion IsWithin (fetched model items)
 items_within model t [] h = tt
 items_within model t (Byte b ∷ items) h = items_within model h.1 items h.3
-items_within model t (Specification s ∷ items) h = all_append IsWithin (fetches model s) (fetched model items) (spelled_within model h.0 s h.2.0) (items_within model h.1 items h.3)
+items_within model t (Specification s ∷ items) h = all_append IsWithin (fetches model s) (fetched model items) (spelled_within model h.0 s h.2.0)
+    (items_within model h.1 items h.3)
 
 before_within : (slot : WidthOrPrecision) (t : Text) (parts : PartialSpecification) (own : List Fetch) → IsBefore slot t parts own → AllByRecursion IsWithin own
 before_within Width t parts own h = subst (AllByRecursion IsWithin) (sym h.3) tt
@@ -84,14 +88,18 @@ at_within Opened part own h = none_within own h.1
 at_within (First n) part own h = none_within own h.3
 at_within (Flags parts) part own h = none_within own h.4
 at_within (Digits slot parts n) part own h = before_within slot h.0 parts own h.2
-at_within (Star slot parts) part own h = subst (AllByRecursion IsWithin) (sym h.4) (all_append IsWithin h.1 (at_star parts.position) (before_within slot h.0 parts h.1 h.2) (star_within parts.position))
+at_within (Star slot parts) part own h = subst (AllByRecursion IsWithin) (sym h.4)
+    (all_append IsWithin h.1 (at_star parts.position) (before_within slot h.0 parts h.1 h.2) (star_within parts.position))
 at_within (StarDigits slot parts n) part own h = before_within slot h.0 parts own h.2
-at_within (Placed slot parts) part own h = subst (AllByRecursion IsWithin) (sym h.8) (all_push IsWithin h.3 (fetch (Some h.2) int_type) (before_within slot h.0 parts h.3 h.4) (number_within h.1 h.2 int_type h.5))
+at_within (Placed slot parts) part own h = subst (AllByRecursion IsWithin) (sym h.8)
+    (all_push IsWithin h.3 (fetch (Some h.2) int_type) (before_within slot h.0 parts h.3 h.4) (number_within h.1 h.2 int_type h.5))
 at_within (Point parts) part own h = before_within Precision part parts own h
-at_within (Modified parts modifier) part own h = subst (AllByRecursion IsWithin) (sym h.1.own_is) (to_precision_within h.0 parts.position parts.flags h.1.width h.1.precision h.1.numbers)
+at_within (Modified parts modifier) part own h = subst (AllByRecursion IsWithin) (sym h.1.own_is)
+    (to_precision_within h.0 parts.position parts.flags h.1.width h.1.precision h.1.numbers)
 
 module _ (model : Model) (numbering : Numbering) (part : Text) (own : List Fetch) (byte : ℕ) (rest : Text) (at : ℕ)
-    (behind : (numbering : Numbering) (state : PosixState) (part : Text) (own : List Fetch) → IsStateAfter state part own → Follows numbering (numbering_in state) → IsBounded numbering (trace_from model numbering state (at + 1) rest)) where
+    (behind : (numbering : Numbering) (state : PosixState) (part : Text) (own : List Fetch) → IsStateAfter state part own
+    → Follows numbering (numbering_in state) → IsBounded numbering (trace_from model numbering state (at + 1) rest)) where
   arrived : (to : PosixState) → Arrives model numbering part own byte to → IsBounded numbering (trace_from model numbering to (at + 1) rest)
   arrived Between h = behind numbering Between [] [] (refl, refl) tt
   arrived Opened h = behind numbering Opened _ own h.0 h.1
@@ -105,14 +113,18 @@ module _ (model : Model) (numbering : Numbering) (part : Text) (own : List Fetch
   arrived (Modified parts modifier) h = behind numbering (Modified parts modifier) _ own h.0 h.1
 
   module _ (f : Fetch) where
-    inside : (to : PosixState) → IsStateAfter to (part ++ byte ∷ []) (own ++ f ∷ []) → Follows numbering (Some (numbering_by f.number)) → numbering_in to ≡ Some (numbering_by f.number) → IsWithin f × Follows numbering (Some (numbering_by f.number)) × IsBounded (numbering_by f.number) (trace_from model (numbering_by f.number) to (at + 1) rest)
+    inside : (to : PosixState) → IsStateAfter to (part ++ byte ∷ []) (own ++ f ∷ []) → Follows numbering (Some (numbering_by f.number))
+        → numbering_in to ≡ Some (numbering_by f.number) → IsWithin f × Follows numbering (Some (numbering_by f.number))
+        × IsBounded (numbering_by f.number) (trace_from model (numbering_by f.number) to (at + 1) rest)
     inside to h follows known = (
       (all_back IsWithin own (f ∷ []) (at_within to (part ++ byte ∷ []) (own ++ f ∷ []) h)).0,
       follows,
       behind (numbering_by f.number) to (part ++ byte ∷ []) (own ++ f ∷ []) h (subst (Follows (numbering_by f.number)) (sym known) (inr refl)),
     )
 
-    brought : (to : PosixState) → Brings model numbering part own byte f to → IsWithin f × Follows numbering (Some (numbering_by f.number)) × IsBounded (numbering_by f.number) (trace_from model (numbering_by f.number) to (at + 1) rest)
+    brought : (to : PosixState) → Brings model numbering part own byte f to
+        → IsWithin f × Follows numbering (Some (numbering_by f.number))
+        × IsBounded (numbering_by f.number) (trace_from model (numbering_by f.number) to (at + 1) rest)
     brought Between h = (
       (all_back IsWithin own (f ∷ []) (subst (AllByRecursion IsWithin) (sym h.3) (spelled_within model (part ++ byte ∷ []) h.0 h.1))).0,
       h.4,
@@ -133,15 +145,18 @@ module _ (model : Model) (numbering : Numbering) (part : Text) (own : List Fetch
   by_next (Ok (to, None)) h = arrived to h
   by_next (Ok (to, Some f)) h = brought f to h
 
-  by_limit : (b : Bool) (n : PosixStep) → Judges model numbering part own byte n → IsBounded numbering (if b then Fault TooLong at else moved numbering at n (λ s q. trace_from model s q (at + 1) rest))
+  by_limit : (b : Bool) (n : PosixStep) → Judges model numbering part own byte n
+      → IsBounded numbering (if b then Fault TooLong at else moved numbering at n (λ s q. trace_from model s q (at + 1) rest))
   by_limit true n h = tt
   by_limit false n h = by_next n h
 
-bounded : (model : Model) (t : Text) (at : ℕ) (numbering : Numbering) (state : PosixState) (part : Text) (own : List Fetch) → IsStateAfter state part own → Follows numbering (numbering_in state) → IsBounded numbering (trace_from model numbering state at t)
+bounded : (model : Model) (t : Text) (at : ℕ) (numbering : Numbering) (state : PosixState) (part : Text) (own : List Fetch) → IsStateAfter state part own
+    → Follows numbering (numbering_in state) → IsBounded numbering (trace_from model numbering state at t)
 bounded model [] at numbering Between part own h follows = tt
 bounded model [] at numbering _ part own h follows = tt
 bounded model (byte ∷ t) at numbering state part own h follows =
-    by_limit model numbering part own byte t at (bounded model t (at + 1)) (nat_le MAX_TEXT_LEN at) (posix_step model numbering state byte) (judge model numbering part own byte state h follows)
+    by_limit model numbering part own byte t at (bounded model t (at + 1)) (nat_le MAX_TEXT_LEN at) (posix_step model numbering state byte)
+    (judge model numbering part own byte state h follows)
 
 -- each number that is read is within the limits
 pub reading_bounded : (model : Model) (t : Text) → IsBounded Undecided (fetch_trace model t)

@@ -25,9 +25,11 @@ get_filled (o ∷ start) (t ∷ a) zero d less few = refl
 get_filled (o ∷ start) (t ∷ a) (suc k) d less few = get_filled start a k d (omega (arith, less)) (omega (arith, few))
 
 -- a place of a slice that holds the front of a list
-pub at_place : (types start a : List ArgumentType) (k : ℕ) (d : ArgumentType) → types ≡ filled start a → length types ≡ ROOM → k < ROOM → k < length a → slice_get a k ≡ Some (get_or types k d)
+pub at_place : (types start a : List ArgumentType) (k : ℕ) (d : ArgumentType) → types ≡ filled start a → length types ≡ ROOM → k < ROOM → k < length a
+    → slice_get a k ≡ Some (get_or types k d)
 at_place types start a k d e long room less =
-    slice_get-get_or a k d less ∙ ap Some (sym (ap (λ l. get_or l k d) e ∙ get_filled start a k d less (omega (arith, long, room, ap length e, length_filled start a))))
+    slice_get-get_or a k d less ∙ ap Some (sym (ap (λ l. get_or l k d) e
+    ∙ get_filled start a k d less (omega (arith, long, room, ap length e, length_filled start a))))
 
 pub same_more : (a b : List ArgumentType) (n : ℕ) → SameUpTo a b n → slice_get a n ≡ slice_get b n → SameUpTo a b (n + 1)
 same_more a b n h e k less = elim (cases_eq k n) [
@@ -40,17 +42,26 @@ pub same_lists : (a b : List ArgumentType) (n : ℕ) → SameUpTo a b n → leng
 same_lists a b n h x y = ext_get_or int_type a b (x ∙ sym y) at where
   at : (i : ℕ) → i < length a → get_or a i int_type ≡ get_or b i int_type
   at i less =
-      let both : Some (get_or a i int_type) ≡ Some (get_or b i int_type) = sym (slice_get-get_or a i int_type less) ∙ h i (omega (arith, less, x)) ∙ slice_get-get_or b i int_type (omega (arith, less, x, y)) in cc
+      let both : Some (get_or a i int_type) ≡ Some (get_or b i int_type) = sym (slice_get-get_or a i int_type less) ∙ h i (omega (arith, less, x))
+      ∙ slice_get-get_or b i int_type (omega (arith, less, x, y)) in cc
 
 -- one is a front of the other
-pub one_longer : (a b : List ArgumentType) (n : ℕ) → SameUpTo a b n → (length a ≢ length b) → n ≤ length a → n ≤ length b → ((length a ≤ n) ⊎ (length b ≤ n)) → IsFirstDifference a b (Some n)
-one_longer a b n h other x y (inl full) =
-    (λ e. let no : None ≡ Some (get_or b n int_type) = sym (slice_get_past a n full) ∙ e ∙ slice_get-get_or b n int_type (omega (arith, x, y, full, other)) in cc, h)
-one_longer a b n h other x y (inr full) =
-    (λ e. let no : Some (get_or a n int_type) ≡ None = sym (slice_get-get_or a n int_type (omega (arith, x, y, full, other))) ∙ e ∙ slice_get_past b n full in cc, h)
+pub one_longer : (a b : List ArgumentType) (n : ℕ) → SameUpTo a b n → (length a ≢ length b) → n ≤ length a → n ≤ length b → ((length a ≤ n) ⊎ (length b ≤ n))
+    → IsFirstDifference a b (Some n)
+one_longer a b n h other x y (inl full) = (
+  λ e. let no : None ≡ Some (get_or b n int_type) = sym (slice_get_past a n full) ∙ e
+      ∙ slice_get-get_or b n int_type (omega (arith, x, y, full, other)) in cc,
+  h,
+)
+one_longer a b n h other x y (inr full) = (
+  λ e. let no : Some (get_or a n int_type) ≡ None = sym (slice_get-get_or a n int_type (omega (arith, x, y, full, other))) ∙ e
+      ∙ slice_get_past b n full in cc,
+  h,
+)
 
 -- what follows from the numbers of two types
-module _ (types others start from a b : List ArgumentType) (k : ℕ) (c d : ArgumentType) (x y : ℕ) (e : types ≡ filled start a) (f : others ≡ filled from b) (long : length types ≡ ROOM) (long2 : length others ≡ ROOM) (room : k < ROOM) (less : k < length a) (less2 : k < length b)
+module _ (types others start from a b : List ArgumentType) (k : ℕ) (c d : ArgumentType) (x y : ℕ) (e : types ≡ filled start a) (f : others ≡ filled from b)
+    (long : length types ≡ ROOM) (long2 : length others ≡ ROOM) (room : k < ROOM) (less : k < length a) (less2 : k < length b)
     (p : x ≡ number_of_type (get_or types k c)) (q : y ≡ number_of_type (get_or others k d)) where
   at_a : slice_get a k ≡ Some (get_or types k c)
   at_a = at_place types start a k c e long room less
@@ -62,14 +73,16 @@ module _ (types others start from a b : List ArgumentType) (k : ℕ) (c d : Argu
   places_same s = at_a ∙ ap Some (same_type _ _ (sym p ∙ s ∙ q)) ∙ sym at_b
 
   pub places_differ : x ≢ y → slice_get a k ≢ slice_get b k
-  places_differ n s = let both : Some (get_or types k c) ≡ Some (get_or others k d) = sym at_a ∙ s ∙ at_b in let one : get_or types k c ≡ get_or others k d = cc in n (p ∙ ap number_of_type one ∙ sym q)
+  places_differ n s = let both : Some (get_or types k c) ≡ Some (get_or others k d) = sym at_a ∙ s
+      ∙ at_b in let one : get_or types k c ≡ get_or others k d = cc in n (p ∙ ap number_of_type one ∙ sym q)
 
 -- where one list is over
 pub full : (count second_count k m n : ℕ) → count ≡ m → second_count ≡ n → ROOM ≤ k → ((m ≤ ROOM) ⊎ (n ≤ ROOM)) → (count ≤ k) ⊎ (second_count ≤ k)
 full count second_count k m n x y room (inl few) = inl (omega (arith, x, room, few))
 full count second_count k m n x y room (inr few) = inr (omega (arith, y, room, few))
 
-pub both_end : (count second_count k : ℕ) → count ≡ second_count → k ≤ count → k ≤ second_count → ((count ≤ k) ⊎ (second_count ≤ k)) → (count ≡ k) × (second_count ≡ k)
+pub both_end : (count second_count k : ℕ) → count ≡ second_count → k ≤ count → k ≤ second_count → ((count ≤ k) ⊎ (second_count ≤ k))
+    → (count ≡ k) × (second_count ≡ k)
 both_end count second_count k e f g (inl over) = (omega (arith, f, over), omega (arith, e, f, over))
 both_end count second_count k e f g (inr over) = (omega (arith, e, g, over), omega (arith, g, over))
 
@@ -78,8 +91,10 @@ over_lists count second_count k m n x y (inl over) = inl (omega (arith, x, over)
 over_lists count second_count k m n x y (inr over) = inr (omega (arith, y, over))
 
 -- what follows from the slices of two texts
-pub compared : (model : Model) (first second : Text) (old new old2 new2 : List ArgumentType) (count second_count : ℕ) (result : Option ℕ) → HasCount model first old new count → HasCount model second old2 new2 second_count → AreFew model first second
-    → ((a b start from : List ArgumentType) → new ≡ filled start a → new2 ≡ filled from b → count ≡ length a → second_count ≡ length b → (length a ≤ ROOM) ⊎ (length b ≤ ROOM) → IsFirstDifference a b result) → ComparesArgumentTypes model first second result
+pub compared : (model : Model) (first second : Text) (old new old2 new2 : List ArgumentType) (count second_count : ℕ) (result : Option ℕ)
+    → HasCount model first old new count → HasCount model second old2 new2 second_count → AreFew model first second
+    → ((a b start from : List ArgumentType) → new ≡ filled start a → new2 ≡ filled from b → count ≡ length a → second_count ≡ length b
+    → (length a ≤ ROOM) ⊎ (length b ≤ ROOM) → IsFirstDifference a b result) → ComparesArgumentTypes model first second result
 compared model first second old new old2 new2 count second_count result h k few f =
     record {
       types = h.types;

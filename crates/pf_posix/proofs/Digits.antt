@@ -14,13 +14,19 @@ use Rattle.pf_posix.specs.Letters.{is_first_digit}
 use Rattle.pf_posix.specs.Spelling.{SpellsPositive}
 
 -- one more digit of a number
-pub number_push : (t : Text) (n byte : ℕ) → is_digit byte ≡ true → 10 * n + (byte - 48) ≤ MAX_NUMBER → SpellsPositive t n → SpellsPositive (t ++ byte ∷ []) (10 * n + (byte - 48))
+pub number_push : (t : Text) (n byte : ℕ) → is_digit byte ≡ true → 10 * n + (byte - 48) ≤ MAX_NUMBER → SpellsPositive t n
+    → SpellsPositive (t ++ byte ∷ []) (10 * n + (byte - 48))
 number_push t n byte d few h =
     let digit = digit_of byte d in
     let ds = h.numeral.0 in
     record {
       some = omega (arith, h.some);
-      numeral = (ds ++ (byte - 48) ∷ [], another_digit n (byte - 48) ds h.some digit.0 h.numeral.1, ap (λ u. u ++ byte ∷ []) h.numeral.2 ∙ glyph_push ds byte d);
+      numeral = (
+        ds ++ (byte - 48) ∷ [],
+        another_digit n (byte - 48) ds h.some digit.0 h.numeral.1,
+        ap (λ u. u ++ byte ∷ []) h.numeral.2
+            ∙ glyph_push ds byte d,
+      );
       within = few;
     }
 
@@ -32,10 +38,15 @@ pub number_one : (byte : ℕ) → is_first_digit byte ≡ true → SpellsPositiv
 number_one byte h =
     let first = is_some_digit byte h in
     let digit = digit_of byte first.0 in
-    record { some = first.1; numeral = ((byte - 48) ∷ [], one_digit (byte - 48) first.1 digit.0, ap (λ b. b ∷ []) (sym digit.1)); within = omega (arith, digit.0) }
+    record {
+      some = first.1;
+      numeral = ((byte - 48) ∷ [], one_digit (byte - 48) first.1 digit.0, ap (λ b. b ∷ []) (sym digit.1));
+      within = omega (arith, digit.0);
+    }
 
 -- digits of a precision
-pub digits_more : (slot : WidthOrPrecision) (t : Text) (n byte : ℕ) → is_digit byte ≡ true → 10 * n + (byte - 48) ≤ MAX_NUMBER → SpellsDigits slot t n → SpellsDigits slot (t ++ byte ∷ []) (10 * n + (byte - 48))
+pub digits_more : (slot : WidthOrPrecision) (t : Text) (n byte : ℕ) → is_digit byte ≡ true → 10 * n + (byte - 48) ≤ MAX_NUMBER → SpellsDigits slot t n
+    → SpellsDigits slot (t ++ byte ∷ []) (10 * n + (byte - 48))
 digits_more Width t n byte d few h = number_push t n byte d few h
 digits_more Precision t n byte d few h =
     let digit = digit_of byte d in

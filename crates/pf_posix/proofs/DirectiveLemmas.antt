@@ -33,7 +33,8 @@ module _ (model : Model) where
       × (directives_from model at next (whole ++ first) (items ++ item ∷ []) more
       ≡ directives_from model at next whole items reads ++ spans_of model (at + length whole) (next + length (fetched model items)) first item)
 
-  pushed_first : (at next : ℕ) (whole first : Text) (item : PosixItem) (reads : whole ≡ []) → SpellsPosixItem first item → Pushed at next whole first [] item reads
+  pushed_first : (at next : ℕ) (whole first : Text) (item : PosixItem) (reads : whole ≡ []) → SpellsPosixItem first item
+      → Pushed at next whole first [] item reads
   pushed_first at next whole first item reads spelled = ((first, [], spelled, refl, same), spans item spelled) where
     same : whole ++ first ≡ first ++ []
     same = ap (λ w. w ++ first) reads ∙ sym (append-nil first)
@@ -56,15 +57,18 @@ module _ (model : Model) where
       let rest = pushed (at + length reads.0) next reads.1 first items item reads.3 spelled in
       let there : at + length reads.0 + length reads.1 ≡ at + length whole = omega (arith, ap length reads.4, length-append reads.0 reads.1) in (
         (reads.0, reads.1 ++ first, reads.2, rest.0, ap (λ w. w ++ first) reads.4 ∙ append_assoc reads.0 reads.1 first),
-        rest.1 ∙ ap (λ a. directives_from model (at + length reads.0) next reads.1 items reads.3 ++ spans_of model a (next + length (fetched model items)) first item) there,
+        rest.1 ∙ ap (λ a. directives_from model (at + length reads.0) next reads.1 items reads.3 ++ spans_of model a
+            (next + length (fetched model items)) first item) there,
       )
   pushed at next whole first (Specification s ∷ items) item reads spelled =
       let rest = pushed (at + length reads.0) (next + length (fetches model s)) reads.1 first items item reads.3 spelled in
       let there : at + length reads.0 + length reads.1 ≡ at + length whole = omega (arith, ap length reads.4, length-append reads.0 reads.1) in
-      let many : next + length (fetches model s) + length (fetched model items) ≡ next + length (fetches model s ++ fetched model items) = omega (arith, length-append (fetches model s) (fetched model items)) in (
+      let many : next + length (fetches model s) + length (fetched model items) ≡ next + length (fetches model s ++ fetched model items) = omega
+      (arith, length-append (fetches model s) (fetched model items)) in (
         (reads.0, reads.1 ++ first, reads.2, rest.0, ap (λ w. w ++ first) reads.4 ∙ append_assoc reads.0 reads.1 first),
         ap (λ l. directive_between model at (at + length reads.0) next s ∷ l)
-            (rest.1 ∙ ap₂ (λ a n. directives_from model (at + length reads.0) (next + length (fetches model s)) reads.1 items reads.3 ++ spans_of model a n first item) there many),
+            (rest.1 ∙ ap₂ (λ a n. directives_from model (at + length reads.0)
+            (next + length (fetches model s)) reads.1 items reads.3 ++ spans_of model a n first item) there many),
       )
 
   -- a byte leads into an item or to its end
@@ -81,8 +85,10 @@ module _ (model : Model) where
   arrived numbering part own byte (Point parts) other h = h
   arrived numbering part own byte (Modified parts modifier) other h = h
 
-  pub brought : (numbering : Numbering) (part : Text) (own : List Fetch) (byte : ℕ) (f : Fetch) (to : PosixState) → to ≢ Between → Brings model numbering part own byte f to
-      → IsStateAfter to (part ++ byte ∷ []) (own ++ f ∷ []) × Follows numbering (Some (numbering_by f.number)) × (numbering_in to ≡ Some (numbering_by f.number))
+  pub brought : (numbering : Numbering) (part : Text) (own : List Fetch) (byte : ℕ) (f : Fetch) (to : PosixState) → to ≢ Between
+      → Brings model numbering part own byte f to
+      → IsStateAfter to (part ++ byte ∷ []) (own ++ f ∷ []) × Follows numbering (Some (numbering_by f.number))
+      × (numbering_in to ≡ Some (numbering_by f.number))
   brought numbering part own byte f Between other h = absurd (other refl)
   brought numbering part own byte f Opened other h = h
   brought numbering part own byte f (First n) other h = h
@@ -100,26 +106,30 @@ module _ (model : Model) where
 
   module _ (seen all : List Fetch) (numbering : Numbering) (state : PosixState) (at byte : ℕ) (rest : Text)
       (left : verdict_after seen (trace_from model numbering state at (byte ∷ rest)) ≡ Takes all) where
-    step_left : (n : PosixStep) → posix_step model numbering state byte ≡ n → verdict_after seen (moved numbering at n (λ s q. trace_from model s q (at + 1) rest)) ≡ Takes all
+    step_left : (n : PosixStep) → posix_step model numbering state byte ≡ n
+        → verdict_after seen (moved numbering at n (λ s q. trace_from model s q (at + 1) rest)) ≡ Takes all
     step_left n e = go (nat_le MAX_TEXT_LEN at) refl where
       go : (b : Bool) → nat_le MAX_TEXT_LEN at ≡ b → verdict_after seen (moved numbering at n (λ s q. trace_from model s q (at + 1) rest)) ≡ Takes all
       go true b =
           let full : verdict_after seen (trace_from model numbering state at (byte ∷ rest)) ≡ Refused TooLong at = rw b refl in
           absurd (takes_none all TooLong at (sym full ∙ left))
       go false b =
-          let next : verdict_after seen (trace_from model numbering state at (byte ∷ rest)) ≡ verdict_after seen (moved numbering at (posix_step model numbering state byte) (λ s q. trace_from model s q (at + 1) rest)) = rw b refl in
+          let next : verdict_after seen (trace_from model numbering state at (byte ∷ rest)) ≡ verdict_after seen
+          (moved numbering at (posix_step model numbering state byte) (λ s q. trace_from model s q (at + 1) rest)) = rw b refl in
           ap (λ m. verdict_after seen (moved numbering at m (λ s q. trace_from model s q (at + 1) rest))) (sym e) ∙ sym next ∙ left
 
     pub not_refused : (kind : RefusalKind) → posix_step model numbering state byte ≡ Err kind → ⊥
     not_refused kind e = takes_none all kind at (step_left (Err kind) e)
 
-    pub passed_left : (to : PosixState) → posix_step model numbering state byte ≡ Ok (to, None) → verdict_after seen (trace_from model numbering to (at + 1) rest) ≡ Takes all
+    pub passed_left : (to : PosixState) → posix_step model numbering state byte ≡ Ok (to, None)
+        → verdict_after seen (trace_from model numbering to (at + 1) rest) ≡ Takes all
     passed_left to e = step_left (Ok (to, None)) e
 
     pub fetched_left : (to : PosixState) (f : Fetch) → posix_step model numbering state byte ≡ Ok (to, Some f)
         → (conflicts seen f ≡ false) × (verdict_after (seen ++ f ∷ []) (trace_from model (numbering_by f.number) to (at + 1) rest) ≡ Takes all)
     fetched_left to f e = go (conflicts seen f) refl (step_left (Ok (to, Some f)) e) where
-      go : (c : Bool) → conflicts seen f ≡ c → (if c then Refused TwoTypes at else verdict_after (seen ++ f ∷ []) (trace_from model (numbering_by f.number) to (at + 1) rest)) ≡ Takes all
+      go : (c : Bool) → conflicts seen f ≡ c → (if c then Refused TwoTypes at else verdict_after (seen ++ f ∷ [])
+          (trace_from model (numbering_by f.number) to (at + 1) rest)) ≡ Takes all
           → (conflicts seen f ≡ false) × (verdict_after (seen ++ f ∷ []) (trace_from model (numbering_by f.number) to (at + 1) rest) ≡ Takes all)
       go true c h = absurd (takes_none all TwoTypes at h)
       go false c h = (c, h)

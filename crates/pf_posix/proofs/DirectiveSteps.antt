@@ -1,5 +1,6 @@
 -- What one more byte makes of a walk through an accepted text.
-use Rattle.std.proofs.Common.{◌≡◌, ◌≢◌, ℕ, ◌+◌, ◌-◌, ◌<◌, ◌≤◌, false, List, [], ◌∷◌, ◌++◌, length, get_or, drop, take, refl, sym, ap, ◌∙◌, arith, subst, inl, inr, Ok, Err, Result, length-append}
+use Rattle.std.proofs.Common.{◌≡◌, ◌≢◌, ℕ, ◌+◌, ◌-◌, ◌<◌, ◌≤◌, false, List, [], ◌∷◌, ◌++◌, length, get_or, drop, take, refl, sym, ap, ◌∙◌, arith, subst, inl}
+use Rattle.std.proofs.Common.{inr, Ok, Err, Result, length-append}
 use Rattle.std.specs.Prelude.{Option, Some, None, ◌⊎◌, MatchOption}
 use Rattle.std.proofs.lemmas.List.{append_assoc, append-nil, drop_more, length_push}
 use Rattle.std.proofs.Math.ListN.{drop_of_length-le}
@@ -15,7 +16,8 @@ use Rattle.pf_posix.specs.declared.directive_spans.DirectiveWalk.{DirectiveWalk}
 use Rattle.pf_posix.specs.declared.fetches.Fetch.{Fetch}
 use Rattle.pf_posix.specs.declared.types.ArgumentType.{ArgumentType}
 use Rattle.pf_posix.specs.declared.partial_specification.Numbering.TheVariants.{Undecided}
-use Rattle.pf_posix.specs.DirectiveWalks.{IsWalkedTo, directive_by, earlier_index, has_star_precision, last_index, precision_star, walk_behind, walk_in, width_star}
+use Rattle.pf_posix.specs.DirectiveWalks.{IsWalkedTo, directive_by, earlier_index, has_star_precision, last_index, precision_star, walk_behind, walk_in}
+use Rattle.pf_posix.specs.DirectiveWalks.{width_star}
 use Rattle.pf_posix.specs.Directives.{HasDirectives, argument_index, directive_between, directives_from, star_index}
 use Rattle.pf_posix.specs.Fronts.{IsStateAfter}
 use Rattle.pf_posix.specs.Moves.{posix_step_by}
@@ -62,7 +64,8 @@ split_last (x ∷ own) (y ∷ stars) f g e =
 
 -- the stars of a specification
 width_is : (next : ℕ) (width precision : Option Amount)
-    → width_star (comes_by_star precision) (earlier_index next (star_fetches width ++ star_fetches precision)) (last_index next (star_fetches width ++ star_fetches precision)) ≡ star_index width next
+    → width_star (comes_by_star precision) (earlier_index next (star_fetches width ++ star_fetches precision))
+    (last_index next (star_fetches width ++ star_fetches precision)) ≡ star_index width next
 width_is next None None = refl
 width_is next None (Some (Given n)) = refl
 width_is next None (Some (Fetched number)) = refl
@@ -74,7 +77,8 @@ width_is next (Some (Fetched own)) (Some (Given n)) = refl
 width_is next (Some (Fetched own)) (Some (Fetched number)) = refl
 
 precision_is : (next : ℕ) (width precision : Option Amount)
-    → precision_star (comes_by_star precision) (earlier_index next (star_fetches width ++ star_fetches precision)) (last_index next (star_fetches width ++ star_fetches precision))
+    → precision_star (comes_by_star precision) (earlier_index next (star_fetches width ++ star_fetches precision))
+    (last_index next (star_fetches width ++ star_fetches precision))
     ≡ star_index precision (next + length (star_fetches width))
 precision_is next None None = refl
 precision_is next None (Some (Given n)) = refl
@@ -102,16 +106,21 @@ same_span d e b n a w p k =
 
 -- specifications that fetch the same
 pub same_directive : (model : Model) (s p : PosixSpecification) → fetches model s ≡ fetches model p → comes_by_star s.precision ≡ comes_by_star p.precision
-    → (begin from end to next past : ℕ) → begin ≡ from → end ≡ to → next ≡ past → directive_between model begin end next s ≡ directive_between model from to past p
+    → (begin from end to next past : ℕ) → begin ≡ from → end ≡ to → next ≡ past
+    → directive_between model begin end next s ≡ directive_between model from to past p
 same_directive model s p own stars begin from end to next past b e n =
     let last = split_last (star_fetches s.width ++ star_fetches s.precision) (star_fetches p.width ++ star_fetches p.precision) _ _ own in
     let many = ap length last.0 in
     same_span _ _ b e
     (ap (λ g. argument_index (Fetch.number g) (next + length (star_fetches s.width ++ star_fetches s.precision))) last.1
     ∙ ap (argument_index p.position) (omega (arith, n, many)))
-    (sym (width_is next s.width s.precision) ∙ ap (λ c. width_star c (earlier_index next (star_fetches s.width ++ star_fetches s.precision)) (last_index next (star_fetches s.width ++ star_fetches s.precision))) stars ∙ ap (λ l. width_star (comes_by_star p.precision) (earlier_index next l) (last_index next l)) last.0
+    (sym (width_is next s.width s.precision) ∙ ap (λ c. width_star c (earlier_index next (star_fetches s.width ++ star_fetches s.precision))
+    (last_index next (star_fetches s.width ++ star_fetches s.precision))) stars
+    ∙ ap (λ l. width_star (comes_by_star p.precision) (earlier_index next l) (last_index next l)) last.0
     ∙ width_is next p.width p.precision ∙ ap (star_index p.width) n)
-    (sym (precision_is next s.width s.precision) ∙ ap (λ c. precision_star c (earlier_index next (star_fetches s.width ++ star_fetches s.precision)) (last_index next (star_fetches s.width ++ star_fetches s.precision))) stars ∙ ap (λ l. precision_star (comes_by_star p.precision) (earlier_index next l) (last_index next l)) last.0
+    (sym (precision_is next s.width s.precision) ∙ ap (λ c. precision_star c (earlier_index next (star_fetches s.width ++ star_fetches s.precision))
+    (last_index next (star_fetches s.width ++ star_fetches s.precision))) stars
+    ∙ ap (λ l. precision_star (comes_by_star p.precision) (earlier_index next l) (last_index next l)) last.0
     ∙ precision_is next p.width p.precision ∙ ap (λ n. star_index p.precision (n + length (star_fetches p.width))) n)
     (ap (λ g. Fetch.wanted g) last.1)
 
@@ -119,13 +128,15 @@ drop_seam : (whole rest : Text) → drop (length whole) (whole ++ rest) ≡ rest
 drop_seam [] rest = refl
 drop_seam (byte ∷ whole) rest = drop_seam whole rest
 
-bytes_between : (t whole part rest : Text) (at begin : ℕ) → t ≡ whole ++ (part ++ rest) → begin ≡ length whole → at ≡ length whole + length part → take (at - begin) (drop begin t) ≡ part
+bytes_between : (t whole part rest : Text) (at begin : ℕ) → t ≡ whole ++ (part ++ rest) → begin ≡ length whole → at ≡ length whole + length part
+    → take (at - begin) (drop begin t) ≡ part
 bytes_between t whole part rest at begin e b a =
     let long : at - begin ≡ length part = omega (arith, a, b) in
     ap (λ n. take n (drop begin t)) long ∙ ap (λ n. take (length part) (drop n t)) b ∙ ap (λ u. take (length part) (drop (length whole) u)) e
     ∙ ap (take (length part)) (drop_seam whole (part ++ rest)) ∙ take-append_seam part rest
 
-module _ (model : Model) (t : Text) (walk : DirectiveWalk) (done : List DirectiveSpan) (h : IsWalkedTo model t walk done) (less : walk.at < length t) (a : Automaton) where
+module _ (model : Model) (t : Text) (walk : DirectiveWalk) (done : List DirectiveSpan) (h : IsWalkedTo model t walk done) (less : walk.at < length t)
+    (a : Automaton) where
   abbrev pub byte : ℕ
   byte = get_or t walk.at 0
 
@@ -163,7 +174,8 @@ module _ (model : Model) (t : Text) (walk : DirectiveWalk) (done : List Directiv
   -- the byte fetches nothing, and an item goes on
   pub passes_inside : stepped ≡ Ok (posix_state_of a, None) → posix_state_of a ≢ Between → IsWalkedTo model t moved_on done
   passes_inside e inside =
-      let both = arrived model walk.numbering h.good.part h.good.own byte (posix_state_of a) inside (subst (Judges model walk.numbering h.good.part h.good.own byte) e judged) in
+      let both = arrived model walk.numbering h.good.part h.good.own byte (posix_state_of a) inside
+      (subst (Judges model walk.numbering h.good.part h.good.own byte) e judged) in
       record {
         front = h.front ++ byte ∷ [];
         seen = h.seen;
@@ -210,7 +222,8 @@ module _ (model : Model) (t : Text) (walk : DirectiveWalk) (done : List Directiv
           reads = push.0;
           at = subst (λ s. IsStateAfter s [] []) (sym between) (refl, refl);
           split = item_split ∙ sym (append-nil _);
-          fetches_are = h.good.fetches_are ∙ ap (λ o. fetched model h.good.items ++ o) came.2 ∙ sym (fetched_append model h.good.items (Byte came.0 ∷ [])) ∙ sym (append-nil _);
+          fetches_are = h.good.fetches_are ∙ ap (λ o. fetched model h.good.items ++ o) came.2 ∙ sym (fetched_append model h.good.items (Byte came.0 ∷ []))
+              ∙ sym (append-nil _);
           agreed = h.good.agreed;
           numbering = subst (λ s. Follows (numbering_of h.seen) (numbering_in s)) (sym between) tt;
         };
@@ -227,7 +240,8 @@ module _ (model : Model) (t : Text) (walk : DirectiveWalk) (done : List Directiv
       }
 
   module _ (f : Fetch) (e : stepped ≡ Ok (posix_state_of a, Some f)) where
-    own_left : (conflicts h.seen f ≡ false) × (verdict_after (h.seen ++ f ∷ []) (trace_from model (numbering_by f.number) (posix_state_of a) (walk.at + 1) (drop (walk.at + 1) t)) ≡ Takes h.all)
+    own_left : (conflicts h.seen f ≡ false) × (verdict_after (h.seen ++ f ∷ [])
+        (trace_from model (numbering_by f.number) (posix_state_of a) (walk.at + 1) (drop (walk.at + 1) t)) ≡ Takes h.all)
     own_left = fetched_left model h.seen h.all walk.numbering (posix_state_of walk.automaton) walk.at byte (drop (walk.at + 1) t) left_on (posix_state_of a) f e
 
     counted : walk.fetched + 1 ≡ length (h.seen ++ f ∷ [])
@@ -239,7 +253,8 @@ module _ (model : Model) (t : Text) (walk : DirectiveWalk) (done : List Directiv
     -- the byte fetches an argument, and the specification goes on
     pub fetches_inside : posix_state_of a ≢ Between → IsWalkedTo model t (walk_in moved_on f) done
     fetches_inside inside =
-        let all = brought model walk.numbering h.good.part h.good.own byte f (posix_state_of a) inside (subst (Judges model walk.numbering h.good.part h.good.own byte) e judged) in
+        let all = brought model walk.numbering h.good.part h.good.own byte f (posix_state_of a) inside
+        (subst (Judges model walk.numbering h.good.part h.good.own byte) e judged) in
         let follows = subst (λ s. Follows s (Some (numbering_by f.number))) h.numbering_is all.1 in
         let numbering = numbering_push h.seen f follows in
         record {
@@ -272,7 +287,8 @@ module _ (model : Model) (t : Text) (walk : DirectiveWalk) (done : List Directiv
 
     -- the byte fetches an argument, and ends a specification
     pub fetches_end : posix_state_of a ≡ Between → (d : DirectiveSpan)
-        → d ≡ directive_by moved_on (take (moved_on.at - moved_on.begin) (drop moved_on.begin t)) f → IsWalkedTo model t (walk_behind moved_on f) (done ++ d ∷ [])
+        → d ≡ directive_by moved_on (take (moved_on.at - moved_on.begin) (drop moved_on.begin t)) f
+        → IsWalkedTo model t (walk_behind moved_on f) (done ++ d ∷ [])
     fetches_end between d made =
         let came : Brings model walk.numbering h.good.part h.good.own byte f Between =
         subst (Judges model walk.numbering h.good.part h.good.own byte) (e ∙ ap (λ s. Ok (s, Some f)) between) judged in
@@ -292,7 +308,8 @@ module _ (model : Model) (t : Text) (walk : DirectiveWalk) (done : List Directiv
             at = subst (λ s. IsStateAfter s [] []) (sym between) (refl, refl);
             split = item_split ∙ sym (append-nil _);
             fetches_are = ap (λ s. s ++ f ∷ []) h.good.fetches_are ∙ append_assoc (fetched model h.good.items) h.good.own (f ∷ [])
-                ∙ ap (λ o. fetched model h.good.items ++ o) (came.3 ∙ sym (append-nil (fetches model came.0))) ∙ sym (fetched_append model h.good.items (Specification came.0 ∷ [])) ∙ sym (append-nil _);
+                ∙ ap (λ o. fetched model h.good.items ++ o) (came.3 ∙ sym (append-nil (fetches model came.0)))
+                ∙ sym (fetched_append model h.good.items (Specification came.0 ∷ [])) ∙ sym (append-nil _);
             agreed = agreed_push h.seen f h.good.agreed follows own_left.0;
             numbering = subst (λ s. Follows (numbering_of (h.seen ++ f ∷ [])) (numbering_in s)) (sym between) tt;
           };
@@ -305,10 +322,13 @@ module _ (model : Model) (t : Text) (walk : DirectiveWalk) (done : List Directiv
           earlier_is = refl;
           accepted = h.accepted;
           left = own_left.1;
-          done_are = ap (λ x. done ++ x ∷ []) (made ∙ is_it came.0 came.1 came.3) ∙ ap (λ l. l ++ directive_between model (0 + length h.good.whole) (0 + length h.good.whole + length part) (0 + length (fetched model h.good.items)) came.0 ∷ []) h.done_are
+          done_are = ap (λ x. done ++ x ∷ []) (made ∙ is_it came.0 came.1 came.3)
+              ∙ ap (λ l. l ++ directive_between model (0 + length h.good.whole) (0 + length h.good.whole + length part)
+              (0 + length (fetched model h.good.items)) came.0 ∷ []) h.done_are
               ∙ sym push.1;
         } where
-          is_it : (s : PosixSpecification) → SpellsPosix part s → h.good.own ++ f ∷ [] ≡ fetches model s → directive_by moved_on (take (moved_on.at - moved_on.begin) (drop moved_on.begin t)) f
+          is_it : (s : PosixSpecification) → SpellsPosix part s → h.good.own ++ f ∷ [] ≡ fetches model s
+              → directive_by moved_on (take (moved_on.at - moved_on.begin) (drop moved_on.begin t)) f
               ≡ directive_between model (0 + length h.good.whole) (0 + length h.good.whole + length part) (0 + length (fetched model h.good.items)) s
           is_it s spelled fetches_are =
               let next = length (fetched model h.good.items) in
@@ -326,15 +346,18 @@ module _ (model : Model) (t : Text) (walk : DirectiveWalk) (done : List Directiv
               (omega (arith, h.begin_is))
               (omega (arith, long))
               (ap (λ g. argument_index (Fetch.number g) walk.fetched) last.1 ∙ ap (argument_index s.position) index)
-              (ap (λ p. width_star p walk.earlier_star walk.star) precise ∙ ap (λ o. width_star (comes_by_star s.precision) o walk.star) earlier ∙ ap (width_star (comes_by_star s.precision) _) star
+              (ap (λ p. width_star p walk.earlier_star walk.star) precise ∙ ap (λ o. width_star (comes_by_star s.precision) o walk.star) earlier
+              ∙ ap (width_star (comes_by_star s.precision) _) star
               ∙ width_is next s.width s.precision ∙ ap (star_index s.width) zero_next)
-              (ap (λ p. precision_star p walk.earlier_star walk.star) precise ∙ ap (λ o. precision_star (comes_by_star s.precision) o walk.star) earlier ∙ ap (precision_star (comes_by_star s.precision) _) star
+              (ap (λ p. precision_star p walk.earlier_star walk.star) precise ∙ ap (λ o. precision_star (comes_by_star s.precision) o walk.star) earlier
+              ∙ ap (precision_star (comes_by_star s.precision) _) star
               ∙ precision_is next s.width s.precision ∙ ap (λ n. star_index s.precision (n + length (star_fetches s.width))) zero_next)
               (ap (λ g. Fetch.wanted g) last.1)
 
 module _ (model : Model) (t : Text) (types : List ArgumentType) (given : HasArguments model t types) where
   -- before the first byte
-  pub walk_starts : (walk : DirectiveWalk) → posix_state_of walk.automaton ≡ Between → walk.numbering ≡ Undecided → walk.at ≡ 0 → walk.begin ≡ 0 → walk.fetched ≡ 0 → walk.star ≡ None
+  pub walk_starts : (walk : DirectiveWalk) → posix_state_of walk.automaton ≡ Between → walk.numbering ≡ Undecided → walk.at ≡ 0 → walk.begin ≡ 0
+      → walk.fetched ≡ 0 → walk.star ≡ None
       → walk.earlier_star ≡ None → IsWalkedTo model t walk []
   walk_starts walk state numbering at begin count star earlier =
       record {
@@ -382,14 +405,17 @@ module _ (model : Model) (t : Text) (types : List ArgumentType) (given : HasArgu
     pub walk_ends : HasDirectives model t done
     walk_ends =
         let none = drop_of_length-le t over in
-        let end = is_between (posix_state_of walk.automaton) (subst (λ r. verdict_after h.seen (trace_from model walk.numbering (posix_state_of walk.automaton) walk.at r) ≡ Takes h.all) none h.left) in
+        let end = is_between (posix_state_of walk.automaton) (subst (λ r. verdict_after h.seen
+        (trace_from model walk.numbering (posix_state_of walk.automaton) walk.at r) ≡ Takes h.all) none h.left) in
         let parts = subst (λ s. IsStateAfter s h.good.part h.good.own) end.0 h.good.at in
         let whole : h.good.whole ≡ t =
-        sym (append-nil _) ∙ ap (λ p. h.good.whole ++ p) (sym parts.0) ∙ sym h.good.split ∙ sym (append-nil h.front) ∙ ap (λ r. h.front ++ r) (sym none) ∙ sym h.split in
+        sym (append-nil _) ∙ ap (λ p. h.good.whole ++ p) (sym parts.0) ∙ sym h.good.split ∙ sym (append-nil h.front) ∙ ap (λ r. h.front ++ r) (sym none)
+        ∙ sym h.split in
         let seen = h.good.fetches_are ∙ ap (λ o. fetched model h.good.items ++ o) parts.1 ∙ append-nil _ in
         let types_are : HaveTypes (fetched model h.good.items) types =
         subst (λ fs. HaveTypes fs types) seen (types_of_verdict model t types h.seen given (h.accepted ∙ sym end.1)) in
-        let moved = subst (λ u. (reads : ReadsPosix u h.good.items) × (directives_from model 0 0 u h.good.items reads ≡ directives_from model 0 0 h.good.whole h.good.items h.good.reads)) whole (h.good.reads, refl) in
+        let moved = subst (λ u. (reads : ReadsPosix u h.good.items) ×
+        (directives_from model 0 0 u h.good.items reads ≡ directives_from model 0 0 h.good.whole h.good.items h.good.reads)) whole (h.good.reads, refl) in
         let are = h.done_are ∙ sym moved.1 in
         record {
           types = types;
@@ -411,7 +437,8 @@ between_or_not (Point parts) = inr (λ e. cc)
 between_or_not (Modified parts modifier) = inr (λ e. cc)
 
 -- One step of the walk: it takes a byte, and follows what the automaton answers.
-module _ (model : Model) (t : Text) (walk : DirectiveWalk) (done : List DirectiveSpan) (h : IsWalkedTo model t walk done) (less : walk.at < length t) (a : Automaton) where
+module _ (model : Model) (t : Text) (walk : DirectiveWalk) (done : List DirectiveSpan) (h : IsWalkedTo model t walk done) (less : walk.at < length t)
+    (a : Automaton) where
   abbrev after : DirectiveWalk
   after = record walk { automaton = a; at = walk.at + 1 }
 
@@ -427,11 +454,15 @@ module _ (model : Model) (t : Text) (walk : DirectiveWalk) (done : List Directiv
     step : posix_step model walk.numbering (posix_state_of walk.automaton) (get_or t walk.at 0) ≡ Ok (posix_state_of a, None)
     step = sym e ∙ ap (λ r. posix_step_by r a) (is ∙ ap Ok more)
 
-  pub fetch_taken : (new : DirectiveWalk) (result : Result Move RefusalKind) (moved : Move) (found : Option DirectiveSpan) → result ≡ Ok moved → moved ≡ moves.Fetched → HasTaken result
+  pub fetch_taken : (new : DirectiveWalk) (result : Result Move RefusalKind) (moved : Move) (found : Option DirectiveSpan) → result ≡ Ok moved
+      → moved ≡ moves.Fetched → HasTaken result
       → MatchOption found ((posix_state_of a ≢ Between) × (new ≡ walk_in after a.fetch))
-      (λ d. (posix_state_of a ≡ Between) × (new ≡ walk_behind after a.fetch) × (d ≡ directive_by after (take (walk.at + 1 - walk.begin) (drop walk.begin t)) a.fetch))
+      (λ d. (posix_state_of a ≡ Between) × (new ≡ walk_behind after a.fetch)
+      × (d ≡ directive_by after (take (walk.at + 1 - walk.begin) (drop walk.begin t)) a.fetch))
       → MatchOption found (IsWalkedTo model t new done) (λ d. IsWalkedTo model t new (done ++ d ∷ []))
   fetch_taken new result moved None is more e (inside, new_is) =
-      subst (λ w. IsWalkedTo model t w done) (sym new_is) (fetches_inside model t walk done h less a a.fetch (sym e ∙ ap (λ r. posix_step_by r a) (is ∙ ap Ok more)) inside)
+      subst (λ w. IsWalkedTo model t w done) (sym new_is) (fetches_inside model t walk done h less a a.fetch
+      (sym e ∙ ap (λ r. posix_step_by r a) (is ∙ ap Ok more)) inside)
   fetch_taken new result moved (Some d) is more e (between, new_is, made) =
-      subst (λ w. IsWalkedTo model t w (done ++ d ∷ [])) (sym new_is) (fetches_end model t walk done h less a a.fetch (sym e ∙ ap (λ r. posix_step_by r a) (is ∙ ap Ok more)) between d made)
+      subst (λ w. IsWalkedTo model t w (done ++ d ∷ [])) (sym new_is)
+      (fetches_end model t walk done h less a a.fetch (sym e ∙ ap (λ r. posix_step_by r a) (is ∙ ap Ok more)) between d made)

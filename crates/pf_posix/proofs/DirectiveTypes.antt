@@ -17,11 +17,13 @@ abbrev AreAt : List ArgumentType → ℕ → List Fetch → Type 0
 AreAt types next [] = Unit {0}
 AreAt types next (f ∷ fs) = (slice_get types (argument_index f.number next) ≡ Some f.wanted) × AreAt types (next + 1) fs
 
-ordered_at : (types : List ArgumentType) (before after : List Fetch) → types ≡ map (λ f. f.wanted) (before ++ after) → AllByRecursion (λ f. f.number ≡ None) after → AreAt types (length before) after
+ordered_at : (types : List ArgumentType) (before after : List Fetch) → types ≡ map (λ f. f.wanted) (before ++ after)
+    → AllByRecursion (λ f. f.number ≡ None) after → AreAt types (length before) after
 ordered_at types before [] e h = tt
 ordered_at types before (f ∷ after) e h = (
   ap (λ o. slice_get types (argument_index o (length before))) h.0 ∙ ap (λ ts. slice_get ts (length before)) e ∙ here before,
-  subst (λ n. AreAt types n after) (length_push before f) (ordered_at types (before ++ f ∷ []) after (e ∙ ap (map (λ f. f.wanted)) (sym (append_assoc before (f ∷ []) after))) h.1),
+  subst (λ n. AreAt types n after) (length_push before f) (ordered_at types (before ++ f ∷ []) after
+      (e ∙ ap (map (λ f. f.wanted)) (sym (append_assoc before (f ∷ []) after))) h.1),
 ) where
   here : (before : List Fetch) → slice_get (map (λ f. f.wanted) (before ++ f ∷ after)) (length before) ≡ Some f.wanted
   here [] = refl
@@ -68,7 +70,8 @@ module _ (model : Model) (types : List ArgumentType) where
         record {
           converted = (at_back types next stars (last ∷ []) own).0;
           width = star_at types next s.width (at_front types next (star_fetches s.width) (star_fetches s.precision) both);
-          precision = star_at types (next + length (star_fetches s.width)) s.precision (at_back types next (star_fetches s.width) (star_fetches s.precision) both);
+          precision = star_at types (next + length (star_fetches s.width)) s.precision
+              (at_back types next (star_fetches s.width) (star_fetches s.precision) both);
         },
         typed_from (at + length reads.0) (next + length (fetches model s)) reads.1 items reads.3 (at_back types next (fetches model s) (fetched model items) h),
       )

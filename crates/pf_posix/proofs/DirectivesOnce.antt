@@ -84,7 +84,8 @@ modifier_no_percent (Integer lengths.Z) = (refl, tt)
 modifier_no_percent (Integer lengths.T) = (refl, tt)
 
 -- the first conversion ends it
-ends_once : (a b : Text) (c d : ℕ) (x y : Text) → AllByRecursion IsNoConversion a → AllByRecursion IsNoConversion b → conversion_of c ≢ None → conversion_of d ≢ None
+ends_once : (a b : Text) (c d : ℕ) (x y : Text) → AllByRecursion IsNoConversion a → AllByRecursion IsNoConversion b → conversion_of c ≢ None
+    → conversion_of d ≢ None
     → a ++ c ∷ x ≡ b ++ d ∷ y → (a ++ c ∷ [] ≡ b ++ d ∷ []) × (x ≡ y)
 ends_once [] [] c d x y h g m n e = let first : c ≡ d = cc in let rest : x ≡ y = cc in (ap (λ z. z ∷ []) first, rest)
 ends_once [] (z ∷ b) c d x y h g m n e = let first : c ≡ z = cc in absurd (m (ap conversion_of first ∙ g.0))
@@ -123,7 +124,8 @@ begins_once t s h =
       go [] all e = (conversion_letter s.conversion, [], high _ (letter_tests s.conversion).high, e)
       go (second ∷ more) all e = (second, more ++ conversion_letter s.conversion ∷ [], all.0, e)
 
-no_specification : (t u : Text) (s : PosixSpecification) (x : ℕ) (first rest other more : Text) → SpellsPosix other s → SpellsPosixItem first (Byte x) → first ++ rest ≡ other ++ more → ⊥
+no_specification : (t u : Text) (s : PosixSpecification) (x : ℕ) (first rest other more : Text) → SpellsPosix other s → SpellsPosixItem first (Byte x)
+    → first ++ rest ≡ other ++ more → ⊥
 no_specification t u s x first rest other more h g e = go (x == 37) refl g where
   parts : (second : ℕ) × (more : Text) × ((second == 37) ≡ false) × (other ≡ 37 ∷ (second ∷ more))
   parts = begins_once other s h
@@ -138,9 +140,11 @@ no_specification t u s x first rest other more h g e = go (x == 37) refl g where
       let same : x ≡ 37 = cc in
       let no : false ≡ true = sym c ∙ ap (λ k. k == 37) same in cc
 
-byte_once : (x y : ℕ) (first rest other more : Text) → SpellsPosixItem first (Byte x) → SpellsPosixItem other (Byte y) → first ++ rest ≡ other ++ more → (length first ≡ length other) × (rest ≡ more)
+byte_once : (x y : ℕ) (first rest other more : Text) → SpellsPosixItem first (Byte x) → SpellsPosixItem other (Byte y) → first ++ rest ≡ other ++ more
+    → (length first ≡ length other) × (rest ≡ more)
 byte_once x y first rest other more h g e = go (x == 37) (y == 37) refl refl h g where
-  go : (b c : Bool) → (x == 37) ≡ b → (y == 37) ≡ c → MatchBool b (first ≡ 37 ∷ 37 ∷ []) ((x ≢ 0) × (first ≡ x ∷ [])) → MatchBool c (other ≡ 37 ∷ 37 ∷ []) ((y ≢ 0) × (other ≡ y ∷ []))
+  go : (b c : Bool) → (x == 37) ≡ b → (y == 37) ≡ c → MatchBool b (first ≡ 37 ∷ 37 ∷ []) ((x ≢ 0) × (first ≡ x ∷ []))
+      → MatchBool c (other ≡ 37 ∷ 37 ∷ []) ((y ≢ 0) × (other ≡ y ∷ []))
       → (length first ≡ length other) × (rest ≡ more)
   go true true m n h g =
       let both : 37 ∷ 37 ∷ rest ≡ 37 ∷ 37 ∷ more = sym (ap (λ l. l ++ rest) h) ∙ e ∙ ap (λ l. l ++ more) g in
@@ -158,7 +162,8 @@ byte_once x y first rest other more h g e = go (x == 37) (y == 37) refl refl h g
       let same : rest ≡ more = cc in (ap length h.1 ∙ sym (ap length g.1), same)
 
 some_text : (first rest : Text) (item : PosixItem) → SpellsPosixItem first item → first ++ rest ≢ []
-some_text first rest (Specification s) h e = let parts = begins_once first s h.0 in let no : 37 ∷ (parts.0 ∷ (parts.1 ++ rest)) ≡ [] = sym (ap (λ l. l ++ rest) parts.3) ∙ e in cc
+some_text first rest (Specification s) h e = let parts = begins_once first s h.0 in let no : 37 ∷ (parts.0 ∷ (parts.1 ++ rest)) ≡ [] = sym
+    (ap (λ l. l ++ rest) parts.3) ∙ e in cc
 some_text first rest (Byte x) h e = go (x == 37) h where
   go : (b : Bool) → MatchBool b (first ≡ 37 ∷ 37 ∷ []) ((x ≢ 0) × (first ≡ x ∷ [])) → ⊥
   go true h = let no : 37 ∷ 37 ∷ rest ≡ [] = sym (ap (λ l. l ++ rest) h) ∙ e in cc
@@ -170,38 +175,45 @@ module _ (model : Model) where
   own_of (Err kind) = []
 
   -- one text fetches one list of arguments
-  fetches_once : (t u : Text) (s p : PosixSpecification) → t ≡ u → SpellsPosix t s → IsPosixDefined s → SpellsPosix u p → IsPosixDefined p → fetches model s ≡ fetches model p
+  fetches_once : (t u : Text) (s p : PosixSpecification) → t ≡ u → SpellsPosix t s → IsPosixDefined s → SpellsPosix u p → IsPosixDefined p
+      → fetches model s ≡ fetches model p
   fetches_once t u s p e h hd g gd =
-      ap own_of (sym (spelled_run model Undecided t s h hd (inl refl)) ∙ ap (run model (Ok (stand Undecided Between []))) e ∙ spelled_run model Undecided u p g gd (inl refl))
+      ap own_of (sym (spelled_run model Undecided t s h hd (inl refl)) ∙ ap (run model (Ok (stand Undecided Between []))) e
+      ∙ spelled_run model Undecided u p g gd (inl refl))
 
-  same_from : (at from next past : ℕ) (t u : Text) (items others : List PosixItem) (h : ReadsPosix t items) (k : ReadsPosix u others) → at ≡ from → next ≡ past → t ≡ u
+  same_from : (at from next past : ℕ) (t u : Text) (items others : List PosixItem) (h : ReadsPosix t items) (k : ReadsPosix u others) → at ≡ from
+      → next ≡ past → t ≡ u
       → directives_from model at next t items h ≡ directives_from model from past u others k
   same_from at from next past t u [] [] h k a n e = refl
-  same_from at from next past t u [] (o ∷ others) h k a n e = absurd (some_text (first_of o k) (rest_of o k) o (spelled_of o k) (sym (whole_of o k) ∙ sym e ∙ h)) where
-    first_of : (o : PosixItem) → ReadsPosix u (o ∷ others) → Text
-    first_of o k = k.0
+  same_from at from next past t u [] (o ∷ others) h k a n e = absurd
+      (some_text (first_of o k) (rest_of o k) o (spelled_of o k) (sym (whole_of o k) ∙ sym e ∙ h)) where
+        first_of : (o : PosixItem) → ReadsPosix u (o ∷ others) → Text
+        first_of o k = k.0
 
-    rest_of : (o : PosixItem) → ReadsPosix u (o ∷ others) → Text
-    rest_of o k = k.1
+        rest_of : (o : PosixItem) → ReadsPosix u (o ∷ others) → Text
+        rest_of o k = k.1
 
-    spelled_of : (o : PosixItem) (k : ReadsPosix u (o ∷ others)) → SpellsPosixItem k.0 o
-    spelled_of o k = k.2
+        spelled_of : (o : PosixItem) (k : ReadsPosix u (o ∷ others)) → SpellsPosixItem k.0 o
+        spelled_of o k = k.2
 
-    whole_of : (o : PosixItem) (k : ReadsPosix u (o ∷ others)) → u ≡ k.0 ++ k.1
-    whole_of o k = k.4
+        whole_of : (o : PosixItem) (k : ReadsPosix u (o ∷ others)) → u ≡ k.0 ++ k.1
+        whole_of o k = k.4
   same_from at from next past t u (i ∷ items) [] h k a n e = absurd (some_text h.0 h.1 i h.2 (sym h.4 ∙ e ∙ k))
   same_from at from next past t u (Byte x ∷ items) (Byte y ∷ others) h k a n e =
       let same = byte_once x y h.0 h.1 k.0 k.1 h.2 k.2 (sym h.4 ∙ e ∙ k.4) in
       same_from (at + length h.0) (from + length k.0) next past h.1 k.1 items others h.3 k.3 (ap₂ (λ a l. a + l) a same.0) n same.1
-  same_from at from next past t u (Byte x ∷ items) (Specification p ∷ others) h k a n e = absurd (no_specification t u p x h.0 h.1 k.0 k.1 k.2.0 h.2 (sym h.4 ∙ e ∙ k.4))
-  same_from at from next past t u (Specification s ∷ items) (Byte y ∷ others) h k a n e = absurd (no_specification u t s y k.0 k.1 h.0 h.1 h.2.0 k.2 (sym k.4 ∙ sym e ∙ h.4))
+  same_from at from next past t u (Byte x ∷ items) (Specification p ∷ others) h k a n e = absurd
+      (no_specification t u p x h.0 h.1 k.0 k.1 k.2.0 h.2 (sym h.4 ∙ e ∙ k.4))
+  same_from at from next past t u (Specification s ∷ items) (Byte y ∷ others) h k a n e = absurd
+      (no_specification u t s y k.0 k.1 h.0 h.1 h.2.0 k.2 (sym k.4 ∙ sym e ∙ h.4))
   same_from at from next past t u (Specification s ∷ items) (Specification p ∷ others) h k a n e =
       let same = specification_once h.0 k.0 h.1 k.1 s p h.2.0 k.2.0 (sym h.4 ∙ e ∙ k.4) in
       let own = fetches_once h.0 k.0 s p same.0 h.2.0 h.2.1 k.2.0 k.2.1 in
       let stars = sym (star_told h.0 s h.2.0) ∙ ap has_star_precision same.0 ∙ star_told k.0 p k.2.0 in
       let end : at + length h.0 ≡ from + length k.0 = ap₂ (λ a l. a + l) a (ap length same.0) in
       ap₂ (λ d l. d ∷ l) (same_directive model s p own stars at from _ _ next past a end n)
-      (same_from (at + length h.0) (from + length k.0) (next + length (fetches model s)) (past + length (fetches model p)) h.1 k.1 items others h.3 k.3 end (ap₂ (λ a l. a + l) n (ap length own)) same.1)
+      (same_from (at + length h.0) (from + length k.0) (next + length (fetches model s)) (past + length (fetches model p)) h.1 k.1 items others h.3 k.3 end
+      (ap₂ (λ a l. a + l) n (ap length own)) same.1)
 
   pub directives_once : (t : Text) (ds es : List DirectiveSpan) → HasDirectives model t ds → HasDirectives model t es → ds ≡ es
   directives_once t ds es h k =

@@ -72,7 +72,8 @@ two_types_of_a_star : (model : Model) → IsPosixRefusedAt model (codes "%1$s%2$
 two_types_of_a_star model = refused model _ TwoTypes 9 refl
 
 gap : (model : Model) → IsPosixRefusedAt model (codes "%2$d") MissingArgument 4
-gap model = missing model _ (fetch (Some 2) int_type ∷ []) (told_taken model _ _ refl) (0, 1, omega arith, inl refl, λ h. elim h [ inl e ↦ cc | inr none ↦ none ])
+gap model = missing model _ (fetch (Some 2) int_type ∷ []) (told_taken model _ _ refl)
+    (0, 1, omega arith, inl refl, λ h. elim h [ inl e ↦ cc | inr none ↦ none ])
 
 -- `n` takes a modifier alone
 count_with_a_width : (model : Model) → IsPosixRefusedAt model (codes "%5n") CountUndefined 2

@@ -1,5 +1,6 @@
 -- What one more byte makes of each state is what has come then.
-use Rattle.std.proofs.Common.{◌≡◌, ◌≢◌, ℕ, ◌+◌, ◌-◌, ◌*◌, ◌<◌, ◌≤◌, Bool, true, false, List, [], ◌∷◌, ◌++◌, map, length, refl, sym, ap, ◌∙◌, arith, subst, inl, inr, Ok, Err}
+use Rattle.std.proofs.Common.{◌≡◌, ◌≢◌, ℕ, ◌+◌, ◌-◌, ◌*◌, ◌<◌, ◌≤◌, Bool, true, false, List, [], ◌∷◌, ◌++◌, map, length, refl, sym, ap, ◌∙◌, arith, subst, inl}
+use Rattle.std.proofs.Common.{inr, Ok, Err}
 use Rattle.std.specs.Prelude.{Option, Some, None, is_some, nat_lt, ◌==◌, if◌then◌else◌, ◌⊎◌}
 use Rattle.std.specs.Fmt.{digit_glyph}
 use Rattle.std.proofs.lemmas.Bool.{eqb-true}
@@ -19,7 +20,8 @@ use Rattle.pf_posix.specs.declared.conversions.Modifier.{Modifier}
 use Rattle.pf_posix.specs.declared.conversions.Modifier.TheVariants.{Integer, LongDouble}
 use Rattle.pf_posix.specs.declared.fetches.Fetch.{Fetch}
 use Rattle.pf_values.specs.declared.refusals.RefusalKind.{RefusalKind}
-use Rattle.pf_values.specs.declared.refusals.RefusalKind.TheVariants.{NulByte, Unexpected, BadPercent, AltUndefined, ZeroUndefined, GroupUndefined, PrecisionUndefined, LengthUndefined, Mixed, CountUndefined}
+use Rattle.pf_values.specs.declared.refusals.RefusalKind.TheVariants.{NulByte, Unexpected, BadPercent, AltUndefined, ZeroUndefined, GroupUndefined}
+use Rattle.pf_values.specs.declared.refusals.RefusalKind.TheVariants.{PrecisionUndefined, LengthUndefined, Mixed, CountUndefined}
 use Rattle.pf_posix.specs.declared.partial_specification.PartialSpecification.{PartialSpecification}
 use Rattle.pf_posix.specs.declared.partial_specification.WidthOrPrecision.{WidthOrPrecision}
 use Rattle.pf_posix.specs.declared.partial_specification.WidthOrPrecision.TheVariants.{Width, Precision}
@@ -34,7 +36,9 @@ use Rattle.pf_posix.specs.Refusals.{CompletesUndefined, Follows, numbering_by, n
 use Rattle.pf_posix.specs.Specifications.{Amount, Given, Fetched, PosixSpecification, conversion_letter, modifier_letters}
 use Rattle.pf_posix.specs.Spelling.{SpellsUpToFlags, SpellsUpToWidth, SpellsPositive, SpellsStar, SpellsPosix}
 use Rattle.pf_posix.specs.Stages.{PosixState, Between, Opened, First, Flags, Digits, Star, StarDigits, Placed, Point, Modified}
-use Rattle.pf_posix.specs.States.{PosixStep, after_amount, after_first, among_flags, after_modifier_letter, after_numbers, after_percent, after_star, dollar_after, conversion_at, conversion_by, flag_or_width, judgement, modifier_or_conversion, posix_step, parts_at, star_at, stray, with_digit, with_width}
+use Rattle.pf_posix.specs.States.{PosixStep, after_amount, after_first, among_flags, after_modifier_letter, after_numbers, after_percent, after_star}
+use Rattle.pf_posix.specs.States.{dollar_after, conversion_at, conversion_by, flag_or_width, judgement, modifier_or_conversion, posix_step, parts_at, star_at}
+use Rattle.pf_posix.specs.States.{stray, with_digit, with_width}
 use Rattle.pf_posix.specs.Types.{fetch, fetches, star_fetches, conversion_type}
 use Rattle.pf_posix.proofs.Digits.{digits_more, number_one, number_push, precision_one}
 
@@ -44,7 +48,8 @@ byte_of_flag byte flag e = grind (arith, nat_tests)
 pub byte_of_conversion : (byte : ℕ) (conversion : Conversion) → conversion_of byte ≡ Some conversion → byte ≡ conversion_letter conversion
 byte_of_conversion byte conversion e = grind (arith, nat_tests)
 
-byte_of_modifier : (byte : ℕ) (modifier : Modifier) → length_modifier_of byte ≡ Some modifier → (byte ∷ [] ≡ modifier_letters modifier) × (modifier ≢ Integer lengths.None)
+byte_of_modifier : (byte : ℕ) (modifier : Modifier) → length_modifier_of byte ≡ Some modifier
+    → (byte ∷ [] ≡ modifier_letters modifier) × (modifier ≢ Integer lengths.None)
 byte_of_modifier byte LongDouble e = let same : byte ≡ 76 = grind (arith, nat_tests) in (ap (λ b. b ∷ []) same, λ other. cc)
 byte_of_modifier byte (Integer lengths.None) e = absurd (grind (arith, nat_tests))
 byte_of_modifier byte (Integer lengths.Hh) e = absurd (grind (arith, nat_tests))
@@ -71,11 +76,19 @@ too_large_defined Precision = refl
 
 -- what comes up to a width or a precision, with it
 abbrev pub IsBehind : WidthOrPrecision → Text → PartialSpecification → List Fetch → Type 0
-IsBehind Width t parts own = (width : Option Amount) × SpellsUpToWidth t parts.position parts.flags width × (parts.width ≡ is_some width) × (parts.precision ≡ false) × (own ≡ star_fetches width)
+IsBehind Width t parts own = (width : Option Amount) × SpellsUpToWidth t parts.position parts.flags width × (parts.width ≡ is_some width)
+    × (parts.precision ≡ false) × (own ≡ star_fetches width)
 IsBehind Precision t parts own = HasNumbers t parts own
 
-behind_digits : (slot : WidthOrPrecision) (before digits : Text) (parts : PartialSpecification) (own : List Fetch) (n : ℕ) → IsBefore slot before parts own → SpellsDigits slot digits n → IsBehind slot (before ++ digits) parts own
-behind_digits Width before digits parts own n h d = (Some (Given n), record { before = before; text = digits; before_is = h.0; width_is = d; whole = refl }, h.1, h.2, h.3)
+behind_digits : (slot : WidthOrPrecision) (before digits : Text) (parts : PartialSpecification) (own : List Fetch) (n : ℕ) → IsBefore slot before parts own
+    → SpellsDigits slot digits n → IsBehind slot (before ++ digits) parts own
+behind_digits Width before digits parts own n h d = (
+  Some (Given n),
+  record { before = before; text = digits; before_is = h.0; width_is = d; whole = refl },
+  h.1,
+  h.2,
+  h.3,
+)
 behind_digits Precision before digits parts own n h d =
     record {
       width = h.1;
@@ -92,10 +105,16 @@ behind_digits Precision before digits parts own n h d =
       own_is = h.6 ∙ sym (append-nil _);
     }
 
-behind_star : (slot : WidthOrPrecision) (before text : Text) (parts : PartialSpecification) (own : List Fetch) (number : Option ℕ) → IsBefore slot before parts own → SpellsStar text parts.position number
+behind_star : (slot : WidthOrPrecision) (before text : Text) (parts : PartialSpecification) (own : List Fetch) (number : Option ℕ)
+    → IsBefore slot before parts own → SpellsStar text parts.position number
     → IsBehind slot (before ++ text) parts (own ++ fetch number int_type ∷ [])
-behind_star Width before text parts own number h s =
-    (Some (Fetched number), record { before = before; text = text; before_is = h.0; width_is = s; whole = refl }, h.1, h.2, ap (λ o. o ++ fetch number int_type ∷ []) h.3)
+behind_star Width before text parts own number h s = (
+  Some (Fetched number),
+  record { before = before; text = text; before_is = h.0; width_is = s; whole = refl },
+  h.1,
+  h.2,
+  ap (λ o. o ++ fetch number int_type ∷ []) h.3,
+)
 behind_star Precision before text parts own number h s =
     record {
       width = h.1;
@@ -118,7 +137,13 @@ behind_point t parts own h =
     record {
       width = h.1;
       precision = Some (Given 0);
-      numbers = record { before = h.0; text = 46 ∷ []; before_is = h.2; precision_is = (([], record { below = tt; sum = refl }, refl), omega arith); whole = h.3 };
+      numbers = record {
+        before = h.0;
+        text = 46 ∷ [];
+        before_is = h.2;
+        precision_is = (([], record { below = tt; sum = refl }, refl), omega arith);
+        whole = h.3;
+      };
       width_is = h.4;
       precision_is = h.5;
       own_is = h.6 ∙ sym (append-nil _);
@@ -144,8 +169,10 @@ module _ (model : Model) (numbering : Numbering) (part : Text) (own : List Fetch
 
   -- and with an argument fetched
   abbrev pub Brings : Fetch → PosixState → Type 0
-  Brings f Between = (s : PosixSpecification) × SpellsPosix (part ++ byte ∷ []) s × IsPosixDefined s × (own ++ f ∷ [] ≡ fetches model s) × Follows numbering (Some (numbering_by f.number))
-  Brings f to = IsStateAfter to (part ++ byte ∷ []) (own ++ f ∷ []) × Follows numbering (Some (numbering_by f.number)) × (numbering_in to ≡ Some (numbering_by f.number))
+  Brings f Between = (s : PosixSpecification) × SpellsPosix (part ++ byte ∷ []) s × IsPosixDefined s × (own ++ f ∷ [] ≡ fetches model s)
+      × Follows numbering (Some (numbering_by f.number))
+  Brings f to = IsStateAfter to (part ++ byte ∷ []) (own ++ f ∷ []) × Follows numbering (Some (numbering_by f.number))
+      × (numbering_in to ≡ Some (numbering_by f.number))
 
   abbrev pub Judges : PosixStep → Type 0
   Judges (Ok (to, None)) = Arrives to
@@ -167,10 +194,18 @@ module _ (model : Model) (numbering : Numbering) (part : Text) (own : List Fetch
   pushed k e = ap (λ b. part ++ b ∷ []) (eqb-true byte k e)
 
   module _ (parts : PartialSpecification) (follows : Follows numbering (Some (numbering_by parts.position))) where
-    judge_end : (before : Text) (modifier : Modifier) → HasNumbers before parts own → part ≡ before ++ modifier_letters modifier → Judges (conversion_at model parts modifier byte)
+    judge_end : (before : Text) (modifier : Modifier) → HasNumbers before parts own → part ≡ before ++ modifier_letters modifier
+        → Judges (conversion_at model parts modifier byte)
     judge_end before modifier h e = go (conversion_of byte) refl where
       specification : Conversion → PosixSpecification
-      specification conversion = record { position = parts.position; flags = parts.flags; width = h.width; precision = h.precision; modifier = modifier; conversion = conversion }
+      specification conversion = record {
+        position = parts.position;
+        flags = parts.flags;
+        width = h.width;
+        precision = h.precision;
+        modifier = modifier;
+        conversion = conversion;
+      }
 
       spelled : (conversion : Conversion) → conversion_of byte ≡ Some conversion → SpellsPosix (part ++ byte ∷ []) (specification conversion)
       spelled conversion c =
@@ -181,9 +216,11 @@ module _ (model : Model) (numbering : Numbering) (part : Text) (own : List Fetch
           }
 
       defined : (conversion : Conversion) → undefined_of (specification conversion) ≡ undefined_as parts.flags parts.width parts.precision modifier conversion
-      defined conversion = ap (λ w. undefined_as parts.flags w (is_some h.precision) modifier conversion) (sym h.width_is) ∙ ap (λ p. undefined_as parts.flags parts.width p modifier conversion) (sym h.precision_is)
+      defined conversion = ap (λ w. undefined_as parts.flags w (is_some h.precision) modifier conversion) (sym h.width_is)
+          ∙ ap (λ p. undefined_as parts.flags parts.width p modifier conversion) (sym h.precision_is)
 
-      ended : (conversion : Conversion) (o : Option RefusalKind) → conversion_of byte ≡ Some conversion → undefined_as parts.flags parts.width parts.precision modifier conversion ≡ o
+      ended : (conversion : Conversion) (o : Option RefusalKind) → conversion_of byte ≡ Some conversion
+          → undefined_as parts.flags parts.width parts.precision modifier conversion ≡ o
           → Judges (judgement o (fetch parts.position (conversion_type model modifier conversion)))
       ended conversion None c u = (
         specification conversion,
@@ -192,7 +229,11 @@ module _ (model : Model) (numbering : Numbering) (part : Text) (own : List Fetch
         ap (λ o. o ++ fetch parts.position (conversion_type model modifier conversion) ∷ []) h.own_is,
         follows,
       )
-      ended conversion (Some kind) c u = inr (record { s = specification conversion; spelled = spelled conversion c; follows = follows }, defined conversion ∙ u)
+      ended conversion (Some kind) c u = inr (
+        record { s = specification conversion; spelled = spelled conversion c; follows = follows },
+        defined conversion
+            ∙ u,
+      )
 
       go : (o : Option Conversion) → conversion_of byte ≡ o → Judges (conversion_by model parts modifier byte o)
       go None c = judge_stray Unexpected refl
@@ -205,7 +246,8 @@ module _ (model : Model) (numbering : Numbering) (part : Text) (own : List Fetch
       go (Some modifier) e = let letter = byte_of_modifier byte modifier e in ((part, h, ap (λ t. part ++ t) letter.0, letter.1), follows)
 
     judge_amount : (slot : WidthOrPrecision) → IsBehind slot part parts own → Judges (after_amount model slot parts byte)
-    judge_amount Width h = choose (byte == 46) _ _ (λ e. ((part, h.0, h.1, pushed 46 e, h.2, refl, h.4), follows)) (λ _. judge_numbers (behind_none part parts own h))
+    judge_amount Width h = choose (byte == 46) _ _ (λ e. ((part, h.0, h.1, pushed 46 e, h.2, refl, h.4), follows))
+        (λ _. judge_numbers (behind_none part parts own h))
     judge_amount Precision h = judge_numbers h
 
     judge_star_at : (slot : WidthOrPrecision) → IsBefore slot part parts own → (byte == 42) ≡ true → Judges (star_at slot parts parts.position)
@@ -218,7 +260,8 @@ module _ (model : Model) (numbering : Numbering) (part : Text) (own : List Fetch
       )
       go (Some n) p = ((part, own, h, pushed 42 e, sym (append-nil own) ∙ ap (λ o. own ++ at_star o) (sym p)), follows)
 
-  module _ (parts : PartialSpecification) (follows : Follows numbering (Some (numbering_by parts.position))) (h : SpellsUpToFlags part parts.position parts.flags) (w : parts.width ≡ false) (p : parts.precision ≡ false) (o : own ≡ []) where
+  module _ (parts : PartialSpecification) (follows : Follows numbering (Some (numbering_by parts.position)))
+      (h : SpellsUpToFlags part parts.position parts.flags) (w : parts.width ≡ false) (p : parts.precision ≡ false) (o : own ≡ []) where
     first_of : flag_of byte ≡ None → is_digit byte ≡ true → is_first_digit byte ≡ true
     first_of e d = grind (arith, nat_tests)
 
@@ -230,7 +273,9 @@ module _ (model : Model) (numbering : Numbering) (part : Text) (own : List Fetch
           flags = h.flags ++ flag ∷ [];
           number_is = h.number_is;
           set_is = ap (λ f. with_flag f flag) h.set_is ∙ sym (fold-append with_flag no_flags h.flags (flag ∷ []));
-          whole = ap (λ t. t ++ byte ∷ []) h.whole ∙ append_assoc (37 ∷ h.number) (map flag_byte h.flags) (byte ∷ []) ∙ ap (λ b. 37 ∷ h.number ++ (map flag_byte h.flags ++ b ∷ [])) (byte_of_flag byte flag e) ∙ ap (λ t. 37 ∷ h.number ++ t) (sym (map_push flag_byte h.flags flag));
+          whole = ap (λ t. t ++ byte ∷ []) h.whole ∙ append_assoc (37 ∷ h.number) (map flag_byte h.flags) (byte ∷ [])
+              ∙ ap (λ b. 37 ∷ h.number ++ (map flag_byte h.flags ++ b ∷ [])) (byte_of_flag byte flag e)
+              ∙ ap (λ t. 37 ∷ h.number ++ t) (sym (map_push flag_byte h.flags flag));
         },
         λ e. omega (arith, ap length e, ap length h.whole, length_push part byte),
         w,
@@ -245,14 +290,25 @@ module _ (model : Model) (numbering : Numbering) (part : Text) (own : List Fetch
       go : (f : Option Flag) → flag_of byte ≡ f → Judges (flag_or_width model parts byte f)
       go (Some flag) e = with_another_flag flag e
       go None e =
-          choose (is_digit byte) _ _ (λ d. let first = first_of e d in ((part, byte ∷ [], (h, refl, p, o), number_one byte first, not_first first, refl), follows))
+          choose (is_digit byte) _ _ (λ d. let first = first_of e d in (
+            (part, byte ∷ [], (h, refl, p, o), number_one byte first, not_first first, refl),
+            follows,
+          ))
           (λ _. choose (byte == 42) _ _ (judge_star_at (with_width parts) follows Width (h, refl, p, o))
-          (λ _. judge_amount parts follows Width (None, record { before = part; text = []; before_is = h; width_is = refl; whole = sym (append-nil part) }, w, p, o)))
+          (λ _. judge_amount parts follows Width (
+            None,
+            record { before = part; text = []; before_is = h; width_is = refl; whole = sym (append-nil part) },
+            w,
+            p,
+            o,
+          )))
 
-  judge_digit : (slot : WidthOrPrecision) (state : ℕ → PosixState) (n : ℕ) → (10 * n + (byte - 48) ≤ MAX_NUMBER → Arrives (state (10 * n + (byte - 48)))) → Judges (with_digit slot state n (byte - 48))
-  judge_digit slot state n f = choose (nat_lt MAX_NUMBER (10 * n + (byte - 48))) _ _ (λ _. inl (too_large_defined slot)) (λ e. judge_inside _ (f (grind (arith, nat_tests)))) where
-    judge_inside : (to : PosixState) → Arrives to → Judges (Ok (to, None))
-    judge_inside to h = h
+  judge_digit : (slot : WidthOrPrecision) (state : ℕ → PosixState) (n : ℕ) → (10 * n + (byte - 48) ≤ MAX_NUMBER → Arrives (state (10 * n + (byte - 48))))
+      → Judges (with_digit slot state n (byte - 48))
+  judge_digit slot state n f = choose (nat_lt MAX_NUMBER (10 * n + (byte - 48))) _ _ (λ _. inl (too_large_defined slot))
+      (λ e. judge_inside _ (f (grind (arith, nat_tests)))) where
+        judge_inside : (to : PosixState) → Arrives to → Judges (Ok (to, None))
+        judge_inside to h = h
 
   no_position : part ≡ 37 ∷ [] → SpellsUpToFlags part None no_flags
   no_position h = record { number = []; flags = []; number_is = refl; set_is = refl; whole = h }
@@ -274,7 +330,14 @@ module _ (model : Model) (numbering : Numbering) (part : Text) (own : List Fetch
     numbered : Follows numbering (Some Numbered) → (byte == 36) ≡ true → Arrives (Flags (parts_at (Some n)))
     numbered follows e = (
       (
-        record { number = digits ++ 36 ∷ []; flags = []; number_is = (digits, number, refl); set_is = refl; whole = pushed 36 e ∙ ap (λ t. t ++ 36 ∷ []) h ∙ sym (append-nil (37 ∷ digits ++ 36 ∷ [])) },
+        record {
+          number = digits ++ 36 ∷ [];
+          flags = [];
+          number_is = (digits, number, refl);
+          set_is = refl;
+          whole = pushed 36 e ∙ ap (λ t. t ++ 36 ∷ []) h
+              ∙ sym (append-nil (37 ∷ digits ++ 36 ∷ []));
+        },
         λ e. omega (arith, ap length e, ap length h, length_push part byte, length_some digits number),
         refl,
         refl,
@@ -292,8 +355,20 @@ module _ (model : Model) (numbering : Numbering) (part : Text) (own : List Fetch
 
     wide : Follows numbering (Some Unnumbered) → Judges (after_amount model Width (with_width (parts_at None)) byte)
     wide follows =
-        judge_amount (with_width (parts_at None)) follows Width
-        (Some (Given n), record { before = 37 ∷ []; text = digits; before_is = record { number = []; flags = []; number_is = refl; set_is = refl; whole = refl }; width_is = number; whole = h }, refl, refl, o)
+        judge_amount (with_width (parts_at None)) follows Width (
+          Some (Given n),
+          record {
+            before = 37 ∷ [];
+            text = digits;
+            before_is = record
+                { number = []; flags = []; number_is = refl; set_is = refl; whole = refl };
+            width_is = number;
+            whole = h;
+          },
+          refl,
+          refl,
+          o,
+        )
 
     judge_after_first : (known : Numbering) → numbering ≡ known → Judges (after_first model known byte)
     judge_after_first Numbered s = judge_stray Mixed refl
@@ -302,16 +377,22 @@ module _ (model : Model) (numbering : Numbering) (part : Text) (own : List Fetch
 
     judge_first : Judges (posix_step model numbering (First n) byte)
     judge_first =
-        choose (is_digit byte) _ _ (λ d. judge_digit Width First n (λ few. ((digits ++ byte ∷ [], number_push digits n byte d few number, ap (λ t. t ++ byte ∷ []) h, o), tt)))
+        choose (is_digit byte) _ _ (λ d. judge_digit Width First n (λ few.
+        ((digits ++ byte ∷ [], number_push digits n byte d few number, ap (λ t. t ++ byte ∷ []) h, o), tt)))
         (λ _. choose (byte == 36) _ _ (judge_dollar numbering refl) (λ _. judge_after_first numbering refl))
 
   module _ (slot : WidthOrPrecision) (parts : PartialSpecification) (follows : Follows numbering (Some (numbering_by parts.position))) where
     judge_digits : (n : ℕ) → IsStateAfter (Digits slot parts n) part own → Judges (posix_step model numbering (Digits slot parts n) byte)
     judge_digits n h =
-        choose (is_digit byte) _ _ (λ d. judge_digit slot (Digits slot parts) n (λ few. ((h.0, h.1 ++ byte ∷ [], h.2, digits_more slot h.1 n byte d few h.3, h.4, ap (λ t. t ++ byte ∷ []) h.5 ∙ append_assoc h.0 h.1 (byte ∷ [])), follows)))
+        choose (is_digit byte) _ _ (λ d. judge_digit slot (Digits slot parts) n
+        (λ few. (
+          (h.0, h.1 ++ byte ∷ [], h.2, digits_more slot h.1 n byte d few h.3, h.4, ap (λ t. t ++ byte ∷ []) h.5 ∙ append_assoc h.0 h.1 (byte ∷ [])),
+          follows,
+        )))
         (λ _. judge_amount parts follows slot (subst (λ t. IsBehind slot t parts own) (sym h.5) (behind_digits slot h.0 h.1 parts own n h.2 h.3)))
 
-    star_alone : (before : Text) (earlier : List Fetch) → IsBefore slot before parts earlier → part ≡ before ++ 42 ∷ [] → own ≡ earlier ++ at_star parts.position → parts.position ≡ None → IsBehind slot part parts own
+    star_alone : (before : Text) (earlier : List Fetch) → IsBefore slot before parts earlier → part ≡ before ++ 42 ∷ []
+        → own ≡ earlier ++ at_star parts.position → parts.position ≡ None → IsBehind slot part parts own
     star_alone before earlier h e o p =
         subst (λ t. IsBehind slot t parts own) (sym e) (subst (IsBehind slot (before ++ 42 ∷ []) parts) (sym (o ∙ ap (λ q. earlier ++ at_star q) p))
         (behind_star slot before (42 ∷ []) parts earlier None h (record { digits = []; digits_are = refl; numbering = ap is_some (sym p); whole = refl })))
@@ -322,14 +403,40 @@ module _ (model : Model) (numbering : Numbering) (part : Text) (own : List Fetch
       go None p = choose (is_digit byte) _ _ (λ _. inl refl) (λ _. judge_amount parts follows slot (star_alone h.0 h.1 h.2 h.3 h.4 p))
       go (Some n) p =
           choose (is_first_digit byte) _ _
-          (λ e. ((h.0, byte ∷ [], subst (IsBefore slot h.0 parts) (sym (h.4 ∙ ap (λ q. h.1 ++ at_star q) p ∙ append-nil h.1)) h.2, number_one byte e, ap is_some p, ap (λ t. t ++ byte ∷ []) h.3 ∙ append_assoc h.0 (42 ∷ []) (byte ∷ [])), follows))
+          (λ e. (
+            (
+              h.0,
+              byte ∷ [],
+              subst (IsBefore slot h.0 parts) (sym (h.4 ∙ ap (λ q. h.1 ++ at_star q) p ∙ append-nil h.1)) h.2,
+              number_one byte e,
+              ap is_some p,
+              ap (λ t. t ++ byte ∷ []) h.3 ∙ append_assoc h.0 (42 ∷ []) (byte ∷ []),
+            ),
+            follows,
+          ))
           (λ _. judge_stray Mixed refl)
 
     judge_star_digits : (n : ℕ) → IsStateAfter (StarDigits slot parts n) part own → Judges (posix_step model numbering (StarDigits slot parts n) byte)
     judge_star_digits n h =
-        choose (is_digit byte) _ _ (λ d. judge_digit slot (StarDigits slot parts) n (λ few. ((h.0, h.1 ++ byte ∷ [], h.2, number_push h.1 n byte d few h.3, h.4, ap (λ t. t ++ byte ∷ []) h.5 ∙ append_assoc h.0 (42 ∷ h.1) (byte ∷ [])), follows)))
+        choose (is_digit byte) _ _ (λ d. judge_digit slot (StarDigits slot parts) n
+        (λ few. (
+          (
+            h.0,
+            h.1 ++ byte ∷ [],
+            h.2,
+            number_push h.1 n byte d few h.3,
+            h.4,
+            ap (λ t. t ++ byte ∷ []) h.5
+                ∙ append_assoc h.0 (42 ∷ h.1) (byte ∷ []),
+          ),
+          follows,
+        )))
         (λ _. choose (byte == 36) _ _
-        (λ e. let same = some_numbering parts.position h.4 in ((h.0, h.1, n, own, h.2, h.3, h.4, pushed 36 e ∙ ap (λ t. t ++ 36 ∷ []) h.5, refl), subst (λ k. Follows numbering (Some k)) same follows, ap Some same))
+        (λ e. let same = some_numbering parts.position h.4 in (
+          (h.0, h.1, n, own, h.2, h.3, h.4, pushed 36 e ∙ ap (λ t. t ++ 36 ∷ []) h.5, refl),
+          subst (λ k. Follows numbering (Some k)) same follows,
+          ap Some same,
+        ))
         (λ _. judge_stray Mixed refl)) where
           some_numbering : (o : Option ℕ) → is_some o ≡ true → numbering_by o ≡ Numbered
           some_numbering None e = cc
@@ -337,8 +444,10 @@ module _ (model : Model) (numbering : Numbering) (part : Text) (own : List Fetch
 
     judge_placed : IsStateAfter (Placed slot parts) part own → Judges (posix_step model numbering (Placed slot parts) byte)
     judge_placed h =
-        judge_amount parts follows slot (subst (λ t. IsBehind slot t parts own) (sym (h.7 ∙ append_assoc h.0 (42 ∷ h.1) (36 ∷ []))) (subst (IsBehind slot _ parts) (sym h.8)
-        (behind_star slot h.0 (42 ∷ h.1 ++ 36 ∷ []) parts h.3 (Some h.2) h.4 (record { digits = h.1 ++ 36 ∷ []; digits_are = (h.1, h.5, refl); numbering = sym h.6; whole = refl }))))
+        judge_amount parts follows slot (subst (λ t. IsBehind slot t parts own) (sym (h.7 ∙ append_assoc h.0 (42 ∷ h.1) (36 ∷ [])))
+        (subst (IsBehind slot _ parts) (sym h.8)
+        (behind_star slot h.0 (42 ∷ h.1 ++ 36 ∷ []) parts h.3 (Some h.2) h.4
+        (record { digits = h.1 ++ 36 ∷ []; digits_are = (h.1, h.5, refl); numbering = sym h.6; whole = refl }))))
 
   module _ (parts : PartialSpecification) (follows : Follows numbering (Some (numbering_by parts.position))) where
     judge_point : IsStateAfter (Point parts) part own → Judges (posix_step model numbering (Point parts) byte)
@@ -346,15 +455,27 @@ module _ (model : Model) (numbering : Numbering) (part : Text) (own : List Fetch
         choose (is_digit byte) _ _ (λ d. ((part, byte ∷ [], h, precision_one byte d, tt, refl), follows))
         (λ _. choose (byte == 42) _ _ (judge_star_at parts follows Precision h) (λ _. judge_amount parts follows Precision (behind_point part parts own h)))
 
-    second_letter : (before : Text) (one two : Modifier) (k : ℕ) → HasNumbers before parts own → part ≡ before ++ modifier_letters one → modifier_letters one ++ k ∷ [] ≡ modifier_letters two
+    second_letter : (before : Text) (one two : Modifier) (k : ℕ) → HasNumbers before parts own → part ≡ before ++ modifier_letters one
+        → modifier_letters one ++ k ∷ [] ≡ modifier_letters two
         → two ≢ Integer lengths.None → (byte == k) ≡ true → Arrives (Modified parts two)
-    second_letter before one two k h e letters some b = ((before, h, pushed k b ∙ ap (λ t. t ++ k ∷ []) e ∙ append_assoc before (modifier_letters one) (k ∷ []) ∙ ap (λ t. before ++ t) letters, some), follows)
+    second_letter before one two k h e letters some b = (
+      (
+        before,
+        h,
+        pushed k b ∙ ap (λ t. t ++ k ∷ []) e
+            ∙ append_assoc before (modifier_letters one) (k ∷ []) ∙ ap (λ t. before ++ t) letters,
+        some,
+      ),
+      follows,
+    )
 
     judge_modifier : (modifier : Modifier) → IsStateAfter (Modified parts modifier) part own → Judges (after_modifier_letter model parts modifier byte)
     judge_modifier (Integer lengths.H) h =
-        choose (byte == 104) _ _ (second_letter h.0 (Integer lengths.H) (Integer lengths.Hh) 104 h.1 h.2 refl (λ other. cc)) (λ _. judge_end parts follows h.0 (Integer lengths.H) h.1 h.2)
+        choose (byte == 104) _ _ (second_letter h.0 (Integer lengths.H) (Integer lengths.Hh) 104 h.1 h.2 refl (λ other. cc))
+        (λ _. judge_end parts follows h.0 (Integer lengths.H) h.1 h.2)
     judge_modifier (Integer lengths.L) h =
-        choose (byte == 108) _ _ (second_letter h.0 (Integer lengths.L) (Integer lengths.Ll) 108 h.1 h.2 refl (λ other. cc)) (λ _. judge_end parts follows h.0 (Integer lengths.L) h.1 h.2)
+        choose (byte == 108) _ _ (second_letter h.0 (Integer lengths.L) (Integer lengths.Ll) 108 h.1 h.2 refl (λ other. cc))
+        (λ _. judge_end parts follows h.0 (Integer lengths.L) h.1 h.2)
     judge_modifier LongDouble h = judge_end parts follows h.0 LongDouble h.1 h.2
     judge_modifier (Integer length) h = judge_end parts follows h.0 (Integer length) h.1 h.2
 
@@ -363,14 +484,17 @@ module _ (model : Model) (numbering : Numbering) (part : Text) (own : List Fetch
 
   judge_between : part ≡ [] → own ≡ [] → Judges (posix_step model numbering Between byte)
   judge_between h o =
-      choose (byte == 0) _ _ (λ _. inl refl) (λ some. choose (byte == 37) _ _ (λ e. ((ap (λ t. t ++ byte ∷ []) h ∙ ap (λ b. b ∷ []) (eqb-true byte 37 e), o), tt))
+      choose (byte == 0) _ _ (λ _. inl refl) (λ some. choose (byte == 37) _ _
+      (λ e. ((ap (λ t. t ++ byte ∷ []) h ∙ ap (λ b. b ∷ []) (eqb-true byte 37 e), o), tt))
       (λ no_percent. (byte, rw no_percent (eqb_no byte 0 some, ap (λ t. t ++ byte ∷ []) h), o)))
 
 -- what one more byte makes of each state
-pub judge : (model : Model) (numbering : Numbering) (part : Text) (own : List Fetch) (byte : ℕ) (state : PosixState) → IsStateAfter state part own → Follows numbering (numbering_in state) → Judges model numbering part own byte (posix_step model numbering state byte)
+pub judge : (model : Model) (numbering : Numbering) (part : Text) (own : List Fetch) (byte : ℕ) (state : PosixState) → IsStateAfter state part own
+    → Follows numbering (numbering_in state) → Judges model numbering part own byte (posix_step model numbering state byte)
 judge model numbering part own byte Between h follows = judge_between model numbering part own byte h.0 h.1
 judge model numbering part own byte Opened h follows =
-    choose model numbering part own byte (byte == 37) _ _ (λ e. (37, ap (λ t. t ++ byte ∷ []) h.0 ∙ ap (λ b. 37 ∷ b ∷ []) (eqb-true byte 37 e), h.1)) (λ _. judge_percent model numbering part own byte numbering refl h.0 h.1)
+    choose model numbering part own byte (byte == 37) _ _ (λ e. (37, ap (λ t. t ++ byte ∷ []) h.0 ∙ ap (λ b. 37 ∷ b ∷ []) (eqb-true byte 37 e), h.1))
+    (λ _. judge_percent model numbering part own byte numbering refl h.0 h.1)
 judge model numbering part own byte (First n) h follows = judge_first model numbering part own byte n h.0 h.1 h.2 h.3
 judge model numbering part own byte (Flags parts) h follows = judge_flags model numbering part own byte parts follows h.0 h.2 h.3 h.4 (λ _. h.1)
 judge model numbering part own byte (Digits slot parts n) h follows = judge_digits model numbering part own byte slot parts follows n h

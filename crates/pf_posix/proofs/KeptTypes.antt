@@ -40,7 +40,12 @@ unnumbered t (Before items s rest) h = all_append IsUnnumbered (map item_of item
     (h.4.unnumbered, unnumbered h.2 rest h.5)
 
 pub accepted_there : (t : Text) → IsWholeAccepted t → IsAcceptedUnnumbered t
-accepted_there t h = record { items = flat h.stretches; reads = posix_reads t h.stretches h.reads; unnumbered = unnumbered t h.stretches h.reads; limit = h.limit }
+accepted_there t h = record {
+  items = flat h.stretches;
+  reads = posix_reads t h.stretches h.reads;
+  unnumbered = unnumbered t h.stretches h.reads;
+  limit = h.limit;
+}
 
 wanted_items : (model : Model) (t : Text) (items : List Item) → Reads t items
     → map (λ f. f.wanted) (fetched model (map item_of items)) ≡ map widened (types model items)

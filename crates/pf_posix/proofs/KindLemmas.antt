@@ -6,7 +6,9 @@ use Rattle.pf_values.specs.declared.flags.FlagSet.{FlagSet}
 use Rattle.pf_values.specs.declared.limits.TheConstants.{MAX_TEXT_LEN}
 use Rattle.pf_values.specs.declared.models.Model.{Model}
 use Rattle.pf_values.specs.declared.refusals.RefusalKind.{RefusalKind}
-use Rattle.pf_values.specs.declared.refusals.RefusalKind.TheVariants.{NulByte, Truncated, Unexpected, BadPercent, Numbered, WidthTooLarge, AltUndefined, ZeroUndefined, GroupUndefined, PrecisionUndefined, LengthUndefined, TooLong, CountUndefined, Mixed, MissingArgument, TwoTypes}
+use Rattle.pf_values.specs.declared.refusals.RefusalKind.TheVariants.{NulByte, Truncated, Unexpected, BadPercent, Numbered, WidthTooLarge, AltUndefined}
+use Rattle.pf_values.specs.declared.refusals.RefusalKind.TheVariants.{ZeroUndefined, GroupUndefined, PrecisionUndefined, LengthUndefined, TooLong}
+use Rattle.pf_values.specs.declared.refusals.RefusalKind.TheVariants.{CountUndefined, Mixed, MissingArgument, TwoTypes}
 use Rattle.pf_values.specs.RefusalKinds.{is_profile_alone}
 use Rattle.pf_values.specs.meaning.Text.{Text, percent}
 use Rattle.pf_text.proofs.Sound.{find_holds}

@@ -40,7 +40,14 @@ given (Some n) = Some (Given n)
 
 -- a directive of the profile
 abbrev pub whole_of : ProfileSpecification → PosixSpecification
-whole_of s = record { position = None; flags = s.flags; width = given s.width; precision = given s.precision; modifier = Integer s.length; conversion = Profile s.conv }
+whole_of s = record {
+  position = None;
+  flags = s.flags;
+  width = given s.width;
+  precision = given s.precision;
+  modifier = Integer s.length;
+  conversion = Profile s.conv;
+}
 
 abbrev pub item_of : Item → PosixItem
 item_of (ProfileByte byte) = Byte byte
@@ -50,7 +57,8 @@ item_of (Directive s) = Specification (whole_of s)
 find_none : {X : Type 0} (p : X → Bool) (xs : List X) → find p xs ≡ None → AllByRecursion (λ x. p x ≡ false) xs
 find_none p [] e = tt
 find_none p (x ∷ xs) e = go (p x) refl e (find_none p xs) where
-  go : (b : Bool) → p x ≡ b → (if b then Some x else find p xs) ≡ None → (find p xs ≡ None → AllByRecursion (λ x. p x ≡ false) xs) → AllByRecursion (λ x. p x ≡ false) (x ∷ xs)
+  go : (b : Bool) → p x ≡ b → (if b then Some x else find p xs) ≡ None → (find p xs ≡ None → AllByRecursion (λ x. p x ≡ false) xs)
+      → AllByRecursion (λ x. p x ≡ false) (x ∷ xs)
   go true h e rest = cc
   go false h e rest = (h, rest e)
 
@@ -99,7 +107,8 @@ width_spelled : (t : Text) (width : Option ℕ) → SpellsProfileWidth t width �
 width_spelled t None h e = h
 width_spelled t (Some n) h e = record { some = h.0; numeral = h.1; within = few n e }
 
-precision_spelled : (t : Text) (precision : Option ℕ) → SpellsPrecision t precision → is_above_limit precision ≡ false → SpellsPosixPrecision t None (given precision)
+precision_spelled : (t : Text) (precision : Option ℕ) → SpellsPrecision t precision → is_above_limit precision ≡ false
+    → SpellsPosixPrecision t None (given precision)
 precision_spelled t None h e = h
 precision_spelled t (Some n) h e = (h, few n e)
 
@@ -137,7 +146,8 @@ no_stars : (o : Option ℕ) → star_fetches (given o) ≡ []
 no_stars None = refl
 no_stars (Some n) = refl
 
-type_here : (model : Model) (kind : Kind) (length : Length) → (prints_text kind && is_long length) ≡ false → kind_type model kind length ≡ widened (type_of_kind model kind length)
+type_here : (model : Model) (kind : Kind) (length : Length) → (prints_text kind && is_long length) ≡ false
+    → kind_type model kind length ≡ widened (type_of_kind model kind length)
 type_here model kinds.Signed length e = refl
 type_here model (kinds.Unsigned base capitals) length e = refl
 type_here model kinds.Char length e = rw e refl
@@ -146,9 +156,11 @@ type_here model kinds.String length e = rw e refl
 fetches_here : (model : Model) (s : ProfileSpecification) → IsProfileDefined s → fetches model (whole_of s) ≡ fetch None (widened (arg_type model s)) ∷ []
 fetches_here model s d =
     let limits = all s d in
-    ap₂ (λ a b. a ++ b ++ fetch None (kind_type model (kind_of s.conv) s.length) ∷ []) (no_stars s.width) (no_stars s.precision) ∙ ap (λ w. fetch None w ∷ []) (type_here model (kind_of s.conv) s.length limits.1.1.0)
+    ap₂ (λ a b. a ++ b ++ fetch None (kind_type model (kind_of s.conv) s.length) ∷ []) (no_stars s.width) (no_stars s.precision)
+    ∙ ap (λ w. fetch None w ∷ []) (type_here model (kind_of s.conv) s.length limits.1.1.0)
 
-pub fetched_here : (model : Model) (t : Text) (items : List Item) → ProfileReads t items → fetched model (map item_of items) ≡ map (λ w. fetch None (widened w)) (types model items)
+pub fetched_here : (model : Model) (t : Text) (items : List Item) → ProfileReads t items
+    → fetched model (map item_of items) ≡ map (λ w. fetch None (widened w)) (types model items)
 fetched_here model t [] h = refl
 fetched_here model t (ProfileByte byte ∷ items) h = fetched_here model h.1 items h.3
 fetched_here model t (Directive s ∷ items) h = ap₂ (λ a b. a ++ b) (fetches_here model s h.2.1) (fetched_here model h.1 items h.3)

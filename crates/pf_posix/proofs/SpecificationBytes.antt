@@ -9,7 +9,8 @@ use Rattle.pf_values.specs.meaning.Flags.{flag_byte}
 use Rattle.pf_values.specs.meaning.Text.{Text}
 use Rattle.pf_posix.specs.declared.conversions.Modifier.{Modifier}
 use Rattle.pf_posix.specs.Specifications.{Amount, Given, Fetched, PosixSpecification, conversion_letter, modifier_letters}
-use Rattle.pf_posix.specs.Spelling.{SpellsPosix, SpellsPosixPrecision, SpellsPosixWidth, SpellsPosition, SpellsPositive, SpellsStar, SpellsUpToFlags, SpellsUpToWidth}
+use Rattle.pf_posix.specs.Spelling.{SpellsPosix, SpellsPosixPrecision, SpellsPosixWidth, SpellsPosition, SpellsPositive, SpellsStar, SpellsUpToFlags}
+use Rattle.pf_posix.specs.Spelling.{SpellsUpToWidth}
 use Rattle.pf_posix.proofs.Agreeing.{all_push}
 
 pub all_append : {X : Type 0} (P : X → Type 0) (xs ys : List X) → AllByRecursion P xs → AllByRecursion P ys → AllByRecursion P (xs ++ ys)
@@ -55,7 +56,11 @@ module _ (P : ℕ → Type 0) (c : Covers P) where
 
   up_to_flags : (t : Text) (position : Option ℕ) (set : FlagSet) → SpellsUpToFlags t position set → IsCovered t
   up_to_flags t position set h =
-      record { rest = h.number ++ map flag_byte h.flags; whole = h.whole; all = all_append P h.number (map flag_byte h.flags) (position_all h.number position h.number_is) (flags_all h.flags) }
+      record {
+        rest = h.number ++ map flag_byte h.flags;
+        whole = h.whole;
+        all = all_append P h.number (map flag_byte h.flags) (position_all h.number position h.number_is) (flags_all h.flags);
+      }
 
   pub up_to_width : (t : Text) (position : Option ℕ) (set : FlagSet) (width : Option Amount) → SpellsUpToWidth t position set width → IsCovered t
   up_to_width t position set width h =

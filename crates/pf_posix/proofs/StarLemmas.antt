@@ -71,7 +71,8 @@ comes_by_star None = false
 comes_by_star (Some (Given n)) = false
 comes_by_star (Some (Fetched number)) = true
 
-precision_told : (p : Text) (letters : Text) (position : Option ℕ) (precision : Option Amount) → SpellsPosixPrecision p position precision → AllByRecursion (λ b. 57 < b) letters
+precision_told : (p : Text) (letters : Text) (position : Option ℕ) (precision : Option Amount) → SpellsPosixPrecision p position precision
+    → AllByRecursion (λ b. 57 < b) letters
     → has_star_precision (p ++ letters) ≡ comes_by_star precision
 precision_told p letters position None h high = ap (λ u. has_star_precision (u ++ letters)) h ∙ no_star_in letters high
 precision_told p letters position (Some (Fetched number)) h high =
@@ -94,6 +95,7 @@ star_told t s h =
     append_assoc (width ++ precision) modifier letter ∙ append_assoc width precision (modifier ++ letter) in
     let high = all_push (λ b. 57 < b) modifier (conversion_letter s.conversion) (modifier_high s.modifier) (letter_tests s.conversion).high in
     let front = up_to_width IsNoPoint no_points width s.position s.flags s.width h.before_is.before_is in
-    ap has_star_precision (h.whole ∙ ap (λ u. (u ++ modifier) ++ letter) h.before_is.whole ∙ regrouped ∙ ap (λ u. u ++ (precision ++ (modifier ++ letter))) front.whole)
+    ap has_star_precision (h.whole ∙ ap (λ u. (u ++ modifier) ++ letter) h.before_is.whole ∙ regrouped
+    ∙ ap (λ u. u ++ (precision ++ (modifier ++ letter))) front.whole)
     ∙ skipped front.rest (precision ++ (modifier ++ letter)) front.all
     ∙ precision_told precision (modifier ++ letter) s.position s.precision h.before_is.precision_is high

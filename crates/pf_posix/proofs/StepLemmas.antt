@@ -1,5 +1,6 @@
 -- Two formats read side by side.
-use Rattle.std.proofs.Common.{◌≡◌, ◌≢◌, ℕ, zero, suc, ◌+◌, ◌<◌, ◌≤◌, Bool, true, false, List, [], ◌∷◌, ◌++◌, length, refl, sym, ap, ap₂, ◌∙◌, arith, subst, inl, inr}
+use Rattle.std.proofs.Common.{◌≡◌, ◌≢◌, ℕ, zero, suc, ◌+◌, ◌<◌, ◌≤◌, Bool, true, false, List, [], ◌∷◌, ◌++◌, length, refl, sym, ap, ap₂, ◌∙◌, arith, subst, inl}
+use Rattle.std.proofs.Common.{inr}
 use Rattle.std.specs.Prelude.{Option, Some, None, ◌⊎◌, slice_get, ◌==◌, if◌then◌else◌}
 use Rattle.std.specs.List.{AllByRecursion}
 use Rattle.std.proofs.lemmas.Bool.{cases_lt, eqb-true}
@@ -43,7 +44,8 @@ settled_front Whole seen fs e = ([], same_takes e ∙ sym (append-nil seen)) whe
   same_takes e = let s : seen ≡ fs = cc in sym s
 settled_front (Fault kind at) seen fs e = cc
 settled_front (Fetches f at behind) seen fs e = go (conflicts seen f) e (settled_front behind (seen ++ f ∷ []) fs) where
-  go : (b : Bool) → (if b then Refused TwoTypes at else verdict_after (seen ++ f ∷ []) behind) ≡ Takes fs → (verdict_after (seen ++ f ∷ []) behind ≡ Takes fs → (more : List Fetch) × (fs ≡ seen ++ f ∷ [] ++ more)) → (more : List Fetch) × (fs ≡ seen ++ more)
+  go : (b : Bool) → (if b then Refused TwoTypes at else verdict_after (seen ++ f ∷ []) behind) ≡ Takes fs
+      → (verdict_after (seen ++ f ∷ []) behind ≡ Takes fs → (more : List Fetch) × (fs ≡ seen ++ f ∷ [] ++ more)) → (more : List Fetch) × (fs ≡ seen ++ more)
   go true e rest = cc
   go false e rest = let r = rest e in (f ∷ r.0, r.1 ∙ append_assoc seen (f ∷ []) r.0)
 
@@ -64,7 +66,8 @@ module _ (model : Model) (t : Text) (seen : List Fetch) (old : FetchTrace) (h : 
       accepted model t seen taken (wanted_types seen) (inl (record { unnumbered = h.unnumbered; types_are = refl }))
 
   -- an accepted text has the types that were seen, and more
-  ordered_front : (f : Fetch) (at : ℕ) (rest : FetchTrace) → old ≡ Fetches f at rest → (types : List ArgumentType) → HasArguments model t types → (fs : List Fetch) × (more : List Fetch) × (verdict model t ≡ Takes fs) × (fs ≡ seen ++ (f ∷ more)) × HaveTypes fs types
+  ordered_front : (f : Fetch) (at : ℕ) (rest : FetchTrace) → old ≡ Fetches f at rest → (types : List ArgumentType) → HasArguments model t types
+      → (fs : List Fetch) × (more : List Fetch) × (verdict model t ≡ Takes fs) × (fs ≡ seen ++ (f ∷ more)) × HaveTypes fs types
   ordered_front f at rest e types a =
       let v = arguments_verdict model t types a in
       let clear = no_conflict seen f h.unnumbered in
@@ -72,28 +75,34 @@ module _ (model : Model) (t : Text) (seen : List Fetch) (old : FetchTrace) (h : 
       let m = settled_front rest (seen ++ f ∷ []) _ (goes ∙ sym (ap (verdict_after seen) e) ∙ sym h.verdict_is ∙ v) in
       (_, m.0, v, m.1 ∙ append_assoc seen (f ∷ []) m.0, types_of_verdict model t types _ a v)
 
-  pub ordered_wanted : (f : Fetch) (at : ℕ) (rest : FetchTrace) → old ≡ Fetches f at rest → f.number ≡ None → (types : List ArgumentType) → HasArguments model t types → (more : List ArgumentType) × (types ≡ wanted_types seen ++ (f.wanted ∷ more))
-  ordered_wanted f at rest e n types a = let r = ordered_front f at rest e types a in (wanted_types r.1, go r.0 r.1 r.3 r.4 ∙ ap wanted_types r.3 ∙ wanted_append seen (f ∷ r.1)) where
-    wanted_append : (xs ys : List Fetch) → wanted_types (xs ++ ys) ≡ wanted_types xs ++ wanted_types ys
-    wanted_append [] ys = refl
-    wanted_append (x ∷ xs) ys = ap (λ l. x.wanted ∷ l) (wanted_append xs ys)
+  pub ordered_wanted : (f : Fetch) (at : ℕ) (rest : FetchTrace) → old ≡ Fetches f at rest → f.number ≡ None → (types : List ArgumentType)
+      → HasArguments model t types → (more : List ArgumentType) × (types ≡ wanted_types seen ++ (f.wanted ∷ more))
+  ordered_wanted f at rest e n types a = let r = ordered_front f at rest e types a in
+      (wanted_types r.1, go r.0 r.1 r.3 r.4 ∙ ap wanted_types r.3 ∙ wanted_append seen (f ∷ r.1)) where
+        wanted_append : (xs ys : List Fetch) → wanted_types (xs ++ ys) ≡ wanted_types xs ++ wanted_types ys
+        wanted_append [] ys = refl
+        wanted_append (x ∷ xs) ys = ap (λ l. x.wanted ∷ l) (wanted_append xs ys)
 
-    go : (fs more : List Fetch) → fs ≡ seen ++ (f ∷ more) → HaveTypes fs types → types ≡ wanted_types fs
-    go fs more s (inl k) = k.types_are
-    go fs more s (inr k) = let back = all_back (HasTypeIn types) seen (f ∷ more) (subst (AllByRecursion (HasTypeIn types)) s k.each) in let no : Some (back.0.0 + 1) ≡ None = sym back.0.1 ∙ n in cc
+        go : (fs more : List Fetch) → fs ≡ seen ++ (f ∷ more) → HaveTypes fs types → types ≡ wanted_types fs
+        go fs more s (inl k) = k.types_are
+        go fs more s (inr k) = let back = all_back (HasTypeIn types) seen (f ∷ more) (subst (AllByRecursion (HasTypeIn types)) s k.each) in let no : Some
+            (back.0.0 + 1) ≡ None = sym back.0.1 ∙ n in cc
 
   -- a numbered one has few
-  pub ordered_few : (f : Fetch) (at : ℕ) (rest : FetchTrace) (m : ℕ) → old ≡ Fetches f at rest → f.number ≡ Some m → (types : List ArgumentType) → HasArguments model t types → length types ≤ ROOM
+  pub ordered_few : (f : Fetch) (at : ℕ) (rest : FetchTrace) (m : ℕ) → old ≡ Fetches f at rest → f.number ≡ Some m → (types : List ArgumentType)
+      → HasArguments model t types → length types ≤ ROOM
   ordered_few f at rest m e n types a = go (ordered_front f at rest e types a) where
     go : ((fs : List Fetch) × (more : List Fetch) × (verdict model t ≡ Takes fs) × (fs ≡ seen ++ (f ∷ more)) × HaveTypes fs types) → length types ≤ ROOM
-    go (fs, more, v, s, inl k) = let back = all_back (λ g. g.number ≡ None) seen (f ∷ more) (subst (AllByRecursion (λ g. g.number ≡ None)) s k.unnumbered) in let no : None ≡ Some m = sym back.0 ∙ n in cc
+    go (fs, more, v, s, inl k) = let back = all_back (λ g. g.number ≡ None) seen (f ∷ more)
+        (subst (AllByRecursion (λ g. g.number ≡ None)) s k.unnumbered) in let no : None ≡ Some m = sym back.0 ∙ n in cc
     go (fs, more, v, s, inr k) = elim (cases_lt ROOM (length types)) [
       | inl many ↦ let last = fetched_few fs ROOM (seen_within model t fs (told_taken model t fs v)) (k.all ROOM many) in absurd (omega (arith, last))
       | inr few ↦ few
     ]
 
   pub ordered_refused : {kind : RefusalKind} {at : ℕ} → old ≡ Fault kind at → (types : List ArgumentType) → HasArguments model t types → ⊥
-  ordered_refused {kind} {at} e types a = let v = arguments_verdict model t types a in let no : Refused kind at ≡ Takes _ = sym (ap (verdict_after seen) e) ∙ sym h.verdict_is ∙ v in cc
+  ordered_refused {kind} {at} e types a = let v = arguments_verdict model t types a in let no : Refused kind at ≡ Takes _ = sym (ap (verdict_after seen) e)
+      ∙ sym h.verdict_is ∙ v in cc
 
 pub ordered_start : (model : Model) (t : Text) → IsOrdered model t [] (fetch_trace model t)
 ordered_start model t = record { verdict_is = refl; unnumbered = tt }
@@ -102,7 +111,8 @@ ordered_start model t = record { verdict_is = refl; unnumbered = tt }
 pub differ_behind : (xs ys zs : List ArgumentType) → slice_get ys 0 ≢ slice_get zs 0 → IsFirstDifference (xs ++ ys) (xs ++ zs) (Some (length xs))
 differ_behind [] ys zs other = (other, λ k less. absurd (omega arith))
 differ_behind (x ∷ xs) ys zs other = let rest = differ_behind xs ys zs other in (rest.0, λ k less. at k less rest.1) where
-  at : (k : ℕ) → k < suc (length xs) → ((k : ℕ) → k < length xs → slice_get (xs ++ ys) k ≡ slice_get (xs ++ zs) k) → slice_get (x ∷ xs ++ ys) k ≡ slice_get (x ∷ xs ++ zs) k
+  at : (k : ℕ) → k < suc (length xs) → ((k : ℕ) → k < length xs → slice_get (xs ++ ys) k ≡ slice_get (xs ++ zs) k)
+      → slice_get (x ∷ xs ++ ys) k ≡ slice_get (x ∷ xs ++ zs) k
   at zero less rest = refl
   at (suc k) less rest = rest k (omega (arith, less))
 
@@ -135,7 +145,8 @@ module _ (model : Model) (t : Text) (old new : Reader) where
   next_end nexts.End e h = h
   next_end (nexts.Refused refusal) e h = cc
 
-  pub next_other : (seen : List Fetch) (n : NextFetch) → IsOrdered model t seen (trace_left model t old) → unnumbered_next n ≡ unnumbered.Other → IsNextFetch model t old n new → (types : List ArgumentType) → HasArguments model t types → length types ≤ ROOM
+  pub next_other : (seen : List Fetch) (n : NextFetch) → IsOrdered model t seen (trace_left model t old) → unnumbered_next n ≡ unnumbered.Other
+      → IsNextFetch model t old n new → (types : List ArgumentType) → HasArguments model t types → length types ≤ ROOM
   next_other seen (nexts.Fetched f) o e h types a = go f.number refl e where
     go : (k : Option ℕ) → f.number ≡ k → unnumbered_fetch k f.wanted ≡ unnumbered.Other → length types ≤ ROOM
     go None n e = cc
@@ -159,7 +170,8 @@ eqb_no a b e = grind (arith, nat_tests)
 
 pub same_pair : (p q : UnnumberedNext) → paired p q ≡ pairs.Same → IsSame p q
 same_pair (unnumbered.Wanted a) (unnumbered.Wanted b) e = go (number_of_type a == number_of_type b) refl e where
-  go : (c : Bool) → (number_of_type a == number_of_type b) ≡ c → (if c then pairs.Same else pairs.Differ) ≡ pairs.Same → IsSame (unnumbered.Wanted a) (unnumbered.Wanted b)
+  go : (c : Bool) → (number_of_type a == number_of_type b) ≡ c → (if c then pairs.Same else pairs.Differ) ≡ pairs.Same
+      → IsSame (unnumbered.Wanted a) (unnumbered.Wanted b)
   go true t e = let one = same_type a b (eqb-true _ _ t) in record { w = a; first = refl; second = ap (λ x. unnumbered.Wanted x) (sym one) }
   go false t e = cc
 same_pair (unnumbered.Wanted a) unnumbered.End e = cc
@@ -183,7 +195,8 @@ end_pair unnumbered.Other q e = cc
 
 pub differ_pair : (p q : UnnumberedNext) → paired p q ≡ pairs.Differ → AreDifferent p q
 differ_pair (unnumbered.Wanted a) (unnumbered.Wanted b) e = go (number_of_type a == number_of_type b) refl e where
-  go : (c : Bool) → (number_of_type a == number_of_type b) ≡ c → (if c then pairs.Same else pairs.Differ) ≡ pairs.Differ → AreDifferent (unnumbered.Wanted a) (unnumbered.Wanted b)
+  go : (c : Bool) → (number_of_type a == number_of_type b) ≡ c → (if c then pairs.Same else pairs.Differ) ≡ pairs.Differ
+      → AreDifferent (unnumbered.Wanted a) (unnumbered.Wanted b)
   go true t e = cc
   go false t e = Types a b refl refl (λ same. eqb_no _ _ t (ap number_of_type same))
 differ_pair (unnumbered.Wanted a) unnumbered.End e = Longer a refl refl
@@ -206,7 +219,9 @@ other_pair unnumbered.End unnumbered.Other e = inr refl
 other_pair unnumbered.Other q e = inl refl
 
 -- two texts of which the same was seen
-module _ (model : Model) (first second : Text) (a b : List Fetch) (one other one2 other2 : Reader) (n m : NextFetch) (ha : IsOrdered model first a (trace_left model first one)) (hb : IsOrdered model second b (trace_left model second other)) (same : wanted_types a ≡ wanted_types b)
+module _ (model : Model) (first second : Text) (a b : List Fetch) (one other one2 other2 : Reader) (n m : NextFetch)
+    (ha : IsOrdered model first a (trace_left model first one)) (hb : IsOrdered model second b (trace_left model second other))
+    (same : wanted_types a ≡ wanted_types b)
     (na : IsNextFetch model first one n one2) (nb : IsNextFetch model second other m other2) where
   pub pair_ended : paired (unnumbered_next n) (unnumbered_next m) ≡ pairs.End → ComparesArgumentTypes model first second None
   pair_ended e =
@@ -226,7 +241,9 @@ module _ (model : Model) (first second : Text) (a b : List Fetch) (one other one
     go (inr q) = inr (next_other model second other other2 b m hb q nb others y)
 
   pub pair_same : paired (unnumbered_next n) (unnumbered_next m) ≡ pairs.Same → AdvancesReader first one n one2
-      → (f : Fetch) × (g : Fetch) × IsOrdered model first (a ++ f ∷ []) (trace_left model first one2) × IsOrdered model second (b ++ g ∷ []) (trace_left model second other2) × (wanted_types (a ++ f ∷ []) ≡ wanted_types (b ++ g ∷ [])) × (one.at < one2.at) × (one2.at ≤ length first)
+      → (f : Fetch) × (g : Fetch) × IsOrdered model first (a ++ f ∷ []) (trace_left model first one2)
+      × IsOrdered model second (b ++ g ∷ []) (trace_left model second other2) × (wanted_types (a ++ f ∷ []) ≡ wanted_types (b ++ g ∷ []))
+      × (one.at < one2.at) × (one2.at ≤ length first)
   pair_same e further =
       let both = same_pair _ _ e in
       let f = next_wanted model first one one2 n both.w both.first na in
@@ -241,11 +258,13 @@ module _ (model : Model) (first second : Text) (a b : List Fetch) (one other one
         goes.1,
       )
 
-  apart : (index : ℕ) (types others ys zs : List ArgumentType) → index ≡ length a → types ≡ wanted_types a ++ ys → others ≡ wanted_types b ++ zs → slice_get ys 0 ≢ slice_get zs 0 → IsFirstDifference types others (Some index)
+  apart : (index : ℕ) (types others ys zs : List ArgumentType) → index ≡ length a → types ≡ wanted_types a ++ ys → others ≡ wanted_types b ++ zs
+      → slice_get ys 0 ≢ slice_get zs 0 → IsFirstDifference types others (Some index)
   apart index types others ys zs i t u other =
       let long : length (wanted_types a) ≡ index = length-map a (λ f. f.wanted) ∙ sym i in
       let there : others ≡ wanted_types a ++ zs = u ∙ ap (λ l. l ++ zs) (sym same) in
-      subst (λ k. IsFirstDifference types others (Some k)) long (subst (λ l. IsFirstDifference l others (Some (length (wanted_types a)))) (sym t) (subst (λ l. IsFirstDifference (wanted_types a ++ ys) l (Some (length (wanted_types a)))) (sym there) (differ_behind (wanted_types a) ys zs other)))
+      subst (λ k. IsFirstDifference types others (Some k)) long (subst (λ l. IsFirstDifference l others (Some (length (wanted_types a)))) (sym t)
+      (subst (λ l. IsFirstDifference (wanted_types a ++ ys) l (Some (length (wanted_types a)))) (sym there) (differ_behind (wanted_types a) ys zs other)))
 
   pub pair_differs : (index : ℕ) → index ≡ length a → paired (unnumbered_next n) (unnumbered_next m) ≡ pairs.Differ → DifferAt model first second index
   pair_differs index i e types others x y = go (differ_pair _ _ e) where
@@ -262,9 +281,10 @@ module _ (model : Model) (first second : Text) (a b : List Fetch) (one other one
         (r.0, r.1 ∙ ap (λ v. wanted_types b ++ (v ∷ r.0)) f.type)
 
     go : AreDifferent (unnumbered_next n) (unnumbered_next m) → IsFirstDifference types others (Some index)
-    go (Types w v p q apart_) = let r = wanted_of w p in let s = wanted_beside v q in apart index types others (w ∷ r.0) (v ∷ s.0) i r.1 s.1 (λ e. apart_ (some_same w v e)) where
-      some_same : (w v : ArgumentType) → Some w ≡ Some v → w ≡ v
-      some_same w v e = cc
+    go (Types w v p q apart_) = let r = wanted_of w p in let s = wanted_beside v q in apart index types others (w ∷ r.0) (v ∷ s.0) i r.1 s.1
+        (λ e. apart_ (some_same w v e)) where
+          some_same : (w v : ArgumentType) → Some w ≡ Some v → w ≡ v
+          some_same w v e = cc
     go (Longer w p q) =
         let r = wanted_of w p in
         let ends = one_list model second others (wanted_types b) y (ordered_end model second b _ hb (next_end model second other other2 m q nb)) in

@@ -1,5 +1,6 @@
 -- A table of numbered arguments.
-use Rattle.std.proofs.Common.{◌≡◌, ◌≢◌, ℕ, zero, suc, ◌+◌, ◌-◌, ◌<◌, ◌≤◌, max, Bool, true, false, List, [], ◌∷◌, ◌++◌, length, get_or, set, refl, sym, ap, ◌∙◌, arith, subst, inl, inr, Ok, Err, Result}
+use Rattle.std.proofs.Common.{◌≡◌, ◌≢◌, ℕ, zero, suc, ◌+◌, ◌-◌, ◌<◌, ◌≤◌, max, Bool, true, false, List, [], ◌∷◌, ◌++◌, length, get_or, set, refl, sym, ap, ◌∙◌}
+use Rattle.std.proofs.Common.{arith, subst, inl, inr, Ok, Err, Result}
 use Rattle.std.specs.Prelude.{Option, Some, None, ◌⊎◌, unwrap_or, if◌then◌else◌, ◌==◌, MatchBool, MatchResult, is_some}
 use Rattle.std.specs.List.{AllByRecursion}
 use Rattle.std.proofs.lemmas.Bool.{cases_eq, eqb-true, ne_eqb}
@@ -17,7 +18,8 @@ use Rattle.pf_posix.specs.declared.tables.TheConstants.{ROOM}
 use Rattle.pf_posix.specs.declared.types.ArgumentType.{ArgumentType}
 use Rattle.pf_posix.specs.Types.{int_type}
 use Rattle.pf_posix.specs.TypeNumbers.{number_of_type}
-use Rattle.pf_posix.specs.Readings.{Fault, Fetches, FetchTrace, Refused, Takes, Whole, conflicts, greatest, is_number, listed, fetch_trace, verdict_after, verdict, wanted_at}
+use Rattle.pf_posix.specs.Readings.{Fault, Fetches, FetchTrace, Refused, Takes, Whole, conflicts, greatest, is_number, listed, fetch_trace, verdict_after}
+use Rattle.pf_posix.specs.Readings.{verdict, wanted_at}
 use Rattle.pf_posix.specs.Refusals.{Follows, HasGap, IsOneType, IsPosixRefusedAt, numbering_by}
 use Rattle.pf_posix.specs.Tabled.{IsTabled, TableHolds}
 use Rattle.pf_posix.specs.Types.{AreNumbered, IsFetched, fetch}
@@ -29,18 +31,22 @@ use Rattle.pf_posix.proofs.Telling.{accepted, missing, seen_within, told_taken}
 use Rattle.pf_posix.proofs.TypeLists.{fetched_none, fetched_some, gap_is, length_listed, numbered_types, wanted_one}
 use Rattle.pf_posix.specs.Within.{IsBounded, IsWithin}
 
-wanted_push : (index : ℕ) (seen : List Fetch) (f : Fetch) (type : ArgumentType) → wanted_at index seen ≡ Some type → wanted_at index (seen ++ f ∷ []) ≡ Some type
+wanted_push : (index : ℕ) (seen : List Fetch) (f : Fetch) (type : ArgumentType) → wanted_at index seen ≡ Some type
+    → wanted_at index (seen ++ f ∷ []) ≡ Some type
 wanted_push index [] f type e = cc
 wanted_push index (g ∷ seen) f type e = go (is_number g.number (index + 1)) e (wanted_push index seen f type) where
-  go : (b : Bool) → (if b then Some g.wanted else wanted_at index seen) ≡ Some type → (wanted_at index seen ≡ Some type → wanted_at index (seen ++ f ∷ []) ≡ Some type)
+  go : (b : Bool) → (if b then Some g.wanted else wanted_at index seen) ≡ Some type
+      → (wanted_at index seen ≡ Some type → wanted_at index (seen ++ f ∷ []) ≡ Some type)
       → (if b then Some g.wanted else wanted_at index (seen ++ f ∷ [])) ≡ Some type
   go true e rest = e
   go false e rest = rest e
 
-wanted_new : (index : ℕ) (seen : List Fetch) (f : Fetch) → wanted_at index seen ≡ None → wanted_at index (seen ++ f ∷ []) ≡ (if is_number f.number (index + 1) then Some f.wanted else None)
+wanted_new : (index : ℕ) (seen : List Fetch) (f : Fetch) → wanted_at index seen ≡ None
+    → wanted_at index (seen ++ f ∷ []) ≡ (if is_number f.number (index + 1) then Some f.wanted else None)
 wanted_new index [] f e = refl
 wanted_new index (g ∷ seen) f e = go (is_number g.number (index + 1)) e (wanted_new index seen f) where
-  go : (b : Bool) → (if b then Some g.wanted else wanted_at index seen) ≡ None → (wanted_at index seen ≡ None → wanted_at index (seen ++ f ∷ []) ≡ (if is_number f.number (index + 1) then Some f.wanted else None))
+  go : (b : Bool) → (if b then Some g.wanted else wanted_at index seen) ≡ None
+      → (wanted_at index seen ≡ None → wanted_at index (seen ++ f ∷ []) ≡ (if is_number f.number (index + 1) then Some f.wanted else None))
       → (if b then Some g.wanted else wanted_at index (seen ++ f ∷ [])) ≡ (if is_number f.number (index + 1) then Some f.wanted else None)
   go true e rest = cc
   go false e rest = rest e
@@ -58,12 +64,19 @@ greatest_push (g ∷ seen) f = let rest = greatest_push seen f in omega (arith, 
 -- what wasn't fetched doesn't conflict
 none_same : (index : ℕ) (seen : List Fetch) (f : Fetch) → f.number ≡ Some (index + 1) → ¬ IsFetched index seen → AllByRecursion (IsOneType f) seen
 none_same index [] f n none = tt
-none_same index (g ∷ seen) f n none = ((λ m a b. let same : Some m ≡ Some (index + 1) = sym a ∙ n in absurd (none (inl (b ∙ same)))), none_same index seen f n (λ h. none (inr h)))
+none_same index (g ∷ seen) f n none = (
+  (λ m a b. let same : Some m ≡ Some (index + 1) = sym a ∙ n in absurd (none (inl (b ∙ same)))),
+  none_same index seen f n (λ h. none (inr h)),
+)
 
 -- and what was fetched with this type doesn't
-all_same : (index : ℕ) (all seen : List Fetch) (f : Fetch) → f.number ≡ Some (index + 1) → wanted_at index all ≡ Some f.wanted → AllByRecursion (λ g. AllByRecursion (IsOneType g) all) seen → AllByRecursion (IsOneType f) seen
+all_same : (index : ℕ) (all seen : List Fetch) (f : Fetch) → f.number ≡ Some (index + 1) → wanted_at index all ≡ Some f.wanted
+    → AllByRecursion (λ g. AllByRecursion (IsOneType g) all) seen → AllByRecursion (IsOneType f) seen
 all_same index all [] f n e h = tt
-all_same index all (g ∷ seen) f n e h = ((λ m a b. let same : Some m ≡ Some (index + 1) = sym a ∙ n in wanted_one index all g h.0 (b ∙ same) f.wanted e), all_same index all seen f n e h.1)
+all_same index all (g ∷ seen) f n e h = (
+  (λ m a b. let same : Some m ≡ Some (index + 1) = sym a ∙ n in wanted_one index all g h.0 (b ∙ same) f.wanted e),
+  all_same index all seen f n e h.1,
+)
 
 module _ (table : Table) (seen : List Fetch) (h : TableHolds table seen) (index : ℕ) (wanted : ArgumentType) (room : index < ROOM) where
   abbrev f : Fetch
@@ -81,7 +94,17 @@ module _ (table : Table) (seen : List Fetch) (h : TableHolds table seen) (index 
     clear = all_same index seen seen f refl e h.one_type
 
     pub kept_again : (conflicts seen f ≡ false) × TableHolds (record table { count = max table.count (index + 1) }) (seen ++ f ∷ [])
-    kept_again = (conflicts_not seen f clear, record { full = h.full; types = λ p less. h.types p less ∙ at p (cases_eq p index); count = count_is; room = few; one_type = one_type_push seen f h.one_type clear }) where
+    kept_again = (
+      conflicts_not seen f clear,
+      record {
+        full = h.full;
+        types = λ p less. h.types p less
+            ∙ at p (cases_eq p index);
+        count = count_is;
+        room = few;
+        one_type = one_type_push seen f h.one_type clear;
+      },
+    ) where
       at : (p : ℕ) → ((p ≡ index) ⊎ (p ≢ index)) → wanted_at p seen ≡ wanted_at p (seen ++ f ∷ [])
       at p (inl q) = let here : wanted_at p seen ≡ Some wanted = ap (λ k. wanted_at k seen) q ∙ e in here ∙ sym (wanted_push p seen f wanted here)
       at p (inr q) = let other = ne_eqb (index + 1) (p + 1) (λ same. q (omega (arith, same))) in sym (wanted_other p seen f other)
@@ -98,8 +121,19 @@ module _ (table : Table) (seen : List Fetch) (h : TableHolds table seen) (index 
     unlike : AllByRecursion (IsOneType f) seen
     unlike = none_same index seen f refl (fetched_none index seen e)
 
-    pub kept_new : (conflicts seen f ≡ false) × TableHolds (record { types = set table.types index (Some wanted); count = max table.count (index + 1) }) (seen ++ f ∷ [])
-    kept_new = (conflicts_not seen f unlike, record { full = length-set table.types index (Some wanted) ∙ h.full; types = λ p less. at p less (cases_eq p index); count = count_is; room = few; one_type = one_type_push seen f h.one_type unlike }) where
+    pub kept_new : (conflicts seen f ≡ false) × TableHolds (record { types = set table.types index (Some wanted); count = max table.count (index + 1) })
+        (seen ++ f ∷ [])
+    kept_new = (
+      conflicts_not seen f unlike,
+      record {
+        full = length-set table.types index (Some wanted)
+            ∙ h.full;
+        types = λ p less. at p less (cases_eq p index);
+        count = count_is;
+        room = few;
+        one_type = one_type_push seen f h.one_type unlike;
+      },
+    ) where
       at : (p : ℕ) → p < ROOM → ((p ≡ index) ⊎ (p ≢ index)) → get_or (set table.types index (Some wanted)) p None ≡ wanted_at p (seen ++ f ∷ [])
       at p less (inl q) =
           let yes : is_number (Some (index + 1)) (index + 1) ≡ true = grind (arith, nat_tests) in
@@ -111,12 +145,14 @@ module _ (table : Table) (seen : List Fetch) (h : TableHolds table seen) (index 
 
   -- an argument that is there with a type
   pub told_some : (there : ArgumentType) (a b : ℕ) → get_or table.types index None ≡ Some there → a ≡ number_of_type there → b ≡ number_of_type wanted
-      → MatchBool (a == b) ((conflicts seen f ≡ false) × TableHolds (record table { count = max table.count (index + 1) }) (seen ++ f ∷ [])) (conflicts seen f ≡ true)
+      → MatchBool (a == b) ((conflicts seen f ≡ false) × TableHolds (record table { count = max table.count (index + 1) }) (seen ++ f ∷ []))
+      (conflicts seen f ≡ true)
   told_some there a b e x y = go (a == b) refl where
     here : wanted_at index seen ≡ Some there
     here = sym (h.types index room) ∙ e
 
-    go : (c : Bool) → (a == b) ≡ c → MatchBool c ((conflicts seen f ≡ false) × TableHolds (record table { count = max table.count (index + 1) }) (seen ++ f ∷ [])) (conflicts seen f ≡ true)
+    go : (c : Bool) → (a == b) ≡ c → MatchBool c ((conflicts seen f ≡ false)
+        × TableHolds (record table { count = max table.count (index + 1) }) (seen ++ f ∷ [])) (conflicts seen f ≡ true)
     go true c = kept_again (here ∙ ap Some (same_type there wanted (sym x ∙ eqb-true a b c ∙ y)))
     go false c = other_type there here (λ same. eqb_no a b c (x ∙ ap number_of_type same ∙ sym y)) where
       eqb_no : (a b : ℕ) → (a == b) ≡ false → a ≢ b
@@ -126,13 +162,16 @@ pub listed_push : (seen : List Fetch) (from n : ℕ) → listed seen from (suc n
 listed_push seen from zero = let same : from ≡ from + 0 = omega arith in ap (λ k. unwrap_or (wanted_at k seen) int_type ∷ []) same
 listed_push seen from (suc n) =
     let same : from + 1 + n ≡ from + suc n = omega arith in
-    ap (λ l. unwrap_or (wanted_at from seen) int_type ∷ l) (listed_push seen (from + 1) n ∙ ap (λ k. listed seen (from + 1) n ++ unwrap_or (wanted_at k seen) int_type ∷ []) same)
+    ap (λ l. unwrap_or (wanted_at from seen) int_type ∷ l) (listed_push seen (from + 1) n
+    ∙ ap (λ k. listed seen (from + 1) n ++ unwrap_or (wanted_at k seen) int_type ∷ []) same)
 
-pub listed_more : (table : Table) (seen : List Fetch) (index : ℕ) → TableHolds table seen → index < ROOM → listed seen 0 index ++ unwrap_or (get_or table.types index None) int_type ∷ [] ≡ listed seen 0 (index + 1)
+pub listed_more : (table : Table) (seen : List Fetch) (index : ℕ) → TableHolds table seen → index < ROOM
+    → listed seen 0 index ++ unwrap_or (get_or table.types index None) int_type ∷ [] ≡ listed seen 0 (index + 1)
 listed_more table seen index h less =
     let next : suc index ≡ index + 1 = omega arith in
     let same : 0 + index ≡ index = omega arith in
-    ap (λ o. listed seen 0 index ++ unwrap_or o int_type ∷ []) (h.types index less) ∙ ap (λ k. listed seen 0 index ++ unwrap_or (wanted_at k seen) int_type ∷ []) (sym same) ∙ sym (listed_push seen 0 index) ∙ ap (listed seen 0) next
+    ap (λ o. listed seen 0 index ++ unwrap_or o int_type ∷ []) (h.types index less)
+    ∙ ap (λ k. listed seen 0 index ++ unwrap_or (wanted_at k seen) int_type ∷ []) (sym same) ∙ sym (listed_push seen 0 index) ∙ ap (listed seen 0) next
 
 pub length_of_listed : (seen : List Fetch) (index : ℕ) → index ≡ length (listed seen 0 index)
 length_of_listed seen index = sym (length_listed seen 0 index)
@@ -145,7 +184,8 @@ pub record IsByNumber (model : Model) (t : Text) (seen : List Fetch) (f : Fetch)
   pub numbered : AllByRecursion (λ g. numbering_by g.number ≡ Numbered) seen
   pub bounded : IsBounded Numbered left
 
-pub first_by_number : (model : Model) (t : Text) (f : Fetch) (at : ℕ) (left : FetchTrace) → numbering_by f.number ≡ Numbered → fetch_trace model t ≡ Fetches f at left → IsByNumber model t [] f at left
+pub first_by_number : (model : Model) (t : Text) (f : Fetch) (at : ℕ) (left : FetchTrace) → numbering_by f.number ≡ Numbered
+    → fetch_trace model t ≡ Fetches f at left → IsByNumber model t [] f at left
 first_by_number model t f at left n e =
     let bounded = subst (IsBounded Undecided) e (reading_bounded model t) in
     record { verdict_is = ap (verdict_after []) e; within = bounded.0; number = n; numbered = tt; bounded = subst (λ s. IsBounded s left) n bounded.2 }
@@ -165,7 +205,13 @@ module _ (model : Model) (t : Text) (seen : List Fetch) (f : Fetch) (at : ℕ) (
     next_by_number g index rest e =
         let bounded = subst (IsBounded Numbered) e h.bounded in
         let n = follows g.number bounded.1 in
-        record { verdict_is = goes_on ∙ ap (verdict_after (seen ++ f ∷ [])) e; within = bounded.0; number = n; numbered = all_numbered; bounded = subst (λ s. IsBounded s rest) n bounded.2 } where
+        record {
+          verdict_is = goes_on ∙ ap (verdict_after (seen ++ f ∷ [])) e;
+          within = bounded.0;
+          number = n;
+          numbered = all_numbered;
+          bounded = subst (λ s. IsBounded s rest) n bounded.2;
+        } where
           follows : (o : Option ℕ) → Follows Numbered (Some (numbering_by o)) → numbering_by o ≡ Numbered
           follows o (inl e) = cc
           follows o (inr e) = sym e
@@ -191,18 +237,23 @@ numbered_of None e = cc
 numbered_of (Some n) e = refl
 
 -- the end of a text
-pub finished : (model : Model) (t : Text) (table : Table) (seen : List Fetch) (at : ℕ) (r : Result (Unit {0}) Refusal) → verdict model t ≡ Takes seen → AllByRecursion (λ g. numbering_by g.number ≡ Numbered) seen → TableHolds table seen → at ≡ length t
-    → MatchResult r (λ _. (index : ℕ) → index < table.count → IsFetched index seen) (λ refusal. (refusal ≡ record { kind = MissingArgument; at = at }) × HasGap seen)
+pub finished : (model : Model) (t : Text) (table : Table) (seen : List Fetch) (at : ℕ) (r : Result (Unit {0}) Refusal) → verdict model t ≡ Takes seen
+    → AllByRecursion (λ g. numbering_by g.number ≡ Numbered) seen → TableHolds table seen → at ≡ length t
+    → MatchResult r (λ _. (index : ℕ) → index < table.count → IsFetched index seen)
+    (λ refusal. (refusal ≡ record { kind = MissingArgument; at = at }) × HasGap seen)
     → MatchResult r (λ _. IsTabled model t table) (λ refusal. IsPosixRefusedAt model t refusal.kind refusal.at)
 finished model t table seen at (Ok done) v n k e h = record { seen = seen; verdict_is = v; kept = k; numbered = n; all = h }
 finished model t table seen at (Err refusal) v n k e h =
-    subst (λ r. IsPosixRefusedAt model t r.kind r.at) (sym h.0) (subst (IsPosixRefusedAt model t MissingArgument) (sym e) (missing model t seen (told_taken model t seen v) h.1))
+    subst (λ r. IsPosixRefusedAt model t r.kind r.at) (sym h.0) (subst (IsPosixRefusedAt model t MissingArgument) (sym e)
+    (missing model t seen (told_taken model t seen v) h.1))
 
 pub tabled_types : (model : Model) (t : Text) (table : Table) (h : IsTabled model t table) → HasArguments model t (listed h.seen 0 table.count)
 tabled_types model t table h =
     let taken = told_taken model t h.seen h.verdict_is in
     let count = h.kept.count in
-    accepted model t h.seen taken (listed h.seen 0 table.count) (inr (subst (λ n. AreNumbered h.seen (listed h.seen 0 n)) (sym count) (numbered_types h.seen taken.agreed (seen_within model t h.seen taken) h.numbered (λ p less. h.all p (omega (arith, less, count))))))
+    accepted model t h.seen taken (listed h.seen 0 table.count) (inr
+    (subst (λ n. AreNumbered h.seen (listed h.seen 0 n)) (sym count)
+    (numbered_types h.seen taken.agreed (seen_within model t h.seen taken) h.numbered (λ p less. h.all p (omega (arith, less, count))))))
 
 -- a index that is empty, and one that isn't
 module _ (table : Table) (seen : List Fetch) (h : TableHolds table seen) (index : ℕ) (room : index < ROOM) where

@@ -30,23 +30,27 @@ number_is_not (Some m) n e g = let same : m ≡ n = cc in let yes : (m == n) ≡
 pub fetched_some : (place : ℕ) (fs : List Fetch) (type : ArgumentType) → wanted_at place fs ≡ Some type → IsFetched place fs
 fetched_some place [] type e = cc
 fetched_some place (f ∷ fs) type e = go (is_number f.number (place + 1)) refl e (fetched_some place fs type) where
-  go : (b : Bool) → is_number f.number (place + 1) ≡ b → (if b then Some f.wanted else wanted_at place fs) ≡ Some type → (wanted_at place fs ≡ Some type → IsFetched place fs) → IsFetched place (f ∷ fs)
+  go : (b : Bool) → is_number f.number (place + 1) ≡ b → (if b then Some f.wanted else wanted_at place fs) ≡ Some type
+      → (wanted_at place fs ≡ Some type → IsFetched place fs) → IsFetched place (f ∷ fs)
   go true t e rest = inl (number_is f.number (place + 1) t)
   go false t e rest = inr (rest e)
 
 pub fetched_none : (place : ℕ) (fs : List Fetch) → wanted_at place fs ≡ None → ¬ IsFetched place fs
 fetched_none place [] e h = h
 fetched_none place (f ∷ fs) e h = go (is_number f.number (place + 1)) refl e h (fetched_none place fs) where
-  go : (b : Bool) → is_number f.number (place + 1) ≡ b → (if b then Some f.wanted else wanted_at place fs) ≡ None → IsFetched place (f ∷ fs) → (wanted_at place fs ≡ None → ¬ IsFetched place fs) → ⊥
+  go : (b : Bool) → is_number f.number (place + 1) ≡ b → (if b then Some f.wanted else wanted_at place fs) ≡ None → IsFetched place (f ∷ fs)
+      → (wanted_at place fs ≡ None → ¬ IsFetched place fs) → ⊥
   go true t e h rest = cc
   go false t e (inl g) rest = number_is_not f.number (place + 1) t g
   go false t e (inr g) rest = rest e g
 
 -- the first fetch has the type of all
-pub wanted_one : (place : ℕ) (fs : List Fetch) (g : Fetch) → AllByRecursion (IsOneType g) fs → g.number ≡ Some (place + 1) → (type : ArgumentType) → wanted_at place fs ≡ Some type → type ≡ g.wanted
+pub wanted_one : (place : ℕ) (fs : List Fetch) (g : Fetch) → AllByRecursion (IsOneType g) fs → g.number ≡ Some (place + 1) → (type : ArgumentType)
+    → wanted_at place fs ≡ Some type → type ≡ g.wanted
 wanted_one place [] g h n type e = cc
 wanted_one place (f ∷ fs) g h n type e = go (is_number f.number (place + 1)) refl e (wanted_one place fs g h.1 n type) where
-  go : (b : Bool) → is_number f.number (place + 1) ≡ b → (if b then Some f.wanted else wanted_at place fs) ≡ Some type → (wanted_at place fs ≡ Some type → type ≡ g.wanted) → type ≡ g.wanted
+  go : (b : Bool) → is_number f.number (place + 1) ≡ b → (if b then Some f.wanted else wanted_at place fs) ≡ Some type
+      → (wanted_at place fs ≡ Some type → type ≡ g.wanted) → type ≡ g.wanted
   go true t e rest = let same : f.wanted ≡ type = cc in sym (h.0 (place + 1) n (number_is f.number (place + 1) t) ∙ same)
   go false t e rest = rest e
 
@@ -104,9 +108,11 @@ gap_is fs p less none =
 module _ (fs : List Fetch) (agreed : AreAgreed fs) (within : AllByRecursion IsWithin fs) where
   -- of numbered arguments
   module _ (numbered : AllByRecursion (λ f. numbering_by f.number ≡ Numbered) fs) (all : (p : ℕ) → p < greatest fs → IsFetched p fs) where
-    one : (f : Fetch) → AllByRecursion (IsOneType f) fs → numbering_by f.number ≡ Numbered → IsWithin f → ((n : ℕ) → f.number ≡ Some n → n ≤ greatest fs) → HasTypeIn (listed fs 0 (greatest fs)) f
+    one : (f : Fetch) → AllByRecursion (IsOneType f) fs → numbering_by f.number ≡ Numbered → IsWithin f → ((n : ℕ) → f.number ≡ Some n → n ≤ greatest fs)
+        → HasTypeIn (listed fs 0 (greatest fs)) f
     one f same s w few = go f.number refl s where
-      by_wanted : (place : ℕ) (o : Option ArgumentType) → wanted_at place fs ≡ o → f.number ≡ Some (place + 1) → IsFetched place fs → unwrap_or o int_type ≡ f.wanted
+      by_wanted : (place : ℕ) (o : Option ArgumentType) → wanted_at place fs ≡ o → f.number ≡ Some (place + 1) → IsFetched place fs
+          → unwrap_or o int_type ≡ f.wanted
       by_wanted place None e n h = absurd (fetched_none place fs e h)
       by_wanted place (Some type) e n h = wanted_one place fs f same n type e
 
@@ -118,10 +124,15 @@ module _ (fs : List Fetch) (agreed : AreAgreed fs) (within : AllByRecursion IsWi
           let at : n ≡ n - 1 + 1 = omega (arith, some) in
           let there : n - 1 < greatest fs = omega (arith, some, less) in
           let own = e ∙ ap Some at in
-          let zero_plus : 0 + (n - 1) ≡ n - 1 = omega arith in
-          (n - 1, own, get_listed fs 0 (greatest fs) (n - 1) there ∙ ap (λ p. Some (unwrap_or (wanted_at p fs) int_type)) zero_plus ∙ ap Some (by_wanted (n - 1) _ refl own (all (n - 1) there)))
+          let zero_plus : 0 + (n - 1) ≡ n - 1 = omega arith in (
+            n - 1,
+            own,
+            get_listed fs 0 (greatest fs) (n - 1) there ∙ ap (λ p. Some (unwrap_or (wanted_at p fs) int_type)) zero_plus
+                ∙ ap Some (by_wanted (n - 1) _ refl own (all (n - 1) there)),
+          )
 
-    each_one : (gs : List Fetch) → AllByRecursion (λ f. AllByRecursion (IsOneType f) fs) gs → AllByRecursion (λ f. numbering_by f.number ≡ Numbered) gs → AllByRecursion IsWithin gs
+    each_one : (gs : List Fetch) → AllByRecursion (λ f. AllByRecursion (IsOneType f) fs) gs → AllByRecursion (λ f. numbering_by f.number ≡ Numbered) gs
+        → AllByRecursion IsWithin gs
         → AllByRecursion (λ f. (n : ℕ) → f.number ≡ Some n → n ≤ greatest fs) gs → AllByRecursion (HasTypeIn (listed fs 0 (greatest fs))) gs
     each_one [] a b c d = tt
     each_one (g ∷ gs) a b c d = (one g a.0 b.0 c.0 d.0, each_one gs a.1 b.1 c.1 d.1)
@@ -162,5 +173,6 @@ no_gap fs types (inl h) g = none fs h.unnumbered g.1 g.3 where
 no_gap fs types (inr h) g = g.4 (h.all g.0 (omega (arith, g.2, there fs h.each g.1 g.3))) where
   there : (gs : List Fetch) → AllByRecursion (HasTypeIn types) gs → (place : ℕ) → IsFetched place gs → place < length types
   there [] h place g = absurd g
-  there (f ∷ fs) h place (inl e) = let same : Some (h.0.0 + 1) ≡ Some (place + 1) = sym h.0.1 ∙ e in let at : h.0.0 + 1 ≡ place + 1 = cc in omega (arith, at, slice_get_within types h.0.0 f.wanted h.0.2)
+  there (f ∷ fs) h place (inl e) = let same : Some (h.0.0 + 1) ≡ Some (place + 1) = sym h.0.1
+      ∙ e in let at : h.0.0 + 1 ≡ place + 1 = cc in omega (arith, at, slice_get_within types h.0.0 f.wanted h.0.2)
   there (f ∷ fs) h place (inr e) = there fs h.1 place e

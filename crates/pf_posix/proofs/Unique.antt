@@ -18,11 +18,13 @@ use Rattle.pf_posix.proofs.Agreeing.{all_map}
 use Rattle.pf_posix.proofs.Following.{IsSaid, items_verdict, said}
 use Rattle.pf_posix.proofs.TypeLists.{no_gap}
 
-numbering_head : (fs : List Fetch) (P : Fetch → Type 0) (s : Option ℕ → Type 0) → AllByRecursion P fs → ((f g : Fetch) → P f → P g → numbering_by f.number ≡ numbering_by g.number) → AllByRecursion (λ f. numbering_by f.number ≡ numbering_of fs) fs
+numbering_head : (fs : List Fetch) (P : Fetch → Type 0) (s : Option ℕ → Type 0) → AllByRecursion P fs
+    → ((f g : Fetch) → P f → P g → numbering_by f.number ≡ numbering_by g.number) → AllByRecursion (λ f. numbering_by f.number ≡ numbering_of fs) fs
 numbering_head [] P s h same = tt
 numbering_head (g ∷ fs) P s h same = all_map _ _ (g ∷ fs) (λ f p. same f g p h.0) h
 
-two_of : (P : Fetch → Type 0) (fs gs : List Fetch) → ((f g : Fetch) → P f → P g → IsOneType f g) → AllByRecursion P fs → AllByRecursion P gs → AllByRecursion (λ f. AllByRecursion (IsOneType f) gs) fs
+two_of : (P : Fetch → Type 0) (fs gs : List Fetch) → ((f g : Fetch) → P f → P g → IsOneType f g) → AllByRecursion P fs → AllByRecursion P gs
+    → AllByRecursion (λ f. AllByRecursion (IsOneType f) gs) fs
 two_of P fs gs same h k = all_map _ _ fs (λ f p. all_map _ _ gs (λ g q. same f g p q) k) h
 
 pub types_agreed : (fs : List Fetch) (types : List ArgumentType) → HaveTypes fs types → AreAgreed fs
@@ -44,7 +46,8 @@ types_agreed fs types (inr h) =
           let wanted : Some f.wanted ≡ Some g.wanted = sym p.2 ∙ ap (slice_get types) place ∙ q.2 in cc
 
 -- a place of a numbered list has the type of its fetch
-place_type : (fs : List Fetch) (types others : List ArgumentType) (place : ℕ) → AllByRecursion (HasTypeIn types) fs → AllByRecursion (HasTypeIn others) fs → IsFetched place fs → slice_get types place ≡ slice_get others place
+place_type : (fs : List Fetch) (types others : List ArgumentType) (place : ℕ) → AllByRecursion (HasTypeIn types) fs → AllByRecursion (HasTypeIn others) fs
+    → IsFetched place fs → slice_get types place ≡ slice_get others place
 place_type [] types others place h k f = absurd f
 place_type (g ∷ fs) types others place h k (inl e) =
     let a : Some (h.0.0 + 1) ≡ Some (place + 1) = sym h.0.1 ∙ e in
@@ -76,7 +79,8 @@ numbered_unique fs types others h k = ext_get_or int_type types others (omega (a
   at : (i : ℕ) → i < length types → get_or types i int_type ≡ get_or others i int_type
   at i less =
       let same = place_type fs types others i h.each k.each (h.all i less) in
-      let both : Some (get_or types i int_type) ≡ Some (get_or others i int_type) = sym (slice_get-get_or types i int_type less) ∙ same ∙ slice_get-get_or others i int_type (there types others h k i less) in cc
+      let both : Some (get_or types i int_type) ≡ Some (get_or others i int_type) = sym (slice_get-get_or types i int_type less) ∙ same
+      ∙ slice_get-get_or others i int_type (there types others h k i less) in cc
 
 mixed_unique : (fs : List Fetch) (types others : List ArgumentType) → AreInOrder fs types → AreNumbered fs others → types ≡ others
 mixed_unique [] types [] h k = h.types_are
@@ -89,7 +93,8 @@ types_unique fs types others (inl h) (inr k) = mixed_unique fs types others h k
 types_unique fs types others (inr h) (inl k) = sym (mixed_unique fs others types k h)
 types_unique fs types others (inr h) (inr k) = numbered_unique fs types others h k
 
-pub arguments_verdict : (model : Model) (t : Text) (types : List ArgumentType) (h : HasArguments model t types) → verdict model t ≡ Takes (fetched model h.items)
+pub arguments_verdict : (model : Model) (t : Text) (types : List ArgumentType) (h : HasArguments model t types)
+    → verdict model t ≡ Takes (fetched model h.items)
 arguments_verdict model t types h = items_verdict model t h.items h.reads (types_agreed (fetched model h.items) types h.types_are) h.limit
 
 same_takes : (fs gs : List Fetch) → Takes fs ≡ Takes gs → fs ≡ gs
@@ -98,13 +103,16 @@ same_takes fs gs e = ap go e where
   go (Takes f) = f
   go (Refused kind at) = []
 
-pub types_of_verdict : (model : Model) (t : Text) (types : List ArgumentType) (fs : List Fetch) → HasArguments model t types → verdict model t ≡ Takes fs → HaveTypes fs types
+pub types_of_verdict : (model : Model) (t : Text) (types : List ArgumentType) (fs : List Fetch) → HasArguments model t types → verdict model t ≡ Takes fs
+    → HaveTypes fs types
 types_of_verdict model t types fs h e = subst (λ f. HaveTypes f types) (same_takes _ _ (sym (arguments_verdict model t types h) ∙ e)) h.types_are
 
 pub one_list : (model : Model) (t : Text) (types others : List ArgumentType) → HasArguments model t types → HasArguments model t others → types ≡ others
-one_list model t types others h k = types_unique _ types others (types_of_verdict model t types (fetched model k.items) h (arguments_verdict model t others k)) k.types_are
+one_list model t types others h k = types_unique _ types others
+    (types_of_verdict model t types (fetched model k.items) h (arguments_verdict model t others k)) k.types_are
 
-pub never_both : (model : Model) (t : Text) (types : List ArgumentType) (kind : RefusalKind) (at : ℕ) → HasArguments model t types → IsPosixRefusedAt model t kind at → ⊥
+pub never_both : (model : Model) (t : Text) (types : List ArgumentType) (kind : RefusalKind) (at : ℕ) → HasArguments model t types
+    → IsPosixRefusedAt model t kind at → ⊥
 never_both model t types kind at h r = go (said model t kind at r) where
   go : IsSaid model t kind at → ⊥
   go (inl e) = let no : Takes (fetched model h.items) ≡ Refused kind at = sym (arguments_verdict model t types h) ∙ e in cc
@@ -113,7 +121,8 @@ never_both model t types kind at h r = go (said model t kind at r) where
 same_refused : (kind other : RefusalKind) (p q : ℕ) → Refused kind p ≡ Refused other q → (kind ≡ other) × (p ≡ q)
 same_refused kind other p q e = (cc, cc)
 
-pub one_refusal : (model : Model) (t : Text) (kind other : RefusalKind) (p q : ℕ) → IsPosixRefusedAt model t kind p → IsPosixRefusedAt model t other q → (kind ≡ other) × (p ≡ q)
+pub one_refusal : (model : Model) (t : Text) (kind other : RefusalKind) (p q : ℕ) → IsPosixRefusedAt model t kind p → IsPosixRefusedAt model t other q
+    → (kind ≡ other) × (p ≡ q)
 one_refusal model t kind other p q h k = go (said model t kind p h) (said model t other q k) where
   go : IsSaid model t kind p → IsSaid model t other q → (kind ≡ other) × (p ≡ q)
   go (inl a) (inl b) = same_refused kind other p q (sym a ∙ b)
@@ -121,7 +130,8 @@ one_refusal model t kind other p q h k = go (said model t kind p h) (said model 
   go (inr a) (inl b) = let no : Takes a.2 ≡ Refused other q = sym a.3 ∙ b in cc
   go (inr a) (inr b) = (a.0 ∙ sym b.0, a.1 ∙ sym b.1)
 
-pub refused_longer : (model : Model) (t more : Text) (kind : RefusalKind) (at : ℕ) → IsPosixRefusedAt model t kind at → at < length t → IsPosixRefusedAt model (t ++ more) kind at
+pub refused_longer : (model : Model) (t more : Text) (kind : RefusalKind) (at : ℕ) → IsPosixRefusedAt model t kind at → at < length t
+    → IsPosixRefusedAt model (t ++ more) kind at
 refused_longer model t more kind at h less = go h.rest h.split h.cause where
   go : (rest : Text) → t ≡ h.front ++ rest → IsPosixRefusalCause model h.fetches h.good.part h.state at rest kind → IsPosixRefusedAt model (t ++ more) kind at
   go [] e c = absurd (omega (arith, less, h.offset, ap length e, length-append h.front []))

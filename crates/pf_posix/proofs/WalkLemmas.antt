@@ -31,9 +31,11 @@ literal byte h = go (byte == 37) (byte == 0) refl refl h where
 
 module _ (model : Model) (numbering : Numbering) (t : Text) where
   pub too_long : (state : PosixState) (at : ℕ) → at < length t → MAX_TEXT_LEN ≤ at → trace_from model numbering state at (drop at t) ≡ Fault TooLong at
-  too_long state at less past = let split = drop_more t at 0 less in let full = past_limit at past in ap (trace_from model numbering state at) split ∙ rw full refl
+  too_long state at less past = let split = drop_more t at 0 less in let full = past_limit at past in ap (trace_from model numbering state at) split
+      ∙ rw full refl
 
-  one_passed : (at : ℕ) → at < length t → at < MAX_TEXT_LEN → is_byte2 37 0 (get_or t at 0) ≢ true → trace_from model numbering Between at (drop at t) ≡ trace_from model numbering Between (at + 1) (drop (at + 1) t)
+  one_passed : (at : ℕ) → at < length t → at < MAX_TEXT_LEN → is_byte2 37 0 (get_or t at 0) ≢ true
+      → trace_from model numbering Between at (drop at t) ≡ trace_from model numbering Between (at + 1) (drop (at + 1) t)
   one_passed at less short plain =
       let split = drop_more t at 0 less in
       let room = within_limit at short in
@@ -48,11 +50,13 @@ module _ (model : Model) (numbering : Numbering) (t : Text) where
       let there : at + 1 + n ≡ at + suc n = omega arith in
       let first : is_byte2 37 0 (get_or t at 0) ≢ true = subst (λ k. is_byte2 37 0 (get_or t k 0) ≢ true) here (plain 0 (omega arith)) in
       one_passed at (omega arith) (omega arith) first
-      ∙ passed n (at + 1) (omega arith) (omega arith) (λ k less. let next : at + suc k ≡ at + 1 + k = omega arith in subst (λ j. is_byte2 37 0 (get_or t j 0) ≢ true) next (plain (suc k) (omega arith)))
+      ∙ passed n (at + 1) (omega arith) (omega arith) (λ k less. let next : at + suc k ≡ at + 1 + k = omega arith in subst
+      (λ j. is_byte2 37 0 (get_or t j 0) ≢ true) next (plain (suc k) (omega arith)))
       ∙ ap (λ k. trace_from model numbering Between k (drop k t)) there
 
   -- a run that a search found
-  pub run_passed : (at n : ℕ) → at ≤ length t → n ≤ length (take (length t - at) (drop at t)) → at + n ≤ MAX_TEXT_LEN → Nowhere (Passes (is_byte2 37 0) (take (length t - at) (drop at t))) 0 n
+  pub run_passed : (at n : ℕ) → at ≤ length t → n ≤ length (take (length t - at) (drop at t)) → at + n ≤ MAX_TEXT_LEN
+      → Nowhere (Passes (is_byte2 37 0) (take (length t - at) (drop at t))) 0 n
       → trace_from model numbering Between at (drop at t) ≡ trace_from model numbering Between (at + n) (drop (at + n) t)
   run_passed at n low few short none =
       let rest = take_rest t at in
@@ -62,7 +66,8 @@ module _ (model : Model) (numbering : Numbering) (t : Text) where
       (λ k less. subst (λ x. is_byte2 37 0 x ≢ true) (ap (λ u. get_or u k 0) rest ∙ get_or-drop at t k 0) (none k (omega arith) less))
 
 -- a reader with as much left as another
-pub carried : (model : Model) (t : Text) (old self : Reader) (n : NextFetch) (new : Reader) → trace_left model t old ≡ trace_left model t self → IsNextFetch model t self n new → IsNextFetch model t old n new
+pub carried : (model : Model) (t : Text) (old self : Reader) (n : NextFetch) (new : Reader) → trace_left model t old ≡ trace_left model t self
+    → IsNextFetch model t self n new → IsNextFetch model t old n new
 carried model t old self (nexts.Fetched f) new e h = (h.0, h.1, e ∙ h.2)
 carried model t old self nexts.End new e h = e ∙ h
 carried model t old self (nexts.Refused refusal) new e h = e ∙ h

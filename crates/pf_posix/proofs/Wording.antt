@@ -1,5 +1,6 @@
 -- The table refuses a byte exactly for the reasons that the definitions give.
-use Rattle.std.proofs.Common.{◌≡◌, ◌≢◌, ℕ, ◌+◌, ◌-◌, ◌*◌, ◌<◌, Bool, true, false, List, [], ◌∷◌, ◌++◌, length, refl, sym, ap, ◌∙◌, arith, subst, inl, inr, Ok, Err, Result}
+use Rattle.std.proofs.Common.{◌≡◌, ◌≢◌, ℕ, ◌+◌, ◌-◌, ◌*◌, ◌<◌, Bool, true, false, List, [], ◌∷◌, ◌++◌, length, refl, sym, ap, ◌∙◌, arith, subst, inl, inr, Ok}
+use Rattle.std.proofs.Common.{Err, Result}
 use Rattle.std.specs.Prelude.{Option, Some, None, nat_lt, ◌==◌, MatchBool, ◌⊎◌}
 use Rattle.std.specs.List.{AllByRecursion}
 use Rattle.std.proofs.lemmas.Bool.{eqb-true}
@@ -24,11 +25,14 @@ use Rattle.pf_posix.specs.declared.partial_specification.Numbering.TheVariants.{
 use Rattle.pf_posix.specs.Defined.{undefined_of}
 use Rattle.pf_posix.specs.Fronts.{IsStateAfter}
 use Rattle.pf_posix.specs.Letters.{conversion_of, is_first_digit, length_modifier_of}
-use Rattle.pf_posix.specs.Refusals.{CannotStand, CompletesSpecification, CompletesUndefined, FetchesLast, FetchesStar, Follows, IsInSpecification, IsPastPercent, IsMixed, IsOneType, IsPosixRefusedByte, IsNumberTooLarge, IsUnexpected, IsWrong, MixesStar, numbering_by, numbering_in, numbering_of, too_large}
+use Rattle.pf_posix.specs.Refusals.{CannotStand, CompletesSpecification, CompletesUndefined, FetchesLast, FetchesStar, Follows, IsInSpecification}
+use Rattle.pf_posix.specs.Refusals.{IsPastPercent, IsMixed, IsOneType, IsPosixRefusedByte, IsNumberTooLarge, IsUnexpected, IsWrong, MixesStar, numbering_by}
+use Rattle.pf_posix.specs.Refusals.{numbering_in, numbering_of, too_large}
 use Rattle.pf_posix.specs.Specifications.{PosixSpecification}
 use Rattle.pf_posix.specs.Spelling.{SpellsPosix}
 use Rattle.pf_posix.specs.Stages.{PosixState, Between, Opened, First, Flags, Digits, Star, StarDigits, Placed, Point, Modified}
-use Rattle.pf_posix.specs.States.{PosixStep, after_amount, after_first, among_flags, after_modifier_letter, after_percent, after_star, dollar_after, conversion_at, judgement, posix_step, parts_at, stray, with_digit, with_width}
+use Rattle.pf_posix.specs.States.{PosixStep, after_amount, after_first, among_flags, after_modifier_letter, after_percent, after_star, dollar_after}
+use Rattle.pf_posix.specs.States.{conversion_at, judgement, posix_step, parts_at, stray, with_digit, with_width}
 use Rattle.pf_posix.specs.Types.{fetch, fetches, star_fetches, conversion_type}
 use Rattle.pf_posix.proofs.Judging.{Arrives, Brings, Judges, is_undefined_kind, judge}
 use Rattle.pf_posix.proofs.Reaching.{Came, came, spelled_ends}
@@ -93,10 +97,34 @@ module _ (model : Model) (byte : ℕ) (kind : RefusalKind) (s : IsStrange byte k
   strange_inside numbering (Modified parts modifier) _ = strange_modified parts modifier
 
 zero_strange : IsStrange 0 NulByte
-zero_strange = record { flag = refl; digit = refl; first = refl; star = refl; point = refl; dollar = refl; second_h = refl; second_l = refl; modifier = refl; conversion = refl; kind_is = λ _. refl }
+zero_strange = record {
+  flag = refl;
+  digit = refl;
+  first = refl;
+  star = refl;
+  point = refl;
+  dollar = refl;
+  second_h = refl;
+  second_l = refl;
+  modifier = refl;
+  conversion = refl;
+  kind_is = λ _. refl;
+}
 
 percent_strange : IsStrange 37 BadPercent
-percent_strange = record { flag = refl; digit = refl; first = refl; star = refl; point = refl; dollar = refl; second_h = refl; second_l = refl; modifier = refl; conversion = refl; kind_is = λ _. refl }
+percent_strange = record {
+  flag = refl;
+  digit = refl;
+  first = refl;
+  star = refl;
+  point = refl;
+  dollar = refl;
+  second_h = refl;
+  second_l = refl;
+  modifier = refl;
+  conversion = refl;
+  kind_is = λ _. refl;
+}
 
 zero_refused : (model : Model) (numbering : Numbering) (state : PosixState) → posix_step model numbering state 0 ≡ Err NulByte
 zero_refused model numbering Between = refl
@@ -134,7 +162,8 @@ module _ (model : Model) (numbering : Numbering) (byte : ℕ) (other : IsOther b
   mixed_refused (StarDigits slot parts n) h = let digit = h.0 in let dollar = not_byte 36 h.1 in rw (digit, dollar) (ap Err (stray_other Mixed))
   mixed_refused _ none = absurd none
 
-large_refused : (model : Model) (numbering : Numbering) (byte : ℕ) (kind : RefusalKind) (state : PosixState) → IsNumberTooLarge state byte kind → posix_step model numbering state byte ≡ Err kind
+large_refused : (model : Model) (numbering : Numbering) (byte : ℕ) (kind : RefusalKind) (state : PosixState) → IsNumberTooLarge state byte kind
+    → posix_step model numbering state byte ≡ Err kind
 large_refused model numbering byte kind state = go state where
   passed : (n : ℕ) → MAX_NUMBER < n → nat_lt MAX_NUMBER n ≡ true
   passed n h = grind (arith, nat_tests)
@@ -156,7 +185,8 @@ record StaysRefused (model : Model) (numbering : Numbering) (state : PosixState)
   one_kind : is_undefined_kind kind ≡ false
 
 module _ (model : Model) (byte : ℕ) where
-  stray_kind : (kind : RefusalKind) → is_undefined_kind kind ≡ false → (zero percent : Bool) → (byte == 0) ≡ zero → (byte == 37) ≡ percent → is_undefined_kind (stray byte kind) ≡ false
+  stray_kind : (kind : RefusalKind) → is_undefined_kind kind ≡ false → (zero percent : Bool) → (byte == 0) ≡ zero → (byte == 37) ≡ percent
+      → is_undefined_kind (stray byte kind) ≡ false
   stray_kind kind e true percent z p = rw z refl
   stray_kind kind e false true z p = rw (z, p) refl
   stray_kind kind e false false z p = rw (z, p) e
@@ -170,7 +200,8 @@ module _ (model : Model) (byte : ℕ) where
   one_refused a b x e f = let both : Result.Err a ≡ Result.Err b = sym e ∙ f in cc
 
   -- where numbered specifications differ from others
-  module _ (state : PosixState) (rest : PosixStep) (mixed : posix_step model Numbered state byte ≡ Err (stray byte Mixed)) (plain : (s : Numbering) → s ≢ Numbered → posix_step model s state byte ≡ rest) where
+  module _ (state : PosixState) (rest : PosixStep) (mixed : posix_step model Numbered state byte ≡ Err (stray byte Mixed))
+      (plain : (s : Numbering) → s ≢ Numbered → posix_step model s state byte ≡ rest) where
     numberings_stay : (a b : Numbering) → posix_step model a state byte ≡ Err Unexpected → StaysRefused model b state byte
     numberings_stay Numbered b e = absurd (never_stray _ _ refl refl (one_refused _ _ _ mixed e))
     numberings_stay a Numbered e = record { kind = stray byte Mixed; refused = mixed; one_kind = stray_kind Mixed refl _ _ refl refl }
@@ -193,7 +224,8 @@ module _ (model : Model) (byte : ℕ) where
     go : (c : Bool) → (byte == 37) ≡ c → (d : Bool) → is_first_digit byte ≡ d → StaysRefused model b Opened byte
     go true p d f = let goes : posix_step model a Opened byte ≡ Ok (Between, None) = rw p refl in let both = sym goes ∙ e in cc
     go false p true f = let both = sym (opened_first p f a) ∙ e in cc
-    go false p false f = let mixed : posix_step model Numbered Opened byte ≡ Err (stray byte Mixed) = rw (p, f) refl in numberings_stay Opened _ mixed (opened_plain p f) a b e
+    go false p false f = let mixed : posix_step model Numbered Opened byte ≡ Err (stray byte Mixed) = rw (p, f) refl in numberings_stay Opened _ mixed
+        (opened_plain p f) a b e
 
   -- behind the first number
   first : (n : ℕ) (a b : Numbering) → posix_step model a (First n) byte ≡ Err Unexpected → StaysRefused model b (First n) byte
@@ -204,9 +236,12 @@ module _ (model : Model) (byte : ℕ) where
       digit s = rw h refl
     go false h true f = absurd (dollar a e) where
       dollar : (s : Numbering) → posix_step model s (First n) byte ≡ Err Unexpected → ⊥
-      dollar Numbered e = let goes : posix_step model Numbered (First n) byte ≡ Ok (Flags (parts_at (Some n)), None) = rw (h, f) refl in let both = sym goes ∙ e in cc
-      dollar Undecided e = let goes : posix_step model Undecided (First n) byte ≡ Ok (Flags (parts_at (Some n)), None) = rw (h, f) refl in let both = sym goes ∙ e in cc
-      dollar Unnumbered e = let goes : posix_step model Unnumbered (First n) byte ≡ Err Mixed = rw (h, f) refl in let both : Mixed ≡ Unexpected = one_refused _ _ _ goes e in cc
+      dollar Numbered e = let goes : posix_step model Numbered (First n) byte ≡ Ok (Flags (parts_at (Some n)), None) = rw (h, f) refl in let both = sym goes
+          ∙ e in cc
+      dollar Undecided e = let goes : posix_step model Undecided (First n) byte ≡ Ok (Flags (parts_at (Some n)), None) = rw (h, f) refl in let both = sym goes
+          ∙ e in cc
+      dollar Unnumbered e = let goes : posix_step model Unnumbered (First n) byte ≡ Err Mixed = rw
+          (h, f) refl in let both : Mixed ≡ Unexpected = one_refused _ _ _ goes e in cc
     go false h false f = numberings_stay (First n) _ mixed plain a b e where
       mixed : posix_step model Numbered (First n) byte ≡ Err (stray byte Mixed)
       mixed = rw (h, f) refl
@@ -226,7 +261,8 @@ any_follows None = tt
 any_follows (Some s) = inl refl
 
 -- what is refused as unexpected comes of nothing that is spelled
-module _ (model : Model) (numbering : Numbering) (part : Text) (own : List Fetch) (byte : ℕ) (state : PosixState) (at : IsStateAfter state part own) (e : posix_step model numbering state byte ≡ Err Unexpected) where
+module _ (model : Model) (numbering : Numbering) (part : Text) (own : List Fetch) (byte : ℕ) (state : PosixState) (at : IsStateAfter state part own)
+    (e : posix_step model numbering state byte ≡ Err Unexpected) where
   cannot_stand : CannotStand part byte
   cannot_stand = record { no_whole = no_whole; no_part = no_part } where
     c : Came model Undecided state part own
@@ -239,18 +275,24 @@ module _ (model : Model) (numbering : Numbering) (part : Text) (own : List Fetch
     refused = run-append model _ part (byte ∷ []) ∙ ap (λ p. run model p (byte ∷ [])) c.run_is ∙ ap (went c.behind own) stays.refused
 
     no_whole : (s : PosixSpecification) → ¬ SpellsPosix (part ++ byte ∷ []) s
-    no_whole s h = let r = spelled_ends model Undecided (part ++ byte ∷ []) s h (any_follows (Some (numbering_by s.position))) in go r.0 (undefined_of s) refl (sym refused ∙ r.1) where
-      go : (behind : Numbering) (o : Option RefusalKind) → undefined_of s ≡ o → Result.Err stays.kind ≡ went behind (star_fetches s.width ++ star_fetches s.precision) (judgement (undefined_of s) (fetch s.position (conversion_type model s.modifier s.conversion))) → ⊥
-      go behind None u same = let both = same ∙ ap (λ o. went behind (star_fetches s.width ++ star_fetches s.precision) (judgement o (fetch s.position (conversion_type model s.modifier s.conversion)))) u in cc
-      go behind (Some kind) u same =
-          let both = same ∙ ap (λ o. went behind (star_fetches s.width ++ star_fetches s.precision) (judgement o (fetch s.position (conversion_type model s.modifier s.conversion)))) u in
-          let kinds : stays.kind ≡ kind = cc in
-          let one : is_undefined_kind kind ≡ true = undefined_kind s.flags _ _ s.modifier s.conversion kind u in
-          let two : is_undefined_kind kind ≡ false = subst (λ k. is_undefined_kind k ≡ false) kinds stays.one_kind in
-          let no_bool : true ≡ false = sym one ∙ two in cc
+    no_whole s h = let r = spelled_ends model Undecided (part ++ byte ∷ []) s h (any_follows (Some (numbering_by s.position))) in go r.0 (undefined_of s) refl
+        (sym refused ∙ r.1) where
+          go : (behind : Numbering) (o : Option RefusalKind) → undefined_of s ≡ o
+              → Result.Err stays.kind ≡ went behind (star_fetches s.width ++ star_fetches s.precision)
+              (judgement (undefined_of s) (fetch s.position (conversion_type model s.modifier s.conversion))) → ⊥
+          go behind None u same = let both = same ∙ ap (λ o. went behind (star_fetches s.width ++ star_fetches s.precision)
+              (judgement o (fetch s.position (conversion_type model s.modifier s.conversion)))) u in cc
+          go behind (Some kind) u same =
+              let both = same ∙ ap (λ o. went behind (star_fetches s.width ++ star_fetches s.precision)
+              (judgement o (fetch s.position (conversion_type model s.modifier s.conversion)))) u in
+              let kinds : stays.kind ≡ kind = cc in
+              let one : is_undefined_kind kind ≡ true = undefined_kind s.flags _ _ s.modifier s.conversion kind u in
+              let two : is_undefined_kind kind ≡ false = subst (λ k. is_undefined_kind k ≡ false) kinds stays.one_kind in
+              let no_bool : true ≡ false = sym one ∙ two in cc
 
     no_part : (to : PosixState) (others : List Fetch) → ¬ IsStateAfter to (part ++ byte ∷ []) others
-    no_part to others h = let d = came model Undecided to (part ++ byte ∷ []) others h (any_follows (numbering_in to)) in let both = sym refused ∙ d.run_is in cc
+    no_part to others h = let d = came model Undecided to (part ++ byte ∷ []) others h (any_follows (numbering_in to)) in let both = sym refused
+        ∙ d.run_is in cc
 
 -- the last of some fetches
 abbrev last_fetch : List Fetch → Fetch → Fetch
@@ -283,7 +325,8 @@ own_then (Err kind) = []
 -- what the table says of a byte that is refused
 abbrev pub IsTurnedDown : Model → List Fetch → PosixState → ℕ → RefusalKind → Type 0
 IsTurnedDown model fetches state byte kind = (posix_step model (numbering_of fetches) state byte ≡ Err kind)
-    ⊎ ((kind ≡ TwoTypes) × (to : PosixState) × (f : Fetch) × (posix_step model (numbering_of fetches) state byte ≡ Ok (to, Some f)) × ¬ AllByRecursion (IsOneType f) fetches)
+    ⊎ ((kind ≡ TwoTypes) × (to : PosixState) × (f : Fetch) × (posix_step model (numbering_of fetches) state byte ≡ Ok (to, Some f))
+    × ¬ AllByRecursion (IsOneType f) fetches)
 
 module _ (model : Model) (fetches : List Fetch) (part : Text) (own : List Fetch) (state : PosixState) (at : IsStateAfter state part own) (byte : ℕ) where
   abbrev numbering : Numbering
@@ -292,7 +335,8 @@ module _ (model : Model) (fetches : List Fetch) (part : Text) (own : List Fetch)
   began : IsOther byte → posix_step model numbering state byte ≡ Err Unexpected → IsInSpecification state
   began other e = go state e where
     go : (state : PosixState) → posix_step model numbering state byte ≡ Err Unexpected → IsInSpecification state
-    go Between e = let zero = other.0 in let percent = other.1 in let goes : posix_step model numbering Between byte ≡ Ok (Between, None) = rw (zero, percent) refl in let both = sym goes ∙ e in cc
+    go Between e = let zero = other.0 in let percent = other.1 in let goes : posix_step model numbering Between byte ≡ Ok (Between, None) = rw
+        (zero, percent) refl in let both = sym goes ∙ e in cc
     go _ e = tt
 
   large_kind : (state : PosixState) (kind : RefusalKind) → IsNumberTooLarge state byte kind → kind ≢ Unexpected
@@ -322,20 +366,25 @@ module _ (model : Model) (fetches : List Fetch) (part : Text) (own : List Fetch)
       by_reason : IsOther byte → Reason model numbering state byte kind → IsWrong model fetches part state byte kind
       by_reason other (inl mixed) = inl mixed
       by_reason other (inr (inl large)) = inr (inl large)
-      by_reason other (inr (inr (inl undefined))) = elim (judged (Err kind) e) [ inl no_kind ↦ let both : true ≡ false = sym undefined ∙ no_kind in cc | inr ends ↦ inr (inr (inl ends)) ]
+      by_reason other (inr (inr (inl undefined))) = elim (judged (Err kind) e)
+          [ inl no_kind ↦ let both : true ≡ false = sym undefined ∙ no_kind in cc | inr ends ↦ inr (inr (inl ends)) ]
       by_reason other (inr (inr (inr k))) = inr (inr (inr (inr (k, unexpected other (e ∙ ap Err k)))))
 
-      go : (z : Bool) → (byte == 0) ≡ z → (p : Bool) → (byte == 37) ≡ p → MatchBool z (kind ≡ NulByte) (MatchBool p ((kind ≡ BadPercent) × IsPastPercent state) (Reason model numbering state byte kind)) → IsPosixRefusedByte model fetches part state byte kind
+      go : (z : Bool) → (byte == 0) ≡ z → (p : Bool) → (byte == 37) ≡ p
+          → MatchBool z (kind ≡ NulByte) (MatchBool p ((kind ≡ BadPercent) × IsPastPercent state) (Reason model numbering state byte kind))
+          → IsPosixRefusedByte model fetches part state byte kind
       go true z p f w = rw z w
       go false z true f w = rw (z, f) w
       go false z false f w = rw (z, f) (by_reason (z, f) w)
 
-    pub conflict_in_words : (to : PosixState) (f : Fetch) → posix_step model numbering state byte ≡ Ok (to, Some f) → ¬ AllByRecursion (IsOneType f) fetches → IsPosixRefusedByte model fetches part state byte TwoTypes
+    pub conflict_in_words : (to : PosixState) (f : Fetch) → posix_step model numbering state byte ≡ Ok (to, Some f) → ¬ AllByRecursion (IsOneType f) fetches
+        → IsPosixRefusedByte model fetches part state byte TwoTypes
     conflict_in_words to f e conflict = go (reasoned (Ok (to, Some f)) e) where
       by_last : (to : PosixState) → posix_step model numbering state byte ≡ Ok (to, Some f) → to ≡ Between → FetchesLast model numbering part byte f
       by_last to e between =
           let j = judged (Ok (Between, Some f)) (e ∙ ap (λ s. Ok (s, Some f)) between) in
-          let same : f ≡ fetch j.0.position (conversion_type model j.0.modifier j.0.conversion) = same_last own (star_fetches j.0.width ++ star_fetches j.0.precision) f _ j.3 in
+          let same : f ≡ fetch j.0.position (conversion_type model j.0.modifier j.0.conversion) = same_last own
+          (star_fetches j.0.width ++ star_fetches j.0.precision) f _ j.3 in
           (record { s = j.0; spelled = j.1; follows = subst (λ g. Follows numbering (Some (numbering_by g.number))) same j.4 }, j.2, same)
 
       go : Went model numbering state byte to (Some f) → IsPosixRefusedByte model fetches part state byte TwoTypes
@@ -346,17 +395,22 @@ module _ (model : Model) (fetches : List Fetch) (part : Text) (own : List Fetch)
         by (inr (inr between)) = inr (by_last to e between)
 
     -- and the other way round, where the table comes to this state
-    module _ (base : Numbering) (came_here : run model (Ok (stand base Between [])) part ≡ Ok (stand numbering state own)) (back : (o : Option Numbering) → Follows numbering o → Follows base o) where
+    module _ (base : Numbering) (came_here : run model (Ok (stand base Between [])) part ≡ Ok (stand numbering state own))
+        (back : (o : Option Numbering) → Follows numbering o → Follows base o) where
       abbrev stars : PosixSpecification → List Fetch
       stars s = star_fetches s.width ++ star_fetches s.precision
 
       abbrev last : PosixSpecification → Fetch
       last s = fetch s.position (conversion_type model s.modifier s.conversion)
 
-      ends_as : (end : CompletesSpecification numbering part byte) (o : Option RefusalKind) → undefined_of end.s ≡ o → (behind : Numbering) × (went numbering own (posix_step model numbering state byte) ≡ went behind (stars end.s) (judgement o (last end.s)))
+      ends_as : (end : CompletesSpecification numbering part byte) (o : Option RefusalKind) → undefined_of end.s ≡ o
+          → (behind : Numbering) × (went numbering own (posix_step model numbering state byte) ≡ went behind (stars end.s) (judgement o (last end.s)))
       ends_as end o u =
-          let r = spelled_ends model base (part ++ byte ∷ []) end.s end.spelled (back (Some (numbering_by end.s.position)) end.follows) in
-          (r.0, sym (run-append model _ part (byte ∷ []) ∙ ap (λ p. run model p (byte ∷ [])) came_here) ∙ r.1 ∙ ap (λ o. went r.0 (stars end.s) (judgement o (last end.s))) u)
+          let r = spelled_ends model base (part ++ byte ∷ []) end.s end.spelled (back (Some (numbering_by end.s.position)) end.follows) in (
+            r.0,
+            sym (run-append model _ part (byte ∷ []) ∙ ap (λ p. run model p (byte ∷ [])) came_here) ∙ r.1
+                ∙ ap (λ o. went r.0 (stars end.s) (judgement o (last end.s))) u,
+          )
 
       undefined_refused : (kind : RefusalKind) → CompletesUndefined numbering part byte kind → posix_step model numbering state byte ≡ Err kind
       undefined_refused kind h = go (posix_step model numbering state byte) (ends_as h.0 (Some kind) h.1).1 where
@@ -367,7 +421,8 @@ module _ (model : Model) (fetches : List Fetch) (part : Text) (own : List Fetch)
 
       last_fetched : (f : Fetch) → FetchesLast model numbering part byte f → posix_step model numbering state byte ≡ Ok (Between, Some f)
       last_fetched f h = go (posix_step model numbering state byte) refl (ends_as h.0 None h.1).1 where
-        go : (n : PosixStep) → posix_step model numbering state byte ≡ n → went numbering own n ≡ Ok (stand (numbering_by h.0.s.position) Between (stars h.0.s ++ last h.0.s ∷ [])) → n ≡ Ok (Between, Some f)
+        go : (n : PosixStep) → posix_step model numbering state byte ≡ n
+            → went numbering own n ≡ Ok (stand (numbering_by h.0.s.position) Between (stars h.0.s ++ last h.0.s ∷ [])) → n ≡ Ok (Between, Some f)
         go (Err k) e same = cc
         go (Ok (to, None)) e same =
             let between : to ≡ Between = ap state_then same in
@@ -382,7 +437,11 @@ module _ (model : Model) (fetches : List Fetch) (part : Text) (own : List Fetch)
       star_fetched : (f : Fetch) → FetchesStar state byte f → (to : PosixState) × (posix_step model numbering state byte ≡ Ok (to, Some f))
       star_fetched f h = go state h where
         go : (state : PosixState) → FetchesStar state byte f → (to : PosixState) × (posix_step model numbering state byte ≡ Ok (to, Some f))
-        go (StarDigits slot parts n) h = (Placed slot parts, ap (posix_step model numbering (StarDigits slot parts n)) h.0 ∙ ap (λ g. Ok (Placed slot parts, Some g)) (sym h.1))
+        go (StarDigits slot parts n) h = (
+          Placed slot parts,
+          ap (posix_step model numbering (StarDigits slot parts n)) h.0
+              ∙ ap (λ g. Ok (Placed slot parts, Some g)) (sym h.1),
+        )
         go _ none = absurd none
 
       unexpected_refused : IsOther byte → IsUnexpected numbering part state byte → posix_step model numbering state byte ≡ Err Unexpected
@@ -390,15 +449,18 @@ module _ (model : Model) (fetches : List Fetch) (part : Text) (own : List Fetch)
         refused : (kind : RefusalKind) → posix_step model numbering state byte ≡ Err kind → Reason model numbering state byte kind → kind ≡ Unexpected
         refused kind e (inl mixed) = absurd (u.one_kind mixed.1)
         refused kind e (inr (inl large)) = absurd (u.small kind large)
-        refused kind e (inr (inr (inl undefined))) = elim (judged (Err kind) e) [ inl no_kind ↦ let both : true ≡ false = sym undefined ∙ no_kind in cc | inr ends ↦ absurd (u.nowhere.no_whole ends.0.s ends.0.spelled) ]
+        refused kind e (inr (inr (inl undefined))) = elim (judged (Err kind) e)
+            [ inl no_kind ↦ let both : true ≡ false = sym undefined ∙ no_kind in cc | inr ends ↦ absurd (u.nowhere.no_whole ends.0.s ends.0.spelled) ]
         refused kind e (inr (inr (inr k))) = k
 
         go : (n : PosixStep) → posix_step model numbering state byte ≡ n → n ≡ Err Unexpected
-        go (Err kind) e = let zero = other.0 in let percent = other.1 in ap Err (refused kind e (by (byte == 0) zero (byte == 37) percent (reasoned (Err kind) e))) where
-          by : (z : Bool) → z ≡ false → (p : Bool) → p ≡ false → MatchBool z (kind ≡ NulByte) (MatchBool p ((kind ≡ BadPercent) × IsPastPercent state) (Reason model numbering state byte kind)) → Reason model numbering state byte kind
-          by false z false p r = r
-          by true z p q r = cc
-          by false z true q r = cc
+        go (Err kind) e = let zero = other.0 in let percent = other.1 in ap Err
+            (refused kind e (by (byte == 0) zero (byte == 37) percent (reasoned (Err kind) e))) where
+              by : (z : Bool) → z ≡ false → (p : Bool) → p ≡ false → MatchBool z (kind ≡ NulByte)
+                  (MatchBool p ((kind ≡ BadPercent) × IsPastPercent state) (Reason model numbering state byte kind)) → Reason model numbering state byte kind
+              by false z false p r = r
+              by true z p q r = cc
+              by false z true q r = cc
         go (Ok (to, None)) e = absurd (arrived to e (judged (Ok (to, None)) e)) where
           arrived : (to : PosixState) → posix_step model numbering state byte ≡ Ok (to, None) → Arrives model numbering part own byte to → ⊥
           arrived Between e h = let yes = reasoned (Ok (Between, None)) e u.begun in let both : true ≡ false = sym yes ∙ other.1 in cc
@@ -418,7 +480,10 @@ module _ (model : Model) (fetches : List Fetch) (part : Text) (own : List Fetch)
 
       pub words_refuse : (kind : RefusalKind) → IsPosixRefusedByte model fetches part state byte kind → IsTurnedDown model fetches state byte kind
       words_refuse kind h = go (byte == 0) refl (byte == 37) refl h where
-        go : (z : Bool) → (byte == 0) ≡ z → (p : Bool) → (byte == 37) ≡ p → MatchBool z (kind ≡ NulByte) (MatchBool p ((kind ≡ BadPercent) × IsPastPercent state) (IsWrong model fetches part state byte kind)) → IsTurnedDown model fetches state byte kind
+        go : (z : Bool) → (byte == 0) ≡ z → (p : Bool) → (byte == 37) ≡ p
+            → MatchBool z (kind ≡ NulByte) (MatchBool p ((kind ≡ BadPercent) × IsPastPercent state) (IsWrong model fetches part state byte kind))
+            → IsTurnedDown model fetches state byte kind
         go true z p f h = inl (ap (posix_step model numbering state) (eqb-true byte 0 z) ∙ zero_refused model numbering state ∙ ap Err (sym h))
-        go false z true p h = inl (ap (posix_step model numbering state) (eqb-true byte 37 p) ∙ strange_inside model 37 BadPercent percent_strange numbering state h.1 ∙ ap Err (sym h.0))
+        go false z true p h = inl (ap (posix_step model numbering state) (eqb-true byte 37 p)
+            ∙ strange_inside model 37 BadPercent percent_strange numbering state h.1 ∙ ap Err (sym h.0))
         go false z false p h = wrong_refused kind (z, p) h

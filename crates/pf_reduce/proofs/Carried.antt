@@ -16,9 +16,11 @@ use Rattle.pf_reduce.specs.Reducing.{IsReducedTo, PrintsReduced, around, core_of
 
 -- one direction is enough, since each prints one text
 abbrev pub Carries : Model → Specification → Reduced → Type 0
-Carries model s r = (argument : Argument) (inner : Text) → HasType model argument (arg_type model s) → Prints model (core_of r.core) argument inner → Prints model s argument (around r inner)
+Carries model s r = (argument : Argument) (inner : Text) → HasType model argument (arg_type model s) → Prints model (core_of r.core) argument inner
+    → Prints model s argument (around r inner)
 
-pub prints_reduced : (model : Model) (s : Specification) (r : Reduced) → arg_type model (core_of r.core) ≡ arg_type model s → Carries model s r → PrintsReduced model s r
+pub prints_reduced : (model : Model) (s : Specification) (r : Reduced) → arg_type model (core_of r.core) ≡ arg_type model s → Carries model s r
+    → PrintsReduced model s r
 prints_reduced model s r e h argument out typed =
     let typed_core : HasType model argument (arg_type model (core_of r.core)) = subst (HasType model argument) (sym e) typed in
     let inner = printed_text model (core_of r.core) argument in
@@ -37,5 +39,6 @@ pub record IsReducedAs (model : Model) (s : Specification) (p : Padding) (flags 
   pub normal : IsNormal model (core_of_parts model s p flags precision)
   pub reduced : IsReducedTo model s (padded_core model s p flags precision)
 
-pub made : (model : Model) (s : Specification) (p : Padding) (flags : FlagSet) (precision : Option ℕ) → IsReducedAs model s p flags precision → Reduction model s
+pub made : (model : Model) (s : Specification) (p : Padding) (flags : FlagSet) (precision : Option ℕ) → IsReducedAs model s p flags precision
+    → Reduction model s
 made model s p flags precision h = (padded_core model s p flags precision, h.reduced)

@@ -60,7 +60,8 @@ no_string_under model kinds.String e s t body h = cc
 abbrev pub IsValueOf : Model → Specification → ℤ → Type 0
 IsValueOf model s v = FitsIn (is_signed s.conv) (bit_count (bits_under model s.length)) v
 
-carries : (model : Model) (s : Specification) (r : Reduced) → is_text s.conv ≡ false → is_text (core_of r.core).conv ≡ false → is_signed (core_of r.core).conv ≡ is_signed s.conv → bits_under model (core_of r.core).length ≡ bits_under model s.length
+carries : (model : Model) (s : Specification) (r : Reduced) → is_text s.conv ≡ false → is_text (core_of r.core).conv ≡ false
+    → is_signed (core_of r.core).conv ≡ is_signed s.conv → bits_under model (core_of r.core).length ≡ bits_under model s.length
     → ((v : ℤ) → IsValueOf model s v → field s (value_text s v) ≡ around r (field (core_of r.core) (value_text (core_of r.core) v)))
     → Carries model s r
 carries model s r e f sign bits same (String t) inner typed p = absurd (no_string_under model (kind_of (core_of r.core).conv) f (core_of r.core) t p.0 p.1)
@@ -111,11 +112,13 @@ minus_is false flags h = h
 pub field-padded : (s : Specification) (body : Text) → field s body ≡ with_padding (padding_of s) body
 field-padded s body = sym (append-nil (field s body))
 
-pub padded-made : (model : Model) (s : Specification) (p : Padding) (flags : FlagSet) (precision : Option ℕ) (body : Text) → has flags Minus ≡ false → with_padding p body ≡ around (padded_core model s p flags precision) (field (core_of_parts model s p flags precision) body)
+pub padded-made : (model : Model) (s : Specification) (p : Padding) (flags : FlagSet) (precision : Option ℕ) (body : Text) → has flags Minus ≡ false
+    → with_padding p body ≡ around (padded_core model s p flags precision) (field (core_of_parts model s p flags precision) body)
 padded-made model s p flags precision body right = rw (minus_is p.left flags right, width_is p.width) refl
 
 -- A core made of parts prints the same values, within its padding.
-pub integer_reduced : (model : Model) (s : Specification) (p : Padding) (flags : FlagSet) (precision : Option ℕ) → is_text s.conv ≡ false → has flags Minus ≡ false → IsNormalCore model (padded_core model s p flags precision).core → constants p ≤ MAX_NUMBER
+pub integer_reduced : (model : Model) (s : Specification) (p : Padding) (flags : FlagSet) (precision : Option ℕ) → is_text s.conv ≡ false
+    → has flags Minus ≡ false → IsNormalCore model (padded_core model s p flags precision).core → constants p ≤ MAX_NUMBER
     → ((v : ℤ) → IsValueOf model s v → with_padding (padding_of s) (value_text s v) ≡ with_padding p (value_text (core_of_parts model s p flags precision) v))
     → IsReducedTo model s (padded_core model s p flags precision)
 integer_reduced model s p flags precision text right normal few same =
@@ -125,7 +128,8 @@ integer_reduced model s p flags precision text right normal few same =
     record {
       normal = normal;
       same_type = kept_type model s.conv s.length;
-      prints = prints_reduced model s r (kept_type model s.conv s.length) (carries model s r text (kept_text s.conv ∙ text) (kept_sign s.conv) (kept_bits model s.length) agree);
+      prints = prints_reduced model s r (kept_type model s.conv s.length)
+          (carries model s r text (kept_text s.conv ∙ text) (kept_sign s.conv) (kept_bits model s.length) agree);
       silent = λ x. cc;
       few = few;
     }

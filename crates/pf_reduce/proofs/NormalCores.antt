@@ -37,7 +37,17 @@ record HasSignFlags (left : Bool) (sign : Sign) (s : Specification) : Type 0 whe
 
 sign_flags_are : (left : Bool) (sign : Sign) (s : Specification)
     → s.flags ≡ with_side left (sign_flags sign) → HasSignFlags left sign s
-sign_flags_are true signs.None s e = rw e (record { minus = refl; no_zero = refl; no_alt = refl; no_group = refl; one_sign = λ h. refl; len = refl; space = λ h. cc; none = λ h. refl; no_plus = λ h. λ g. cc })
+sign_flags_are true signs.None s e = rw e (record {
+  minus = refl;
+  no_zero = refl;
+  no_alt = refl;
+  no_group = refl;
+  one_sign = λ h. refl;
+  len = refl;
+  space = λ h. cc;
+  none = λ h. refl;
+  no_plus = λ h. λ g. cc;
+})
 sign_flags_are true signs.Plus s e = search rules
 sign_flags_are true signs.Space s e = search rules
 sign_flags_are false signs.None s e = search rules

@@ -1,5 +1,6 @@
 -- A normal directive is its own core: each step of a reduction leaves its parts as they are.
-use Rattle.std.proofs.Common.{◌≡◌, ◌≢◌, ℕ, zero, suc, ◌+◌, ◌<◌, ◌≤◌, min, Bool, true, false, Option, Some, None, refl, sym, ap, ◌∙◌, subst, arith, rules, inl, inr}
+use Rattle.std.proofs.Common.{◌≡◌, ◌≢◌, ℕ, zero, suc, ◌+◌, ◌<◌, ◌≤◌, min, Bool, true, false, Option, Some, None, refl, sym, ap, ◌∙◌, subst, arith, rules, inl}
+use Rattle.std.proofs.Common.{inr}
 use Rattle.std.specs.Prelude.{if◌then◌else◌, ◌⊎◌, ◌&&◌, ◌||◌, MatchBool, is_none, not, unwrap_or}
 use Rattle.pf_values.specs.declared.bases.Alternative.{Alternative}
 use Rattle.pf_values.specs.declared.bases.Alternative.TheVariants.{Undefined, Raised, Prefixed}
@@ -12,7 +13,8 @@ use Rattle.pf_values.specs.declared.models.Model.{Model}
 use Rattle.pf_values.specs.meaning.Bases.{alternative_of}
 use Rattle.pf_values.specs.meaning.Conversions.{alternative_under, is_signed, is_text, kind_of, prints_signed, prints_string, prints_text}
 use Rattle.pf_values.specs.meaning.Flags.{has, no_flags, with_flag}
-use Rattle.pf_values.specs.meaning.Normal.{HasNormalForm, HasPrefixedForm, HasSignedForm, HasUnsignedForm, IsNormal, IsNormalFilled, IsNormalOctal, IsNormalPrefixed, IsNormalSigned, IsNormalUnprefixed, sign_len, precision_of}
+use Rattle.pf_values.specs.meaning.Normal.{HasNormalForm, HasPrefixedForm, HasSignedForm, HasUnsignedForm, IsNormal, IsNormalFilled, IsNormalOctal}
+use Rattle.pf_values.specs.meaning.Normal.{IsNormalPrefixed, IsNormalSigned, IsNormalUnprefixed, sign_len, precision_of}
 use Rattle.pf_values.specs.meaning.Printing.{is_zero_filled}
 use Rattle.pf_values.specs.declared.conversions.Conv.{Conv}
 use Rattle.pf_values.specs.declared.conversions.Conv.TheVariants.{D, I}
@@ -109,10 +111,12 @@ false_else : (b : Bool) → (b ≡ true → false ≡ true) → b ≡ false
 false_else true h = sym (h refl)
 false_else false h = refl
 
-pub bare_flags : (model : Model) (s : Specification) → IsNormal model s → is_signed s.conv ≡ false → has s.flags Alt ≡ false → has s.flags Zero ≡ false → with_side (has s.flags Minus) no_flags ≡ s.flags
+pub bare_flags : (model : Model) (s : Specification) → IsNormal model s → is_signed s.conv ≡ false → has s.flags Alt ≡ false → has s.flags Zero ≡ false
+    → with_side (has s.flags Minus) no_flags ≡ s.flags
 bare_flags model s h signed alt unfilled =
     let f = s.flags in
-    bare f.minus f.plus f.space f.alt f.zero f.group (false_else f.plus (λ e. sym signed ∙ h.no_plus e)) (false_else f.space (λ e. sym signed ∙ h.no_space e)) alt unfilled h.no_group
+    bare f.minus f.plus f.space f.alt f.zero f.group (false_else f.plus (λ e. sym signed ∙ h.no_plus e))
+    (false_else f.space (λ e. sym signed ∙ h.no_space e)) alt unfilled h.no_group
 
 -- digits alone
 raised_without : (alt : Bool) (P Q : Type 0) → alt ≡ false → MatchBool alt P Q → Q
@@ -128,13 +132,15 @@ unprefixed_under model s Undefined alt h = h
 unprefixed_under model s Raised alt h = raised_without (has s.flags Alt) (IsNormalOctal model s) (IsNormalUnprefixed model s) alt h
 unprefixed_under model s Prefixed alt h = prefixed_without model s (has s.flags Alt) (has s.flags Zero) alt h
 
-unprefixed_kind : (model : Model) (s : Specification) (k : Kind) → prints_text k ≡ false → prints_signed k ≡ false → has s.flags Alt ≡ false → HasNormalForm model k s → IsNormalUnprefixed model s
+unprefixed_kind : (model : Model) (s : Specification) (k : Kind) → prints_text k ≡ false → prints_signed k ≡ false → has s.flags Alt ≡ false
+    → HasNormalForm model k s → IsNormalUnprefixed model s
 unprefixed_kind model s kinds.Signed text signed alt h = absurd (different (sym signed))
 unprefixed_kind model s (kinds.Unsigned base capitals) text signed alt h = unprefixed_under model s (alternative_of base) alt h
 unprefixed_kind model s kinds.Char text signed alt h = absurd (different (sym text))
 unprefixed_kind model s kinds.String text signed alt h = absurd (different (sym text))
 
-pub unprefixed_form : (model : Model) (s : Specification) → IsNormal model s → is_text s.conv ≡ false → is_signed s.conv ≡ false → has s.flags Alt ≡ false → IsNormalUnprefixed model s
+pub unprefixed_form : (model : Model) (s : Specification) → IsNormal model s → is_text s.conv ≡ false → is_signed s.conv ≡ false → has s.flags Alt ≡ false
+    → IsNormalUnprefixed model s
 unprefixed_form model s h text signed alt = unprefixed_kind model s (kind_of s.conv) text signed alt h.form
 
 pub beyond : (p w : ℕ) → (0 < w) × (p ≡ 0 → 1 < w) → (0 < w → p < w) → 1 < w
@@ -146,11 +152,14 @@ octal_under : (model : Model) (s : Specification) (alt : Bool) → alt ≡ true 
 octal_under model s true e P Q h = h
 octal_under model s false e P Q h = absurd (different e)
 
-pub octal_form : (model : Model) (s : Specification) → IsNormal model s → kind_of s.conv ≡ kinds.Unsigned Octal false → has s.flags Alt ≡ true → IsNormalOctal model s
-octal_form model s h is alt = octal_under model s (has s.flags Alt) alt (IsNormalOctal model s) (IsNormalUnprefixed model s) (subst (λ k. HasNormalForm model k s) is h.form)
+pub octal_form : (model : Model) (s : Specification) → IsNormal model s → kind_of s.conv ≡ kinds.Unsigned Octal false → has s.flags Alt ≡ true
+    → IsNormalOctal model s
+octal_form model s h is alt = octal_under model s (has s.flags Alt) alt (IsNormalOctal model s) (IsNormalUnprefixed model s)
+    (subst (λ k. HasNormalForm model k s) is h.form)
 
 -- with `#`, and the side
-alt_side : (left : Bool) → with_side left (with_flag no_flags Alt) ≡ record { minus = left; plus = false; space = false; alt = true; zero = false; group = false }
+alt_side : (left : Bool) → with_side left (with_flag no_flags Alt) ≡ record
+    { minus = left; plus = false; space = false; alt = true; zero = false; group = false }
 alt_side true = refl
 alt_side false = refl
 
@@ -158,18 +167,22 @@ with_alt : (m p s a z g : Bool) → p ≡ false → s ≡ false → a ≡ true �
     → with_side m (with_flag no_flags Alt) ≡ record { minus = m; plus = p; space = s; alt = a; zero = z; group = g }
 with_alt m p s a z g hp hs ha hz hg = rw (hp, hs, ha, hz, hg) (alt_side m)
 
-pub alt_flags : (model : Model) (s : Specification) → IsNormal model s → is_signed s.conv ≡ false → has s.flags Alt ≡ true → has s.flags Zero ≡ false → with_side (has s.flags Minus) (with_flag no_flags Alt) ≡ s.flags
+pub alt_flags : (model : Model) (s : Specification) → IsNormal model s → is_signed s.conv ≡ false → has s.flags Alt ≡ true → has s.flags Zero ≡ false
+    → with_side (has s.flags Minus) (with_flag no_flags Alt) ≡ s.flags
 alt_flags model s h signed alt unfilled =
     let f = s.flags in
-    with_alt f.minus f.plus f.space f.alt f.zero f.group (false_else f.plus (λ e. sym signed ∙ h.no_plus e)) (false_else f.space (λ e. sym signed ∙ h.no_space e)) alt unfilled h.no_group
+    with_alt f.minus f.plus f.space f.alt f.zero f.group (false_else f.plus (λ e. sym signed ∙ h.no_plus e))
+    (false_else f.space (λ e. sym signed ∙ h.no_space e)) alt unfilled h.no_group
 
 -- digits after a prefix
-prefixed_under : (model : Model) (s : Specification) (a : Alternative) (alt : Bool) → has s.flags Alt ≡ alt → puts_prefix a ≡ true → alt ≡ true → HasUnsignedForm model a s → HasPrefixedForm model true (has s.flags Zero) s
+prefixed_under : (model : Model) (s : Specification) (a : Alternative) (alt : Bool) → has s.flags Alt ≡ alt → puts_prefix a ≡ true → alt ≡ true
+    → HasUnsignedForm model a s → HasPrefixedForm model true (has s.flags Zero) s
 prefixed_under model s Undefined alt is e on h = absurd (different e)
 prefixed_under model s Raised alt is e on h = absurd (different e)
 prefixed_under model s Prefixed alt is e on h = subst (λ b. HasPrefixedForm model b (has s.flags Zero) s) (is ∙ on) h
 
-prefixed_kind : (model : Model) (s : Specification) (k : Kind) → puts_prefix (alternative_under k) ≡ true → has s.flags Alt ≡ true → HasNormalForm model k s → HasPrefixedForm model true (has s.flags Zero) s
+prefixed_kind : (model : Model) (s : Specification) (k : Kind) → puts_prefix (alternative_under k) ≡ true → has s.flags Alt ≡ true → HasNormalForm model k s
+    → HasPrefixedForm model true (has s.flags Zero) s
 prefixed_kind model s kinds.Signed e alt h = absurd (different e)
 prefixed_kind model s (kinds.Unsigned base capitals) e alt h = prefixed_under model s (alternative_of base) true alt e refl h
 prefixed_kind model s kinds.Char e alt h = absurd (different e)
@@ -179,11 +192,13 @@ prefixed_kind model s kinds.String e alt h = absurd (different e)
 filled : (s : Specification) → IsNormalFilled s → has s.flags Zero ≡ true → is_zero_filled s ≡ true
 filled s h zeros = rw (zeros, h.right, h.no_precision) refl
 
-unfilled_from : (model : Model) (s : Specification) (fill : Bool) → has s.flags Zero ≡ fill → (is_zero_filled s ≡ true → (1 ≤ 0) ⊎ (width_of s ≤ 1)) → HasPrefixedForm model true fill s → IsNormalPrefixed model s × (has s.flags Zero ≡ false)
+unfilled_from : (model : Model) (s : Specification) (fill : Bool) → has s.flags Zero ≡ fill → (is_zero_filled s ≡ true → (1 ≤ 0) ⊎ (width_of s ≤ 1))
+    → HasPrefixedForm model true fill s → IsNormalPrefixed model s × (has s.flags Zero ≡ false)
 unfilled_from model s true is idle h = absurd (too_narrow (width_of s) 0 (idle (filled s h is)) refl h.width)
 unfilled_from model s false is idle h = (h, is)
 
-pub prefixed_form : (model : Model) (s : Specification) → IsNormal model s → is_prefixed s.conv ≡ true → has s.flags Alt ≡ true → (is_zero_filled s ≡ true → (1 ≤ 0) ⊎ (width_of s ≤ 1)) → IsNormalPrefixed model s × (has s.flags Zero ≡ false)
+pub prefixed_form : (model : Model) (s : Specification) → IsNormal model s → is_prefixed s.conv ≡ true → has s.flags Alt ≡ true
+    → (is_zero_filled s ≡ true → (1 ≤ 0) ⊎ (width_of s ≤ 1)) → IsNormalPrefixed model s × (has s.flags Zero ≡ false)
 prefixed_form model s h form alt idle = unfilled_from model s (has s.flags Zero) refl idle (prefixed_kind model s (kind_of s.conv) form alt h.form)
 
 no_sign_kind : (k : Kind) → puts_prefix (alternative_under k) ≡ true → prints_signed k ≡ false
@@ -215,12 +230,15 @@ filled_flags : (m p s a z g : Bool) → m ≡ false → p ≡ false → s ≡ fa
     → with_side m (with_flag (with_flag no_flags Alt) Zero) ≡ record { minus = m; plus = p; space = s; alt = a; zero = z; group = g }
 filled_flags m p s a z g hm hp hs ha hz hg = rw (hm, hp, hs, ha, hz, hg) refl
 
-pub own_filled_prefixed : (model : Model) (s : Specification) → IsNormal model s → is_prefixed s.conv ≡ true → has s.flags Alt ≡ true → is_zero_filled s ≡ true → padded_core model s (padding_of s) (with_flag (with_flag no_flags Alt) Zero) None ≡ itself model s
+pub own_filled_prefixed : (model : Model) (s : Specification) → IsNormal model s → is_prefixed s.conv ≡ true → has s.flags Alt ≡ true
+    → is_zero_filled s ≡ true → padded_core model s (padding_of s) (with_flag (with_flag no_flags Alt) Zero) None ≡ itself model s
 own_filled_prefixed model s h form alt fill =
     let f = s.flags in
     let parts = filled_parts f.zero f.minus s.precision fill in
     let signed = prefixed_unsigned s.conv form in
-    own_core model s (padding_of s) (with_flag (with_flag no_flags Alt) Zero) None h (filled_flags f.minus f.plus f.space f.alt f.zero f.group parts.1 (false_else f.plus (λ e. sym signed ∙ h.no_plus e)) (false_else f.space (λ e. sym signed ∙ h.no_space e)) alt parts.0 h.no_group) (sym parts.2) refl refl refl
+    own_core model s (padding_of s) (with_flag (with_flag no_flags Alt) Zero) None h
+    (filled_flags f.minus f.plus f.space f.alt f.zero f.group parts.1 (false_else f.plus (λ e. sym signed ∙ h.no_plus e))
+    (false_else f.space (λ e. sym signed ∙ h.no_space e)) alt parts.0 h.no_group) (sym parts.2) refl refl refl
 
 -- the side is seen
 pub seen_from : (p w least unseen : ℕ) → (0 < w) × (p ≡ 0 → least < w) → (p ≡ 0 → unseen ≡ least) → (1 ≤ p → unseen ≡ 0) → unseen < w
@@ -257,12 +275,16 @@ signed_kind model s (kinds.Unsigned base capitals) e h = absurd (different e)
 signed_kind model s kinds.Char e h = absurd (different e)
 signed_kind model s kinds.String e h = absurd (different e)
 
-unfilled_signed : (model : Model) (s : Specification) (fill : Bool) (len : ℕ) → has s.flags Zero ≡ fill → len ≡ sign_len s → (is_zero_filled s ≡ true → (1 ≤ len) ⊎ (width_of s ≤ 1)) → MatchBool fill (IsNormalFilled s × (sign_len s ≡ 0)) (IsNormalSigned model s) → IsNormalSigned model s × (has s.flags Zero ≡ false)
+unfilled_signed : (model : Model) (s : Specification) (fill : Bool) (len : ℕ) → has s.flags Zero ≡ fill → len ≡ sign_len s
+    → (is_zero_filled s ≡ true → (1 ≤ len) ⊎ (width_of s ≤ 1)) → MatchBool fill (IsNormalFilled s × (sign_len s ≡ 0)) (IsNormalSigned model s)
+    → IsNormalSigned model s × (has s.flags Zero ≡ false)
 unfilled_signed model s true len is len_is idle h = absurd (too_narrow (width_of s) len (idle (filled s h.0 is)) (len_is ∙ h.1) h.0.width)
 unfilled_signed model s false len is len_is idle h = (h, is)
 
-pub signed_form : (model : Model) (s : Specification) (len : ℕ) → IsNormal model s → is_signed s.conv ≡ true → len ≡ sign_len s → (is_zero_filled s ≡ true → (1 ≤ len) ⊎ (width_of s ≤ 1)) → IsNormalSigned model s × (has s.flags Zero ≡ false)
-signed_form model s len h signed len_is idle = unfilled_signed model s (has s.flags Zero) len refl len_is idle (signed_kind model s (kind_of s.conv) signed h.form)
+pub signed_form : (model : Model) (s : Specification) (len : ℕ) → IsNormal model s → is_signed s.conv ≡ true → len ≡ sign_len s
+    → (is_zero_filled s ≡ true → (1 ≤ len) ⊎ (width_of s ≤ 1)) → IsNormalSigned model s × (has s.flags Zero ≡ false)
+signed_form model s len h signed len_is idle = unfilled_signed model s (has s.flags Zero) len refl len_is idle
+    (signed_kind model s (kind_of s.conv) signed h.form)
 
 signed_conv : (conv : Conv) → is_signed conv ≡ true → (conv ≡ D) ⊎ (conv ≡ I)
 signed_conv D e = inl refl
@@ -285,7 +307,9 @@ signed_text kinds.String e = absurd (different e)
 pub signed_number : (conv : Conv) → is_signed conv ≡ true → is_text conv ≡ false
 signed_number conv e = signed_text (kind_of conv) e
 
-sign_side : (m p s : Bool) → (p ≡ true → s ≡ false) → with_side m (sign_flags (if p then signs.Plus else (if s then signs.Space else signs.None))) ≡ record { minus = m; plus = p; space = s; alt = false; zero = false; group = false }
+sign_side : (m p s : Bool) → (p ≡ true → s ≡ false) → with_side m
+    (sign_flags (if p then signs.Plus else (if s then signs.Space else signs.None))) ≡ record
+    { minus = m; plus = p; space = s; alt = false; zero = false; group = false }
 sign_side true true true h = absurd (different (sym (h refl)))
 sign_side false true true h = absurd (different (sym (h refl)))
 sign_side true true false h = refl
@@ -296,15 +320,18 @@ sign_side false false true h = refl
 sign_side false false false h = refl
 
 with_sign : (m p s a z g : Bool) → (p ≡ true → s ≡ false) → a ≡ false → z ≡ false → g ≡ false
-    → with_side m (sign_flags (if p then signs.Plus else (if s then signs.Space else signs.None))) ≡ record { minus = m; plus = p; space = s; alt = a; zero = z; group = g }
+    → with_side m (sign_flags (if p then signs.Plus else (if s then signs.Space else signs.None))) ≡ record
+    { minus = m; plus = p; space = s; alt = a; zero = z; group = g }
 with_sign m p s a z g one ha hz hg = rw (ha, hz, hg) (sign_side m p s one)
 
-pub signed_flags : (model : Model) (s : Specification) → IsNormal model s → is_signed s.conv ≡ true → (has s.flags Plus ≡ true → has s.flags Space ≡ false) → has s.flags Zero ≡ false → with_side (has s.flags Minus) (sign_flags (sign_of s.flags)) ≡ s.flags
+pub signed_flags : (model : Model) (s : Specification) → IsNormal model s → is_signed s.conv ≡ true → (has s.flags Plus ≡ true → has s.flags Space ≡ false)
+    → has s.flags Zero ≡ false → with_side (has s.flags Minus) (sign_flags (sign_of s.flags)) ≡ s.flags
 signed_flags model s h signed one unfilled =
     let f = s.flags in
     with_sign f.minus f.plus f.space f.alt f.zero f.group one (signed_no_alt s h.defined.allowed signed) unfilled h.no_group
 
-no_sign_under : (plus space : Bool) → sign_length (if plus then signs.Plus else (if space then signs.Space else signs.None)) ≡ 0 → (plus ≡ false) × (space ≡ false)
+no_sign_under : (plus space : Bool) → sign_length (if plus then signs.Plus else (if space then signs.Space else signs.None)) ≡ 0
+    → (plus ≡ false) × (space ≡ false)
 no_sign_under true space e = cc
 no_sign_under false true e = cc
 no_sign_under false false e = (refl, refl)
@@ -313,15 +340,19 @@ zeros_alone : (m p s a z g : Bool) → m ≡ false → p ≡ false → s ≡ fal
     → with_side m (with_flag no_flags Zero) ≡ record { minus = m; plus = p; space = s; alt = a; zero = z; group = g }
 zeros_alone m p s a z g hm hp hs ha hz hg = rw (hm, hp, hs, ha, hz, hg) refl
 
-pub own_filled_signed : (model : Model) (s : Specification) → IsNormal model s → is_signed s.conv ≡ true → sign_length (sign_of s.flags) ≡ 0 → is_zero_filled s ≡ true → padded_core model s (padding_of s) (with_flag no_flags Zero) None ≡ itself model s
+pub own_filled_signed : (model : Model) (s : Specification) → IsNormal model s → is_signed s.conv ≡ true → sign_length (sign_of s.flags) ≡ 0
+    → is_zero_filled s ≡ true → padded_core model s (padding_of s) (with_flag no_flags Zero) None ≡ itself model s
 own_filled_signed model s h signed none fill =
     let f = s.flags in
     let parts = filled_parts f.zero f.minus s.precision fill in
     let no_sign = no_sign_under f.plus f.space none in
-    own_core model s (padding_of s) (with_flag no_flags Zero) None h (zeros_alone f.minus f.plus f.space f.alt f.zero f.group parts.1 no_sign.0 no_sign.1 (signed_no_alt s h.defined.allowed signed) parts.0 h.no_group) (sym parts.2) refl refl refl
+    own_core model s (padding_of s) (with_flag no_flags Zero) None h
+    (zeros_alone f.minus f.plus f.space f.alt f.zero f.group parts.1 no_sign.0 no_sign.1 (signed_no_alt s h.defined.allowed signed) parts.0 h.no_group)
+    (sym parts.2) refl refl refl
 
 -- the side of a sign is seen
-pub seen_sign : (sign : Sign) (p w unseen : ℕ) → (0 < w) × (sign ≢ signs.Plus → p ≡ 0 → sign_length sign + 1 < w) → (sign ≡ signs.Plus → unseen ≡ 0) → (sign ≢ signs.Plus → p ≡ 0 → unseen ≡ sign_length sign + 1) → (1 ≤ p → unseen ≡ 0) → unseen < w
+pub seen_sign : (sign : Sign) (p w unseen : ℕ) → (0 < w) × (sign ≢ signs.Plus → p ≡ 0 → sign_length sign + 1 < w) → (sign ≡ signs.Plus → unseen ≡ 0)
+    → (sign ≢ signs.Plus → p ≡ 0 → unseen ≡ sign_length sign + 1) → (1 ≤ p → unseen ≡ 0) → unseen < w
 seen_sign signs.Plus p w unseen h plus none some = let e = plus refl in omega (arith, e, h.0)
 seen_sign signs.Space zero w unseen h plus none some = let e = none (λ x. cc) refl in let l = h.1 (λ x. cc) refl in omega (arith, e, l)
 seen_sign signs.None zero w unseen h plus none some = let e = none (λ x. cc) refl in let l = h.1 (λ x. cc) refl in omega (arith, e, l)

@@ -25,10 +25,12 @@ filled_max w f sign natural (inr h) = grind (arith, nat_tests)
 effective_under : (b : Bool) (s : Specification) (v : ℤ) (sign : ℕ) → (b ≡ true → (length (sign_or_prefix s v) ≡ sign) ⊎ (width_of s ≤ 1))
     → number_text s (precision_under b s v) v ≡ number_text s (if b then max (width_of s - sign) 1 else precision_of s) v
 effective_under true s v sign h =
-    ap (λ m. sign_or_prefix s v ++ zero_digits (base_of s.conv) (is_upper s.conv) (m - count_of (base_of s.conv) (nat_abs v)) (nat_abs v)) (filled_max (width_of s) (length (sign_or_prefix s v)) sign (natural_of s (nat_abs v)) (h refl))
+    ap (λ m. sign_or_prefix s v ++ zero_digits (base_of s.conv) (is_upper s.conv) (m - count_of (base_of s.conv) (nat_abs v)) (nat_abs v))
+    (filled_max (width_of s) (length (sign_or_prefix s v)) sign (natural_of s (nat_abs v)) (h refl))
 effective_under false s v sign h = refl
 
-pub effective : (s : Specification) (v : ℤ) (sign : ℕ) → (is_zero_filled s ≡ true → (length (sign_or_prefix s v) ≡ sign) ⊎ (width_of s ≤ 1)) → value_text s v ≡ number_text s (effective_precision s sign) v
+pub effective : (s : Specification) (v : ℤ) (sign : ℕ) → (is_zero_filled s ≡ true → (length (sign_or_prefix s v) ≡ sign) ⊎ (width_of s ≤ 1))
+    → value_text s v ≡ number_text s (effective_precision s sign) v
 effective s v sign h = value_text-is s v ∙ effective_under (is_zero_filled s) s v sign h
 
 pub written_is : (p : ℕ) → unwrap_or (kept_precision p) 1 ≡ p
@@ -36,11 +38,13 @@ written_is zero = refl
 written_is (suc zero) = refl
 written_is (suc (suc p)) = refl
 
-unfilled : (left : Bool) (flags : FlagSet) (b : Bool) → has flags Zero ≡ false → (has (with_side left flags) Zero && not (has (with_side left flags) Minus) && b) ≡ false
+unfilled : (left : Bool) (flags : FlagSet) (b : Bool) → has flags Zero ≡ false
+    → (has (with_side left flags) Zero && not (has (with_side left flags) Minus) && b) ≡ false
 unfilled true flags b h = rw h refl
 unfilled false flags b h = rw h refl
 
-pub core_text : (model : Model) (s : Specification) (p : Padding) (flags : FlagSet) (precision : ℕ) (v : ℤ) → has flags Zero ≡ false → let t : Specification = core_of_parts model s p flags (kept_precision precision) in value_text t v ≡ number_text t precision v
+pub core_text : (model : Model) (s : Specification) (p : Padding) (flags : FlagSet) (precision : ℕ) (v : ℤ) → has flags Zero ≡ false
+    → let t : Specification = core_of_parts model s p flags (kept_precision precision) in value_text t v ≡ number_text t precision v
 core_text model s p flags precision v h =
     let t : Specification = core_of_parts model s p flags (kept_precision precision) in
     value_text-unfilled t v (unfilled p.left flags _ h) ∙ ap (λ k. number_text t k v) (written_is precision)
@@ -55,11 +59,13 @@ pub record PrintsLike (s t : Specification) (v : ℤ) : Type 0 where
 pub same_number : (s t : Specification) (precision : ℕ) (v : ℤ) → PrintsLike s t v → number_text t precision v ≡ number_text s precision v
 same_number s t precision v h = rw (h.natural, h.front, h.base, h.upper) refl
 
-filled_text : (s : Specification) (v : ℤ) → is_zero_filled s ≡ true → value_text s v ≡ number_text s (filled_precision (width_of s) (length (sign_or_prefix s v)) (natural_of s (nat_abs v))) v
+filled_text : (s : Specification) (v : ℤ) → is_zero_filled s ≡ true
+    → value_text s v ≡ number_text s (filled_precision (width_of s) (length (sign_or_prefix s v)) (natural_of s (nat_abs v))) v
 filled_text s v h = value_text-is s v ∙ ap (λ p. number_text s p v) (rw h refl)
 
 -- both filled with zeros, up to one width
-pub same_filled : (s t : Specification) (v : ℤ) → PrintsLike s t v → width_of t ≡ width_of s → is_zero_filled s ≡ true → is_zero_filled t ≡ true → value_text t v ≡ value_text s v
+pub same_filled : (s t : Specification) (v : ℤ) → PrintsLike s t v → width_of t ≡ width_of s → is_zero_filled s ≡ true → is_zero_filled t ≡ true
+    → value_text t v ≡ value_text s v
 same_filled s t v h width all all_t =
     filled_text t v all_t
     ∙ same_number s t _ v h

@@ -153,7 +153,8 @@ module _ (s : Specification) (form : is_prefixed s.conv ≡ true) (alt : has s.f
       (omega arith)
 
 module _ (model : Model) (s : Specification) (form : is_prefixed s.conv ≡ true) (alt : has s.flags Alt ≡ true) where
-  pub prefixed_reduced : (p : Padding) (precision : ℕ) → (is_zero_filled s ≡ true → (1 ≤ 0) ⊎ (width_of s ≤ 1)) → precision ≡ effective_precision s 0 → IsNormalCore model (padded_core model s p (with_flag no_flags Alt) (kept_precision precision)).core → constants p ≤ MAX_NUMBER
+  pub prefixed_reduced : (p : Padding) (precision : ℕ) → (is_zero_filled s ≡ true → (1 ≤ 0) ⊎ (width_of s ≤ 1)) → precision ≡ effective_precision s 0
+      → IsNormalCore model (padded_core model s p (with_flag no_flags Alt) (kept_precision precision)).core → constants p ≤ MAX_NUMBER
       → ((body : Text) → IsPrefixed precision (digits_at_most model s) body → with_padding (padding_of s) body ≡ with_padding p body)
       → IsReducedTo model s (padded_core model s p (with_flag no_flags Alt) (kept_precision precision))
   prefixed_reduced p precision narrow p_is normal few same =
@@ -163,12 +164,16 @@ module _ (model : Model) (s : Specification) (form : is_prefixed s.conv ≡ true
       integer_reduced model s p flags (kept_precision precision) h.text refl normal few (λ v fits.
       let body = number_text s precision v in
       let whole : value_text s v ≡ body = effective s v 0 (λ filled. inr (narrow_of (width_of s) (narrow filled))) ∙ ap (λ k. number_text s k v) (sym p_is) in
-      let core : value_text t v ≡ body = core_text model s p flags precision v refl ∙ same_number s t precision v (like s form alt t v refl (alt_kept p.left)) in
-      let is : IsPrefixed precision (digits_at_most model s) body = rw (number_text-prefixed s form alt precision v) (prefixed s.conv precision _ (nat_abs v) (sign_or_prefix s v) h.base (count-le s.conv (bits_under model s.length) h.text v fits) (h.prefix s v alt)) in
+      let core : value_text t v ≡ body = core_text model s p flags precision v refl
+      ∙ same_number s t precision v (like s form alt t v refl (alt_kept p.left)) in
+      let is : IsPrefixed precision (digits_at_most model s) body = rw (number_text-prefixed s form alt precision v)
+      (prefixed s.conv precision _ (nat_abs v) (sign_or_prefix s v) h.base (count-le s.conv (bits_under model s.length) h.text v fits) (h.prefix s v alt))
+      in
       ap (with_padding (padding_of s)) whole ∙ same body is ∙ ap (with_padding p) (sym core))
 
   -- zeros up to the width, which stay
-  pub prefixed_filled : is_zero_filled s ≡ true → (let flags = with_flag (with_flag no_flags Alt) Zero in IsNormalCore model (padded_core model s (padding_of s) flags None).core → IsReducedTo model s (padded_core model s (padding_of s) flags None))
+  pub prefixed_filled : is_zero_filled s ≡ true → (let flags = with_flag (with_flag no_flags Alt) Zero in IsNormalCore model
+      (padded_core model s (padding_of s) flags None).core → IsReducedTo model s (padded_core model s (padding_of s) flags None))
   prefixed_filled all normal =
       let flags : FlagSet = with_flag (with_flag no_flags Alt) Zero in
       let t : Specification = core_of_parts model s (padding_of s) flags None in
@@ -178,7 +183,8 @@ module _ (model : Model) (s : Specification) (form : is_prefixed s.conv ≡ true
       ap (with_padding (padding_of s)) (sym (same_filled s t v (like s form alt t v refl (rw right refl)) (width_is (width_of s)) all (rw right refl))))
 
 -- with precision 0 the side isn't seen up to a width of 3
-pub unseen_side : (w most precision : ℕ) (body : Text) → (precision ≡ 0 → most ≡ 3) → (1 ≤ precision → most ≡ 0) → (precision ≡ 0 → (body ≡ []) ⊎ (3 ≤ length body)) → w ≤ most → IsUnseen w body
+pub unseen_side : (w most precision : ℕ) (body : Text) → (precision ≡ 0 → most ≡ 3) → (1 ≤ precision → most ≡ 0)
+    → (precision ≡ 0 → (body ≡ []) ⊎ (3 ≤ length body)) → w ≤ most → IsUnseen w body
 unseen_side w most zero body none some h small = elim (h refl) [
   | inl empty ↦ inr (rw empty refl)
   | inr long ↦ let m = none refl in inl (omega arith)

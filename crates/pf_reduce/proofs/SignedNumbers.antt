@@ -1,5 +1,6 @@
 -- Numbers with a sign.
-use Rattle.std.proofs.Common.{◌≡◌, ◌≢◌, ℕ, zero, suc, ◌+◌, ◌≤◌, max, Bool, true, false, [], ◌++◌, length, refl, sym, ap, ◌∙◌, subst, arith, inl, inr, ℤ, pos, negsuc}
+use Rattle.std.proofs.Common.{◌≡◌, ◌≢◌, ℕ, zero, suc, ◌+◌, ◌≤◌, max, Bool, true, false, [], ◌++◌, length, refl, sym, ap, ◌∙◌, subst, arith, inl, inr, ℤ, pos}
+use Rattle.std.proofs.Common.{negsuc}
 use Rattle.std.specs.Prelude.{None, codes, nat_abs, ◌⊎◌, if◌then◌else◌}
 use Rattle.std.proofs.lemmas.List.{length-append}
 use Rattle.pf_values.specs.declared.conversions.Conv.TheVariants.{D}
@@ -108,12 +109,14 @@ sign_some signs.Space true h = refl
 sign_some signs.Space false h = refl
 
 -- each number has the sign's length, or the field has no room for zeros
-zeros_by_precision : (s : Specification) (v : ℤ) → is_signed s.conv ≡ true → (1 ≤ sign_length (sign_of s.flags)) ⊎ (width_of s ≤ 1) → (length (sign_or_prefix s v) ≡ sign_length (sign_of s.flags)) ⊎ (width_of s ≤ 1)
+zeros_by_precision : (s : Specification) (v : ℤ) → is_signed s.conv ≡ true → (1 ≤ sign_length (sign_of s.flags)) ⊎ (width_of s ≤ 1)
+    → (length (sign_or_prefix s v) ≡ sign_length (sign_of s.flags)) ⊎ (width_of s ≤ 1)
 zeros_by_precision s v signed (inl some) =
     inl (ap length (front-is s v signed) ∙ sign_some (sign_of s.flags) (is_negative v) some)
 zeros_by_precision s v signed (inr narrow) = inr narrow
 
-signed_value : (s : Specification) (v : ℤ) → is_signed s.conv ≡ true → (is_zero_filled s ≡ true → (1 ≤ sign_length (sign_of s.flags)) ⊎ (width_of s ≤ 1)) → value_text s v ≡ signed_text (sign_of s.flags) (effective_precision s (sign_length (sign_of s.flags))) v
+signed_value : (s : Specification) (v : ℤ) → is_signed s.conv ≡ true → (is_zero_filled s ≡ true → (1 ≤ sign_length (sign_of s.flags)) ⊎ (width_of s ≤ 1))
+    → value_text s v ≡ signed_text (sign_of s.flags) (effective_precision s (sign_length (sign_of s.flags))) v
 signed_value s v signed h = effective s v _ (λ filled. zeros_by_precision s v signed (h filled)) ∙ number_text-signed s _ v signed
 
 sign_kept : (left : Bool) (sign : Sign) → sign_of (with_side left (sign_flags sign)) ≡ sign
@@ -135,9 +138,11 @@ no_sign signs.Plus h = absurd (omega arith)
 no_sign signs.Space h = absurd (omega arith)
 
 module _ (model : Model) (s : Specification) (signed : is_signed s.conv ≡ true) where
-  pub signed_reduced : (p : Padding) (sign : Sign) (precision : ℕ) → (is_zero_filled s ≡ true → (1 ≤ sign_length (sign_of s.flags)) ⊎ (width_of s ≤ 1)) → precision ≡ effective_precision s (sign_length (sign_of s.flags))
+  pub signed_reduced : (p : Padding) (sign : Sign) (precision : ℕ) → (is_zero_filled s ≡ true → (1 ≤ sign_length (sign_of s.flags)) ⊎ (width_of s ≤ 1))
+      → precision ≡ effective_precision s (sign_length (sign_of s.flags))
       → IsNormalCore model (padded_core model s p (sign_flags sign) (kept_precision precision)).core → constants p ≤ MAX_NUMBER
-      → ((v : ℤ) → count_of 10 (nat_abs v) ≤ digits_at_most model s → with_padding (padding_of s) (signed_text (sign_of s.flags) precision v) ≡ with_padding p (signed_text sign precision v))
+      → ((v : ℤ) → count_of 10 (nat_abs v) ≤ digits_at_most model s
+      → with_padding (padding_of s) (signed_text (sign_of s.flags) precision v) ≡ with_padding p (signed_text sign precision v))
       → IsReducedTo model s (padded_core model s p (sign_flags sign) (kept_precision precision))
   signed_reduced p sign precision narrow p_is normal few same =
       let t : Specification = core_of_parts model s p (sign_flags sign) (kept_precision precision) in
@@ -146,13 +151,17 @@ module _ (model : Model) (s : Specification) (signed : is_signed s.conv ≡ true
       let flags = no_other_flag sign in
       integer_reduced model s p (sign_flags sign) (kept_precision precision) text flags.1 normal few (λ v fits.
       let core : value_text t v ≡ signed_text sign precision v =
-      core_text model s p (sign_flags sign) precision v flags.0 ∙ number_text-signed t precision v (kept_sign s.conv ∙ signed) ∙ ap (λ u. signed_text u precision v) (sign_kept p.left sign) in
+      core_text model s p (sign_flags sign) precision v flags.0 ∙ number_text-signed t precision v (kept_sign s.conv ∙ signed)
+      ∙ ap (λ u. signed_text u precision v) (sign_kept p.left sign) in
       let count : count_of 10 (nat_abs v) ≤ digits_at_most model s =
       subst (λ k. count_of (number_of (base_under k)) (nat_abs v) ≤ digits_at_most model s) k (count-le s.conv (bits_under model s.length) text v fits) in
-      ap (with_padding (padding_of s)) (signed_value s v signed narrow ∙ ap (λ k. signed_text (sign_of s.flags) k v) (sym p_is)) ∙ same v count ∙ ap (with_padding p) (sym core))
+      ap (with_padding (padding_of s)) (signed_value s v signed narrow ∙ ap (λ k. signed_text (sign_of s.flags) k v) (sym p_is)) ∙ same v count
+      ∙ ap (with_padding p) (sym core))
 
   -- zeros up to the width, which stay
-  pub signed_filled : is_zero_filled s ≡ true → sign_length (sign_of s.flags) ≡ 0 → (let flags = with_flag no_flags Zero in IsNormalCore model (padded_core model s (padding_of s) flags None).core → IsReducedTo model s (padded_core model s (padding_of s) flags None))
+  pub signed_filled : is_zero_filled s ≡ true → sign_length (sign_of s.flags) ≡ 0
+      → (let flags = with_flag no_flags Zero in IsNormalCore model (padded_core model s (padding_of s) flags None).core
+      → IsReducedTo model s (padded_core model s (padding_of s) flags None))
   signed_filled all none normal =
       let flags : FlagSet = with_flag no_flags Zero in
       let t : Specification = core_of_parts model s (padding_of s) flags None in
@@ -185,7 +194,8 @@ signed_least sign precision v =
     let sizes = sign_lengths sign (is_negative v) in
     omega (arith, sizes.0)
 
-pub signed_most : (sign : Sign) (precision digits : ℕ) (v : ℤ) → count_of 10 (nat_abs v) ≤ digits → length (signed_text sign precision v) ≤ 1 + max precision digits
+pub signed_most : (sign : Sign) (precision digits : ℕ) (v : ℤ) → count_of 10 (nat_abs v) ≤ digits
+    → length (signed_text sign precision v) ≤ 1 + max precision digits
 signed_most sign precision digits v h =
     let whole = length-append (sign_text sign (is_negative v)) (digits_text D precision (nat_abs v)) in
     let len = length-digits_text D precision (nat_abs v) in
@@ -208,7 +218,8 @@ unseen_at_0 signs.Plus w (pos zero) e h = absurd (e refl)
 unseen_at_0 sign w (pos (suc k)) e h = let some = longer sign (pos (suc k)) (omega arith) in inl (omega arith)
 unseen_at_0 sign w (negsuc k) e h = let some = longer sign (negsuc k) (omega arith) in inl (omega arith)
 
-pub unseen_signed_side : (sign : Sign) (w most precision : ℕ) (v : ℤ) → (sign ≡ signs.Plus → most ≡ 0) → (sign ≢ signs.Plus → precision ≡ 0 → most ≡ sign_length sign + 1) → (1 ≤ precision → most ≡ 0) → w ≤ most → IsUnseen w (signed_text sign precision v)
+pub unseen_signed_side : (sign : Sign) (w most precision : ℕ) (v : ℤ) → (sign ≡ signs.Plus → most ≡ 0)
+    → (sign ≢ signs.Plus → precision ≡ 0 → most ≡ sign_length sign + 1) → (1 ≤ precision → most ≡ 0) → w ≤ most → IsUnseen w (signed_text sign precision v)
 unseen_signed_side signs.Plus w most precision v plus none some h = let m = plus refl in inl (omega arith)
 unseen_signed_side sign w most (suc precision) v plus none some h = let m = some (omega arith) in inl (omega arith)
 unseen_signed_side signs.None w most zero v plus none some h = unseen_at_0 signs.None w v (λ e. cc) (omega (arith, none (λ e. cc) refl))

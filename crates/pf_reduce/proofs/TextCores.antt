@@ -15,7 +15,8 @@ no_length : (s : Specification) → refused_as s ≡ None → s.conv ≡ S → s
 no_length s allowed is = search rules
 
 pub normal_string : (model : Model) (s : Specification) (p : Padding) (flags : FlagSet) (precision : Option ℕ) → refused_as s ≡ None → s.conv ≡ S
-    → IsNormal model (specification_of (with_side p.left flags) (Some p.width) precision lengths.None S) → IsNormal model (core_of_parts model s p flags precision)
+    → IsNormal model (specification_of (with_side p.left flags) (Some p.width) precision lengths.None S)
+    → IsNormal model (core_of_parts model s p flags precision)
 normal_string model s p flags precision allowed is h =
     let none = no_length s allowed is in
     rw none (rw is h)

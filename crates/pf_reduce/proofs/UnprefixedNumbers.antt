@@ -1,5 +1,6 @@
 -- Digits alone, and octal digits that begin with 0.
-use Rattle.std.proofs.Common.{◌≡◌, ℕ, suc, ◌+◌, ◌-◌, ◌≤◌, max, Bool, true, false, [], ◌∷◌, ◌++◌, length, map, replicate, refl, sym, ap, ◌∙◌, append_assoc, subst, arith, inl, inr, ℤ}
+use Rattle.std.proofs.Common.{◌≡◌, ℕ, suc, ◌+◌, ◌-◌, ◌≤◌, max, Bool, true, false, [], ◌∷◌, ◌++◌, length, map, replicate, refl, sym, ap, ◌∙◌, append_assoc}
+use Rattle.std.proofs.Common.{subst, arith, inl, inr, ℤ}
 use Rattle.std.specs.Prelude.{nat_abs, ◌&&◌}
 use Rattle.std.specs.Fmt.{digit_glyph}
 use Rattle.std.specs.Int.Digits.{digits_of}
@@ -99,8 +100,10 @@ no_alt true = refl
 no_alt false = refl
 
 -- Digits alone are left.
-pub digits_reduced : (model : Model) (s : Specification) (p : Padding) (precision : ℕ) → is_text s.conv ≡ false → is_signed s.conv ≡ false → IsNormalCore model (padded_core model s p no_flags (kept_precision precision)).core → constants p ≤ MAX_NUMBER
-    → ((v : ℤ) → count_of (base_of s.conv) (nat_abs v) ≤ digits_at_most model s → with_padding (padding_of s) (value_text s v) ≡ with_padding p (digits_text s.conv precision (nat_abs v)))
+pub digits_reduced : (model : Model) (s : Specification) (p : Padding) (precision : ℕ) → is_text s.conv ≡ false → is_signed s.conv ≡ false
+    → IsNormalCore model (padded_core model s p no_flags (kept_precision precision)).core → constants p ≤ MAX_NUMBER
+    → ((v : ℤ) → count_of (base_of s.conv) (nat_abs v) ≤ digits_at_most model s
+    → with_padding (padding_of s) (value_text s v) ≡ with_padding p (digits_text s.conv precision (nat_abs v)))
     → IsReducedTo model s (padded_core model s p no_flags (kept_precision precision))
 digits_reduced model s p precision text sign normal few same =
     let t : Specification = core_of_parts model s p no_flags (kept_precision precision) in
@@ -112,14 +115,17 @@ digits_reduced model s p precision text sign normal few same =
     same v (count-le s.conv (bits_under model s.length) text v fits) ∙ ap (with_padding p) (sym core))
 
 -- what `u`, and `o x X b` without `#`, print
-pub unprefixed_value : (s : Specification) (v : ℤ) → is_signed s.conv ≡ false → has s.flags Alt ≡ false → value_text s v ≡ digits_text s.conv (effective_precision s 0) (nat_abs v)
+pub unprefixed_value : (s : Specification) (v : ℤ) → is_signed s.conv ≡ false → has s.flags Alt ≡ false
+    → value_text s v ≡ digits_text s.conv (effective_precision s 0) (nat_abs v)
 unprefixed_value s v sign alt = effective s v 0 (λ e. inl (ap length (no_prefix s v sign alt))) ∙ number_text-plain s (effective_precision s 0) v sign alt
 
 -- some of the zeros in front
-pub split_zeros : (conv : Conv) (precision z n k : ℕ) → k ≡ z + (precision - z - count_of (base_of conv) n) → zero_digits (base_of conv) (is_upper conv) k n ≡ replicate z zero_digit ++ digits_text conv (precision - z) n
+pub split_zeros : (conv : Conv) (precision z n k : ℕ) → k ≡ z + (precision - z - count_of (base_of conv) n)
+    → zero_digits (base_of conv) (is_upper conv) k n ≡ replicate z zero_digit ++ digits_text conv (precision - z) n
 split_zeros conv precision z n k h =
     ap (λ m. zero_digits (base_of conv) (is_upper conv) m n) h
-    ∙ ap (λ t. t ++ map (digit_glyph (is_upper conv)) (digits_of (base_of conv) n)) (sym (replicate-append-replicate z (precision - z - count_of (base_of conv) n) zero_digit))
+    ∙ ap (λ t. t ++ map (digit_glyph (is_upper conv)) (digits_of (base_of conv) n))
+    (sym (replicate-append-replicate z (precision - z - count_of (base_of conv) n) zero_digit))
     ∙ append_assoc (replicate z zero_digit) _ _
 
 -- zeros beyond the most digits
@@ -162,7 +168,8 @@ octal_value s v e alt =
     ∙ ap (λ k. zero_digits 8 false (k - count_of 8 (nat_abs v)) (nat_abs v)) (omega arith)
 
 -- the first 0, and zeros beyond the most digits
-octal_beyond : (precision most z count : ℕ) → 1 ≤ precision → z ≡ 1 + (precision - 1 - most) → count ≤ most → max precision (suc count) - count ≡ z + (precision - z - count)
+octal_beyond : (precision most z count : ℕ) → 1 ≤ precision → z ≡ 1 + (precision - 1 - most) → count ≤ most
+    → max precision (suc count) - count ≡ z + (precision - z - count)
 octal_beyond precision most z count some e h = omega arith
 
 pub octal_split : (conv : Conv) → IsOctal conv → (precision most z n : ℕ) → 1 ≤ precision
@@ -177,8 +184,10 @@ pub octal_count : (model : Model) (s : Specification) → IsOctal s.conv → (n 
 octal_count model s e n h = subst (λ k. count_of (number_of (base_under k)) n ≤ digits_at_most model s) e h
 
 -- the flag `#` stays
-pub octal_reduced : (model : Model) (s : Specification) (p : Padding) (precision : ℕ) → IsOctal s.conv → has s.flags Alt ≡ true → IsNormalCore model (padded_core model s p (with_flag no_flags Alt) (kept_precision precision)).core → constants p ≤ MAX_NUMBER
-    → ((v : ℤ) → count_of 8 (nat_abs v) ≤ digits_at_most model s → with_padding (padding_of s) (value_text s v) ≡ with_padding p (octal_text precision (nat_abs v)))
+pub octal_reduced : (model : Model) (s : Specification) (p : Padding) (precision : ℕ) → IsOctal s.conv → has s.flags Alt ≡ true
+    → IsNormalCore model (padded_core model s p (with_flag no_flags Alt) (kept_precision precision)).core → constants p ≤ MAX_NUMBER
+    → ((v : ℤ) → count_of 8 (nat_abs v) ≤ digits_at_most model s → with_padding (padding_of s) (value_text s v) ≡ with_padding p
+    (octal_text precision (nat_abs v)))
     → IsReducedTo model s (padded_core model s p (with_flag no_flags Alt) (kept_precision precision))
 octal_reduced model s p precision e alt normal few same =
     let flags = with_flag no_flags Alt in

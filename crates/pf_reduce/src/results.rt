@@ -1,12 +1,12 @@
 //! What a directive is reduced to.
-use pf_values::Directive;
+use pf_values::{Directive, Model as DataModel};
 use std::marker::Model;
 
 /// A directive that is normal in a data model, as `IsNormal` of `pf_values` says. There is no way
 /// to make one that isn't.
 #[derive(Clone, Copy, Debug, PartialEq, Eq)]
 pub struct Normal {
-    model: pf_values::Model,
+    model: DataModel,
     directive: Directive,
 }
 
@@ -51,7 +51,7 @@ impl Normal {
     ghost use Rattle.pf_values.specs.meaning.Normal.{IsNormal};
 
     /// The data model in which it is normal.
-    pub fn model(&self) -> pf_values::Model
+    pub fn model(&self) -> DataModel
         ensures { result ≡ self.now.model }
     {
         self.model
@@ -65,7 +65,7 @@ impl Normal {
         self.directive
     }
 
-    pub(crate) fn new(model: pf_values::Model, directive: Directive) -> Normal
+    pub(crate) fn new(model: DataModel, directive: Directive) -> Normal
         requires { IsNormal model directive }
         ensures { result ≡ record { model = model; specification = directive } }
     {

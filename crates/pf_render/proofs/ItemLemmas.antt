@@ -37,7 +37,8 @@ begin_run (b ∷ t) items all state last e = go (next state b) e (λ i s. begin_
 
 pub front_items : (read rest : Text) (items all : List Item) → Reads read items → Reads (read ++ rest) all → Begin items all
 front_items read rest items all h g =
-    begin_run rest items all Between Between (ap (λ p. run p rest) (sym (run-reads items read [] h)) ∙ sym (run-append start read rest) ∙ run-reads all (read ++ rest) [] g)
+    begin_run rest items all Between Between (ap (λ p. run p rest) (sym (run-reads items read [] h)) ∙ sym (run-append start read rest)
+    ∙ run-reads all (read ++ rest) [] g)
 
 some_byte : (t : Text) (byte : ℕ) (b : Bool) → MatchBool b (t ≡ percent ∷ percent ∷ []) ((byte ≢ 0) × (t ≡ byte ∷ [])) → 1 ≤ length t
 some_byte t byte true h = omega (arith, ap length h)

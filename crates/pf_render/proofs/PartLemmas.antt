@@ -23,7 +23,8 @@ module _ (parts : List (Bor (List ℕ))) (i : ℕ) (blank : Bor (List ℕ)) (is_
   joined-split : join parts ≡ before ++ (part ++ rest)
   joined-split =
       let one = slice_index_or parts i blank in
-      let split : take i parts ++ (one ∷ drop (i + 1) parts) ≡ parts = ap (λ t. take i parts ++ t) (sym (drop_more parts i blank is_one)) ∙ take-append-drop i parts in
+      let split : take i parts ++ (one ∷ drop (i + 1) parts) ≡ parts = ap (λ t. take i parts ++ t) (sym (drop_more parts i blank is_one))
+      ∙ take-append-drop i parts in
       ap join (sym split) ∙ flat_map-append (λ p. p.now) (take i parts) (one ∷ drop (i + 1) parts)
 
   -- what went out before a part, with that part or some of it, is no more than the whole
@@ -31,7 +32,8 @@ module _ (parts : List (Bor (List ℕ))) (i : ℕ) (blank : Bor (List ℕ)) (is_
   part-within written n e h = omega (arith, length-flat_map-take (λ p. p.now) parts i blank is_one)
 
   -- the parts before one went out, and then the first bytes of that one
-  pub part-stopped : {W : Type 0} (contents : W → Known) (old mid new : Counted W) (written n : ℕ) → written ≡ length before → WritesAll contents old mid before → WritesFirst contents mid new part n → n < length part
+  pub part-stopped : {W : Type 0} (contents : W → Known) (old mid new : Counted W) (written n : ℕ) → written ≡ length before
+      → WritesAll contents old mid before → WritesFirst contents mid new part n → n < length part
       → WritesFirst contents old new (join parts) (written + n) × (written + n < length (join parts))
   part-stopped contents old mid new written n e h g few = (
     rw (joined-split, e) (WritesFirst-more contents old mid new before part rest n h g),
@@ -39,7 +41,8 @@ module _ (parts : List (Bor (List ℕ))) (i : ℕ) (blank : Bor (List ℕ)) (is_
   )
 
 -- a text went out, and then the first bytes of another one
-pub second-stopped : {W : Type 0} (contents : W → Known) (old mid new : Counted W) (first second : Text) (written n : ℕ) → written ≡ length first → WritesAll contents old mid first → WritesFirst contents mid new second n → n < length second
+pub second-stopped : {W : Type 0} (contents : W → Known) (old mid new : Counted W) (first second : Text) (written n : ℕ) → written ≡ length first
+    → WritesAll contents old mid first → WritesFirst contents mid new second n → n < length second
     → WritesFirst contents old new (first ++ second) (written + n) × (written + n < length (first ++ second))
 second-stopped contents old mid new first second written n e h g few =
     let whole : first ++ (second ++ []) ≡ first ++ second = ap (λ t. first ++ t) (append-nil second) in (

@@ -1,5 +1,6 @@
 -- Items that are spelled as the canonical text spells them.
-use Rattle.std.proofs.Common.{◌≡◌, ◌≢◌, ℕ, zero, suc, ◌+◌, ◌-◌, ◌*◌, ◌<◌, ◌≤◌, min, true, false, Bool, List, [], ◌∷◌, ◌++◌, length, map, take, drop, Some, None, refl, sym, ap, ap₂, ◌∙◌, subst, arith, inl, inr, get_or}
+use Rattle.std.proofs.Common.{◌≡◌, ◌≢◌, ℕ, zero, suc, ◌+◌, ◌-◌, ◌*◌, ◌<◌, ◌≤◌, min, true, false, Bool, List, [], ◌∷◌, ◌++◌, length, map, take, drop, Some, None}
+use Rattle.std.proofs.Common.{refl, sym, ap, ap₂, ◌∙◌, subst, arith, inl, inr, get_or}
 use Rattle.std.specs.Prelude.{flat_map, is_some, IsFalse, MatchBool, Option, ◌==◌, ◌⊎◌, if◌then◌else◌}
 use Rattle.std.specs.Fmt.{digits}
 use Rattle.std.specs.List.{AllByRecursion}
@@ -8,7 +9,8 @@ use Rattle.std.proofs.Math.Seq.{take-add}
 use Rattle.std.proofs.lemmas.Bool.{cases_lt}
 use Rattle.std.proofs.lemmas.Bool.Decides.{nat_tests}
 use Rattle.std.proofs.lemmas.Grind.{flat_map-append}
-use Rattle.std.proofs.lemmas.List.{append_assoc, append-nil, drop-take, length-drop, length-take, get_or-drop, get_or-take, length-append, length-take-le, replicate-append-replicate, take-append-drop, take-append-le}
+use Rattle.std.proofs.lemmas.List.{append_assoc, append-nil, drop-take, length-drop, length-take, get_or-drop, get_or-take, length-append, length-take-le}
+use Rattle.std.proofs.lemmas.List.{replicate-append-replicate, take-append-drop, take-append-le}
 use Rattle.pf_values.specs.declared.models.Model.{Model}
 use Rattle.memchr.specs.Find.{is_byte2}
 use Rattle.pf_values.specs.declared.conversions.Conv.{Conv}
@@ -25,13 +27,15 @@ use Rattle.pf_values.specs.declared.flags.Flag.TheVariants.{Alt, Group, Plus, Sp
 use Rattle.pf_values.specs.meaning.Flags.{has, no_flags, with_flag}
 use Rattle.pf_values.specs.meaning.Lengths.{length_letters}
 use Rattle.pf_values.specs.meaning.Items.{Item, Byte, Directive, IsReadAs, Reads}
-use Rattle.pf_values.specs.meaning.Normal.{HasNormalForm, IsNormal, IsNormalUnprefixed, IsNormalPrefixed, IsNormalSigned, IsNormalString, digits_at_most, silent}
+use Rattle.pf_values.specs.meaning.Normal.{HasNormalForm, IsNormal, IsNormalUnprefixed, IsNormalPrefixed, IsNormalSigned, IsNormalString, digits_at_most}
+use Rattle.pf_values.specs.meaning.Normal.{silent}
 use Rattle.pf_values.specs.meaning.Specification.{Specification}
 use Rattle.pf_values.specs.meaning.Spelling.{spelling_of}
 use Rattle.pf_values.specs.meaning.Text.{Text, percent}
 use Rattle.pf_text.specs.History.{EndsRun, IsAfter, IsLiteral}
 use Rattle.pf_text.specs.Letters.{conv_of}
-use Rattle.pf_text.specs.CanonicalRuns.{IsCanonicalItem, IsCanonicalRun, BeginsSilent, PassesCanonicalRun, alternative_bytes, has_canonical_parts, is_kept_modifier, is_kept_number, silents}
+use Rattle.pf_text.specs.CanonicalRuns.{IsCanonicalItem, IsCanonicalRun, BeginsSilent, PassesCanonicalRun, alternative_bytes, has_canonical_parts}
+use Rattle.pf_text.specs.CanonicalRuns.{is_kept_modifier, is_kept_number, silents}
 use Rattle.pf_text.specs.declared.scanner.Scanner.{Scanner}
 use Rattle.pf_text.proofs.LiteralLemmas.{after_read, or_full, stops}
 use Rattle.pf_text.proofs.ReadBack.{spelled_read}
@@ -44,7 +48,8 @@ run_written byte h = let other = h.0 in grind (arith, nat_tests)
 
 pub literal_written : (bytes : Text) → AllByRecursion IsLiteral bytes → flat_map item_spelling (map Byte bytes) ≡ bytes
 literal_written [] h = refl
-literal_written (byte ∷ bytes) h = ap (λ t. t ++ flat_map item_spelling (map Byte bytes)) (run_written byte h.0) ∙ ap (λ t. byte ∷ t) (literal_written bytes h.1)
+literal_written (byte ∷ bytes) h = ap (λ t. t ++ flat_map item_spelling (map Byte bytes)) (run_written byte h.0)
+    ∙ ap (λ t. byte ∷ t) (literal_written bytes h.1)
 
 literals_some : (model : Model) (bytes : Text) → AllByRecursion IsLiteral bytes → AllByRecursion (IsCanonicalItem model) (map Byte bytes)
 literals_some model [] h = tt
@@ -72,8 +77,15 @@ signed_normal model modifier = record {
   left = λ e. absurd (cc);
 }
 
-unprefixed_normal : (model : Model) (modifier : Length) (conv : Conv) → 1 ≤ digits_at_most model (parts false modifier conv) → IsNormalUnprefixed model (parts false modifier conv)
-unprefixed_normal model modifier conv some = record { not_filled = refl; precision = some; least = λ some. omega (arith, some); most = omega arith; left = λ e. absurd (cc) }
+unprefixed_normal : (model : Model) (modifier : Length) (conv : Conv) → 1 ≤ digits_at_most model (parts false modifier conv)
+    → IsNormalUnprefixed model (parts false modifier conv)
+unprefixed_normal model modifier conv some = record {
+  not_filled = refl;
+  precision = some;
+  least = λ some. omega (arith, some);
+  most = omega arith;
+  left = λ e. absurd (cc);
+}
 
 prefixed_normal : (model : Model) (modifier : Length) (conv : Conv) → IsNormalPrefixed model (parts true modifier conv)
 prefixed_normal model modifier conv = record { least = λ some. omega (arith, some); most = omega arith; left = λ e. absurd (cc) }
@@ -82,12 +94,16 @@ string_normal : IsNormalString (bare S)
 string_normal = record { shows_some = λ e. cc; width = tt; left = λ e. absurd (cc) }
 
 -- a flag other than `#` isn't there
-lacks_flag : (alternative : Bool) (modifier : Length) (conv : Conv) → IsFalse (has (parts alternative modifier conv).flags Group) × IsFalse (has (parts alternative modifier conv).flags Plus) × IsFalse (has (parts alternative modifier conv).flags Space)
+lacks_flag : (alternative : Bool) (modifier : Length) (conv : Conv)
+    → IsFalse (has (parts alternative modifier conv).flags Group) × IsFalse (has (parts alternative modifier conv).flags Plus)
+    × IsFalse (has (parts alternative modifier conv).flags Space)
 lacks_flag true modifier conv = (refl, refl, refl)
 lacks_flag false modifier conv = (refl, refl, refl)
 
 -- where it is defined, has the modifier and the conversion that are kept, and a normal form
-parts_normal : (model : Model) (alternative : Bool) (modifier : Length) (conv : Conv) → refused_as (parts alternative modifier conv) ≡ None → kept_length model modifier ≡ modifier → kept_conv conv ≡ conv → HasNormalForm model (kind_of conv) (parts alternative modifier conv) → IsNormal model (parts alternative modifier conv)
+parts_normal : (model : Model) (alternative : Bool) (modifier : Length) (conv : Conv) → refused_as (parts alternative modifier conv) ≡ None
+    → kept_length model modifier ≡ modifier → kept_conv conv ≡ conv → HasNormalForm model (kind_of conv) (parts alternative modifier conv)
+    → IsNormal model (parts alternative modifier conv)
 parts_normal model alternative modifier conv allowed length_kept conv_kept form =
     let lacks = lacks_flag alternative modifier conv in
     record {
@@ -134,7 +150,8 @@ module _ (model : Model) (modifier : Length) where
   abbrev bits : Bits
   bits = bits_under model modifier
 
-  number_form : (alternative : Bool) (conv : Conv) → is_kept_number alternative conv ≡ true → HasNormalForm model (kind_of conv) (parts alternative modifier conv)
+  number_form : (alternative : Bool) (conv : Conv) → is_kept_number alternative conv ≡ true
+      → HasNormalForm model (kind_of conv) (parts alternative modifier conv)
   number_form true X number = prefixed_normal model modifier X
   number_form true UpperX number = prefixed_normal model modifier UpperX
   number_form true B number = prefixed_normal model modifier B
@@ -166,7 +183,8 @@ modifier_kept model lengths.Z kept = absurd (cc)
 modifier_kept model lengths.T kept = absurd (cc)
 modifier_kept model _ kept = refl
 
-both_kept : (alternative : Bool) (modifier : Length) (conv : Conv) → has_canonical_parts alternative modifier conv ≡ true → (is_kept_modifier modifier ≡ true) × (is_kept_number alternative conv ≡ true)
+both_kept : (alternative : Bool) (modifier : Length) (conv : Conv) → has_canonical_parts alternative modifier conv ≡ true
+    → (is_kept_modifier modifier ≡ true) × (is_kept_number alternative conv ≡ true)
 both_kept alternative modifier conv canonical = go (is_kept_modifier modifier) refl where
   go : (b : Bool) → is_kept_modifier modifier ≡ b → (is_kept_modifier modifier ≡ true) × (is_kept_number alternative conv ≡ true)
   go true e = (e, sym (ap (λ b. if b then is_kept_number alternative conv else false) e) ∙ canonical)
@@ -174,16 +192,32 @@ both_kept alternative modifier conv canonical = go (is_kept_modifier modifier) r
 
 -- so it is a canonical item as it is spelled
 pub parts_are_canonical : (model : Model) (alternative : Bool) (modifier : Length) (conv : Conv) → has_canonical_parts alternative modifier conv ≡ true
-    → IsCanonicalRun model (((percent ∷ []) ++ alternative_bytes alternative ++ length_letters modifier) ++ conv_letter conv ∷ []) (Directive (parts alternative modifier conv) ∷ [])
+    → IsCanonicalRun model (((percent ∷ []) ++ alternative_bytes alternative ++ length_letters modifier) ++ conv_letter conv ∷ [])
+    (Directive (parts alternative modifier conv) ∷ [])
 parts_are_canonical model alternative modifier conv canonical = go alternative canonical where
   go : (alternative : Bool) → has_canonical_parts alternative modifier conv ≡ true
-      → IsCanonicalRun model (((percent ∷ []) ++ alternative_bytes alternative ++ length_letters modifier) ++ conv_letter conv ∷ []) (Directive (parts alternative modifier conv) ∷ [])
+      → IsCanonicalRun model (((percent ∷ []) ++ alternative_bytes alternative ++ length_letters modifier) ++ conv_letter conv ∷ [])
+      (Directive (parts alternative modifier conv) ∷ [])
   go true canonical =
       let kept = both_kept true modifier conv canonical in
-      record { canonical = (parts_normal model true modifier conv (number_allowed model modifier true conv kept.1) (modifier_kept model modifier kept.0) (number_kept true conv kept.1) (number_form model modifier true conv kept.1), tt); whole = sym (append-nil (spelling_of (parts true modifier conv))) }
+      record {
+        canonical = (
+          parts_normal model true modifier conv (number_allowed model modifier true conv kept.1) (modifier_kept model modifier kept.0)
+              (number_kept true conv kept.1) (number_form model modifier true conv kept.1),
+          tt,
+        );
+        whole = sym (append-nil (spelling_of (parts true modifier conv)));
+      }
   go false canonical =
       let kept = both_kept false modifier conv canonical in
-      record { canonical = (parts_normal model false modifier conv (number_allowed model modifier false conv kept.1) (modifier_kept model modifier kept.0) (number_kept false conv kept.1) (number_form model modifier false conv kept.1), tt); whole = sym (append-nil (spelling_of (parts false modifier conv))) }
+      record {
+        canonical = (
+          parts_normal model false modifier conv (number_allowed model modifier false conv kept.1) (modifier_kept model modifier kept.0)
+              (number_kept false conv kept.1) (number_form model modifier false conv kept.1),
+          tt,
+        );
+        whole = sym (append-nil (spelling_of (parts false modifier conv)));
+      }
 
 pub percent_is_canonical : (model : Model) (letter : ℕ) → letter ≡ percent → (item : Item) × IsCanonicalRun model (percent ∷ letter ∷ []) (item ∷ [])
 percent_is_canonical model letter e = (Byte percent, record { canonical = ((λ z. cc), tt); whole = ap (λ b. percent ∷ b ∷ []) e })
@@ -198,24 +232,33 @@ first_bytes zero text few = refl
 first_bytes (suc n) [] few = absurd (omega (arith, few))
 first_bytes (suc n) (byte ∷ text) few = ap (λ t. byte ∷ t) (first_bytes n text (omega (arith, few)))
 
-pub conv_is_canonical : (model : Model) (letter : ℕ) (o : Option Conv) → conv_of letter ≡ o → letter ≢ 105 → is_some o ≡ true → (item : Item) × IsCanonicalRun model (percent ∷ letter ∷ []) (item ∷ [])
+pub conv_is_canonical : (model : Model) (letter : ℕ) (o : Option Conv) → conv_of letter ≡ o → letter ≢ 105 → is_some o ≡ true
+    → (item : Item) × IsCanonicalRun model (percent ∷ letter ∷ []) (item ∷ [])
 conv_is_canonical model letter None e other some = absurd (cc)
 conv_is_canonical model letter (Some conv) e other some =
     let byte = byte_of_conv letter conv e in
     (Directive (bare conv), record { canonical = (conv_normal model conv (λ i. other (byte ∙ ap conv_letter i)), tt); whole = ap (λ b. percent ∷ b ∷ []) byte })
 
-all_append : (model : Model) (a b : List Item) → AllByRecursion (IsCanonicalItem model) a → AllByRecursion (IsCanonicalItem model) b → AllByRecursion (IsCanonicalItem model) (a ++ b)
+all_append : (model : Model) (a b : List Item) → AllByRecursion (IsCanonicalItem model) a → AllByRecursion (IsCanonicalItem model) b
+    → AllByRecursion (IsCanonicalItem model) (a ++ b)
 all_append model [] b h g = g
 all_append model (item ∷ a) b h g = (h.0, all_append model a b h.1 g)
 
 pub run_append : (model : Model) (t u : Text) (a b : List Item) → IsCanonicalRun model t a → IsCanonicalRun model u b → IsCanonicalRun model (t ++ u) (a ++ b)
-run_append model t u a b h g = record { canonical = all_append model a b h.canonical g.canonical; whole = ap₂ (λ (x y : Text). x ++ y) h.whole g.whole ∙ sym (flat_map-append item_spelling a b) }
+run_append model t u a b h g = record {
+  canonical = all_append model a b h.canonical g.canonical;
+  whole = ap₂ (λ (x y : Text). x ++ y) h.whole g.whole
+      ∙ sym (flat_map-append item_spelling a b);
+}
 
 -- more bytes of a text are such items
-pub run_more : (model : Model) (text : Text) (at more : ℕ) (a b : List Item) → IsCanonicalRun model (take at text) a → IsCanonicalRun model (take more (drop at text)) b → IsCanonicalRun model (take (at + more) text) (a ++ b)
-run_more model text at more a b h g = subst (λ u. IsCanonicalRun model u (a ++ b)) (sym (take-add at more text)) (run_append model (take at text) (take more (drop at text)) a b h g)
+pub run_more : (model : Model) (text : Text) (at more : ℕ) (a b : List Item) → IsCanonicalRun model (take at text) a
+    → IsCanonicalRun model (take more (drop at text)) b → IsCanonicalRun model (take (at + more) text) (a ++ b)
+run_more model text at more a b h g = subst (λ u. IsCanonicalRun model u (a ++ b)) (sym (take-add at more text))
+    (run_append model (take at text) (take more (drop at text)) a b h g)
 
-is_read_byte : (byte : ℕ) (b : Bool) → byte ≢ 0 → MatchBool b ((if b then percent ∷ percent ∷ [] else byte ∷ []) ≡ percent ∷ percent ∷ []) ((byte ≢ 0) × ((if b then percent ∷ percent ∷ [] else byte ∷ []) ≡ byte ∷ []))
+is_read_byte : (byte : ℕ) (b : Bool) → byte ≢ 0 → MatchBool b ((if b then percent ∷ percent ∷ [] else byte ∷ []) ≡ percent ∷ percent ∷ [])
+    ((byte ≢ 0) × ((if b then percent ∷ percent ∷ [] else byte ∷ []) ≡ byte ∷ []))
 is_read_byte byte true some = refl
 is_read_byte byte false some = (some, refl)
 
@@ -255,7 +298,8 @@ still_silent n m text some h =
     subst BeginsSilent (sym (drop-take n m text)) (few, take_front 4 m rest few ∙ h.1)
 
 -- the run, or what of it the limit leaves
-module _ (scanner : Scanner) (t text : Text) (items : List Item) (n most room : ℕ) (h : IsAfter scanner t items) (reads : Reads t items) (full : room ≡ MAX_TEXT_LEN - scanner.offset) (least : most ≡ min (length text) room) where
+module _ (scanner : Scanner) (t text : Text) (items : List Item) (n most room : ℕ) (h : IsAfter scanner t items) (reads : Reads t items)
+    (full : room ≡ MAX_TEXT_LEN - scanner.offset) (least : most ≡ min (length text) room) where
   front_len : length (take most text) ≡ most
   front_len = length-take-le most text (omega (arith, least))
 
@@ -270,21 +314,27 @@ module _ (scanner : Scanner) (t text : Text) (items : List Item) (n most room : 
     canonical_run_ends ends = elim (cases_lt n most) [
       | inl less ↦
           let place : n + 0 ≡ n = omega arith in
-          let here : get_or (take most text) n 0 ≡ get_or (drop n text) 0 0 = get_or-take most text n 0 less ∙ ap (λ k. get_or text k 0) (sym place) ∙ sym (get_or-drop n text 0 0) in
+          let here : get_or (take most text) n 0 ≡ get_or (drop n text) 0 0 = get_or-take most text n 0 less ∙ ap (λ k. get_or text k 0) (sym place)
+          ∙ sym (get_or-drop n text 0 0) in
           ends_here (t ++ take n text) (drop n text) (inr (λ some. ap (is_byte2 percent 0) (sym here) ∙ ends (omega (arith, front_len, less))))
       | inr all ↦ elim (cases_lt n (length text)) [
-        | inl cut ↦ ends_here (t ++ take n text) (drop n text) (inl (omega (arith, length-append t (take n text), long, h.offset, h.limit, least, full, within, front_len, cut, all)))
+        | inl cut ↦ ends_here (t ++ take n text) (drop n text) (inl (omega
+            (arith, length-append t (take n text), long, h.offset, h.limit, least, full, within, front_len, cut, all)))
         | inr whole ↦ subst (EndsRun (t ++ take n text)) (sym (drop_of_length-le text whole)) tt
       ]
     ]
 
     -- the reader has taken them
-    pub read_passed : (more : List Item) → Reads (t ++ take n text) (items ++ more) → IsAfter (record scanner { offset = scanner.offset + n }) (t ++ take n text) (items ++ more)
+    pub read_passed : (more : List Item) → Reads (t ++ take n text) (items ++ more)
+        → IsAfter (record scanner { offset = scanner.offset + n }) (t ++ take n text) (items ++ more)
     read_passed more now =
         subst (λ k. IsAfter (record scanner { offset = scanner.offset + k }) (t ++ take n text) (items ++ more)) long
-        (after_read scanner t (take n text) items more h reads now (omega (arith, length-append t (take n text), long, h.offset, h.limit, least, full, within, front_len)))
+        (after_read scanner t (take n text) items more h reads now (omega
+        (arith, length-append t (take n text), long, h.offset, h.limit, least, full, within, front_len)))
 
-    pub run_passed : {model : Model} (more : List Item) → IsCanonicalRun model (take n (take most text)) more → (n < length (take most text) → is_byte2 percent 0 (get_or (take most text) n 0) ≡ true) → PassesCanonicalRun model t items text n (record scanner { offset = scanner.offset + n })
+    pub run_passed : {model : Model} (more : List Item) → IsCanonicalRun model (take n (take most text)) more
+        → (n < length (take most text) → is_byte2 percent 0 (get_or (take most text) n 0) ≡ true)
+        → PassesCanonicalRun model t items text n (record scanner { offset = scanner.offset + n })
     run_passed {model} more canonical ends =
         let p = subst (λ u. IsCanonicalRun model u more) taken canonical in
         let now = Reads-canonical model t (take n text) items more reads p in
@@ -303,7 +353,8 @@ module _ (scanner : Scanner) (t text : Text) (items : List Item) (n most room : 
           absurd (none (subst (λ k. BeginsSilent (drop n (take k text))) (sym e) (still_silent n m text (omega (arith, room)) begins)))
     ]
 
-    pub items_passed : (more : List Item) → Reads (take n (take most text)) more → IsAfter (record scanner { offset = scanner.offset + n }) (t ++ take n text) (items ++ more) × Reads (t ++ take n text) (items ++ more)
+    pub items_passed : (more : List Item) → Reads (take n (take most text)) more
+        → IsAfter (record scanner { offset = scanner.offset + n }) (t ++ take n text) (items ++ more) × Reads (t ++ take n text) (items ++ more)
     items_passed more read =
         let now = Reads-append t (take n text) items more reads (subst (λ u. Reads u more) taken read) in
         (read_passed more now, now)
@@ -313,9 +364,11 @@ silent_read : IsReadAs (spelling_of silent) (Directive silent)
 silent_read = let defined : IsDefined silent = record { width = λ e. cc; allowed = refl } in (spelled_read silent defined, defined)
 
 -- once more
-pub silents_more : (text : Text) (at count : ℕ) → at ≡ 4 * count → Reads (take at text) (silents count) → take 4 (drop at text) ≡ spelling_of silent → Reads (take (at + 4) text) (silents (count + 1))
+pub silents_more : (text : Text) (at count : ℕ) → at ≡ 4 * count → Reads (take at text) (silents count) → take 4 (drop at text) ≡ spelling_of silent
+    → Reads (take (at + 4) text) (silents (count + 1))
 silents_more text at count e reads here =
-    rw (take-add at 4 text, here, ← replicate-append-replicate count 1 (Directive silent)) (Reads-push (silents count) (take at text) (spelling_of silent) (Directive silent) reads silent_read)
+    rw (take-add at 4 text, here, ← replicate-append-replicate count 1 (Directive silent))
+    (Reads-push (silents count) (take at text) (spelling_of silent) (Directive silent) reads silent_read)
 
 pub spelled_silent : spelling_of silent ≡ 37 ∷ 46 ∷ 48 ∷ 115 ∷ []
 unfolding digits

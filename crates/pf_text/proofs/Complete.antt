@@ -94,7 +94,8 @@ module _ (items : List Item) where
       let first : moved items (next Opened (flag_byte flag)) ≡ On (Flags (with_flag no_flags flag)) = rw (no_percent flag, flag_of_byte flag) refl in
       ap (λ p. run p (map flag_byte flags)) first ∙ run_more_flags flags (with_flag no_flags flag)
 
-  pub more_width : (set : FlagSet) (n d : ℕ) → d < 10 → n * 10 + d ≤ MAX_NUMBER → moved items (next (Width set n) (digit_glyph false d)) ≡ On (Width set (n * 10 + d))
+  pub more_width : (set : FlagSet) (n d : ℕ) → d < 10 → n * 10 + d ≤ MAX_NUMBER
+      → moved items (next (Width set n) (digit_glyph false d)) ≡ On (Width set (n * 10 + d))
   more_width set n d h few =
       let digit = digit_is d h in
       let next : 10 * n + (digit_glyph false d - 48) ≡ n * 10 + d = omega (arith, digit.1) in
@@ -113,7 +114,8 @@ module _ (items : List Item) where
       let none = no_flag d low high in
       ap (moved items) (next-at_flags flags (digit_glyph false d) none.1) ∙ rw (none.0, digit.0, digit.1) refl
 
-  pub run-width : (flags : List Flag) (width : Option ℕ) (t : Text) → SpellsWidth t width → is_above_limit width ≡ false → run (On (at_flags flags)) t ≡ On (at_width flags width)
+  pub run-width : (flags : List Flag) (width : Option ℕ) (t : Text) → SpellsWidth t width → is_above_limit width ≡ false
+      → run (On (at_flags flags)) t ≡ On (at_width flags width)
   run-width flags None t h few = ap (run (On (at_flags flags))) h
   run-width flags (Some n) t h few = go h.1.0 h.1.1 h.1.2 where
     go : (ds : List ℕ) → AreLeastDigits 10 1 n ds → t ≡ map (digit_glyph false) ds → run (On (at_flags flags)) t ≡ On (Width (flag_set flags) n)
@@ -153,7 +155,8 @@ pub no_high_flag : (byte : ℕ) → 57 < byte → flag_of byte ≡ None
 no_high_flag byte h = grind (arith, nat_tests)
 
 -- a letter after a width
-letter_at_width : (flags : List Flag) (width : Option ℕ) (byte : ℕ) → 57 < byte → next (at_width flags width) byte ≡ after_number (flag_set flags) width None byte
+letter_at_width : (flags : List Flag) (width : Option ℕ) (byte : ℕ) → 57 < byte
+    → next (at_width flags width) byte ≡ after_number (flag_set flags) width None byte
 letter_at_width flags None byte h =
     let percent = no_test byte 37 (omega arith) in
     let point = no_test byte 46 (omega arith) in
@@ -167,7 +170,8 @@ letter_at_width flags (Some n) byte h =
     let digit = no_digit byte h in
     rw (digit, point, dollar) refl
 
-letter_at_digits : (set : FlagSet) (width : Option ℕ) (n : ℕ) (ds : List ℕ) (byte : ℕ) → AreDigits 10 n ds → 57 < byte → next (at_digits set width ds) byte ≡ after_number set width (Some n) byte
+letter_at_digits : (set : FlagSet) (width : Option ℕ) (n : ℕ) (ds : List ℕ) (byte : ℕ) → AreDigits 10 n ds → 57 < byte
+    → next (at_digits set width ds) byte ≡ after_number set width (Some n) byte
 letter_at_digits set width n [] byte a h =
     let star = no_test byte 42 (omega arith) in
     let digit = no_digit byte h in
@@ -196,15 +200,18 @@ letter_tests : (conv : Conv) → LetterTests conv
 letter_tests D = record { modifier = refl; no_float = refl; no_h = refl; no_l = refl; high = omega arith; conv_is = refl }
 letter_tests _ = record { modifier = refl; no_float = refl; no_h = refl; no_l = refl; high = omega arith; conv_is = refl }
 
-ending_at_conv : (set : FlagSet) (width precision : Option ℕ) (length : Length) (conv : Conv) → end_at set width precision length (conv_letter conv) ≡ judged_as set width precision length conv
+ending_at_conv : (set : FlagSet) (width precision : Option ℕ) (length : Length) (conv : Conv)
+    → end_at set width precision length (conv_letter conv) ≡ judged_as set width precision length conv
 ending_at_conv set width precision length conv = let tests = letter_tests conv in rw tests.conv_is refl
 
-after_number_at_conv : (set : FlagSet) (width precision : Option ℕ) (conv : Conv) → after_number set width precision (conv_letter conv) ≡ judged_as set width precision lengths.None conv
+after_number_at_conv : (set : FlagSet) (width precision : Option ℕ) (conv : Conv)
+    → after_number set width precision (conv_letter conv) ≡ judged_as set width precision lengths.None conv
 after_number_at_conv set width precision conv = let tests = letter_tests conv in rw (tests.modifier, tests.no_float, tests.conv_is) refl
 
 module _ (flags : List Flag) (width precision : Option ℕ) (t : Text) (s : SpellsPrecision t precision) where
   conv_at_length : (length : Length) (conv : Conv)
-      → next (at_length (at_point flags width precision t s) (flag_set flags) width precision length) (conv_letter conv) ≡ judged_as (flag_set flags) width precision length conv
+      → next (at_length (at_point flags width precision t s) (flag_set flags) width precision length) (conv_letter conv) ≡ judged_as
+      (flag_set flags) width precision length conv
   conv_at_length lengths.None conv =
       let tests = letter_tests conv in
       letter_at_point flags width precision t s (conv_letter conv) tests.high ∙ after_number_at_conv (flag_set flags) width precision conv
@@ -227,14 +234,16 @@ module _ (items : List Item) where
       let grows = number_after_ge 10 (n * 10 + d) ds (omega arith) in
       ap (λ p. run p (map (digit_glyph false) ds)) (more_precision set width n d h.0 (omega arith)) ∙ run_precision ds set width (n * 10 + d) h.1 few
 
-  pub first_precision : (set : FlagSet) (width : Option ℕ) (d : ℕ) → d < 10 → moved items (next (Point set width) (digit_glyph false d)) ≡ On items (Precision set width d)
+  pub first_precision : (set : FlagSet) (width : Option ℕ) (d : ℕ) → d < 10
+      → moved items (next (Point set width) (digit_glyph false d)) ≡ On items (Precision set width d)
   first_precision set width d h =
       let digit = digit_is d h in
       let next : 10 * 0 + (digit_glyph false d - 48) ≡ d = omega (arith, digit.1) in
       let few = small d (omega arith) in
       rw (digit.0, next, few) refl
 
-  run_point : (ds : List ℕ) (set : FlagSet) (width : Option ℕ) (n : ℕ) → AreDigits 10 n ds → n ≤ MAX_NUMBER → run (On items (Point set width)) (map (digit_glyph false) ds) ≡ On items (at_digits set width ds)
+  run_point : (ds : List ℕ) (set : FlagSet) (width : Option ℕ) (n : ℕ) → AreDigits 10 n ds → n ≤ MAX_NUMBER
+      → run (On items (Point set width)) (map (digit_glyph false) ds) ≡ On items (at_digits set width ds)
   run_point [] set width n a few = refl
   run_point (d ∷ ds) set width n a few =
       let value : number_from_digits_after 10 d ds ≡ n = omega (arith, number_after-place_sum 10 d ds, a.sum) in
@@ -249,7 +258,8 @@ module _ (items : List Item) where
       ∙ run_point s.0 (flag_set flags) width n s.1 (fits_le n few)
 
   pub run-length : (flags : List Flag) (width precision : Option ℕ) (t : Text) (s : SpellsPrecision t precision) (length : Length)
-      → run (On items (at_point flags width precision t s)) (length_letters length) ≡ On items (at_length (at_point flags width precision t s) (flag_set flags) width precision length)
+      → run (On items (at_point flags width precision t s)) (length_letters length) ≡ On items
+      (at_length (at_point flags width precision t s) (flag_set flags) width precision length)
   run-length flags width precision t s lengths.None = refl
   run-length flags width precision t s lengths.Hh = ap (λ p. run (moved items p) (104 ∷ [])) (letter_at_point flags width precision t s 104 (omega arith))
   run-length flags width precision t s lengths.H = ap (moved items) (letter_at_point flags width precision t s 104 (omega arith))
@@ -261,9 +271,11 @@ module _ (items : List Item) where
 
 -- the state after a specification without its conversion
 abbrev pub at_front : {part : Text} {set : FlagSet} {width precision : Option ℕ} {length : Length} → IsFront part set width precision length → State
-at_front {part} {set} {width} {precision} {length} h = at_length (at_point h.flags width precision h.precision_text h.precision_is) (flag_set h.flags) width precision length
+at_front {part} {set} {width} {precision} {length} h = at_length (at_point h.flags width precision h.precision_text h.precision_is)
+    (flag_set h.flags) width precision length
 
-pub run-front : (items : List Item) (part : Text) (set : FlagSet) (width precision : Option ℕ) (length : Length) (h : IsFront part set width precision length) → run (On items Between) part ≡ On items (at_front h)
+pub run-front : (items : List Item) (part : Text) (set : FlagSet) (width precision : Option ℕ) (length : Length) (h : IsFront part set width precision length)
+    → run (On items Between) part ≡ On items (at_front h)
 run-front items part set width precision length h =
     let flags = map flag_byte h.flags in
     let one = run-append (On items Between) (37 ∷ flags ++ h.width_text ++ h.precision_text) (length_letters length) in
@@ -271,7 +283,9 @@ run-front items part set width precision length h =
     let three = run-append (On items Between) (37 ∷ flags) h.width_text in
     ap (run (On items Between)) h.whole
     ∙ one
-    ∙ ap (λ p. run p (length_letters length)) (two ∙ ap (λ p. run p h.precision_text) (three ∙ ap (λ p. run p h.width_text) (run-flags items h.flags) ∙ run-width items h.flags width h.width_text h.width_is h.width_fits) ∙ run-point items h.flags width precision h.precision_text h.precision_is h.precision_fits)
+    ∙ ap (λ p. run p (length_letters length)) (two ∙ ap (λ p. run p h.precision_text)
+    (three ∙ ap (λ p. run p h.width_text) (run-flags items h.flags) ∙ run-width items h.flags width h.width_text h.width_is h.width_fits)
+    ∙ run-point items h.flags width precision h.precision_text h.precision_is h.precision_fits)
     ∙ run-length items h.flags width precision h.precision_text h.precision_is length
 
 pub conv_at_front : (part : Text) (set : FlagSet) (width precision : Option ℕ) (length : Length) (h : IsFront part set width precision length) (conv : Conv)
@@ -287,16 +301,21 @@ run-at items (Flags set) part h = run-front items part set None None lengths.Non
   flags_at [] some e = absurd (some refl)
   flags_at (flag ∷ flags) some e = ap Flags (sym e)
 run-at items (Width set n) part h = run-front items part set (Some n) None lengths.None h ∙ ap (λ f. On items (Width f n)) (sym h.set_is)
-run-at items (Point set width) part h = run-front items part set width (Some 0) lengths.None h.0 ∙ ap (On items) (digits_at h.0.precision_is.0 (sym h.0.precision_is.2 ∙ h.1)) ∙ ap (λ f. On items (Point f width)) (sym h.0.set_is) where
-  digits_at : (ds : List ℕ) → 46 ∷ map (digit_glyph false) ds ≡ 46 ∷ [] → at_digits (flag_set h.0.flags) width ds ≡ Point (flag_set h.0.flags) width
-  digits_at [] e = refl
-  digits_at (d ∷ ds) e = cc
+run-at items (Point set width) part h = run-front items part set width (Some 0) lengths.None h.0
+    ∙ ap (On items) (digits_at h.0.precision_is.0 (sym h.0.precision_is.2 ∙ h.1)) ∙ ap (λ f. On items (Point f width)) (sym h.0.set_is) where
+      digits_at : (ds : List ℕ) → 46 ∷ map (digit_glyph false) ds ≡ 46 ∷ [] → at_digits (flag_set h.0.flags) width ds ≡ Point (flag_set h.0.flags) width
+      digits_at [] e = refl
+      digits_at (d ∷ ds) e = cc
 run-at items (Precision set width n) part h =
-    run-front items part set width (Some n) lengths.None h.0 ∙ ap (On items) (digits_at h.0.precision_is.0 h.0.precision_is.1 h.0.precision_is.2) ∙ ap (λ f. On items (Precision f width n)) (sym h.0.set_is) where
-      digits_at : (ds : List ℕ) → AreDigits 10 n ds → h.0.precision_text ≡ 46 ∷ map (digit_glyph false) ds → at_digits (flag_set h.0.flags) width ds ≡ Precision (flag_set h.0.flags) width n
+    run-front items part set width (Some n) lengths.None h.0 ∙ ap (On items) (digits_at h.0.precision_is.0 h.0.precision_is.1 h.0.precision_is.2)
+    ∙ ap (λ f. On items (Precision f width n)) (sym h.0.set_is) where
+      digits_at : (ds : List ℕ) → AreDigits 10 n ds → h.0.precision_text ≡ 46 ∷ map (digit_glyph false) ds
+          → at_digits (flag_set h.0.flags) width ds ≡ Precision (flag_set h.0.flags) width n
       digits_at [] a e = absurd (h.1 e)
       digits_at (d ∷ ds) a e = ap (Precision (flag_set h.0.flags) width) (omega (arith, number_after-place_sum 10 d ds, a.sum))
-run-at items (Modifier set width precision length) part h = run-front items part set width precision length h.0 ∙ ap (On items) (modifier_at length h.1) ∙ ap (λ f. On items (Modifier f width precision length)) (sym h.0.set_is) where
-  modifier_at : (l : Length) → (l ≡ lengths.None → ⊥) → at_length (at_point h.0.flags width precision h.0.precision_text h.0.precision_is) (flag_set h.0.flags) width precision l ≡ Modifier (flag_set h.0.flags) width precision l
-  modifier_at lengths.None some = absurd (some refl)
-  modifier_at _ some = refl
+run-at items (Modifier set width precision length) part h = run-front items part set width precision length h.0 ∙ ap (On items) (modifier_at length h.1)
+    ∙ ap (λ f. On items (Modifier f width precision length)) (sym h.0.set_is) where
+      modifier_at : (l : Length) → (l ≡ lengths.None → ⊥) → at_length (at_point h.0.flags width precision h.0.precision_text h.0.precision_is)
+          (flag_set h.0.flags) width precision l ≡ Modifier (flag_set h.0.flags) width precision l
+      modifier_at lengths.None some = absurd (some refl)
+      modifier_at _ some = refl

@@ -19,11 +19,13 @@ use Rattle.pf_text.proofs.Texts.{Reads-push}
 
 -- what is spelled by its conversion alone
 pub conv_read : (conv : Conv) (d : Specification) → d ≡ bare conv → IsReadAs (percent ∷ conv_letter conv ∷ []) (Directive d)
-conv_read conv d e = subst (λ s. IsReadAs (percent ∷ conv_letter conv ∷ []) (Directive s)) (sym e) (spelled_read (bare conv) (conv_defined conv), conv_defined conv)
+conv_read conv d e = subst (λ s. IsReadAs (percent ∷ conv_letter conv ∷ []) (Directive s)) (sym e)
+    (spelled_read (bare conv) (conv_defined conv), conv_defined conv)
 
 -- one was taken
 pub directive_taken : (scanner : Scanner) (t text : Text) (items : List Item) (len : ℕ) (d : Specification) → IsAfter scanner t items → Reads t items
-    → len ≤ length text → IsReadAs (take len text) (Directive d) → scanner.offset + len ≤ MAX_TEXT_LEN → TakesDirective t items text len (record scanner { offset = scanner.offset + len }) d
+    → len ≤ length text → IsReadAs (take len text) (Directive d) → scanner.offset + len ≤ MAX_TEXT_LEN
+    → TakesDirective t items text len (record scanner { offset = scanner.offset + len }) d
 directive_taken scanner t text items len d h reads within read few =
     let whole = t ++ take len text in
     let now = Reads-push items t (take len text) (Directive d) reads read in
@@ -35,13 +37,20 @@ directive_taken scanner t text items len d h reads within read few =
     }
 
 -- and given
-pub directive_given : (old new : Pieces) (t read : Text) (items : List Item) (len : ℕ) (d : Specification) → HasGiven old t read items → new.is_over ≡ old.is_over → new.rest.now ≡ drop len old.rest.now → TakesDirective read items old.rest.now len new.scanner d
+pub directive_given : (old new : Pieces) (t read : Text) (items : List Item) (len : ℕ) (d : Specification) → HasGiven old t read items
+    → new.is_over ≡ old.is_over → new.rest.now ≡ drop len old.rest.now → TakesDirective read items old.rest.now len new.scanner d
     → NextIsPiece new t read items (pieces.Directive d)
 directive_given old new t read items len d h over rest takes =
     let front = take len old.rest.now in
     let cut : old.rest.now ≡ front ++ new.rest.now = sym (take-append-drop len old.rest.now) ∙ ap (λ r. front ++ r) (sym rest) in
     record {
       more = front;
-      given = record { going = over ∙ h.going; split = h.split ∙ ap (λ r. read ++ r) cut ∙ sym (append_assoc read front new.rest.now); reads = takes.reads; scanned = takes.after };
+      given = record {
+        going = over ∙ h.going;
+        split = h.split ∙ ap (λ r. read ++ r) cut
+            ∙ sym (append_assoc read front new.rest.now);
+        reads = takes.reads;
+        scanned = takes.after;
+      };
       whole = tt;
     }

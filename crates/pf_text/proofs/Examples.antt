@@ -3,7 +3,8 @@ use Rattle.std.proofs.Common.{◌≡◌, ◌≢◌, ℕ, ◌<◌, ◌≤◌, Lis
 use Rattle.std.proofs.lemmas.List.{append-nil}
 use Rattle.pf_values.specs.declared.limits.TheConstants.{MAX_TEXT_LEN}
 use Rattle.pf_values.specs.declared.refusals.RefusalKind.{RefusalKind}
-use Rattle.pf_values.specs.declared.refusals.RefusalKind.TheVariants.{NulByte, Truncated, Unexpected, BadPercent, Star, Numbered, WidthTooLarge, Float, Wide, AltUndefined}
+use Rattle.pf_values.specs.declared.refusals.RefusalKind.TheVariants.{NulByte, Truncated, Unexpected, BadPercent, Star, Numbered, WidthTooLarge, Float, Wide}
+use Rattle.pf_values.specs.declared.refusals.RefusalKind.TheVariants.{AltUndefined}
 use Rattle.pf_values.specs.meaning.Items.{Item}
 use Rattle.pf_values.specs.meaning.Refusals.{IsRefusedAt}
 use Rattle.pf_values.specs.meaning.Text.{Text}
@@ -18,8 +19,10 @@ use Rattle.pf_text.proofs.Runs.{moved, run, run-refused}
 use Rattle.pf_text.proofs.Sound.{Judges, LeadsTo, judge}
 use Rattle.pf_text.proofs.Texts.{IsStepped, start, stepped}
 
-step_behind : (b : ℕ) (u t : Text) (items : List Item) (state : State) (r : State × List Item) (n : Next) → next state b ≡ n → IsStepped t items state → run (moved items n) u ≡ Ok r
-    → ((q : State) (step : Step) → IsStepped (t ++ b ∷ []) (with_step items step) q → run (On (with_step items step) q) u ≡ Ok r → IsStepped ((t ++ b ∷ []) ++ u) r.1 r.0)
+step_behind : (b : ℕ) (u t : Text) (items : List Item) (state : State) (r : State × List Item) (n : Next) → next state b ≡ n → IsStepped t items state
+    → run (moved items n) u ≡ Ok r
+    → ((q : State) (step : Step) → IsStepped (t ++ b ∷ []) (with_step items step) q → run (On (with_step items step) q) u ≡ Ok r
+    → IsStepped ((t ++ b ∷ []) ++ u) r.1 r.0)
     → IsStepped (t ++ b ∷ u) r.1 r.0
 step_behind b u t items state r (Ok p) same h e next_step =
     let leads : LeadsTo h.part b p.0 p.1 = subst (Judges h.part b) same (judge state h.part b h.at) in
@@ -27,17 +30,20 @@ step_behind b u t items state r (Ok p) same h e next_step =
 step_behind b u t items state r (Err kind) same h e next_step = let refused = run-refused kind u in absurd (cc)
 
 -- what the automaton computes of a text, the text has
-behind : (u t : Text) (items : List Item) (state : State) (r : State × List Item) → IsStepped t items state → run (On items state) u ≡ Ok r → IsStepped (t ++ u) r.1 r.0
+behind : (u t : Text) (items : List Item) (state : State) (r : State × List Item) → IsStepped t items state → run (On items state) u ≡ Ok r
+    → IsStepped (t ++ u) r.1 r.0
 behind [] t items state r h e =
     let same : (state, items) ≡ r = cc in
     let P : State × List Item → Type 0 = λ q. IsStepped (t ++ []) q.1 q.0 in
     subst P same (subst (λ x. IsStepped x items state) (sym (append-nil t)) h)
-behind (b ∷ u) t items state r h e = step_behind b u t items state r (next state b) refl h e (λ q step now rest. behind u (t ++ b ∷ []) (with_step items step) q r now rest)
+behind (b ∷ u) t items state r h e = step_behind b u t items state r (next state b) refl h e
+    (λ q step now rest. behind u (t ++ b ∷ []) (with_step items step) q r now rest)
 
 nothing : IsStepped [] [] Between
 nothing = record { part = []; splits = record { whole = []; reads = refl; split = refl }; at = refl }
 
-refused_behind : (t : Text) (byte : ℕ) (more : Text) (q : State × List Item) (kind : RefusalKind) → run start t ≡ Ok q → next q.0 byte ≡ Err kind → length t < MAX_TEXT_LEN → IsRefusedAt (t ++ byte ∷ more) kind (length t)
+refused_behind : (t : Text) (byte : ℕ) (more : Text) (q : State × List Item) (kind : RefusalKind) → run start t ≡ Ok q → next q.0 byte ≡ Err kind
+    → length t < MAX_TEXT_LEN → IsRefusedAt (t ++ byte ∷ more) kind (length t)
 refused_behind t byte more q kind e refused small =
     let h = behind t [] [] Between q nothing e in
     refused_at t h.part q.1 q.0 h.splits h.at byte kind refused more small

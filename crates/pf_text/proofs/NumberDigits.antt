@@ -42,10 +42,15 @@ another_digit n d ds some small h =
     }
 
 pub one_digit : (n : ℕ) → 0 < n → n < 10 → AreLeastDigits 10 1 n (n ∷ [])
-one_digit n some small = let one = pow-zero 10 in record { digits = record { below = (small, tt); sum = omega arith }; enough = omega arith; no_more = λ _. some }
+one_digit n some small = let one = pow-zero 10 in record {
+  digits = record { below = (small, tt); sum = omega arith };
+  enough = omega arith;
+  no_more = λ _. some;
+}
 
 pub digit_of : (byte : ℕ) → is_digit byte ≡ true → (byte - 48 < 10) × (digit_glyph false (byte - 48) ≡ byte)
 digit_of byte h = (grind (arith, nat_tests), grind (arith, nat_tests))
 
 pub glyph_push : (ds : List ℕ) (byte : ℕ) → is_digit byte ≡ true → map (digit_glyph false) ds ++ byte ∷ [] ≡ map (digit_glyph false) (ds ++ (byte - 48) ∷ [])
-glyph_push ds byte d = let digit = digit_of byte d in ap (λ b. map (digit_glyph false) ds ++ b ∷ []) (sym digit.1) ∙ sym (map_push (digit_glyph false) ds (byte - 48))
+glyph_push ds byte d = let digit = digit_of byte d in ap (λ b. map (digit_glyph false) ds ++ b ∷ []) (sym digit.1)
+    ∙ sym (map_push (digit_glyph false) ds (byte - 48))

@@ -1,5 +1,6 @@
 -- What the calls inside `next` leave.
-use Rattle.std.proofs.Common.{◌≡◌, ℕ, ◌≢◌, ◌<◌, ◌≤◌, Bool, false, true, List, [], ◌∷◌, ◌++◌, length, get_or, map, take, drop, refl, sym, ap, ◌∙◌, subst, arith, inl, inr, Some, None, Ok, Err, Result}
+use Rattle.std.proofs.Common.{◌≡◌, ℕ, ◌≢◌, ◌<◌, ◌≤◌, Bool, false, true, List, [], ◌∷◌, ◌++◌, length, get_or, map, take, drop, refl, sym, ap, ◌∙◌, subst, arith}
+use Rattle.std.proofs.Common.{inl, inr, Some, None, Ok, Err, Result}
 use denote.Ref.{Bor}
 use Rattle.std.proofs.lemmas.List.{append_assoc, append-nil, length_push, length-take-le, take-append-drop}
 use Rattle.pf_values.specs.declared.limits.TheConstants.{MAX_TEXT_LEN}
@@ -29,11 +30,14 @@ nothing_fed now t read items h none =
     }
 
 -- the scanner has forgotten the items before
-pub restarted : (old : Pieces) (scanner : Scanner) (t read : Text) (items : List Item) → (IsAfter old.scanner read items → Reads read items → IsAfter scanner read items) → HasGiven old t read items → HasGiven (record old { scanner = scanner }) t read items
+pub restarted : (old : Pieces) (scanner : Scanner) (t read : Text) (items : List Item)
+    → (IsAfter old.scanner read items → Reads read items → IsAfter scanner read items) → HasGiven old t read items
+    → HasGiven (record old { scanner = scanner }) t read items
 restarted old scanner t read items still h = record { going = h.going; split = h.split; reads = h.reads; scanned = still h.scanned h.reads }
 
 -- a run of literal bytes was taken
-module _ (old new : Pieces) (t read : Text) (items : List Item) (n : ℕ) (h : HasGiven old t read items) (over : new.is_over ≡ old.is_over) (p : Passes read items old.rest.now n new.scanner) where
+module _ (old new : Pieces) (t read : Text) (items : List Item) (n : ℕ) (h : HasGiven old t read items) (over : new.is_over ≡ old.is_over)
+    (p : Passes read items old.rest.now n new.scanner) where
   -- of no byte
   pub no_run_taken : n ≡ 0 → new.rest.now ≡ old.rest.now → IsInside new t read items
   no_run_taken e rest =
@@ -55,11 +59,22 @@ module _ (old new : Pieces) (t read : Text) (items : List Item) (n : ℕ) (h : H
   gives_run some within rest =
       let run = take n old.rest.now in
       let cut : old.rest.now ≡ run ++ new.rest.now = sym (take-append-drop n old.rest.now) ∙ ap (λ r. run ++ r) (sym rest) in (
-        record { going = over ∙ h.going; split = h.split ∙ ap (λ r. read ++ r) cut ∙ sym (append_assoc read run new.rest.now); reads = p.reads; scanned = p.after },
-        record { some = λ e. some (sym (length-take-le n old.rest.now within) ∙ ap length e); literal = p.literal; longest = subst (EndsRun (read ++ run)) (sym rest) p.longest },
+        record {
+          going = over ∙ h.going;
+          split = h.split ∙ ap (λ r. read ++ r) cut
+              ∙ sym (append_assoc read run new.rest.now);
+          reads = p.reads;
+          scanned = p.after;
+        },
+        record {
+          some = λ e. some (sym (length-take-le n old.rest.now within) ∙ ap length e);
+          literal = p.literal;
+          longest = subst (EndsRun (read ++ run)) (sym rest) p.longest;
+        },
       )
 
-  pub run_given : (taken : Bor Text) → n ≢ 0 → n ≤ length old.rest.now → taken.now ≡ take n old.rest.now → new.rest.now ≡ drop n old.rest.now → NextIsPiece new t read items (pieces.Literal taken)
+  pub run_given : (taken : Bor Text) → n ≢ 0 → n ≤ length old.rest.now → taken.now ≡ take n old.rest.now → new.rest.now ≡ drop n old.rest.now
+      → NextIsPiece new t read items (pieces.Literal taken)
   run_given taken some within e rest =
       let here = subst GivesRun (sym e) (gives_run some within rest) in
       record { more = taken.now; given = here.0; whole = here.1 }
@@ -77,9 +92,11 @@ ends_there read byte after literal few (inr (inr full)) = omega (arith, full, fe
 pub no_literal_fed : (old : Pieces) (t read : Text) (items : List Item) (b : ℕ) → IsFed old (steps.Byte b) t read items → ⊥
 no_literal_fed old t read items b h =
     let says = h.takes.says in
-    let whole : Reads (read ++ (h.fed ++ h.byte ∷ [])) (items ++ Byte b ∷ []) = subst (λ u. Reads u (items ++ Byte b ∷ [])) (append_assoc read h.fed (h.byte ∷ [])) says.0 in
+    let whole : Reads (read ++ (h.fed ++ h.byte ∷ [])) (items ++ Byte b ∷ []) = subst (λ u. Reads u (items ++ Byte b ∷ []))
+    (append_assoc read h.fed (h.byte ∷ [])) says.0 in
     let literal : IsLiteral b = subst IsLiteral (sym says.1) says.2 in
-    let none = one_byte h.fed h.byte b (literal_text (b ∷ []) (h.fed ++ h.byte ∷ []) (literal, tt) (read_rest items (Byte b ∷ []) read (h.fed ++ h.byte ∷ []) h.reads whole)) in
+    let none = one_byte h.fed h.byte b (literal_text (b ∷ []) (h.fed ++ h.byte ∷ []) (literal, tt)
+    (read_rest items (Byte b ∷ []) read (h.fed ++ h.byte ∷ []) h.reads whole)) in
     let ends = subst (EndsRun read) h.first (subst (λ f. EndsRun read (f ++ old.rest.now)) none h.no_run) in
     let few = subst (λ u. length (u ++ h.byte ∷ []) ≤ MAX_TEXT_LEN) (ap (λ f. read ++ f) none ∙ append-nil read) h.takes.after.limit in
     ends_there read h.byte h.after says.2 few ends
@@ -96,15 +113,18 @@ pub nothing_left : (rest : Text) → length rest ≤ 0 → rest ≡ []
 nothing_left [] h = refl
 nothing_left (b ∷ rest) h = absurd (omega arith)
 
-pub gives_piece : (old new : Pieces) (piece : Piece) → old.is_over ≡ false → ((t read : Text) (items : List Item) → HasGiven old t read items → NextIsPiece new t read items piece) → NextReturns old (Some (Ok piece)) new
+pub gives_piece : (old new : Pieces) (piece : Piece) → old.is_over ≡ false
+    → ((t read : Text) (items : List Item) → HasGiven old t read items → NextIsPiece new t read items piece) → NextReturns old (Some (Ok piece)) new
 gives_piece old new piece going given = record { next = given; over = λ closed. absurd (not_both old.is_over closed going); last = tt }
 
 -- The calls of `next`, from `old` to `now`.
-module _ (old now : Pieces) (inside : (t read : Text) (items : List Item) → HasGiven old t read items → IsInside now t read items) (going : old.is_over ≡ false) where
+module _ (old now : Pieces) (inside : (t read : Text) (items : List Item) → HasGiven old t read items → IsInside now t read items)
+    (going : old.is_over ≡ false) where
   -- a byte was fed
   module _ (scanner : Scanner) (byte : ℕ) (after : Text) (cut : now.rest.now ≡ byte ∷ after) (r : Result Step Refusal)
       (fed : (t : Text) (items : List Item) → IsAfter now.scanner t items → Feeds t items byte r scanner) where
-    pub is_fed : (step : Step) → r ≡ Ok step → (t read : Text) (items : List Item) → HasGiven old t read items → IsFed (record now { scanner = scanner }) step t read items
+    pub is_fed : (step : Step) → r ≡ Ok step → (t read : Text) (items : List Item) → HasGiven old t read items
+        → IsFed (record now { scanner = scanner }) step t read items
     is_fed step e t read items h =
         let i = inside t read items h in
         record {

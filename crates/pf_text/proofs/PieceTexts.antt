@@ -32,14 +32,16 @@ read_rest items others t more h g =
     let p = read_parts items others (t ++ more) g in
     rest_of items others t more p.0 p.1 h p.2 p.3 (cuts t more p.0 p.1 p.4)
 
-literal_byte : (byte : ℕ) (t : Text) (b : Bool) → (byte == percent) ≡ b → byte ≢ percent → MatchBool b (t ≡ percent ∷ percent ∷ []) ((byte ≢ 0) × (t ≡ byte ∷ [])) → t ≡ byte ∷ []
+literal_byte : (byte : ℕ) (t : Text) (b : Bool) → (byte == percent) ≡ b → byte ≢ percent
+    → MatchBool b (t ≡ percent ∷ percent ∷ []) ((byte ≢ 0) × (t ≡ byte ∷ [])) → t ≡ byte ∷ []
 literal_byte byte t true e other h = absurd (other (eqb-true byte percent e))
 literal_byte byte t false e other h = h.1
 
 -- literal bytes are read from themselves
 pub literal_text : (run t : Text) → AllByRecursion IsLiteral run → Reads t (map Byte run) → t ≡ run
 literal_text [] t literal h = h
-literal_text (byte ∷ run) t literal h = h.4 ∙ ap₂ (λ (u v : Text). u ++ v) (literal_byte byte h.0 (byte == percent) refl literal.0.0 h.2) (literal_text run h.1 literal.1 h.3)
+literal_text (byte ∷ run) t literal h = h.4 ∙ ap₂ (λ (u v : Text). u ++ v) (literal_byte byte h.0 (byte == percent) refl literal.0.0 h.2)
+    (literal_text run h.1 literal.1 h.3)
 
 -- the text that a piece is read from
 abbrev pub IsTextOf : Piece → Text → Type 0
@@ -57,5 +59,6 @@ text_read (pieces.Directive d) read more rest items h g w =
     let r = read_rest items (items_of (pieces.Directive d)) read more h g in
     subst (IsTextOf (pieces.Directive d)) (sym (r.4 ∙ ap (λ u. r.0 ++ u) r.3 ∙ append-nil r.0)) r.2
 
-pub text_of_piece : (old new : Pieces) (t read : Text) (items : List Item) (piece : Piece) → HasGiven old t read items → (g : NextIsPiece new t read items piece) → IsTextOf piece g.more
+pub text_of_piece : (old new : Pieces) (t read : Text) (items : List Item) (piece : Piece) → HasGiven old t read items
+    → (g : NextIsPiece new t read items piece) → IsTextOf piece g.more
 text_of_piece old new t read items piece h g = text_read piece read g.more new.rest.now items h.reads g.given.reads g.whole

@@ -1,5 +1,6 @@
 -- What is spelled is read back.
-use Rattle.std.proofs.Common.{◌≡◌, ◌≢◌, ℕ, zero, suc, ◌+◌, ◌/◌, ◌%◌, ◌<◌, ◌≤◌, ◌^◌, Bool, true, false, cond, List, [], ◌∷◌, map, length, refl, sym, ap, ◌∙◌, arith}
+use Rattle.std.proofs.Common.{◌≡◌, ◌≢◌, ℕ, zero, suc, ◌+◌, ◌/◌, ◌%◌, ◌<◌, ◌≤◌, ◌^◌, Bool, true, false, cond, List, [], ◌∷◌, map, length, refl, sym, ap, ◌∙◌}
+use Rattle.std.proofs.Common.{arith}
 use Rattle.std.specs.Prelude.{decimal, filter, fold, Option, Some, None}
 use Rattle.std.specs.Fmt.{digit_glyph}
 use Rattle.std.specs.Int.Digits.{digits_of}
@@ -24,27 +25,33 @@ use Rattle.pf_values.proofs.DefinedLemmas.{within}
 abbrev set_of : Bool → Bool → Bool → Bool → Bool → Bool → FlagSet
 set_of a b c d e f = record { minus = a; plus = b; space = c; alt = d; zero = e; group = f }
 
-fold_minus : (a : Bool) (flags : List Flag) → fold with_flag (set_of false false false false false false) (cond a (Minus ∷ flags) flags) ≡ fold with_flag (set_of a false false false false false) flags
+fold_minus : (a : Bool) (flags : List Flag) → fold with_flag (set_of false false false false false false) (cond a (Minus ∷ flags) flags) ≡ fold with_flag
+    (set_of a false false false false false) flags
 fold_minus true flags = refl
 fold_minus false flags = refl
 
-fold_plus : (a b : Bool) (flags : List Flag) → fold with_flag (set_of a false false false false false) (cond b (Plus ∷ flags) flags) ≡ fold with_flag (set_of a b false false false false) flags
+fold_plus : (a b : Bool) (flags : List Flag) → fold with_flag (set_of a false false false false false) (cond b (Plus ∷ flags) flags) ≡ fold with_flag
+    (set_of a b false false false false) flags
 fold_plus a true flags = refl
 fold_plus a false flags = refl
 
-fold_space : (a b c : Bool) (flags : List Flag) → fold with_flag (set_of a b false false false false) (cond c (Space ∷ flags) flags) ≡ fold with_flag (set_of a b c false false false) flags
+fold_space : (a b c : Bool) (flags : List Flag) → fold with_flag (set_of a b false false false false) (cond c (Space ∷ flags) flags) ≡ fold with_flag
+    (set_of a b c false false false) flags
 fold_space a b true flags = refl
 fold_space a b false flags = refl
 
-fold_alt : (a b c d : Bool) (flags : List Flag) → fold with_flag (set_of a b c false false false) (cond d (Alt ∷ flags) flags) ≡ fold with_flag (set_of a b c d false false) flags
+fold_alt : (a b c d : Bool) (flags : List Flag) → fold with_flag (set_of a b c false false false) (cond d (Alt ∷ flags) flags) ≡ fold with_flag
+    (set_of a b c d false false) flags
 fold_alt a b c true flags = refl
 fold_alt a b c false flags = refl
 
-fold_zero : (a b c d e : Bool) (flags : List Flag) → fold with_flag (set_of a b c d false false) (cond e (Zero ∷ flags) flags) ≡ fold with_flag (set_of a b c d e false) flags
+fold_zero : (a b c d e : Bool) (flags : List Flag) → fold with_flag (set_of a b c d false false) (cond e (Zero ∷ flags) flags) ≡ fold with_flag
+    (set_of a b c d e false) flags
 fold_zero a b c d true flags = refl
 fold_zero a b c d false flags = refl
 
-fold_group : (a b c d e f : Bool) (flags : List Flag) → fold with_flag (set_of a b c d e false) (cond f (Group ∷ flags) flags) ≡ fold with_flag (set_of a b c d e f) flags
+fold_group : (a b c d e f : Bool) (flags : List Flag) → fold with_flag (set_of a b c d e false) (cond f (Group ∷ flags) flags) ≡ fold with_flag
+    (set_of a b c d e f) flags
 fold_group a b c d e true flags = refl
 fold_group a b c d e false flags = refl
 

@@ -1,5 +1,6 @@
 -- A byte that is refused has the reason of that kind, and no other but Unexpected.
-use Rattle.std.proofs.Common.{append_assoc, ◌≡◌, ℕ, ◌+◌, ◌-◌, ◌*◌, ◌<◌, ◌≤◌, Bool, true, false, List, [], ◌∷◌, ◌++◌, map, refl, sym, ap, ◌∙◌, arith, subst, inl, inr, Ok, Err}
+use Rattle.std.proofs.Common.{append_assoc, ◌≡◌, ℕ, ◌+◌, ◌-◌, ◌*◌, ◌<◌, ◌≤◌, Bool, true, false, List, [], ◌∷◌, ◌++◌, map, refl, sym, ap, ◌∙◌, arith, subst, inl}
+use Rattle.std.proofs.Common.{inr, Ok, Err}
 use Rattle.std.specs.Prelude.{Option, Some, None, ◌==◌, ◌⊎◌, Contains}
 use Rattle.std.specs.Fmt.{digit_glyph}
 use Rattle.std.specs.List.{AllByRecursion}
@@ -14,7 +15,8 @@ use Rattle.pf_values.specs.declared.flags.FlagSet.{FlagSet}
 use Rattle.pf_values.specs.declared.lengths.Length.{Length}
 use Rattle.pf_values.specs.declared.lengths.Length.TheVariants as lengths
 use Rattle.pf_values.specs.declared.refusals.RefusalKind.{RefusalKind}
-use Rattle.pf_values.specs.declared.refusals.RefusalKind.TheVariants.{NulByte, Truncated, Unexpected, BadPercent, Star, Numbered, WidthTooLarge, PrecisionTooLarge, Float, Pointer, Count, Wide, TooLong}
+use Rattle.pf_values.specs.declared.refusals.RefusalKind.TheVariants.{NulByte, Truncated, Unexpected, BadPercent, Star, Numbered, WidthTooLarge}
+use Rattle.pf_values.specs.declared.refusals.RefusalKind.TheVariants.{PrecisionTooLarge, Float, Pointer, Count, Wide, TooLong}
 use Rattle.pf_values.specs.meaning.Conversions.{conv_letter}
 use Rattle.pf_values.specs.meaning.Defined.{
   is_above_limit,
@@ -36,7 +38,8 @@ use Rattle.pf_text.specs.Stages.{Between, Opened, Flags, Width, Point, Precision
 use Rattle.pf_text.specs.Fronts.{IsAt}
 use Rattle.pf_text.specs.Letters.{modifier_of, conv_of, refused_letter}
 use Rattle.pf_text.specs.States.{Next, next, after_number, end_at, judgement_of}
-use Rattle.pf_text.proofs.Complete.{On, at_flags, at_width, at_point, next-at_flags, digit_is, run-flags, run-width, run-point, first_width, first_precision, more_width, more_precision, point_step, letter_at_point, run-at, no_test, no_digit, no_high_flag, large}
+use Rattle.pf_text.proofs.Complete.{On, at_flags, at_width, at_point, next-at_flags, digit_is, run-flags, run-width, run-point, first_width, first_precision}
+use Rattle.pf_text.proofs.Complete.{more_width, more_precision, point_step, letter_at_point, run-at, no_test, no_digit, no_high_flag, large}
 use Rattle.pf_text.proofs.Runs.{moved, run, run-append, run-refused, front-ok}
 use Rattle.pf_text.proofs.NumberDigits.{first_above_zero}
 use Rattle.pf_text.proofs.Sound.{given_same}
@@ -55,7 +58,8 @@ width_passes set n d h many =
     let next : 10 * n + (digit_glyph false d - 48) ≡ n * 10 + d = omega (arith, digit.1) in
     rw (digit.0, next, large) refl
 
-run_passing_width : (ds : List ℕ) (set : FlagSet) (n : ℕ) → AllByRecursion (λ d. d < 10) ds → n ≤ MAX_NUMBER → MAX_NUMBER < number_from_digits_after 10 n ds → run (On [] (Width set n)) (map (digit_glyph false) ds) ≡ Err WidthTooLarge
+run_passing_width : (ds : List ℕ) (set : FlagSet) (n : ℕ) → AllByRecursion (λ d. d < 10) ds → n ≤ MAX_NUMBER → MAX_NUMBER < number_from_digits_after 10 n ds
+    → run (On [] (Width set n)) (map (digit_glyph false) ds) ≡ Err WidthTooLarge
 run_passing_width [] set n h few many = absurd (omega arith)
 run_passing_width (d ∷ ds) set n h few many =
     let rest = λ (le : n * 10 + d ≤ MAX_NUMBER). run_passing_width ds set (n * 10 + d) h.1 le many in
@@ -75,27 +79,32 @@ run_large_width flags n t h many = go h.1.0 h.1.1 h.1.2 where
       ∙ ap (λ p. run p (map (digit_glyph false) ds)) (first_width [] flags d (first_above_zero n d ds h.0 l) below.0)
       ∙ run_passing_width ds (flag_set flags) d below.1 (omega (arith, below.0)) (omega arith)
 
-precision_passes : (set : FlagSet) (width : Option ℕ) (n d : ℕ) → d < 10 → MAX_NUMBER < n * 10 + d → moved [] (next (Precision set width n) (digit_glyph false d)) ≡ Err PrecisionTooLarge
+precision_passes : (set : FlagSet) (width : Option ℕ) (n d : ℕ) → d < 10 → MAX_NUMBER < n * 10 + d
+    → moved [] (next (Precision set width n) (digit_glyph false d)) ≡ Err PrecisionTooLarge
 precision_passes set width n d h many =
     let digit = digit_is d h in
     let next : 10 * n + (digit_glyph false d - 48) ≡ n * 10 + d = omega (arith, digit.1) in
     rw (digit.0, next, large) refl
 
-run_passing_precision : (ds : List ℕ) (set : FlagSet) (width : Option ℕ) (n : ℕ) → AllByRecursion (λ d. d < 10) ds → n ≤ MAX_NUMBER → MAX_NUMBER < number_from_digits_after 10 n ds
+run_passing_precision : (ds : List ℕ) (set : FlagSet) (width : Option ℕ) (n : ℕ) → AllByRecursion (λ d. d < 10) ds → n ≤ MAX_NUMBER
+    → MAX_NUMBER < number_from_digits_after 10 n ds
     → run (On [] (Precision set width n)) (map (digit_glyph false) ds) ≡ Err PrecisionTooLarge
 run_passing_precision [] set width n h few many = absurd (omega arith)
 run_passing_precision (d ∷ ds) set width n h few many =
     let rest = λ (le : n * 10 + d ≤ MAX_NUMBER). run_passing_precision ds set width (n * 10 + d) h.1 le many in
     elim (cases_lt MAX_NUMBER (n * 10 + d)) [
-      | inl passes ↦ ap (λ p. run p (map (digit_glyph false) ds)) (precision_passes set width n d h.0 passes) ∙ run-refused PrecisionTooLarge (map (digit_glyph false) ds)
+      | inl passes ↦ ap (λ p. run p (map (digit_glyph false) ds)) (precision_passes set width n d h.0 passes)
+          ∙ run-refused PrecisionTooLarge (map (digit_glyph false) ds)
       | inr le ↦ ap (λ p. run p (map (digit_glyph false) ds)) (more_precision [] set width n d h.0 le) ∙ rest le
     ]
 
-run_large_digits : (ds : List ℕ) (set : FlagSet) (width : Option ℕ) (n : ℕ) → AreDigits 10 n ds → MAX_NUMBER < n → run (On [] (Point set width)) (map (digit_glyph false) ds) ≡ Err PrecisionTooLarge
+run_large_digits : (ds : List ℕ) (set : FlagSet) (width : Option ℕ) (n : ℕ) → AreDigits 10 n ds → MAX_NUMBER < n
+    → run (On [] (Point set width)) (map (digit_glyph false) ds) ≡ Err PrecisionTooLarge
 run_large_digits [] set width n a many = absurd (omega (arith, a.sum))
 run_large_digits (d ∷ ds) set width n a many =
     let value : number_from_digits_after 10 d ds ≡ n = omega (arith, number_after-place_sum 10 d ds, a.sum) in
-    ap (λ p. run p (map (digit_glyph false) ds)) (first_precision [] set width d a.below.0) ∙ run_passing_precision ds set width d a.below.1 (omega (arith, a.below.0)) (omega arith)
+    ap (λ p. run p (map (digit_glyph false) ds)) (first_precision [] set width d a.below.0)
+    ∙ run_passing_precision ds set width d a.below.1 (omega (arith, a.below.0)) (omega arith)
 
 module _ (front : Text) (width : Option ℕ) (h : IsToWidth front width) where
   run_flags_of : run start front ≡ run (On [] (at_flags h.flags)) h.digits
@@ -112,14 +121,17 @@ module _ (front : Text) (precision : Option ℕ) (h : IsToPrecision front precis
   run_width_of : run start front ≡ run (run start h.before) h.digits
   run_width_of = ap (run start) h.whole ∙ run-append start h.before h.digits
 
-  to_precision_run : is_above_limit h.width ≡ false → is_above_limit precision ≡ false → run start front ≡ On [] (at_point h.before_is.flags h.width precision h.digits h.digits_are)
+  to_precision_run : is_above_limit h.width ≡ false → is_above_limit precision ≡ false
+      → run start front ≡ On [] (at_point h.before_is.flags h.width precision h.digits h.digits_are)
   to_precision_run few small =
-      run_width_of ∙ ap (λ p. run p h.digits) (to_width_run h.before h.width h.before_is few) ∙ run-point [] h.before_is.flags h.width precision h.digits h.digits_are small
+      run_width_of ∙ ap (λ p. run p h.digits) (to_width_run h.before h.width h.before_is few)
+      ∙ run-point [] h.before_is.flags h.width precision h.digits h.digits_are small
 
   before_large : is_above_limit h.width ≡ true → run start front ≡ Err WidthTooLarge
   before_large many = run_width_of ∙ ap (λ p. run p h.digits) (to_width_large h.before h.width h.before_is many) ∙ run-refused WidthTooLarge h.digits
 
-point_large : (front : Text) (precision : Option ℕ) (h : IsToPrecision front precision) → is_above_limit h.width ≡ false → is_above_limit precision ≡ true → run start front ≡ Err PrecisionTooLarge
+point_large : (front : Text) (precision : Option ℕ) (h : IsToPrecision front precision) → is_above_limit h.width ≡ false → is_above_limit precision ≡ true
+    → run start front ≡ Err PrecisionTooLarge
 point_large front None h few many = cc
 point_large front (Some n) h few many =
     run_width_of front (Some n) h
@@ -156,7 +168,8 @@ record IsBad (kind : RefusalKind) (byte : ℕ) : Type 0 where
   float : (byte == 76) ≡ false
   kind_is : refused_letter byte ≡ kind
 
-bad : (kind : RefusalKind) (byte : ℕ) → 57 < byte → modifier_of byte ≡ None → conv_of byte ≡ None → (byte == 76) ≡ false → refused_letter byte ≡ kind → IsBad kind byte
+bad : (kind : RefusalKind) (byte : ℕ) → 57 < byte → modifier_of byte ≡ None → conv_of byte ≡ None → (byte == 76) ≡ false → refused_letter byte ≡ kind
+    → IsBad kind byte
 bad kind byte a b c d e = record { high = a; modifier = b; conv = c; float = d; kind_is = e }
 
 bad_letters : (kind : RefusalKind) → AllByRecursion (IsBad kind) (letters_of kind)
@@ -170,7 +183,13 @@ bad_letters Float = (
         bad Float 69 (omega arith) refl refl refl refl,
         (
           bad Float 102 (omega arith) refl refl refl refl,
-          (bad Float 70 (omega arith) refl refl refl refl, (bad Float 103 (omega arith) refl refl refl refl, (bad Float 71 (omega arith) refl refl refl refl, tt))),
+          (
+            bad Float 70 (omega arith) refl refl refl refl,
+            (
+              bad Float 103 (omega arith) refl refl refl refl,
+              (bad Float 71 (omega arith) refl refl refl refl, tt),
+            ),
+          ),
         ),
       ),
     ),
@@ -260,7 +279,8 @@ module _ (state : State) (part : Text) (byte : ℕ) (k : RefusalKind) (at : IsAt
   same_state q g = let same : state ≡ q = ap state_in (sym here ∙ g) in subst (λ s. next s byte ≡ Err k) same e
 
   of_letter : (kind : RefusalKind) → Contains (letters_of kind) byte → kind ≡ k
-  of_letter kind h = bad_next kind byte (All-contains (IsBad kind) (letters_of kind) byte (All-from_recursion (IsBad kind) (letters_of kind) (bad_letters kind)) h) state k e
+  of_letter kind h = bad_next kind byte (All-contains (IsBad kind) (letters_of kind) byte
+      (All-from_recursion (IsBad kind) (letters_of kind) (bad_letters kind)) h) state k e
 
   of_undefined : (kind : RefusalKind) → EndsUndefined part byte kind → kind ≡ k
   of_undefined kind h =
@@ -284,7 +304,8 @@ module _ (state : State) (part : Text) (byte : ℕ) (k : RefusalKind) (at : IsAt
       let given = given_same spells.width s.width spells.width_is in
       let g : Option ℕ → Specification = λ w. record { flags = s.flags; width = w; precision = s.precision; length = s.length; conv = s.conv } in
       let skipped : refused_as s ≡ first_broken undefined_kinds s = rw (width, precision) refl in
-      let all : run start (part ++ byte ∷ []) ≡ Err kind = run_it ∙ ap (λ w. moved [] (judgement_of (g w) (refused_as (g w)))) given.0 ∙ ap (λ o. moved [] (judgement_of s o)) (skipped ∙ h.2) in
+      let all : run start (part ++ byte ∷ []) ≡ Err kind = run_it ∙ ap (λ w. moved [] (judgement_of (g w) (refused_as (g w)))) given.0
+      ∙ ap (λ o. moved [] (judgement_of s o)) (skipped ∙ h.2) in
       cc (all, refused)
 
   of_width : (n : ℕ) → MAX_NUMBER < n → IsToWidth (part ++ byte ∷ []) (Some n) → WidthTooLarge ≡ k
@@ -293,7 +314,8 @@ module _ (state : State) (part : Text) (byte : ℕ) (k : RefusalKind) (at : IsAt
   of_precision : (n : ℕ) → MAX_NUMBER < n → IsToPrecision (part ++ byte ∷ []) (Some n) → PrecisionTooLarge ≡ k
   of_precision n many h =
       let cut = split_last h.digits (λ none. let same = none in cc (h.digits_are.2)) in
-      let front = same_from_push part (h.before ++ cut.0) byte cut.1 (h.whole ∙ ap (λ u. h.before ++ u) cut.2 ∙ sym (append_assoc h.before cut.0 (cut.1 ∷ []))) in
+      let front = same_from_push part (h.before ++ cut.0) byte cut.1
+      (h.whole ∙ ap (λ u. h.before ++ u) cut.2 ∙ sym (append_assoc h.before cut.0 (cut.1 ∷ []))) in
       let ok = front-ok start h.before cut.0 (state, []) (ap (run start) (sym front.0) ∙ here) in
       let few = width_within h.before h.width ok.0 h.before_is ok.1 in
       let all = point_large (part ++ byte ∷ []) (Some n) h few (above_not n many) in
@@ -320,7 +342,8 @@ module _ (state : State) (part : Text) (byte : ℕ) (k : RefusalKind) (at : IsAt
       let ok = front-ok start before (46 ∷ []) (state, []) (ap (run start) (sym whole) ∙ here) in
       let few = width_within before width ok.0 h ok.1 in
       let there = same_state (Point (flag_set h.flags) width)
-      (ap (run start) whole ∙ run-append start before (46 ∷ []) ∙ ap (λ p. run p (46 ∷ [])) (to_width_run before width h few) ∙ ap (moved []) (point_step h.flags width)) in
+      (ap (run start) whole ∙ run-append start before (46 ∷ []) ∙ ap (λ p. run p (46 ∷ [])) (to_width_run before width h few)
+      ∙ ap (moved []) (point_step h.flags width)) in
       let byte_there = subst (λ b. next (Point (flag_set h.flags) width) b ≡ Err k) is there in
       cc (byte_there)
 

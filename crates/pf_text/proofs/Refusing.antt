@@ -71,7 +71,8 @@ module _ (t part : Text) (items : List Item) (state : State) (h : IsSplit t item
           cause = caused (length t == MAX_TEXT_LEN) more refl small;
         }
 
-  cause_too_long : (byte : ℕ) (b : Bool) → (length t == MAX_TEXT_LEN) ≡ b → length t ≡ MAX_TEXT_LEN → MatchBool b (TooLong ≡ TooLong) (IsRefusedByte part byte TooLong)
+  cause_too_long : (byte : ℕ) (b : Bool) → (length t == MAX_TEXT_LEN) ≡ b → length t ≡ MAX_TEXT_LEN
+      → MatchBool b (TooLong ≡ TooLong) (IsRefusedByte part byte TooLong)
   cause_too_long byte true test full = refl
   cause_too_long byte false test full = absurd (grind (arith, nat_tests))
 

@@ -46,7 +46,14 @@ module _ (model : Model) (old new : Pieces) (t : Text) (found : List ArgType) (h
     pub too_many : (piece : Piece) (type : ArgType) → next ≡ Ok piece → type ∷ [] ≡ types model (items_of piece) → 8 ≤ length found → TakesManyArguments model t
     too_many piece type e same many =
         let f = more_found piece (type ∷ []) e same in
-        record { front = f.read; rest = new.rest.now; items = f.items; split = f.given.split; reads = f.given.reads; many = omega (arith, ap length f.types_are, length_push found type) }
+        record {
+          front = f.read;
+          rest = new.rest.now;
+          items = f.items;
+          split = f.given.split;
+          reads = f.given.reads;
+          many = omega (arith, ap length f.types_are, length_push found type);
+        }
 
   pub all_found : NextReturns old None new → TakesTypes model t found
   all_found steps =

@@ -1,5 +1,6 @@
 -- What the automaton takes is spelled so, and what it refuses has its reason.
-use Rattle.std.proofs.Common.{◌≡◌, ◌≢◌, ℕ, zero, suc, ◌+◌, ◌-◌, ◌*◌, ◌<◌, Bool, true, false, List, [], ◌∷◌, ◌++◌, map, length, refl, sym, ap, ◌∙◌, arith, subst, inl, inr, Ok, Err}
+use Rattle.std.proofs.Common.{◌≡◌, ◌≢◌, ℕ, zero, suc, ◌+◌, ◌-◌, ◌*◌, ◌<◌, Bool, true, false, List, [], ◌∷◌, ◌++◌, map, length, refl, sym, ap, ◌∙◌, arith, subst}
+use Rattle.std.proofs.Common.{inl, inr, Ok, Err}
 use Rattle.std.specs.Prelude.{Option, Some, None, nat_lt, ◌==◌, if◌then◌else◌, find}
 use Rattle.std.proofs.lemmas.Bool.{eqb-true}
 use Rattle.std.proofs.lemmas.Bool.Decides.{nat_tests}
@@ -12,7 +13,8 @@ use Rattle.pf_values.specs.declared.flags.FlagSet.{FlagSet}
 use Rattle.pf_values.specs.declared.lengths.Length.{Length}
 use Rattle.pf_values.specs.declared.lengths.Length.TheVariants as lengths
 use Rattle.pf_values.specs.declared.refusals.RefusalKind.{RefusalKind}
-use Rattle.pf_values.specs.declared.refusals.RefusalKind.TheVariants.{NulByte, Truncated, Unexpected, BadPercent, Star, Numbered, WidthTooLarge, PrecisionTooLarge, Float, TooLong}
+use Rattle.pf_values.specs.declared.refusals.RefusalKind.TheVariants.{NulByte, Truncated, Unexpected, BadPercent, Star, Numbered, WidthTooLarge}
+use Rattle.pf_values.specs.declared.refusals.RefusalKind.TheVariants.{PrecisionTooLarge, Float, TooLong}
 use Rattle.pf_values.specs.meaning.Conversions.{conv_letter}
 use Rattle.pf_values.specs.meaning.Defined.{is_above_limit, refused_as, breaks, first_broken, undefined_kinds}
 use Rattle.pf_values.specs.meaning.Flags.{with_flag, no_flags, flag_byte}
@@ -36,7 +38,8 @@ use Rattle.pf_text.specs.Stages.{Between, Opened, Flags, Width, Point, Precision
 use Rattle.pf_text.specs.Fronts.{IsFront, IsAt}
 use Rattle.pf_text.specs.History.{IsLiteral}
 use Rattle.pf_text.specs.Letters.{flag_of, modifier_of, conv_of, refused_letter}
-use Rattle.pf_text.specs.States.{Next, next, is_digit, after_flags, flag_or_after, after_number, modifier_or_end, end_at, end_by, judgement_of, judged_as, width_with, precision_with, after_modifier}
+use Rattle.pf_text.specs.States.{Next, next, is_digit, after_flags, flag_or_after, after_number, modifier_or_end, end_at, end_by, judgement_of, judged_as}
+use Rattle.pf_text.specs.States.{width_with, precision_with, after_modifier}
 use Rattle.pf_text.proofs.NumberDigits.{another_digit, digit_of, digits_push, glyph_push, one_digit}
 
 -- what a step says of the part that the byte goes on with
@@ -86,7 +89,8 @@ SpellsWidth-one byte d low =
     let digit = digit_of byte d in
     let some : 0 < byte - 48 = omega arith in (some, ((byte - 48) ∷ [], one_digit (byte - 48) some digit.0, ap (λ b. b ∷ []) (sym digit.1)))
 
-pub SpellsPrecision-push : (t : Text) (n byte : ℕ) → is_digit byte ≡ true → SpellsPrecision t (Some n) → SpellsPrecision (t ++ byte ∷ []) (Some (10 * n + (byte - 48)))
+pub SpellsPrecision-push : (t : Text) (n byte : ℕ) → is_digit byte ≡ true → SpellsPrecision t (Some n)
+    → SpellsPrecision (t ++ byte ∷ []) (Some (10 * n + (byte - 48)))
 SpellsPrecision-push t n byte d h =
     let digit = digit_of byte d in
     let ds = h.0 in (ds ++ (byte - 48) ∷ [], digits_push n (byte - 48) ds digit.0 h.1, ap (λ u. u ++ byte ∷ []) h.2 ∙ ap (λ u. 46 ∷ u) (glyph_push ds byte d))
@@ -96,12 +100,14 @@ SpellsPrecision-point = ([], record { below = tt; sum = refl }, refl)
 
 -- a text that ends after flags, after a width, after a precision
 whole_flags : {part : Text} {set : FlagSet} (h : IsFront part set None None lengths.None) → part ≡ flags_text h.flags
-whole_flags {part} {set} h = h.whole ∙ ap (λ d. 37 ∷ map flag_byte h.flags ++ d ++ h.precision_text ++ []) h.width_is ∙ ap (λ d. 37 ∷ map flag_byte h.flags ++ [] ++ d ++ []) h.precision_is ∙ simp append-nil
+whole_flags {part} {set} h = h.whole ∙ ap (λ d. 37 ∷ map flag_byte h.flags ++ d ++ h.precision_text ++ []) h.width_is
+    ∙ ap (λ d. 37 ∷ map flag_byte h.flags ++ [] ++ d ++ []) h.precision_is ∙ simp append-nil
 
 whole_width : {part : Text} {set : FlagSet} {width : Option ℕ} (h : IsFront part set width None lengths.None) → part ≡ flags_text h.flags ++ h.width_text
 whole_width {part} {set} {width} h = h.whole ∙ ap (λ d. 37 ∷ map flag_byte h.flags ++ h.width_text ++ d ++ []) h.precision_is ∙ simp append-nil
 
-whole_point : {part : Text} {set : FlagSet} {width precision : Option ℕ} (h : IsFront part set width precision lengths.None) → part ≡ flags_text h.flags ++ h.width_text ++ h.precision_text
+whole_point : {part : Text} {set : FlagSet} {width precision : Option ℕ} (h : IsFront part set width precision lengths.None)
+    → part ≡ flags_text h.flags ++ h.width_text ++ h.precision_text
 whole_point h = h.whole ∙ simp append-nil
 
 to_width : {part : Text} {set : FlagSet} {width : Option ℕ} → IsFront part set width None lengths.None → IsToWidth part width
@@ -140,7 +146,8 @@ find_holds p (y ∷ ys) x e = go (p y) refl (find_holds p ys x) e where
   go false h later g = later g
 
 -- a kind that the finished specification gives
-undefined_reason : (part : Text) (byte : ℕ) (s : Specification) (kind : RefusalKind) → is_above_limit s.width ≡ false → is_above_limit s.precision ≡ false → breaks s kind ≡ true → EndsUndefined part byte kind → HasReason part byte kind
+undefined_reason : (part : Text) (byte : ℕ) (s : Specification) (kind : RefusalKind) → is_above_limit s.width ≡ false → is_above_limit s.precision ≡ false
+    → breaks s kind ≡ true → EndsUndefined part byte kind → HasReason part byte kind
 undefined_reason part byte s NulByte w p b h = cc
 undefined_reason part byte s Truncated w p b h = cc
 undefined_reason part byte s Unexpected w p b h = tt
@@ -173,9 +180,11 @@ module _ (part : Text) (byte : ℕ) where
       (choose_kind (byte == 102) _ _ (λ e. inl (4, omega arith, is_byte 102 e)) (choose_kind (byte == 70) _ _ (λ e. inl (5, omega arith, is_byte 70 e))
       (choose_kind (byte == 103) _ _ (λ e. inl (6, omega arith, is_byte 103 e)) (choose_kind (byte == 71) _ _ (λ e. inl (7, omega arith, is_byte 71 e))
       (choose_kind (byte == 112) _ _ (λ e. inl (0, omega arith, is_byte 112 e)) (choose_kind (byte == 110) _ _ (λ e. inl (0, omega arith, is_byte 110 e))
-      (choose_kind (byte == 67) _ _ (λ e. inl (0, omega arith, is_byte 67 e)) (choose_kind (byte == 83) _ _ (λ e. inl (1, omega arith, is_byte 83 e)) tt)))))))))))))
+      (choose_kind (byte == 67) _ _ (λ e. inl (0, omega arith, is_byte 67 e))
+      (choose_kind (byte == 83) _ _ (λ e. inl (1, omega arith, is_byte 83 e)) tt)))))))))))))
 
-  judge_spelled : (s : Specification) → Spells (part ++ byte ∷ []) s → s.width ≢ Some 0 → is_above_limit s.width ≡ false → is_above_limit s.precision ≡ false → Judges part byte (judgement_of s (refused_as s))
+  judge_spelled : (s : Specification) → Spells (part ++ byte ∷ []) s → s.width ≢ Some 0 → is_above_limit s.width ≡ false → is_above_limit s.precision ≡ false
+      → Judges part byte (judgement_of s (refused_as s))
   judge_spelled s spells some w p = go (refused_as s) refl where
     go : (o : Option RefusalKind) → refused_as s ≡ o → Judges part byte (judgement_of s o)
     go None e = (refl, (spells, record { width = some; allowed = e }))
@@ -197,7 +206,8 @@ module _ (part : Text) (byte : ℕ) where
           flags_are = h.set_is;
           width_is = h.width_is;
           precision_is = h.precision_is;
-          whole = ap (λ t. t ++ byte ∷ []) h.whole ∙ ap (λ b. 37 ∷ map flag_byte h.flags ++ h.width_text ++ h.precision_text ++ length_letters length ++ b ∷ []) letter;
+          whole = ap (λ t. t ++ byte ∷ []) h.whole ∙ ap (λ b. 37 ∷ map flag_byte h.flags ++ h.width_text ++ h.precision_text ++ length_letters length ++ b ∷
+              []) letter;
         } in
         subst (λ w. Judges part byte (judgement_of (s w) (refused_as (s w)))) (sym same.0) (judge_spelled (s width) spells same.1 h.width_fits h.precision_fits)
 
@@ -241,7 +251,8 @@ module _ (part : Text) (byte : ℕ) where
           precision_is = SpellsPrecision-point;
           width_fits = h.width_fits;
           precision_fits = refl;
-          whole = ap (λ t. t ++ byte ∷ []) (whole_width h) ∙ ap (λ b. flags_text h.flags ++ h.width_text ++ b ∷ []) same ∙ nil_one (flags_text h.flags ++ h.width_text ++ 46 ∷ []);
+          whole = ap (λ t. t ++ byte ∷ []) (whole_width h) ∙ ap (λ b. flags_text h.flags ++ h.width_text ++ b ∷ []) same
+              ∙ nil_one (flags_text h.flags ++ h.width_text ++ 46 ∷ []);
         },
         refl,
       )
@@ -259,7 +270,8 @@ module _ (part : Text) (byte : ℕ) where
             precision_is = refl;
             width_fits = refl;
             precision_fits = refl;
-            whole = ap (λ t. t ++ byte ∷ []) (whole_flags h) ∙ ap (λ b. flags_text h.flags ++ b ∷ []) same ∙ ap (λ t. 37 ∷ t) (sym (map_push flag_byte h.flags flag)) ∙ nil_three (flags_text (h.flags ++ flag ∷ []));
+            whole = ap (λ t. t ++ byte ∷ []) (whole_flags h) ∙ ap (λ b. flags_text h.flags ++ b ∷ []) same
+                ∙ ap (λ t. 37 ∷ t) (sym (map_push flag_byte h.flags flag)) ∙ nil_three (flags_text (h.flags ++ flag ∷ []));
           },
           λ e. omega (arith, ap length e, length_push h.flags flag),
         )
@@ -349,7 +361,8 @@ module _ (part : Text) (byte : ℕ) where
         ))
 
   -- a second letter of a modifier
-  with_second : (set : FlagSet) (width precision : Option ℕ) (one two : Length) (k : ℕ) → length_letters one ++ k ∷ [] ≡ length_letters two → (byte == k) ≡ true → IsFront part set width precision one → IsFront (part ++ byte ∷ []) set width precision two
+  with_second : (set : FlagSet) (width precision : Option ℕ) (one two : Length) (k : ℕ) → length_letters one ++ k ∷ [] ≡ length_letters two
+      → (byte == k) ≡ true → IsFront part set width precision one → IsFront (part ++ byte ∷ []) set width precision two
   with_second set width precision one two k letters e h =
       let same = eqb-true byte k e in
       let before = flags_text h.flags ++ h.width_text ++ h.precision_text in
@@ -362,14 +375,18 @@ module _ (part : Text) (byte : ℕ) where
         precision_is = h.precision_is;
         width_fits = h.width_fits;
         precision_fits = h.precision_fits;
-        whole = ap (λ t. t ++ byte ∷ []) h.whole ∙ append_assoc before (length_letters one) (byte ∷ []) ∙ ap (λ b. before ++ (length_letters one ++ b ∷ [])) same ∙ ap (λ l. before ++ l) letters;
+        whole = ap (λ t. t ++ byte ∷ []) h.whole ∙ append_assoc before (length_letters one) (byte ∷ [])
+            ∙ ap (λ b. before ++ (length_letters one ++ b ∷ [])) same ∙ ap (λ l. before ++ l) letters;
       }
 
-  judge_after_modifier : (set : FlagSet) (width precision : Option ℕ) (length : Length) → IsFront part set width precision length → Judges part byte (after_modifier set width precision length byte)
+  judge_after_modifier : (set : FlagSet) (width precision : Option ℕ) (length : Length) → IsFront part set width precision length
+      → Judges part byte (after_modifier set width precision length byte)
   judge_after_modifier set width precision lengths.H h =
-      choose (byte == 104) _ _ (λ e. (with_second set width precision lengths.H lengths.Hh 104 refl e h, λ same. cc)) (λ _. judge_ending set width precision lengths.H h)
+      choose (byte == 104) _ _ (λ e. (with_second set width precision lengths.H lengths.Hh 104 refl e h, λ same. cc))
+      (λ _. judge_ending set width precision lengths.H h)
   judge_after_modifier set width precision lengths.L h =
-      choose (byte == 108) _ _ (λ e. (with_second set width precision lengths.L lengths.Ll 108 refl e h, λ same. cc)) (λ _. judge_ending set width precision lengths.L h)
+      choose (byte == 108) _ _ (λ e. (with_second set width precision lengths.L lengths.Ll 108 refl e h, λ same. cc))
+      (λ _. judge_ending set width precision lengths.L h)
   judge_after_modifier set width precision length h = judge_ending set width precision length h
 
   judge_between : part ≡ [] → Judges part byte (next Between byte)
@@ -402,7 +419,16 @@ judge (Width set n) part byte h =
     (λ _. choose part byte (byte == 36) _ _ (λ e. (eqb-true byte 36 e, n, to_width h)) (λ _. judge_after_number part byte set (Some n) None h)))
 judge (Point set width) part byte h =
     choose part byte (is_digit byte) _ _ (judge_made_precise part byte set width 0 h.0) (λ _. choose part byte (byte == 42) _ _
-    (λ e. (eqb-true byte 42 e, inr (flags_text h.0.flags ++ h.0.width_text, width, record { flags = h.0.flags; digits = h.0.width_text; digits_are = h.0.width_is; whole = refl }, whole_point h.0 ∙ ap (λ p. flags_text h.0.flags ++ h.0.width_text ++ p) h.1)))
+    (λ e. (
+      eqb-true byte 42 e,
+      inr (
+        flags_text h.0.flags ++ h.0.width_text,
+        width,
+        record { flags = h.0.flags; digits = h.0.width_text; digits_are = h.0.width_is; whole = refl },
+        whole_point h.0
+            ∙ ap (λ p. flags_text h.0.flags ++ h.0.width_text ++ p) h.1,
+      ),
+    ))
     (λ _. judge_after_number part byte set width (Some 0) h.0))
 judge (Precision set width n) part byte h =
     choose part byte (is_digit byte) _ _ (judge_made_precise part byte set width n h.0) (λ _. judge_after_number part byte set width (Some n) h.0)

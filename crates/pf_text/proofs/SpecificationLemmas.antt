@@ -39,8 +39,12 @@ pub flags_more : (t : Text) (start at : ℕ) (set : FlagSet) (flag : Flag) → f
     → (flags : List Flag) × (set ≡ flag_set flags) × HasBytes t start at (map flag_byte flags)
     → (flags : List Flag) × (with_flag set flag ≡ flag_set flags) × HasBytes t start (at + 1) (map flag_byte flags)
 flags_more t start at set flag e some h =
-    let bytes : map flag_byte h.0 ++ get_or t at 0 ∷ [] ≡ map flag_byte (h.0 ++ flag ∷ []) = ap (λ b. map flag_byte h.0 ++ b ∷ []) (byte_of_flag (get_or t at 0) flag e) ∙ sym (map_push flag_byte h.0 flag) in
-    (h.0 ++ flag ∷ [], ap (λ s. with_flag s flag) h.1 ∙ sym (fold-append with_flag no_flags h.0 (flag ∷ [])), subst (HasBytes t start (at + 1)) bytes (bytes_more t start at (map flag_byte h.0) h.2 some))
+    let bytes : map flag_byte h.0 ++ get_or t at 0 ∷ [] ≡ map flag_byte (h.0 ++ flag ∷ []) = ap (λ b. map flag_byte h.0 ++ b ∷ [])
+    (byte_of_flag (get_or t at 0) flag e) ∙ sym (map_push flag_byte h.0 flag) in (
+      h.0 ++ flag ∷ [],
+      ap (λ s. with_flag s flag) h.1 ∙ sym (fold-append with_flag no_flags h.0 (flag ∷ [])),
+      subst (HasBytes t start (at + 1)) bytes (bytes_more t start at (map flag_byte h.0) h.2 some),
+    )
 
 -- one digit more
 pub digits_more : (t : Text) (start at first number : ℕ) → is_digit (get_or t at 0) ≡ true → at < length t
@@ -73,15 +77,18 @@ more_digits P push [] t n below h = subst (λ u. P u n) (sym (append-nil t)) h
 more_digits P push (d ∷ ds) t n below h =
     let one = push t n (digit_glyph false d) (digit_is d below.0).0 h in
     let here = subst (P (t ++ digit_glyph false d ∷ [])) (next_number n d below.0) one in
-    subst (λ u. P u (number_from_digits_after 10 (n * 10 + d) ds)) (after_digit t d ds) (more_digits P push ds (t ++ digit_glyph false d ∷ []) (n * 10 + d) below.1 here)
+    subst (λ u. P u (number_from_digits_after 10 (n * 10 + d) ds)) (after_digit t d ds)
+    (more_digits P push ds (t ++ digit_glyph false d ∷ []) (n * 10 + d) below.1 here)
 
 goes_on : (P : Text → ℕ → Type 0) → ((t : Text) (n byte : ℕ) → is_digit byte ≡ true → P t n → P (t ++ byte ∷ []) (10 * n + (byte - 48)))
     → (t bytes : Text) (n m : ℕ) → ContinuesNumber n bytes m → P t n → P (t ++ bytes) m
 goes_on P push t bytes n m g h =
-    subst (P (t ++ bytes)) (sym g.value) (subst (λ u. P (t ++ u) (number_from_digits_after 10 n g.digits)) (sym g.spelled) (more_digits P push g.digits t n g.below h))
+    subst (P (t ++ bytes)) (sym g.value) (subst (λ u. P (t ++ u) (number_from_digits_after 10 n g.digits)) (sym g.spelled)
+    (more_digits P push g.digits t n g.below h))
 
 -- bytes, and those behind them
-pub bytes_join : (t : Text) (start at stop : ℕ) (bytes more : Text) → HasBytes t start at bytes → HasBytes t at stop more → HasBytes t start stop (bytes ++ more)
+pub bytes_join : (t : Text) (start at stop : ℕ) (bytes more : Text) → HasBytes t start at bytes → HasBytes t at stop more
+    → HasBytes t start stop (bytes ++ more)
 bytes_join t start at stop bytes more h g =
     record {
       from = omega (arith, h.from, g.from);

@@ -1,5 +1,6 @@
 -- How long the spellings are.
-use Rattle.std.proofs.Common.{◌≡◌, ℕ, ◌+◌, ◌/◌, ◌%◌, ◌^◌, ◌<◌, ◌≤◌, Bool, true, false, cond, List, [], ◌∷◌, ◌++◌, map, length, take, get_or, refl, sym, ap, ◌∙◌, arith, inl, inr}
+use Rattle.std.proofs.Common.{◌≡◌, ℕ, ◌+◌, ◌/◌, ◌%◌, ◌^◌, ◌<◌, ◌≤◌, Bool, true, false, cond, List, [], ◌∷◌, ◌++◌, map, length, take, get_or, refl, sym, ap, ◌∙◌}
+use Rattle.std.proofs.Common.{arith, inl, inr}
 use Rattle.std.specs.Prelude.{decimal, filter, count_by, Option, Some, None, not, ◌&&◌, ◌⊎◌}
 use Rattle.std.specs.Int.Digits.{digits_of}
 use Rattle.std.proofs.lemmas.Fmt.{decimal-digits_of, length-decimal-le}
@@ -70,9 +71,11 @@ length-length_letters lengths.Z = omega arith
 length-length_letters lengths.T = omega arith
 
 flags_kept-append : (set : FlagSet) (flags more : List Flag) → flags_kept set (flags ++ more) ≡ flags_kept set flags ++ flags_kept set more
-flags_kept-append set flags more = ap (map flag_byte) (filter-append (has set) flags more) ∙ map-append flag_byte (filter (has set) flags) (filter (has set) more)
+flags_kept-append set flags more = ap (map flag_byte) (filter-append (has set) flags more)
+    ∙ map-append flag_byte (filter (has set) flags) (filter (has set) more)
 
-pub flags_kept-more : (set : FlagSet) (flags : List Flag) (i : ℕ) (d : Flag) → i < length flags → flags_kept set (take (i + 1) flags) ≡ flags_kept set (take i flags) ++ flags_kept set (get_or flags i d ∷ [])
+pub flags_kept-more : (set : FlagSet) (flags : List Flag) (i : ℕ) (d : Flag) → i < length flags
+    → flags_kept set (take (i + 1) flags) ≡ flags_kept set (take i flags) ++ flags_kept set (get_or flags i d ∷ [])
 flags_kept-more set flags i d h = ap (flags_kept set) (take_more flags i d h) ∙ flags_kept-append set (take i flags) (get_or flags i d ∷ [])
 
 -- how many of some flags are in a set

@@ -57,7 +57,8 @@ IsEnded-spelled t s h few =
       whole = h.whole;
     }
 
-pub run-ended : (items : List Item) (t : Text) (s : Specification) (h : IsEnded t s) → run (On items Between) t ≡ moved items (judged_as s.flags s.width s.precision s.length s.conv)
+pub run-ended : (items : List Item) (t : Text) (s : Specification) (h : IsEnded t s)
+    → run (On items Between) t ≡ moved items (judged_as s.flags s.width s.precision s.length s.conv)
 run-ended items t s h =
     ap (run (On items Between)) h.whole
     ∙ run-append (On items Between) h.part (conv_letter s.conv ∷ [])
@@ -69,7 +70,8 @@ given_width None h = refl
 given_width (Some zero) h = absurd (h refl)
 given_width (Some (suc n)) h = refl
 
-run-directive : (items : List Item) (t : Text) (s : Specification) → Spells t s → IsDefined s → run (On items Between) t ≡ On (items ++ Directive s ∷ []) Between
+run-directive : (items : List Item) (t : Text) (s : Specification) → Spells t s → IsDefined s
+    → run (On items Between) t ≡ On (items ++ Directive s ∷ []) Between
 run-directive items t s h defined =
     let same = given_width s.width defined.width in
     let g : Option ℕ → Specification = λ w. record { flags = s.flags; width = w; precision = s.precision; length = s.length; conv = s.conv } in
@@ -77,7 +79,8 @@ run-directive items t s h defined =
     ∙ ap (λ w. moved items (judgement_of (g w) (refused_as (g w)))) same
     ∙ ap (λ o. moved items (judgement_of s o)) defined.allowed
 
-run-byte : (items : List Item) (t : Text) (byte : ℕ) (b : Bool) → (byte == 37) ≡ b → MatchBool b (t ≡ 37 ∷ 37 ∷ []) ((byte ≢ 0) × (t ≡ byte ∷ [])) → run (On items Between) t ≡ On (items ++ Byte byte ∷ []) Between
+run-byte : (items : List Item) (t : Text) (byte : ℕ) (b : Bool) → (byte == 37) ≡ b → MatchBool b (t ≡ 37 ∷ 37 ∷ []) ((byte ≢ 0) × (t ≡ byte ∷ []))
+    → run (On items Between) t ≡ On (items ++ Byte byte ∷ []) Between
 run-byte items t byte true e h = ap (run (On items Between)) h ∙ ap (λ k. On (items ++ Byte k ∷ []) Between) (sym (eqb-true byte 37 e))
 run-byte items t byte false e h =
     let some : (byte == 0) ≡ false = grind (arith, nat_tests, h.0) in
@@ -130,7 +133,12 @@ module _ (t part : Text) (items : List Item) (byte : ℕ) (h : IsSplit t items p
   ended_item q item g =
       record {
         part = [];
-        splits = record { whole = h.whole ++ (part ++ byte ∷ []); reads = Reads-push items h.whole (part ++ byte ∷ []) item h.reads g.1; split = longer ∙ sym (append-nil (h.whole ++ (part ++ byte ∷ []))) };
+        splits = record {
+          whole = h.whole ++ (part ++ byte ∷ []);
+          reads = Reads-push items h.whole (part ++ byte ∷ []) item h.reads g.1;
+          split = longer
+              ∙ sym (append-nil (h.whole ++ (part ++ byte ∷ [])));
+        };
         at = subst (λ s. IsAt s []) (sym g.0) refl;
       }
 
@@ -200,12 +208,14 @@ split_last (x ∷ []) h = ([], x, refl)
 split_last (x ∷ y ∷ t) h = let rest = split_last (y ∷ t) (λ e. cc) in (x ∷ rest.0, rest.1, ap (λ u. x ∷ u) rest.2)
 
 -- What has begun an item is run through, and what is left of one goes on to a state with no more items.
-pub begun_run : (items : List Item) (part : Text) → IsBegun part → (q : State × List Item) × (rest : Text) × (run (On items Between) part ≡ Ok q) × (last : State) × (run (On q.1 q.0) rest ≡ On items last)
+pub begun_run : (items : List Item) (part : Text) → IsBegun part
+    → (q : State × List Item) × (rest : Text) × (run (On items Between) part ≡ Ok q) × (last : State) × (run (On q.1 q.0) rest ≡ On items last)
 begun_run items part h =
     let s = h.1 in
     let ended = IsEnded-spelled (part ++ h.0) s h.2 h.3 in
     let cut = split_last h.0 h.4 in
-    let same : part ++ cut.0 ++ cut.1 ∷ [] ≡ ended.part ++ conv_letter s.conv ∷ [] = append_assoc part cut.0 (cut.1 ∷ []) ∙ ap (λ u. part ++ u) (sym cut.2) ∙ ended.whole in
+    let same : part ++ cut.0 ++ cut.1 ∷ [] ≡ ended.part ++ conv_letter s.conv ∷ [] = append_assoc part cut.0 (cut.1 ∷ []) ∙ ap (λ u. part ++ u) (sym cut.2)
+    ∙ ended.whole in
     let front = same_from_push (part ++ cut.0) ended.part cut.1 (conv_letter s.conv) same in
     let all = ap (run (On items Between)) front.0 ∙ run-front items ended.part s.flags s.width s.precision s.length ended.front in
     let ok = front-ok (On items Between) part cut.0 (at_front ended.front, items) all in
@@ -214,5 +224,8 @@ begun_run items part h =
 -- a good front is run through
 pub run-good : (t part : Text) (items : List Item) → IsGoodFront t items part → (q : State × List Item) × (run start t ≡ Ok q)
 run-good t part items g =
-    let runs = begun_run items part g.begun in
-    (runs.0, ap (run start) g.splits.split ∙ run-append start g.splits.whole part ∙ ap (λ p. run p part) (run-reads items g.splits.whole [] g.splits.reads) ∙ runs.2)
+    let runs = begun_run items part g.begun in (
+      runs.0,
+      ap (run start) g.splits.split ∙ run-append start g.splits.whole part ∙ ap (λ p. run p part) (run-reads items g.splits.whole [] g.splits.reads)
+          ∙ runs.2,
+    )

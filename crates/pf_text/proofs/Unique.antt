@@ -67,13 +67,15 @@ no_items t state q items e = go (run (On [] state) t) refl where
   go (Err kind) g = let all : On [] q ≡ Err kind = sym e ∙ run_from t items state ∙ ap (prefixed items) g in cc
 
 -- what is run through is items and the beginning of one more
-sound_run : (u t : Text) (items : List Item) (state : State) → IsStepped t items state → (others : List Item) (q : State) → run (On items state) u ≡ On others q → IsStepped (t ++ u) others q
+sound_run : (u t : Text) (items : List Item) (state : State) → IsStepped t items state → (others : List Item) (q : State)
+    → run (On items state) u ≡ On others q → IsStepped (t ++ u) others q
 sound_run [] t items state h others q e =
     let same = ap items_in e in
     let there = ap state_in e in
     subst (λ v. IsStepped v others q) (sym (append-nil t)) (subst (λ s. IsStepped t others s) there (subst (λ i. IsStepped t i state) same h))
 sound_run (b ∷ u) t items state h others q e = go (next state b) refl (λ i s g. sound_run u (t ++ b ∷ []) i s g others q) e where
-  go : (n : Next) → next state b ≡ n → ((i : List Item) (s : State) → IsStepped (t ++ b ∷ []) i s → run (On i s) u ≡ On others q → IsStepped (t ++ b ∷ [] ++ u) others q) → run (moved items n) u ≡ On others q → IsStepped (t ++ (b ∷ u)) others q
+  go : (n : Next) → next state b ≡ n → ((i : List Item) (s : State) → IsStepped (t ++ b ∷ []) i s → run (On i s) u ≡ On others q
+      → IsStepped (t ++ b ∷ [] ++ u) others q) → run (moved items n) u ≡ On others q → IsStepped (t ++ (b ∷ u)) others q
   go (Ok p) g rest f =
       let leads = subst (Judges h.part b) g (judge state h.part b h.at) in
       subst (λ v. IsStepped v others q) (append_assoc t (b ∷ []) u) (rest (with_step items p.1) p.0 (stepped t h.part items b h.splits p.0 p.1 leads) f)
@@ -140,8 +142,10 @@ module _ (front part other : Text) (items others : List Item) (h : IsGoodFront f
   same_part : part ≡ other
   same_part = go (cuts h.splits.whole part g.splits.whole other (sym h.splits.split ∙ g.splits.split)) where
     go : Cuts h.splits.whole part g.splits.whole other → part ≡ other
-    go (Later x e f) = f ∙ ap (λ t. t ++ other) (same_whole others h.splits.whole g.splits.whole x (subst (Reads h.splits.whole) same_items h.splits.reads) g.splits.reads e)
-    go (Sooner x e f) = sym (f ∙ ap (λ t. t ++ part) (same_whole others g.splits.whole h.splits.whole x g.splits.reads (subst (Reads h.splits.whole) same_items h.splits.reads) e))
+    go (Later x e f) = f ∙ ap (λ t. t ++ other) (same_whole others h.splits.whole g.splits.whole x
+        (subst (Reads h.splits.whole) same_items h.splits.reads) g.splits.reads e)
+    go (Sooner x e f) = sym (f ∙ ap (λ t. t ++ part) (same_whole others g.splits.whole h.splits.whole x g.splits.reads
+        (subst (Reads h.splits.whole) same_items h.splits.reads) e))
 
 same_reason : (part : Text) (byte : ℕ) (kind other : RefusalKind) → IsRefusedByte part byte kind → IsRefusedByte part byte other → kind ≡ other
 same_reason part byte kind other h g = go (h.others other g.reason) (g.others kind h.reason) where
@@ -175,5 +179,6 @@ module _ (t : Text) (kind other : RefusalKind) (p q : ℕ) (h : IsRefusedAt t ki
   IsRefusedAt-unique =
       let places : p ≡ q = h.offset ∙ ap length same_front.0 ∙ sym g.offset in
       let parts = same_part g.front h.part g.part h.items g.items (subst (λ u. IsGoodFront u h.items h.part) same_front.0 h.good) g.good in
-      let cause : HasCause q g.part g.rest kind = subst (λ n. HasCause n g.part g.rest kind) places (subst (λ u. HasCause p u g.rest kind) parts (subst (λ u. HasCause p h.part u kind) same_front.1 h.cause)) in
+      let cause : HasCause q g.part g.rest kind = subst (λ n. HasCause n g.part g.rest kind) places
+      (subst (λ u. HasCause p u g.rest kind) parts (subst (λ u. HasCause p h.part u kind) same_front.1 h.cause)) in
       (same_cause q g.part g.rest kind other cause g.cause, places)

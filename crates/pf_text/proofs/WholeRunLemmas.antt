@@ -1,5 +1,6 @@
 -- What runs over a whole text have given, step by step and piece by piece.
-use Rattle.std.proofs.Common.{◌≡◌, ℕ, ◌+◌, ◌<◌, ◌≤◌, List, [], ◌∷◌, ◌++◌, length, get_or, take, drop, flat_map, refl, sym, ap, ◌∙◌, subst, arith, suc, Ok, Err, Result}
+use Rattle.std.proofs.Common.{◌≡◌, ℕ, ◌+◌, ◌<◌, ◌≤◌, List, [], ◌∷◌, ◌++◌, length, get_or, take, drop, flat_map, refl, sym, ap, ◌∙◌, subst, arith, suc, Ok, Err}
+use Rattle.std.proofs.Common.{Result}
 use Rattle.std.proofs.Math.Seq.{drop-cons, take-append_seam, take-suc}
 use Rattle.std.proofs.lemmas.List.{append-nil, flat_map_more, length-take-le, take-append-drop, take_all}
 use Rattle.pf_values.specs.declared.limits.TheConstants.{MAX_TEXT_LEN}
@@ -28,15 +29,18 @@ module _ (t : Text) (n : ℕ) (old : Scanner) (given : List Step) (h : IsAfter o
     next : suc n ≡ n + 1
     next = omega arith
 
-    pub fed_one : (step : Step) → Feeds (take n t) (flat_map ended_by given) (get_or t n d) (Ok step) new → IsAfter new (take (n + 1) t) (flat_map ended_by (given ++ step ∷ []))
+    pub fed_one : (step : Step) → Feeds (take n t) (flat_map ended_by given) (get_or t n d) (Ok step) new
+        → IsAfter new (take (n + 1) t) (flat_map ended_by (given ++ step ∷ []))
     fed_one step f =
         let text : take n t ++ get_or t n d ∷ [] ≡ take (n + 1) t = sym (take-suc t n d few) ∙ ap (λ k. take k t) next in
         let items = with_ended (flat_map ended_by given) step ∙ flat_map_more ended_by [] given step in
         subst (λ u. IsAfter new u (flat_map ended_by (given ++ step ∷ []))) text (subst (IsAfter new (take n t ++ get_or t n d ∷ [])) items f.after)
 
-    pub fed_refused : (refusal : Refusal) → Feeds (take n t) (flat_map ended_by given) (get_or t n d) (Err refusal) new → HasRun t (flat_map ended_by given) (Err refusal)
+    pub fed_refused : (refusal : Refusal) → Feeds (take n t) (flat_map ended_by given) (get_or t n d) (Err refusal) new
+        → HasRun t (flat_map ended_by given) (Err refusal)
     fed_refused refusal f =
-        let whole : take n t ++ get_or t n d ∷ drop (n + 1) t ≡ t = ap (λ rest. take n t ++ rest) (ap (λ k. get_or t n d ∷ drop k t) (sym next) ∙ sym (drop-cons t n d few)) ∙ take-append-drop n t in
+        let whole : take n t ++ get_or t n d ∷ drop (n + 1) t ≡ t = ap (λ rest. take n t ++ rest)
+        (ap (λ k. get_or t n d ∷ drop k t) (sym next) ∙ sym (drop-cons t n d few)) ∙ take-append-drop n t in
         let place : refusal.at ≡ n = f.0 ∙ length-take-le n t (omega (arith, few)) in (
           subst (λ u. IsRefusedAt u refusal.kind refusal.at) whole (f.1 (drop (n + 1) t)),
           (h.part, subst (λ k. IsGoodFront (take k t) (flat_map ended_by given) h.part) (sym place) h.good),
@@ -54,10 +58,12 @@ module _ (t : Text) (n : ℕ) (old : Scanner) (given : List Step) (h : IsAfter o
 
 -- Pieces of a text were given.
 module _ (t read : Text) (old : Pieces) (given : List Piece) (h : HasGiven old t read (flat_map items_of given)) where
-  pub one_given : (piece : Piece) (new : Pieces) (g : NextIsPiece new t read (flat_map items_of given) piece) → HasGiven new t (read ++ g.more) (flat_map items_of (given ++ piece ∷ []))
+  pub one_given : (piece : Piece) (new : Pieces) (g : NextIsPiece new t read (flat_map items_of given) piece)
+      → HasGiven new t (read ++ g.more) (flat_map items_of (given ++ piece ∷ []))
   one_given piece new g = subst (HasGiven new t (read ++ g.more)) (flat_map_more items_of [] given piece) g.given
 
   pub pieces_refused : (refusal : Refusal) → NextIsRefusal t (flat_map items_of given) refusal → HasRun t (flat_map items_of given) (Err refusal)
   pieces_refused refusal g =
-      let front : g.front ≡ take refusal.at t = sym (take-append_seam g.front g.rest) ∙ ap (take (length g.front)) (sym g.split) ∙ ap (λ n. take n t) (sym g.offset) in
+      let front : g.front ≡ take refusal.at t = sym (take-append_seam g.front g.rest) ∙ ap (take (length g.front)) (sym g.split)
+      ∙ ap (λ n. take n t) (sym g.offset) in
       (g.refused, (g.part, subst (λ u. IsGoodFront u (flat_map items_of given) g.part) front g.good))

@@ -19,15 +19,18 @@ all_printed model (Byte byte ∷ items) args = byte ∷ all_printed model items 
 all_printed model (Directive s ∷ items) [] = []
 all_printed model (Directive s ∷ items) (argument ∷ args) = printed_text model s argument ++ all_printed model items args
 
-pub all_printed-is : (model : Model) (items : List Item) (args : List Argument) → HasTypes model args (types model items) → PrintsAll model items args (all_printed model items args)
+pub all_printed-is : (model : Model) (items : List Item) (args : List Argument) → HasTypes model args (types model items)
+    → PrintsAll model items args (all_printed model items args)
 all_printed-is model [] [] h = refl
 all_printed-is model [] (argument ∷ args) h = absurd h
 all_printed-is model (Byte byte ∷ items) [] h = (all_printed model items [], all_printed-is model items [] h, refl)
 all_printed-is model (Byte byte ∷ items) (argument ∷ args) h = (all_printed model items (argument ∷ args), all_printed-is model items (argument ∷ args) h, refl)
 all_printed-is model (Directive s ∷ items) [] h = absurd h
-all_printed-is model (Directive s ∷ items) (argument ∷ args) h = (printed_text model s argument, all_printed model items args, printed-is model s argument h.0, all_printed-is model items args h.1, refl)
+all_printed-is model (Directive s ∷ items) (argument ∷ args) h =
+    (printed_text model s argument, all_printed model items args, printed-is model s argument h.0, all_printed-is model items args h.1, refl)
 
-pub PrintsAll-unique : (model : Model) (items : List Item) (args : List Argument) (out : Text) → HasTypes model args (types model items) → PrintsAll model items args out → out ≡ all_printed model items args
+pub PrintsAll-unique : (model : Model) (items : List Item) (args : List Argument) (out : Text) → HasTypes model args (types model items)
+    → PrintsAll model items args out → out ≡ all_printed model items args
 PrintsAll-unique model [] [] out h g = g
 PrintsAll-unique model [] (argument ∷ args) out h g = absurd h
 PrintsAll-unique model (Byte byte ∷ items) [] out h g = g.2 ∙ ap (λ t. byte ∷ t) (PrintsAll-unique model items [] g.0 h g.1)
@@ -100,7 +103,8 @@ alike_behind model (Directive s) a b h = record {
   same_bytes = go;
 }
   where
-    go : (args : List Argument) → HasTypes model args (types model (Directive s ∷ a)) → all_printed model (Directive s ∷ a) args ≡ all_printed model (Directive s ∷ b) args
+    go : (args : List Argument) → HasTypes model args (types model (Directive s ∷ a))
+        → all_printed model (Directive s ∷ a) args ≡ all_printed model (Directive s ∷ b) args
     go [] t = refl
     go (argument ∷ args) t = ap (λ u. printed_text model s argument ++ u) (h.same_bytes args t.1)
 
@@ -129,7 +133,8 @@ split_typed model (argument ∷ args) (t ∷ ts) us h =
       typed_second = rest.typed_second;
     }
 
-all_printed-append : (model : Model) (a b : List Item) (first second : List Argument) → HasTypes model first (types model a) → all_printed model (a ++ b) (first ++ second) ≡ all_printed model a first ++ all_printed model b second
+all_printed-append : (model : Model) (a b : List Item) (first second : List Argument) → HasTypes model first (types model a)
+    → all_printed model (a ++ b) (first ++ second) ≡ all_printed model a first ++ all_printed model b second
 all_printed-append model [] b [] second h = refl
 all_printed-append model [] b (argument ∷ first) second h = absurd h
 all_printed-append model (Byte byte ∷ a) b first second h = ap (λ t. byte ∷ t) (all_printed-append model a b first second h)

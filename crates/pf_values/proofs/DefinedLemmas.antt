@@ -22,7 +22,8 @@ not_broken : (kinds : List RefusalKind) (s : Specification) → first_broken kin
 not_broken [] s e = tt
 not_broken (kind ∷ kinds) s e = let here = none_first (breaks s kind) kind (first_broken kinds s) e in (here.0, not_broken kinds s here.1)
 
-pub none_broken : (s : Specification) → refused_as s ≡ None → AllByRecursion (λ kind. breaks s kind ≡ false) (WidthTooLarge ∷ PrecisionTooLarge ∷ undefined_kinds)
+pub none_broken : (s : Specification) → refused_as s ≡ None → AllByRecursion (λ kind. breaks s kind ≡ false)
+    (WidthTooLarge ∷ PrecisionTooLarge ∷ undefined_kinds)
 none_broken s allowed = not_broken (WidthTooLarge ∷ PrecisionTooLarge ∷ undefined_kinds) s allowed
 
 pub within : (s : Specification) → refused_as s ≡ None → IsWithinLimits s

@@ -9,7 +9,8 @@ use Rattle.pf_values.specs.declared.lengths.Length.{Length}
 use Rattle.pf_values.specs.declared.lengths.Length.TheVariants as lengths
 use Rattle.pf_values.specs.declared.limits.TheConstants.{MAX_NUMBER, MAX_TEXT_LEN}
 use Rattle.pf_values.specs.declared.models.Model.{Model}
-use Rattle.pf_values.specs.declared.refusals.RefusalKind.TheVariants.{WidthTooLarge, Wide, AltUndefined, ZeroUndefined, GroupUndefined, PrecisionUndefined, LengthUndefined}
+use Rattle.pf_values.specs.declared.refusals.RefusalKind.TheVariants.{WidthTooLarge, Wide, AltUndefined, ZeroUndefined, GroupUndefined, PrecisionUndefined}
+use Rattle.pf_values.specs.declared.refusals.RefusalKind.TheVariants.{LengthUndefined}
 use Rattle.pf_values.specs.meaning.Arguments.{Number, String}
 use Rattle.pf_values.specs.meaning.Defined.{refused_as}
 use Rattle.pf_values.specs.meaning.Flags.{flag_set}

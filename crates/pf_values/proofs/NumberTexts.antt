@@ -12,7 +12,8 @@ use Rattle.pf_values.proofs.PrintsOnce.{value_text}
 
 -- the bytes of a value with some precision
 abbrev pub number_text : Specification → ℕ → ℤ → Text
-number_text s precision v = sign_or_prefix s v ++ zero_digits (base_of s.conv) (is_upper s.conv) (max precision (natural_of s (nat_abs v)) - count_of (base_of s.conv) (nat_abs v)) (nat_abs v)
+number_text s precision v = sign_or_prefix s v ++ zero_digits (base_of s.conv) (is_upper s.conv)
+    (max precision (natural_of s (nat_abs v)) - count_of (base_of s.conv) (nat_abs v)) (nat_abs v)
 
 pub value_text-is : (s : Specification) (v : ℤ) → value_text s v ≡ number_text s (printed_precision s v) v
 value_text-is s v = ap (λ t. sign_or_prefix s v ++ t) (printed_digits-is s (printed_precision s v) (nat_abs v))

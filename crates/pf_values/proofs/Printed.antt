@@ -1,5 +1,6 @@
 -- For each directive and argument of its type there is one text that it prints.
-use Rattle.std.proofs.Common.{◌≡◌, ℕ, zero, suc, ◌+◌, ◌-◌, ◌<◌, ◌≤◌, max, Bool, true, false, List, [], ◌∷◌, ◌++◌, length, get_or, map, replicate, refl, ap, ◌∙◌, subst, arith, inl, inr, ℤ}
+use Rattle.std.proofs.Common.{◌≡◌, ℕ, zero, suc, ◌+◌, ◌-◌, ◌<◌, ◌≤◌, max, Bool, true, false, List, [], ◌∷◌, ◌++◌, length, get_or, map, replicate, refl, ap, ◌∙◌}
+use Rattle.std.proofs.Common.{subst, arith, inl, inr, ℤ}
 use Rattle.std.specs.Prelude.{MatchBool, ◌&&◌, nat_abs, unwrap_or, nat_lt, if◌then◌else◌}
 use Rattle.pf_values.specs.declared.bases.Base.{Base}
 use Rattle.pf_values.specs.declared.bases.Base.TheVariants.{Binary, Octal, Decimal, Hexadecimal}
@@ -31,7 +32,8 @@ pub IsNumeral-exists : (base : ℕ) (upper : Bool) (least n : ℕ) → 2 ≤ bas
 IsNumeral-exists base upper least n b = (least_digits base least n, AreLeastDigits-exist base least n b, refl)
 
 pub IsNumeral-unique : (base : ℕ) (upper : Bool) (least n : ℕ) (t : Text) → 2 ≤ base → IsNumeral base upper least n t → t ≡ numeral base upper least n
-IsNumeral-unique base upper least n t b h = h.2 ∙ ap (map (digit_glyph upper)) (AreLeastDigits-unique base least n h.0 _ b h.1 (AreLeastDigits-exist base least n b))
+IsNumeral-unique base upper least n t b h = h.2 ∙ ap (map (digit_glyph upper))
+    (AreLeastDigits-unique base least n h.0 _ b h.1 (AreLeastDigits-exist base least n b))
 
 -- how many digits a number has in a base, none for 0
 abbrev pub count_of : ℕ → ℕ → ℕ
@@ -100,13 +102,15 @@ abbrev pub printed_digits : Specification → ℕ → ℕ → Text
 printed_digits s precision n = digits_under (from_zero s) (base_of s.conv) (is_upper s.conv) precision n
 
 abbrev AreUnder : Bool → ℕ → Bool → ℕ → ℕ → Text → Type 0
-AreUnder b base upper precision n t = MatchBool b ((more : ℕ) × IsLeastFrom precision (λ p. (u : Text) × IsOctalFromZero p n u) more × IsOctalFromZero more n t) (IsNumeral base upper precision n t)
+AreUnder b base upper precision n t = MatchBool b ((more : ℕ) × IsLeastFrom precision (λ p. (u : Text) × IsOctalFromZero p n u) more
+    × IsOctalFromZero more n t) (IsNumeral base upper precision n t)
 
 under_exists : (b : Bool) (base : ℕ) (upper : Bool) (precision n : ℕ) → 2 ≤ base → AreUnder b base upper precision n (digits_under b base upper precision n)
 under_exists true base upper precision n h = (octal_precision precision n, octal_least precision n, octal_numeral (octal_precision precision n) n (omega arith))
 under_exists false base upper precision n h = IsNumeral-exists base upper precision n h
 
-under_unique : (b : Bool) (base : ℕ) (upper : Bool) (precision n : ℕ) (t : Text) → 2 ≤ base → AreUnder b base upper precision n t → t ≡ digits_under b base upper precision n
+under_unique : (b : Bool) (base : ℕ) (upper : Bool) (precision n : ℕ) (t : Text) → 2 ≤ base → AreUnder b base upper precision n t
+    → t ≡ digits_under b base upper precision n
 under_unique true base upper precision n t h g =
     IsNumeral-unique 8 false g.0 n t (omega arith) g.2.0
     ∙ ap (λ p. numeral 8 false p n) (IsLeastFrom-unique precision _ g.0 _ g.1 (octal_least precision n))
@@ -160,9 +164,16 @@ reaches s value p h = (
   omega (arith, h, length-append (sign_or_prefix s value) (printed_digits s p (nat_abs value)), length-printed_digits s p (nat_abs value)),
 )
 
-reaches_only : (s : Specification) (value : ℤ) (p : ℕ) → ReachesWidth s value p → width_of s ≤ length (sign_or_prefix s value) + max p (natural_of s (nat_abs value))
+reaches_only : (s : Specification) (value : ℤ) (p : ℕ) → ReachesWidth s value p
+    → width_of s ≤ length (sign_or_prefix s value) + max p (natural_of s (nat_abs value))
 reaches_only s value p h =
-    omega (arith, h.2, length-append (sign_or_prefix s value) h.0, ap length (AreDigitsOf-unique s p (nat_abs value) h.0 h.1), length-printed_digits s p (nat_abs value))
+    omega (
+      arith,
+      h.2,
+      length-append (sign_or_prefix s value) h.0,
+      ap length (AreDigitsOf-unique s p (nat_abs value) h.0 h.1),
+      length-printed_digits s p (nat_abs value),
+    )
 
 filled_from_one : (width front_len natural : ℕ) → 1 ≤ filled_precision width front_len natural
 filled_from_one width front_len natural = grind (arith, nat_tests)
@@ -181,11 +192,13 @@ filled_least s value =
       least = λ m low h. filled_below _ _ _ m low (reaches_only s value m h);
     }
 
-precision_exists : (b : Bool) (s : Specification) (value : ℤ) → MatchBool b (IsLeastFrom 1 (ReachesWidth s value) (precision_under b s value)) (precision_under b s value ≡ unwrap_or s.precision 1)
+precision_exists : (b : Bool) (s : Specification) (value : ℤ)
+    → MatchBool b (IsLeastFrom 1 (ReachesWidth s value) (precision_under b s value)) (precision_under b s value ≡ unwrap_or s.precision 1)
 precision_exists true s value = filled_least s value
 precision_exists false s value = refl
 
-precision_unique : (b : Bool) (s : Specification) (value : ℤ) (p : ℕ) → MatchBool b (IsLeastFrom 1 (ReachesWidth s value) p) (p ≡ unwrap_or s.precision 1) → p ≡ precision_under b s value
+precision_unique : (b : Bool) (s : Specification) (value : ℤ) (p : ℕ) → MatchBool b (IsLeastFrom 1 (ReachesWidth s value) p) (p ≡ unwrap_or s.precision 1)
+    → p ≡ precision_under b s value
 precision_unique true s value p h = IsLeastFrom-unique 1 _ p _ h (filled_least s value)
 precision_unique false s value p h = h
 
@@ -222,7 +235,8 @@ raised_is _ alt e = absurd (cc)
 abbrev pub zeros_of : Specification → ℕ → ℕ → ℕ
 zeros_of s precision n = max precision (natural_of s n) - count_of (base_of s.conv) n
 
-pub printed_digits-is : (s : Specification) (precision n : ℕ) → printed_digits s precision n ≡ zero_digits (base_of s.conv) (is_upper s.conv) (zeros_of s precision n) n
+pub printed_digits-is : (s : Specification) (precision n : ℕ)
+    → printed_digits s precision n ≡ zero_digits (base_of s.conv) (is_upper s.conv) (zeros_of s precision n) n
 printed_digits-is s precision n =
     let raised = raised_is s.conv (has s.flags Alt) in
     filled_under (from_zero s) (base_of s.conv) (is_upper s.conv) precision n raised

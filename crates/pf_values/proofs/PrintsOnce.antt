@@ -82,12 +82,15 @@ IsOne model k s argument = PrintsKind model k s argument (body_of_kind model k s
     × ((other : Text) → PrintsKind model k s argument other → other ≡ body_of_kind model k s argument)
 
 abbrev IsOneNumber : Model → Specification → ℤ → Type 0
-IsOneNumber model s n = PrintsNumber model s n (value_text s (value_of model s n)) × ((other : Text) → PrintsNumber model s n other → other ≡ value_text s (value_of model s n))
+IsOneNumber model s n = PrintsNumber model s n (value_text s (value_of model s n))
+    × ((other : Text) → PrintsNumber model s n other → other ≡ value_text s (value_of model s n))
 
 one_number : (model : Model) (s : Specification) (n : ℤ) → IsOneNumber model s n
 one_number model s n = (
   PrintsNumber-value model s n _ (converted-is (bits_under model s.length) (is_signed s.conv) n),
-  λ other h. PrintsNumber-is model s n other h ∙ ap (value_text s) (IsConverted-unique (bits_under model s.length) (is_signed s.conv) n h.value _ h.value_is (converted-is (bits_under model s.length) (is_signed s.conv) n)),
+  λ other h. PrintsNumber-is model s n other h ∙ ap (value_text s)
+      (IsConverted-unique (bits_under model s.length) (is_signed s.conv) n h.value _ h.value_is
+      (converted-is (bits_under model s.length) (is_signed s.conv) n)),
 )
 
 one_char : (model : Model) (s : Specification) (n : ℤ) → IsOne model kinds.Char s (Number n)
@@ -97,8 +100,10 @@ one_char model s n =
       λ other h. h.2 ∙ ap (λ b. b ∷ []) (let same = IsConverted-unique B8 false n (pos h.0) (pos (wrapped 256 n)) h.1 byte in omega (arith, ints)),
     )
 
-no_string : (model : Model) (t : Text) (length : Length) → (HasType model (String t) (signed_type model length) → ⊥) × (HasType model (String t) (unsigned_type model length) → ⊥)
-no_string model t = each_row model (λ r. (HasType model (String t) r.signed → ⊥) × (HasType model (String t) r.unsigned → ⊥)) (λ h. h, λ h. h) (λ h. h, λ h. h) (λ h. h, λ h. h) (λ h. h, λ h. h) (λ h. h, λ h. h)
+no_string : (model : Model) (t : Text) (length : Length) → (HasType model (String t) (signed_type model length) → ⊥)
+    × (HasType model (String t) (unsigned_type model length) → ⊥)
+no_string model t = each_row model (λ r. (HasType model (String t) r.signed → ⊥) × (HasType model (String t) r.unsigned → ⊥)) (λ h. h, λ h. h) (λ h. h, λ h. h)
+    (λ h. h, λ h. h) (λ h. h, λ h. h) (λ h. h, λ h. h)
 
 one_body : (model : Model) (k : Kind) (length : Length) (s : Specification) (argument : Argument)
     → HasType model argument (type_of_kind model k length) → IsOne model k s argument
@@ -111,13 +116,16 @@ one_body model kinds.Char length s (String t) h = absurd h
 one_body model kinds.String length s (Number n) h = absurd h
 one_body model kinds.String length s (String t) h = (refl, λ other same. same)
 
-pub printed-is : (model : Model) (s : Specification) (argument : Argument) → HasType model argument (arg_type model s) → Prints model s argument (printed_text model s argument)
+pub printed-is : (model : Model) (s : Specification) (argument : Argument) → HasType model argument (arg_type model s)
+    → Prints model s argument (printed_text model s argument)
 printed-is model s argument h = (body_under model s.conv s argument, (one_body model (kind_of s.conv) s.length s argument h).0, refl)
 
-pub Prints-unique : (model : Model) (s : Specification) (argument : Argument) (out : Text) → HasType model argument (arg_type model s) → Prints model s argument out → out ≡ printed_text model s argument
+pub Prints-unique : (model : Model) (s : Specification) (argument : Argument) (out : Text) → HasType model argument (arg_type model s)
+    → Prints model s argument out → out ≡ printed_text model s argument
 Prints-unique model s argument out h g = g.2 ∙ ap (field s) ((one_body model (kind_of s.conv) s.length s argument h).1 g.0 g.1)
 
-pub PrintsOnly-is : (model : Model) (s : Specification) (argument : Argument) (out : Text) → HasType model argument (arg_type model s) → Prints model s argument out → PrintsOnly model s argument out
+pub PrintsOnly-is : (model : Model) (s : Specification) (argument : Argument) (out : Text) → HasType model argument (arg_type model s)
+    → Prints model s argument out → PrintsOnly model s argument out
 PrintsOnly-is model s argument out h g = (g, λ other f. Prints-unique model s argument other h f ∙ sym (Prints-unique model s argument out h g))
 
 pub prints_once : (model : Model) → PrintsOnce model

@@ -13,9 +13,11 @@ remainder-is modulus (pos n) = refl
 remainder-is modulus (negsuc n) = refl
 
 -- the remainder of a number is its value in the unsigned range
-pub remainder-converted : (bits : Bits) (a b r q : ℤ) → b ≡ a → r ≡ int_rem_euclid b (pos (2 ^ bit_count bits)) → q ≡ r → IsConverted false (bit_count bits) a (pos (nat_abs q))
+pub remainder-converted : (bits : Bits) (a b r q : ℤ) → b ≡ a → r ≡ int_rem_euclid b (pos (2 ^ bit_count bits)) → q ≡ r
+    → IsConverted false (bit_count bits) a (pos (nat_abs q))
 remainder-converted bits a b r q d e f =
-    let same : q ≡ pos (wrapped (2 ^ bit_count bits) a) = f ∙ e ∙ ap (λ z. int_rem_euclid z (pos (2 ^ bit_count bits))) d ∙ remainder-is (2 ^ bit_count bits) a in
+    let same : q ≡ pos (wrapped (2 ^ bit_count bits) a) = f ∙ e ∙ ap (λ z. int_rem_euclid z (pos (2 ^ bit_count bits))) d
+    ∙ remainder-is (2 ^ bit_count bits) a in
     rw same (converted-is bits false a)
 
 abbrev pub width_for : Bits → Width
@@ -31,7 +33,8 @@ to_z-is B32 v h = grind (arith, nat_tests)
 to_z-is B64 v h = grind (arith, nat_tests)
 
 -- a number that was converted to an unsigned type is, read as a signed number of as many bits, its value in the signed type
-pub signed-converted : (bits : Bits) (a b : ℤ) (v : ℕ) (w : ℤ) → b ≡ a → IsConverted false (bit_count bits) b (pos v) → w ≡ to_z (width_for bits) v → IsConverted true (bit_count bits) a w
+pub signed-converted : (bits : Bits) (a b : ℤ) (v : ℕ) (w : ℤ) → b ≡ a → IsConverted false (bit_count bits) b (pos v) → w ≡ to_z (width_for bits) v
+    → IsConverted true (bit_count bits) a w
 signed-converted bits a b v w d h e =
     let unsigned : IsConverted false (bit_count bits) a (pos v) = rw (← d) h in
     let value = IsConverted-unique bits false a (pos v) _ unsigned (converted-is bits false a) in

@@ -43,7 +43,8 @@ module _ (half : ℕ) (some : 0 < half) where
   abbrev IsSigned : ℤ → ℤ → Type 0
   IsSigned a v = (k : ℤ) × (neg_ℤ (pos half) ≤ℤ v) × (v <ℤ pos half) × (a ≡ v +ℤ k *ℤ pos (2 * half))
 
-  signed_of : ((k : ℤ) → (k +ℤ pos 1) *ℤ pos (2 * half) ≡ k *ℤ pos (2 * half) +ℤ pos (2 * half)) → (a : ℤ) → IsSigned a (signed_from half (wrapped (2 * half) a))
+  signed_of : ((k : ℤ) → (k +ℤ pos 1) *ℤ pos (2 * half) ≡ k *ℤ pos (2 * half) +ℤ pos (2 * half)) → (a : ℤ)
+      → IsSigned a (signed_from half (wrapped (2 * half) a))
   signed_of step a =
       let n = wrapped (2 * half) a in
       let lt = wrapped-lt a in

@@ -18,7 +18,7 @@ use crate::data_model::length_row;
 use crate::flags::{Flag, FlagSet};
 use crate::lengths::Length;
 use crate::limits::MAX_NUMBER;
-use crate::models;
+use crate::models::Model as DataModel;
 use crate::refusals::RefusalKind;
 use crate::types::ArgType;
 use std::marker::Model;
@@ -186,7 +186,7 @@ impl Directive {
 
     /// The type of the argument that it takes in this data model (C11 7.21.6.1, paragraphs 7 and
     /// 8).
-    pub fn arg_type(&self, model: models::Model) -> ArgType
+    pub fn arg_type(&self, model: DataModel) -> ArgType
         ensures { result ≡ arg_type model self.now }
     {
         match self.conv.kind() {
@@ -198,7 +198,7 @@ impl Directive {
     }
 
     /// The bits of the value that it prints; 0 for `c` and `s`.
-    pub fn bits(&self, model: models::Model) -> u8
+    pub fn bits(&self, model: DataModel) -> u8
         ensures { result ≡ value_bits model self.now }
     {
         if self.conv.kind().is_text() {
@@ -209,7 +209,7 @@ impl Directive {
 
     /// The most digits that its value has, the sign not counted; 0 for `c` and `s`.
     #[inline(always)]
-    pub fn max_digits(&self, model: models::Model) -> u8
+    pub fn max_digits(&self, model: DataModel) -> u8
         ensures { result ≡ digits_at_most model self.now }
     {
         let bits = length_row(model, self.length).bits;

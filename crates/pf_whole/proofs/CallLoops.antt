@@ -54,7 +54,8 @@ pub record IsNextOf (model : Model) (t : Text) (left : Stretches) (rest : Rest) 
   pub is : IsCallNext model t items (parts_of_opaque call.directive) later rest call after
   pub calls_are : placed_calls model rest.index left ≡ call_at model call.index (parts_of_opaque call.directive) ∷ placed_calls model after.index later
 
-pub next_of : (model : Model) (t : Text) (left : Stretches) (rest : Rest) (call : PlacedDirective) (after : Rest) → IsNextCall model t left rest (Some (call, after))
+pub next_of : (model : Model) (t : Text) (left : Stretches) (rest : Rest) (call : PlacedDirective) (after : Rest)
+    → IsNextCall model t left rest (Some (call, after))
     → IsNextOf model t left rest call after
 next_of model t (Last items) rest call after h = absurd h
 next_of model t (Before items s later) rest call after h =
@@ -118,7 +119,8 @@ second_goes_on model t u one two call after h none next =
     turned (placed_calls model 0 h.b) (placed_calls model 0 h.a) call.index (
     ends_before h.done (placed_calls model after.index second.later) (placed_calls model 0 h.a) (placed_calls model 0 h.b)
     (call_at model call.index (parts_of_opaque call.directive)) (h.others_are ∙ ap (λ l. h.done ++ l) second.calls_are)
-    (h.calls_are ∙ ap (λ l. h.done ++ l) (no_next model t h.left one none)) (earlier h.done two.index call.index h.before_other (omega (arith, second.is.index_is)))
+    (h.calls_are ∙ ap (λ l. h.done ++ l) (no_next model t h.left one none))
+    (earlier h.done two.index call.index h.before_other (omega (arith, second.is.index_is)))
     (next_from model u h.more two call after second)
     )
     )
@@ -139,7 +141,8 @@ calls_apart model t u one two call other after behind_other h next also order un
     (next_from model u h.more two other behind_other second) (behind model u h.more two other behind_other second) order unlike
     )
 
-pub calls_apart_other : (model : Model) (t u : Text) (one two : Rest) (call other : PlacedDirective) (after behind_other : Rest) → (h : IsCallsUpTo model t u one two)
+pub calls_apart_other : (model : Model) (t u : Text) (one two : Rest) (call other : PlacedDirective) (after behind_other : Rest)
+    → (h : IsCallsUpTo model t u one two)
     → IsNextCall model t h.left one (Some (call, after)) → IsNextCall model u h.more two (Some (other, behind_other)) → other.index ≤ call.index
     → ¬ (call_at model call.index (parts_of_opaque call.directive) ≡ call_at model other.index (parts_of_opaque other.directive))
     → CallsDiffer model t u (Some other.index)

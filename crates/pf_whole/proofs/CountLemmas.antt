@@ -24,7 +24,8 @@ use Rattle.pf_whole.proofs.TraceLemmas.{length_map}
 pub stretch_args : (model : Model) (t : Text) (items : List Item) → HasItems t items → HasArguments model t (map widened (types model items))
 stretch_args model t items h = types_are_kept model t (Last items) h.reads h.limit
 
-pub opaque_args : (model : Model) (t : Text) (s : PosixSpecification) → SpellsOpaque t s → length t ≤ MAX_TEXT_LEN → HasArguments model t (types_of_opaque model s)
+pub opaque_args : (model : Model) (t : Text) (s : PosixSpecification) → SpellsOpaque t s → length t ≤ MAX_TEXT_LEN
+    → HasArguments model t (types_of_opaque model s)
 opaque_args model t s h few =
     let reads : ReadsWhole t (Before [] s (Last [])) = ([], t, [], refl, h, refl, sym (append-nil t)) in
     subst (HasArguments model t) (append-nil (types_of_opaque model s)) (types_are_kept model t (Before [] s (Last [])) reads few)
@@ -85,7 +86,8 @@ none_yet shown count =
     let none : count - count ≡ 0 = omega arith in
     sym (append-nil shown) ∙ ap (λ n. shown ++ replicate n None) (sym none)
 
-pub none_more : {X : Type 0} (start before after : List (Option X)) (count left : ℕ) → before ≡ start ++ replicate (count - left) None → after ≡ before ++ None ∷ []
+pub none_more : {X : Type 0} (start before after : List (Option X)) (count left : ℕ) → before ≡ start ++ replicate (count - left) None
+    → after ≡ before ++ None ∷ []
     → left ≤ count → 0 < left → after ≡ start ++ replicate (count - (left - 1)) None
 none_more start before after count left h g few some =
     let n : (count - left) + 1 ≡ count - (left - 1) = omega (arith, few, some) in

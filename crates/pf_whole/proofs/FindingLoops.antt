@@ -39,7 +39,8 @@ pub past_same : (model : Model) (a b rest more : Stretches) (xs ys : List Item) 
     → IsComparedUpTo model a b rest more ((shown ++ shown_neutrals model xs) ++ shown_any model s) true
 past_same model a b rest more xs ys s p shown h same = record {
   neutral = λ tells. h.neutral (inr tells);
-  goes_on = λ agrees. subst (ShowsTelling model a b) (join shown (shown_neutrals model xs) (shown_any model s) (neutral_shown model rest)) (h.goes_on (same, agrees));
+  goes_on = λ agrees. subst (ShowsTelling model a b) (join shown (shown_neutrals model xs) (shown_any model s) (neutral_shown model rest))
+      (h.goes_on (same, agrees));
 }
 
 -- stretches that print alike
@@ -51,13 +52,15 @@ past_alike model a b rest more xs ys s p shown true h alike spelling =
 past_alike model a b rest more xs ys s p shown false h alike spelling = record {
   neutral = λ tells. h.neutral (inr tells);
   goes_on = (
-    λ back shows. subst (ShowsTelling model a b) (join shown (shown_neutrals model xs) (shown_any model s) back) (h.goes_on.0 _ (inr (back, refl, alike, shows))),
+    λ back shows. subst (ShowsTelling model a b) (join shown (shown_neutrals model xs) (shown_any model s) back)
+        (h.goes_on.0 _ (inr (back, refl, alike, shows))),
     λ same. h.goes_on.1 (alike, spelling, same),
   );
 }
 
 -- the first stretches that a probe tells apart
-pub past_probe : (model : Model) (a b rest more : Stretches) (xs ys : List Item) (s p : PosixSpecification) (shown : List (Option Argument)) (args : List Argument)
+pub past_probe : (model : Model) (a b rest more : Stretches) (xs ys : List Item) (s p : PosixSpecification) (shown : List (Option Argument))
+    (args : List Argument)
     → IsComparedUpTo model a b (Before xs s rest) (Before ys p more) shown false → IsTellingProbe model xs ys args
     → IsComparedUpTo model a b rest more ((shown ++ map Some args) ++ shown_any model s) true
 past_probe model a b rest more xs ys s p shown args h probe = record {

@@ -52,17 +52,20 @@ record AreOwn (model : Model) (first middle back : Text) (items : List Item) (s 
 
 -- that its own canonical text puts them together as they stand
 own_parts : (model : Model) (first middle back : Text) (items : List Item) (s : PosixSpecification) (rest : Stretches) → Reads first items
-    → SpellsOpaque middle s → ReadsWhole back rest → IsPutTogether model (Before items s rest) (first ++ middle ++ back) → AreOwn model first middle back items s rest
+    → SpellsOpaque middle s → ReadsWhole back rest → IsPutTogether model (Before items s rest) (first ++ middle ++ back)
+    → AreOwn model first middle back items s rest
 own_parts model first middle back items s rest h g k (c, d, stretch, later, e) =
     let t = first ++ middle ++ back in
     let tail = read_back model back d rest k later in
     let normal = opaque_normally model middle s g in
     let reads : ReadsWhole t (Before items s rest) = (first, middle, back, h, g, k, refl) in
-    let again : ReadsWhole t (Before stretch.own (normal_parts model s) tail.own) = (c, normal_spelling model s, d, stretch.canonical.reads, normal, tail.reads, e) in
+    let again : ReadsWhole t (Before stretch.own (normal_parts model s) tail.own) =
+    (c, normal_spelling model s, d, stretch.canonical.reads, normal, tail.reads, e) in
     let same = read_once t (Before stretch.own (normal_parts model s) tail.own) (Before items s rest) again reads in
     let items_same : stretch.own ≡ items = cc in
     let parts_same : normal_parts model s ≡ s = cc in
-    let split : c ++ (normal_spelling model s ++ d) ≡ first ++ (middle ++ back) = sym (append_assoc c (normal_spelling model s) d) ∙ sym e ∙ append_assoc first middle back in
+    let split : c ++ (normal_spelling model s ++ d) ≡ first ++ (middle ++ back) = sym (append_assoc c (normal_spelling model s) d) ∙ sym e
+    ∙ append_assoc first middle back in
     let behind : normal_spelling model s ++ d ≡ middle ++ back = same_rest items c first _ _ (subst (Reads c) items_same stretch.canonical.reads) h split in
     let front : c ≡ first = append_cancel_right c first (middle ++ back) (ap (λ l. c ++ l) (sym behind) ∙ split) in
     let mine = parts_of (normal_spelling model s) (normal_parts model s) normal.spelled normal.unnumbered in

@@ -32,7 +32,12 @@ width_here t (Some (Given n)) h = record {
   numeral = (digits_of 10 n, least_digits_are n h.some, decimal_is n h.some (omega (arith, h.within)));
   within = h.within;
 }
-width_here t (Some (Fetched number)) h = record { digits = []; digits_are = none_placed number (no_number number h.numbering); numbering = h.numbering; whole = refl }
+width_here t (Some (Fetched number)) h = record {
+  digits = [];
+  digits_are = none_placed number (no_number number h.numbering);
+  numbering = h.numbering;
+  whole = refl;
+}
 
 -- the precision is one that can be spelled
 abbrev IsFew : Option Amount → Type 0

@@ -1,5 +1,6 @@
 -- Where no fault is found, a required argument of the subcommand has a value.
-use Rattle.std.proofs.Common.{◌≡◌, ◌∙◌, ◌+◌, ◌++◌, ◌&&◌, ◌||◌, ℕ, List, [], ◌∷◌, Bool, cond, true, false, not, Option, Some, None, is_some, refl, sym, ap, ap₂, find, drop, length, min, nat_lt, option_map, unwrap_or, zero, suc}
+use Rattle.std.proofs.Common.{◌≡◌, ◌∙◌, ◌+◌, ◌++◌, ◌&&◌, ◌||◌, ℕ, List, [], ◌∷◌, Bool, cond, true, false, not, Option, Some, None, is_some, refl, sym, ap, ap₂}
+use Rattle.std.proofs.Common.{find, drop, length, min, nat_lt, option_map, unwrap_or, zero, suc}
 use Rattle.std.specs.Prelude.{encode_utf8, option_and_then, slice_get}
 use Rattle.std.specs.List.{fold, list_all, list_any}
 use Rattle.std.specs.Option.{option_map_or}
@@ -7,13 +8,21 @@ use Rattle.std.specs.Str.{bytes_eq, chars}
 use Rattle.std.proofs.lemmas.List.Folds.{list_all-append}
 use Rattle.std.proofs.lemmas.Slice.Eq.{bytes_eq-Decides}
 use Rattle.clap.specs.Facts.{explicit_source, unwrap_or_range}
-use Rattle.clap.specs.Faults.{bundle_fault, bundle_step_fault, defaults_fault, entered_fault, fault_of, flag_word_fault, flags_fault, level_fault, long_fault, option_fault, other_fault, positional_fault, react_fault, settle_fault, short_fault, step_fault, stray_fault, turn_fault, use_fault, walk_fault, word_fault}
+use Rattle.clap.specs.Faults.{bundle_fault, bundle_step_fault, defaults_fault, entered_fault, fault_of, flag_word_fault, flags_fault, level_fault, long_fault}
+use Rattle.clap.specs.Faults.{option_fault, other_fault, positional_fault, react_fault, settle_fault, short_fault, step_fault, stray_fault, turn_fault}
+use Rattle.clap.specs.Faults.{use_fault, walk_fault, word_fault}
 use Rattle.clap.specs.Kinds.{Kinds, check_kinds, or_else, range_kinds}
 use Rattle.clap.specs.Lexer.{long_of, short_of}
 use Rattle.clap.specs.Matches.{count_text}
 use Rattle.clap.specs.Simple.{App, Shape, argument_words, built, entered, label_of, names_of, rows_at, subcommand_of}
 use Rattle.clap.specs.Takes.{is_given}
-use Rattle.clap.specs.Walk.{Held, Names, Outcome, Row, Rule, Step, Text, Waiting, Walk, action_of, after_flag, after_step, answers_to, arg_by_id, arg_by_index, arg_by_long, arg_by_short, at_row, attached_value, bundle_met, bundle_step, count_of, default_rows, done, finished, first_of, flag_met, has_row, idle, is_pending, long_met, long_or_other, more_values, most_values, new_count, next, nothing_held, option, option_met, option_word, plain, plain_word, positional, pushed, reacted, reading_by, refused, settled, settled_rows, short_met, short_or_plain, subcommand, subcommand_met, subcommand_or_other, takes_several, takes_values, to_positional, trailing, used, used_as, used_by_id, value, values_or_missing, waits, walk, walk_from, walked, walked_from, with_count, with_default, with_values, without, word_met}
+use Rattle.clap.specs.Walk.{Held, Names, Outcome, Row, Rule, Step, Text, Waiting, Walk, action_of, after_flag, after_step, answers_to, arg_by_id, arg_by_index}
+use Rattle.clap.specs.Walk.{arg_by_long, arg_by_short, at_row, attached_value, bundle_met, bundle_step, count_of, default_rows, done, finished, first_of}
+use Rattle.clap.specs.Walk.{flag_met, has_row, idle, is_pending, long_met, long_or_other, more_values, most_values, new_count, next, nothing_held, option}
+use Rattle.clap.specs.Walk.{option_met, option_word, plain, plain_word, positional, pushed, reacted, reading_by, refused, settled, settled_rows, short_met}
+use Rattle.clap.specs.Walk.{short_or_plain, subcommand, subcommand_met, subcommand_or_other, takes_several, takes_values, to_positional, trailing, used}
+use Rattle.clap.specs.Walk.{used_as, used_by_id, value, values_or_missing, waits, walk, walk_from, walked, walked_from, with_count, with_default, with_values}
+use Rattle.clap.specs.Walk.{without, word_met}
 use Rattle.clap.specs.declared.builder.action.ArgAction.{ArgAction}
 use Rattle.clap.specs.declared.builder.action.ArgAction.TheVariants as action
 use Rattle.clap.specs.declared.builder.value_parser.Reading.{Reading}
@@ -93,7 +102,8 @@ module _ (id : Text) where
 
   with_count_has : (key : Text) (how : Reading) (s : ValueSource) (n : ℕ) (rows : List Row) → HasValues id rows → HasValues id (with_count key how s n rows)
   with_count_has key how s n rows has =
-      at_row_has (row_has id) key (new_count s n) _ (λ r e. longer (bytes_eq r.id id) r.values (count_text n ∷ []) e) (alone _ (filled (bytes_eq key id))) rows has
+      at_row_has (row_has id) key (new_count s n) _ (λ r e. longer (bytes_eq r.id id) r.values (count_text n ∷ []) e)
+      (alone _ (filled (bytes_eq key id))) rows has
 
   without_has : (key : Text) (rows : List Row) → HasValues id rows → HasValues id (without key rows)
   without_has key rows has = at_row_has (row_has id) key (λ _. []) [] (λ r e. refl) refl rows has
@@ -104,7 +114,8 @@ module _ (id : Text) where
   used_as_has action.SetTrue key how values rows some has = with_values_has key how _ values _ some (without_has key rows has)
   used_as_has action.SetFalse key how values rows some has = with_values_has key how _ values _ some (without_has key rows has)
   used_as_has action.Append key how values rows some has = with_values_has key how _ values rows some has
-  used_as_has action.Count key how [] rows some has = with_count_has key how CommandLine (min (count_of key rows + 1) 255) (without key rows) (without_has key rows has)
+  used_as_has action.Count key how [] rows some has = with_count_has key how CommandLine (min (count_of key rows + 1) 255) (without key rows)
+      (without_has key rows has)
   used_as_has action.Count key how (v ∷ vs) rows some has = with_values_has key how _ (v ∷ vs) _ some (without_has key rows has)
   used_as_has action.Help key how values rows some has = has
   used_as_has action.HelpShort key how values rows some has = has
@@ -154,7 +165,8 @@ module _ (id : Text) (c : List Rule) (again : Bool) (wants : list_all (wants_val
   settled_has : (h : Held) → settle_fault c again h ≡ [] → HasValues id h.rows → HasValues id (settled c h).rows
   settled_has h e has = go h.pending e
     where
-      by_id : (o : Option Rule) (values : List Text) → option_map_or (wants_value id) o true ≡ true → option_map_or (λ a. use_fault again a values h.rows) o [] ≡ []
+      by_id : (o : Option Rule) (values : List Text) → option_map_or (wants_value id) o true ≡ true
+          → option_map_or (λ a. use_fault again a values h.rows) o [] ≡ []
           → HasValues id (used_by_id o values h.rows)
       by_id None values w e = has
       by_id (Some a) values w e = used_has id again a values h.rows w e has
@@ -189,7 +201,8 @@ module _ (id : Text) (c : List Rule) (again : Bool) (wants : list_all (wants_val
 
   short_has : (o : Option Rule) (rest : Text) (h : Held) (fault : Held → Kinds) (after : Held → Held × Outcome)
       → ((k : Held) → fault k ≡ [] → HasValues id k.rows → HasValues id (after k).0.rows)
-      → option_map_or (wants_value id) o true ≡ true → short_fault c again o rest h fault ≡ [] → HasValues id h.rows → HasValues id (short_met c o rest h after).0.rows
+      → option_map_or (wants_value id) o true ≡ true → short_fault c again o rest h fault ≡ [] → HasValues id h.rows
+      → HasValues id (short_met c o rest h after).0.rows
   short_has None rest h fault after further w e has = has
   short_has (Some a) rest h fault after further w e has = go (takes_values a) e
     where
@@ -200,7 +213,8 @@ module _ (id : Text) (c : List Rule) (again : Bool) (wants : list_all (wants_val
           let parts = neither (react_fault c again a [] h) _ e in
           further (reacted c a [] h) parts.1 (reacted_has a [] h w parts.0 has)
 
-  flag_has : (x : Option ℕ) (flags : Text) (skip : ℕ) (so_far : Outcome) (h : Held) (fault : Text → ℕ → Held → Kinds) (after : Text → ℕ → Outcome → Held → Held × Outcome)
+  flag_has : (x : Option ℕ) (flags : Text) (skip : ℕ) (so_far : Outcome) (h : Held) (fault : Text → ℕ → Held → Kinds)
+      (after : Text → ℕ → Outcome → Held → Held × Outcome)
       → ((rest : Text) (n : ℕ) (o : Outcome) (k : Held) → fault rest n k ≡ [] → HasValues id k.rows → HasValues id (after rest n o k).0.rows)
       → bundle_step_fault c again x flags skip h fault ≡ [] → HasValues id h.rows → HasValues id (bundle_step c x flags skip so_far h after).0.rows
   flag_has None flags skip so_far h fault after further e has = has
@@ -244,7 +258,8 @@ module _ (id : Text) (c : List Rule) (again : Bool) (wants : list_all (wants_val
 -- ---- a subcommand's level
 
 module _ (id : Text) (s : Shape) (wants : list_all (wants_value id) s.rules ≡ true) where
-  word_has : (names : Names) (is_trailing : Bool) (waiting : Waiting) (position : ℕ) (word : Text) (h : Held) → word_fault s names is_trailing waiting word h ≡ []
+  word_has : (names : Names) (is_trailing : Bool) (waiting : Waiting) (position : ℕ) (word : Text) (h : Held)
+      → word_fault s names is_trailing waiting word h ≡ []
       → HasValues id h.rows → HasValues id (word_met s.rules names is_trailing waiting position word h).0.rows
   word_has names true waiting position word h e has = has
   word_has names false waiting position word h e has = go (subcommand_met names waiting word) e
@@ -265,7 +280,8 @@ module _ (id : Text) (s : Shape) (wants : list_all (wants_value id) s.rules ≡ 
   after_has w word h (subcommand name) e has = has
   after_has w word h value e has = go (arg_by_index s.rules w.position) e
     where
-      held : (a : Rule) (b : Bool) → cond b [] (settle_fault s.rules s.args_override_self h) ≡ [] → HasValues id (pushed a.id word (cond b h (settled s.rules h))).rows
+      held : (a : Rule) (b : Bool) → cond b [] (settle_fault s.rules s.args_override_self h) ≡ []
+          → HasValues id (pushed a.id word (cond b h (settled s.rules h))).rows
       held a true e = has
       held a false e = settled_has id s.rules s.args_override_self wants h e has
 
@@ -274,7 +290,8 @@ module _ (id : Text) (s : Shape) (wants : list_all (wants_value id) s.rules ≡ 
       go None e = has
       go (Some a) e = held a (is_pending a h.pending && takes_several a) e
 
-  turn_has : (names : Names) (w : Walk) (word : Text) → turn_fault s names w word ≡ [] → HasValues id w.held.rows → HasValues id (walked s.rules names w word).held.rows
+  turn_has : (names : Names) (w : Walk) (word : Text) → turn_fault s names w word ≡ [] → HasValues id w.held.rows
+      → HasValues id (walked s.rules names w word).held.rows
   unfolding walked
   turn_has names w word e has = go w.stopped e
     where
@@ -317,7 +334,8 @@ required_is_given id rows (a ∷ rest) none some = go (bytes_eq a.id id) a.requi
     go : (same required given : Bool) → bytes_eq a.id id ≡ same → is_given a.id rows ≡ given
         → ((required && not given) || list_any (λ x. x.required && not (is_given x.id rows)) rest) ≡ false
         → ((same && required) || list_any (λ x. bytes_eq x.id id && x.required) rest) ≡ true
-        → (list_any (λ x. x.required && not (is_given x.id rows)) rest ≡ false → list_any (λ x. bytes_eq x.id id && x.required) rest ≡ true → is_given id rows ≡ true)
+        → (list_any (λ x. x.required && not (is_given x.id rows)) rest ≡ false → list_any (λ x. bytes_eq x.id id && x.required) rest ≡ true
+        → is_given id rows ≡ true)
         → is_given id rows ≡ true
     go true true true same given none some further = ap (λ key. is_given key rows) (sym ((bytes_eq-Decides a.id id).0 same)) ∙ given
     go true true false same given none some further = absurd (cc)
@@ -327,7 +345,8 @@ required_is_given id rows (a ∷ rest) none some = go (bytes_eq a.id id) a.requi
     go false false given same is none some further = further none some
 
 -- a level with no subcommand below has a value for what it requires
-level_has : (id : Text) (s : Shape) (words : List Text) → list_any (λ a. bytes_eq a.id id && a.required) s.rules ≡ true → list_all (wants_value id) s.rules ≡ true
+level_has : (id : Text) (s : Shape) (words : List Text) → list_any (λ a. bytes_eq a.id id && a.required) s.rules ≡ true
+    → list_all (wants_value id) s.rules ≡ true
     → level_fault s [] nothing_held words false [] ≡ [] → is_some (first_of id (rows_at s words).1) ≡ true
 level_has id s words required wants e =
     let end = (walk s.rules [] nothing_held words).held in
@@ -342,7 +361,8 @@ level_has id s words required wants e =
     given_has id rows (required_is_given id rows s.rules none required) has
 
 -- where no fault is found, the subcommand's required argument has a value
-pub required_has_value : (a : App) (words : List Text) (name id : Text) (rows : List Row) → list_all (requires_value name id) (built a).subs ≡ true → fault_of a words ≡ []
+pub required_has_value : (a : App) (words : List Text) (name id : Text) (rows : List Row) → list_all (requires_value name id) (built a).subs ≡ true
+    → fault_of a words ≡ []
     → subcommand_of a words ≡ Some (name, rows) → is_some (first_of id rows) ≡ true
 required_has_value a words name id rows requires no_fault asked =
     let b = built a in
@@ -351,7 +371,8 @@ required_has_value a words name id rows requires no_fault asked =
     go stop below asked
   where
     at : (o : Option Shape) (rest : List Text) → option_map_or (requires_value name id) o true ≡ true
-        → option_map_or (λ s. level_fault s [] nothing_held rest false []) o [] ≡ [] → option_map (λ s. rows_at s rest) o ≡ Some (name, rows) → is_some (first_of id rows) ≡ true
+        → option_map_or (λ s. level_fault s [] nothing_held rest false []) o [] ≡ [] → option_map (λ s. rows_at s rest) o ≡ Some (name, rows)
+        → is_some (first_of id rows) ≡ true
     at None rest requires e asked = absurd (cc)
     at (Some s) rest requires e asked =
         let same : rows_at s rest ≡ (name, rows) = ap (λ (o : Option (Text × List Row)). unwrap_or o (name, rows)) asked in
@@ -361,7 +382,8 @@ required_has_value a words name id rows requires no_fault asked =
 
     go : (stop : Option (Text × List Text)) → entered_fault (built a) stop ≡ [] → entered (built a) stop ≡ Some (name, rows) → is_some (first_of id rows) ≡ true
     go None e asked = absurd (cc)
-    go (Some p) e asked = at (find (λ s. answers_to p.0 (label_of s)) (built a).subs) p.1 (found_passes (requires_value name id) _ (built a).subs requires) e asked
+    go (Some p) e asked = at (find (λ s. answers_to p.0 (label_of s)) (built a).subs) p.1
+        (found_passes (requires_value name id) _ (built a).subs requires) e asked
 
 asked_for : (has required : Bool) → (not has && required) ≡ false → required ≡ true → has ≡ true
 asked_for true required none e = refl
@@ -373,7 +395,8 @@ wanted false true missing e = absurd (cc)
 wanted false false missing e = refl
 
 -- where no fault is found, a subcommand that is required is named
-pub required_is_named : (a : App) (words : List Text) → (built a).top.subcommand_required ≡ true → fault_of a words ≡ [] → is_some (subcommand_of a words) ≡ true
+pub required_is_named : (a : App) (words : List Text) → (built a).top.subcommand_required ≡ true → fault_of a words ≡ []
+    → is_some (subcommand_of a words) ≡ true
 required_is_named a words required no_fault =
     let b = built a in
     let end = walk b.top.rules (names_of b) nothing_held (argument_words a words) in

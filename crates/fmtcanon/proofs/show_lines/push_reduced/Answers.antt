@@ -8,4 +8,5 @@ pub returns : goal.returns
 returns c =
     let core = joined _ _ _ _ _ c.in_ok-push_core.ensures c.in_ok-push_padding.ensures in
     let space = joined _ _ _ _ _ c.in_ok-push.ensures.items core in
-    IfOk-weaker c.push_decimal.result _ _ (λ x h. joined _ _ _ _ _ (h ∙ ap (λ n. c.push.new.self.items ++ decimal n) c.from.ensures) space) c.push_decimal.ensures
+    IfOk-weaker c.push_decimal.result _ _ (λ x h. joined _ _ _ _ _ (h ∙ ap (λ n. c.push.new.self.items ++ decimal n) c.from.ensures) space)
+    c.push_decimal.ensures

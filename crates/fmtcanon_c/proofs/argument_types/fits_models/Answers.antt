@@ -20,8 +20,10 @@ loop-model-preserved c =
     let doubled : 2 ^ (i + 1) ≡ 2 * 2 ^ i = (let plus : i + 1 ≡ suc i = omega arith in ap (λ n. 2 ^ n) plus) ∙ pow-succ' 2 i in
     record {
       fit = elim c.if-branch.branch [
-        | goal.then-branch w ↦ rw w.sum-is (added is_fit ALL i _ c.loop-model-test.true c.loop-model.sum before.fit c.loop-model.weight before.weight (fits_so _ _ w.if-branch.true answer.2))
-        | goal.else-branch w ↦ rw w.sum-is (passed is_fit ALL i _ c.loop-model-test.true c.loop-model.sum before.fit c.loop-model.weight before.weight (fits_not _ _ w.if-branch.false answer.2))
+        | goal.then-branch w ↦ rw w.sum-is (added is_fit ALL i _ c.loop-model-test.true c.loop-model.sum before.fit c.loop-model.weight before.weight
+            (fits_so _ _ w.if-branch.true answer.2))
+        | goal.else-branch w ↦ rw w.sum-is (passed is_fit ALL i _ c.loop-model-test.true c.loop-model.sum before.fit c.loop-model.weight before.weight
+            (fits_not _ _ w.if-branch.false answer.2))
       ];
       weight = omega (arith, before.weight, one_more_weight is_fit ALL i Lp64 c.loop-model-test.true);
       below = elim c.if-branch.branch [
@@ -35,4 +37,5 @@ loop-model-preserved c =
 pub returns-in_err-is_fit : goal.returns-in_err-is_fit
 returns-in_err-is_fit c =
     let p = err_from_is_err_and c.from_residual.result c.from_residual.ensures.1 in
-    rw (p.1, p.2) (stops_at c.args.first.now c.args.second.now ALL c.loop-model.model-index Lp64 c.loop-model-test.true _ c.loop-model.invariant.accepted c.in_err-is_fit.ensures)
+    rw (p.1, p.2) (stops_at c.args.first.now c.args.second.now ALL c.loop-model.model-index Lp64 c.loop-model-test.true _ c.loop-model.invariant.accepted
+    c.in_err-is_fit.ensures)

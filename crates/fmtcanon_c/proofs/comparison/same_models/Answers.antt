@@ -17,8 +17,10 @@ loop-model-preserved c =
     let doubled : 2 ^ (i + 1) ≡ 2 * 2 ^ i = (let plus : i + 1 ≡ suc i = omega arith in ap (λ n. 2 ^ n) plus) ∙ pow-succ' 2 i in
     record {
       same = elim c.if-branch.branch [
-        | goal.then-branch w ↦ rw w.sum-is (added is_same ALL i _ c.loop-model-test.true c.loop-model.sum before.same c.loop-model.weight before.weight (they_are _ first second _ w.if-branch.true c.in_ok-same_text.ensures))
-        | goal.else-branch w ↦ rw w.sum-is (passed is_same ALL i _ c.loop-model-test.true c.loop-model.sum before.same c.loop-model.weight before.weight (they_are_not _ first second _ w.if-branch.false c.in_ok-same_text.ensures))
+        | goal.then-branch w ↦ rw w.sum-is (added is_same ALL i _ c.loop-model-test.true c.loop-model.sum before.same c.loop-model.weight before.weight
+            (they_are _ first second _ w.if-branch.true c.in_ok-same_text.ensures))
+        | goal.else-branch w ↦ rw w.sum-is (passed is_same ALL i _ c.loop-model-test.true c.loop-model.sum before.same c.loop-model.weight before.weight
+            (they_are_not _ first second _ w.if-branch.false c.in_ok-same_text.ensures))
       ];
       weight = omega (arith, before.weight, one_more_weight is_same ALL i Lp64 c.loop-model-test.true);
       below = elim c.if-branch.branch [

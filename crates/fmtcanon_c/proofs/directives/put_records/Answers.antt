@@ -9,5 +9,8 @@ use Rattle.fmtcanon_c.proofs.CodeLemmas.{put_one_more}
 pub loop-at-preserved : goal.loop-at-preserved
 loop-at-preserved c =
     let low : c.loop-at.at < length c.args.directives.now = c.loop-at-test.true in
-    let blank : DirectiveSpan = record { begin = 0; end = 0; argument = 0; width_argument = None; precision_argument = None; kind = int_type } in
-    (omega arith, put_one_more record_of c.args.directives.now c.args.out.now c.loop-at.out c.loop-at.at c.record_of.result blank low c.requires c.loop-at.invariant.1 c.record_of.ensures)
+    let blank : DirectiveSpan = record { begin = 0; end = 0; argument = 0; width_argument = None; precision_argument = None; kind = int_type } in (
+      omega arith,
+      put_one_more record_of c.args.directives.now c.args.out.now c.loop-at.out c.loop-at.at c.record_of.result blank low c.requires
+          c.loop-at.invariant.1 c.record_of.ensures,
+    )

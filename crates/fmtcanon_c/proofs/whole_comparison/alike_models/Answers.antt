@@ -20,8 +20,10 @@ loop-model-preserved c =
     let doubled : 2 ^ (i + 1) ≡ 2 * 2 ^ i = (let plus : i + 1 ≡ suc i = omega arith in ap (λ n. 2 ^ n) plus) ∙ pow-succ' 2 i in
     record {
       alike = elim c.if-branch.branch [
-        | goal.then-branch w ↦ rw w.sum-is (added is_alike ALL i _ c.loop-model-test.true c.loop-model.sum before.alike c.loop-model.weight before.weight (alike_so _ first second _ w.if-branch.true both))
-        | goal.else-branch w ↦ rw w.sum-is (passed is_alike ALL i _ c.loop-model-test.true c.loop-model.sum before.alike c.loop-model.weight before.weight (alike_not _ first second _ w.if-branch.false both))
+        | goal.then-branch w ↦ rw w.sum-is (added is_alike ALL i _ c.loop-model-test.true c.loop-model.sum before.alike c.loop-model.weight before.weight
+            (alike_so _ first second _ w.if-branch.true both))
+        | goal.else-branch w ↦ rw w.sum-is (passed is_alike ALL i _ c.loop-model-test.true c.loop-model.sum before.alike c.loop-model.weight before.weight
+            (alike_not _ first second _ w.if-branch.false both))
       ];
       weight = omega (arith, before.weight, one_more_weight is_alike ALL i Lp64 c.loop-model-test.true);
       below = elim c.if-branch.branch [
@@ -35,4 +37,5 @@ loop-model-preserved c =
 pub returns-in_err-same_text : goal.returns-in_err-same_text
 returns-in_err-same_text c =
     let p = err_from_is_err_and c.from_residual.result c.from_residual.ensures.1 in
-    rw (p.1, p.2) (refused_first c.args.first.now c.args.second.now c.loop-model.model-index c.in_err-same_text.field-0.0 c.loop-model.invariant.accepted c.in_err-same_text.ensures)
+    rw (p.1, p.2) (refused_first c.args.first.now c.args.second.now c.loop-model.model-index c.in_err-same_text.field-0.0 c.loop-model.invariant.accepted
+    c.in_err-same_text.ensures)

@@ -7,9 +7,11 @@ use Rattle.fmtcanon_c.proofs.whole_comparison.whole_compare_in.Goals as goal
 pub returns-in-Ok : goal.returns-in-Ok
 returns-in-Ok c =
     let code : to_z w64 (of_z w64 c.put_verdict.result) ≡ c.put_verdict.result = omega (arith, ints) in
-    rw code (made c.args.model c.args.first.now c.args.second.now c.args.out.now c.args.comparison.now c.args.error.now c.put_verdict.result c.put_verdict.new.out c.put_verdict.new.comparison c.in-Ok.verdict c.in-Ok.ensures c.put_verdict.ensures)
+    rw code (made c.args.model c.args.first.now c.args.second.now c.args.out.now c.args.comparison.now c.args.error.now c.put_verdict.result
+    c.put_verdict.new.out c.put_verdict.new.comparison c.in-Ok.verdict c.in-Ok.ensures c.put_verdict.ensures)
 
 pub returns-in-Err : goal.returns-in-Err
 returns-in-Err c =
     let code : to_z w64 (of_z w64 c.fault_code.result) ≡ c.fault_code.result = omega (arith, ints) in
-    rw code (inr (not_compared c.args.model c.args.first.now c.args.second.now c.args.out.now c.args.comparison.now c.args.error.now c.fault_code.new.error c.fault_code.result c.in-Err.fault c.in-Err.ensures c.fault_code.ensures))
+    rw code (inr (not_compared c.args.model c.args.first.now c.args.second.now c.args.out.now c.args.comparison.now c.args.error.now c.fault_code.new.error
+    c.fault_code.result c.in-Err.fault c.in-Err.ensures c.fault_code.ensures))

@@ -13,7 +13,8 @@ returns-in-Ok c =
     let h = c.in-Ok.ensures (take n text) c.requires in
     let is = c.is_used_up in
     record {
-      ok = stripped_to_end c.args.transducer.model text h.0 n c.new-rest.result.left c.put_chunks.new.sink.left is.result (rw take_rest at c.new-rest.ensures) h.2
+      ok = stripped_to_end c.args.transducer.model text h.0 n c.new-rest.result.left c.put_chunks.new.sink.left is.result
+          (rw take_rest at c.new-rest.ensures) h.2
           h.1 is.ensures;
       err = tt;
     }

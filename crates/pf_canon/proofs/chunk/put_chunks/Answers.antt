@@ -37,7 +37,8 @@ loop-at-preserved g c = record {
 pub returns-in-Err : goal.returns-in-Err
 returns-in-Err g c out up =
     let i = c.loop-at.invariant.through out up in
-    refused_at c.args.transducer.model c.args.text.now (out ++ i.0) c.loop-at.at c.in-Err.refused (rw take_rest at c.in-Err.ensures.fed _ _ (out ++ i.0) i.3 i.4)
+    refused_at c.args.transducer.model c.args.text.now (out ++ i.0) c.loop-at.at c.in-Err.refused
+    (rw take_rest at c.in-Err.ensures.fed _ _ (out ++ i.0) i.3 i.4)
 
 pub returns-in-Err-finish : goal.returns-in-Err-finish
 returns-in-Err-finish g c out up =
@@ -53,5 +54,6 @@ returns-in-Ok-finish g c out up =
       i.0 ++ output_text p,
       g.met.S.Sink.laws.both c.args.sink.now c.loop-at.sink c.put-in-Ok-finish.new.sink i.0 (output_text p) i.1 c.put-in-Ok-finish.ensures,
       subst (IsCanonicalFor model text) (append_assoc out i.0 (output_text p))
-          (all_built model text ((out ++ i.0) ++ output_text p) (out ++ i.0) c.loop-at.transducer i.3 c.loop-at.at p c.loop-at-test.false i.4 (c.in-Ok-finish.ensures.ended _ _ (out ++ i.0) i.3 i.4) c.in-Ok-finish.ensures.few refl),
+          (all_built model text ((out ++ i.0) ++ output_text p) (out ++ i.0) c.loop-at.transducer i.3 c.loop-at.at p c.loop-at-test.false i.4
+          (c.in-Ok-finish.ensures.ended _ _ (out ++ i.0) i.3 i.4) c.in-Ok-finish.ensures.few refl),
     )

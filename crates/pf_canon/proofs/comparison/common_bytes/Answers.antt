@@ -13,4 +13,7 @@ loop-at-preserved c =
     let within = i.within in
     let n : at + 16 - at ≡ 16 = omega arith in
     let same : take 16 (drop at x) ≡ take 16 (drop at y) = rw n at c.if-not-are_equal.ensures in
-    record { common = common_more x y at 16 i.common (omega (arith, few, room, within)) (omega (arith, few, room, within)) same; within = omega (arith, room, within) }
+    record {
+      common = common_more x y at 16 i.common (omega (arith, few, room, within)) (omega (arith, few, room, within)) same;
+      within = omega (arith, room, within);
+    }

@@ -12,7 +12,8 @@ abbrev pub invariant-loop-transducer : goal.invariant-loop-transducer
 invariant-loop-transducer g l = record {
   reads : failures_of l.r ≡ failures_of l.fn.r;
   writes : failures_of l.w ≡ failures_of l.fn.w;
-  copied : ((taken : Text) × Consumes (g.R.Read.remaining (device_of l.fn.r)) (g.R.Read.remaining (device_of l.r)) taken × IsWritten l.fn.model l.transducer taken (g.W.Write.contents (device_of l.fn.w)) (g.W.Write.contents (device_of l.w)) l.written);
+  copied : ((taken : Text) × Consumes (g.R.Read.remaining (device_of l.fn.r)) (g.R.Read.remaining (device_of l.r)) taken
+      × IsWritten l.fn.model l.transducer taken (g.W.Write.contents (device_of l.fn.w)) (g.W.Write.contents (device_of l.w)) l.written);
 }
 
 abbrev pub decreases-loop-transducer : goal.decreases-loop-transducer

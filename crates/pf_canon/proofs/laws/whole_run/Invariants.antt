@@ -10,5 +10,6 @@ invariant-loop-stream g l = record {
   can_next : (goal.iterator-loop-stream g).can_next l.stream;
   is_finite : (goal.iterator-loop-stream g).is_finite l.stream;
   kept : failures_of (reader_of l.stream) ≡ failures_of l.fn.reader;
-  run : ((taken given : Text) × StreamHistory l.fn.model g.R.Read.remaining l.stream (g.R.Read.remaining (device_of l.fn.reader)) taken given × (l.out.items ≡ l.fn.out.items ++ given));
+  run : ((taken given : Text) × StreamHistory l.fn.model g.R.Read.remaining l.stream (g.R.Read.remaining (device_of l.fn.reader)) taken given
+      × (l.out.items ≡ l.fn.out.items ++ given));
 }

@@ -23,7 +23,8 @@ loop-left-preserved g c =
     record {
       within = omega (arith, inv.within);
       put = λ byte e.
-          repeated_more g.met.S.Sink.laws (blocks byte) c.args.sink.now c.loop-left.sink c.put.new.self (c.args.times / BLOCK) c.loop-left.left 1 inv.within (omega (arith, c.loop-left-test.true)) (inv.put byte e)
+          repeated_more g.met.S.Sink.laws (blocks byte) c.args.sink.now c.loop-left.sink c.put.new.self (c.args.times / BLOCK) c.loop-left.left 1 inv.within
+          (omega (arith, c.loop-left-test.true)) (inv.put byte e)
           (rw (c.from.ensures, take_block c.args.block.now MAX_RUN BLOCK byte e (omega arith)) at c.put.ensures);
     }
 
@@ -32,6 +33,9 @@ returns g c byte e =
     let q = c.args.times / BLOCK in
     let rest = c.args.times % BLOCK in
     let few : rest ≤ MAX_RUN = let small : rest < BLOCK = mod-lt c.args.times (omega arith) in omega (arith, small) in
-    let whole = repeated_all g.met.S.Sink.laws (blocks byte) c.args.sink.now c.loop-left.sink q c.loop-left.left c.loop-left-test.false (c.loop-left.invariant.put byte e) in
-    subst (g.S.Sink.given c.args.sink.now c.put-2.new.self) (replicate-append-replicate (q * BLOCK) rest byte ∙ ap (λ n. replicate n byte) (div-add-mod' c.args.times BLOCK))
-    (g.met.S.Sink.laws.both c.args.sink.now c.loop-left.sink c.put-2.new.self (replicate (q * BLOCK) byte) (replicate rest byte) whole (rw (c.from-2.ensures, take_block c.args.block.now MAX_RUN rest byte e few) at c.put-2.ensures))
+    let whole = repeated_all g.met.S.Sink.laws (blocks byte) c.args.sink.now c.loop-left.sink q c.loop-left.left c.loop-left-test.false
+    (c.loop-left.invariant.put byte e) in
+    subst (g.S.Sink.given c.args.sink.now c.put-2.new.self) (replicate-append-replicate (q * BLOCK) rest byte
+    ∙ ap (λ n. replicate n byte) (div-add-mod' c.args.times BLOCK))
+    (g.met.S.Sink.laws.both c.args.sink.now c.loop-left.sink c.put-2.new.self (replicate (q * BLOCK) byte) (replicate rest byte) whole
+    (rw (c.from-2.ensures, take_block c.args.block.now MAX_RUN rest byte e few) at c.put-2.ensures))

@@ -10,7 +10,8 @@ loop-piece-init c =
     record {
       can = tt;
       finite = tt;
-      neutrals = subst (λ (pieces : Pieces). HasNeutrals c.args.model pieces c.args.text.now c.new-args.result.items) (sym c.into_iter-piece-iterator.ensures.into_iter_gives)
+      neutrals = subst (λ (pieces : Pieces). HasNeutrals c.args.model pieces c.args.text.now c.new-args.result.items)
+          (sym c.into_iter-piece-iterator.ensures.into_iter_gives)
           (subst (λ (args : List OwnedArg). HasNeutrals c.args.model c.new-piece-items.result c.args.text.now args) (sym none)
           (record { read = []; items = []; given = c.new-piece-items.ensures; neutral = record { args_are = refl; types_are = refl } }));
     }
@@ -19,11 +20,13 @@ pub loop-piece-preserved : goal.loop-piece-preserved
 loop-piece-preserved c = record {
   can = tt;
   finite = tt;
-  neutrals = neutrals_more c.args.model c.loop-piece.piece-iterator c.next.new.self c.args.text.now _ c.loop-piece.invariant.neutrals c.in-Some.piece c.in-Some.ensures.steps c.in-Ok.piece _ c.in-Ok.is c.in_ok-push_neutral-in-Ok.ensures;
+  neutrals = neutrals_more c.args.model c.loop-piece.piece-iterator c.next.new.self c.args.text.now _ c.loop-piece.invariant.neutrals c.in-Some.piece
+      c.in-Some.ensures.steps c.in-Ok.piece _ c.in-Ok.is c.in_ok-push_neutral-in-Ok.ensures;
 }
 
 pub unreachable-requires : goal.unreachable-requires
-unreachable-requires c = (neutrals_refused c.args.model c.loop-piece.piece-iterator c.next.new.self c.args.text.now _ c.loop-piece.invariant.neutrals c.in-Some.piece c.in-Some.ensures.steps c.in-Err.field-0 c.in-Err.is).not_accepted c.requires
+unreachable-requires c = (neutrals_refused c.args.model c.loop-piece.piece-iterator c.next.new.self c.args.text.now _ c.loop-piece.invariant.neutrals
+    c.in-Some.piece c.in-Some.ensures.steps c.in-Err.field-0 c.in-Err.is).not_accepted c.requires
 
 pub returns : goal.returns
 returns c = all_neutrals c.args.model c.loop-piece.piece-iterator c.next.new.self c.args.text.now _ c.loop-piece.invariant.neutrals c.in-None.ensures.steps

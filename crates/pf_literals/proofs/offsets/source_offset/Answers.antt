@@ -11,7 +11,8 @@ pub returns-in-Some : goal.returns-in-Some
 returns-in-Some c =
     let i = c.loop-part.invariant in
     let part = c.in-Given.part in
-    there_or_not c.args.source.now i.0 i.1 _ i.2 (part_bytes part) (part_offsets part) c.next_part.new.self c.args.index c.loop-part.left c.in-Some.at c.if_accepted.result
+    there_or_not c.args.source.now i.0 i.1 _ i.2 (part_bytes part)
+    (part_offsets part) c.next_part.new.self c.args.index c.loop-part.left c.in-Some.at c.if_accepted.result
     c.in-Given.ensures.next i.3 c.in-Some.ensures c.if_accepted.ensures
 
 pub overflow_sub-left : goal.overflow_sub-left
@@ -22,7 +23,8 @@ loop-part-preserved c =
     let i = c.loop-part.invariant in
     let part = c.in-Given.part in
     further c.args.source.now i.0 i.1 _ i.2 (part_bytes part) (part_offsets part) _ c.args.index c.loop-part.left c.len_of-left.result
-    c.in-Given.ensures.next i.3 c.len_of-left.ensures (none_past (part_offsets part) c.loop-part.left c.len_of-left.result c.in-None.ensures c.len_of-left.ensures)
+    c.in-Given.ensures.next i.3 c.len_of-left.ensures (none_past (part_offsets part) c.loop-part.left c.len_of-left.result c.in-None.ensures
+    c.len_of-left.ensures)
 
 pub returns-in-End : goal.returns-in-End
 returns-in-End c =

@@ -8,22 +8,30 @@ pub returns-then-offsets-eq0-clause-verbatim : goal.returns-then-offsets-eq0-cla
 returns-then-offsets-eq0-clause-verbatim c =
     let v = chunk c.args.at 16 c.args.text.now in
     let long = length-chunk c.args.at 16 c.args.text.now c.requires in
-    none_in c.args.text.now c.args.at 16 c.requires (omega arith) c.type_inv.text _ (zip2_of_maps _ _ _ v (zip2_of_maps _ _ _ v (zip2_of_maps _ _ _ v (zip2_splat _ v 16 2 long) (splat_is_map v 16 33 long)) (zip2_of_maps _ _ _ v (zip2_splat _ v 16 64 long) (splat_is_map v 16 127 long))) (zip2_splat _ v 16 92 long)) c.if-offsets-eq0.true
+    none_in c.args.text.now c.args.at 16 c.requires (omega arith) c.type_inv.text _
+    (zip2_of_maps _ _ _ v (zip2_of_maps _ _ _ v (zip2_of_maps _ _ _ v (zip2_splat _ v 16 2 long) (splat_is_map v 16 33 long))
+    (zip2_of_maps _ _ _ v (zip2_splat _ v 16 64 long) (splat_is_map v 16 127 long))) (zip2_splat _ v 16 92 long)) c.if-offsets-eq0.true
 
 pub returns-clause-few : goal.returns-clause-few
 returns-clause-few c =
     let v = chunk c.args.at 16 c.args.text.now in
     let long = length-chunk c.args.at 16 c.args.text.now c.requires in
-    first_few c.args.text.now c.args.at 16 c.requires (omega arith) c.type_inv.text _ (zip2_of_maps _ _ _ v (zip2_of_maps _ _ _ v (zip2_of_maps _ _ _ v (zip2_splat _ v 16 2 long) (splat_is_map v 16 33 long)) (zip2_of_maps _ _ _ v (zip2_splat _ v 16 64 long) (splat_is_map v 16 127 long))) (zip2_splat _ v 16 92 long)) c.if-offsets-eq0.false
+    first_few c.args.text.now c.args.at 16 c.requires (omega arith) c.type_inv.text _
+    (zip2_of_maps _ _ _ v (zip2_of_maps _ _ _ v (zip2_of_maps _ _ _ v (zip2_splat _ v 16 2 long) (splat_is_map v 16 33 long))
+    (zip2_of_maps _ _ _ v (zip2_splat _ v 16 64 long) (splat_is_map v 16 127 long))) (zip2_splat _ v 16 92 long)) c.if-offsets-eq0.false
 
 pub returns-clause-verbatim : goal.returns-clause-verbatim
 returns-clause-verbatim c =
     let v = chunk c.args.at 16 c.args.text.now in
     let long = length-chunk c.args.at 16 c.args.text.now c.requires in
-    first_none c.args.text.now c.args.at 16 c.requires (omega arith) c.type_inv.text _ (zip2_of_maps _ _ _ v (zip2_of_maps _ _ _ v (zip2_of_maps _ _ _ v (zip2_splat _ v 16 2 long) (splat_is_map v 16 33 long)) (zip2_of_maps _ _ _ v (zip2_splat _ v 16 64 long) (splat_is_map v 16 127 long))) (zip2_splat _ v 16 92 long)) c.if-offsets-eq0.false
+    first_none c.args.text.now c.args.at 16 c.requires (omega arith) c.type_inv.text _
+    (zip2_of_maps _ _ _ v (zip2_of_maps _ _ _ v (zip2_of_maps _ _ _ v (zip2_splat _ v 16 2 long) (splat_is_map v 16 33 long))
+    (zip2_of_maps _ _ _ v (zip2_splat _ v 16 64 long) (splat_is_map v 16 127 long))) (zip2_splat _ v 16 92 long)) c.if-offsets-eq0.false
 
 pub returns-clause-ended : goal.returns-clause-ended
 returns-clause-ended c =
     let v = chunk c.args.at 16 c.args.text.now in
     let long = length-chunk c.args.at 16 c.args.text.now c.requires in
-    first_ended c.args.text.now c.args.at 16 c.requires (omega arith) c.type_inv.text _ (zip2_of_maps _ _ _ v (zip2_of_maps _ _ _ v (zip2_of_maps _ _ _ v (zip2_splat _ v 16 2 long) (splat_is_map v 16 33 long)) (zip2_of_maps _ _ _ v (zip2_splat _ v 16 64 long) (splat_is_map v 16 127 long))) (zip2_splat _ v 16 92 long)) c.if-offsets-eq0.false
+    first_ended c.args.text.now c.args.at 16 c.requires (omega arith) c.type_inv.text _
+    (zip2_of_maps _ _ _ v (zip2_of_maps _ _ _ v (zip2_of_maps _ _ _ v (zip2_splat _ v 16 2 long) (splat_is_map v 16 33 long))
+    (zip2_of_maps _ _ _ v (zip2_splat _ v 16 64 long) (splat_is_map v 16 127 long))) (zip2_splat _ v 16 92 long)) c.if-offsets-eq0.false

@@ -7,7 +7,8 @@ use Rattle.pf_posix.proofs.pairs.compare_in_step.Given as goal
 
 abbrev pub invariant-loop-index : goal.invariant-loop-index
 invariant-loop-index l =
-    (a : List Fetch) × (b : List Fetch) × IsOrdered l.model l.first a (trace_left l.model l.first l.one) × IsOrdered l.model l.second b (trace_left l.model l.second l.other) × (wanted_types a ≡ wanted_types b) × (l.index ≡ length a)
+    (a : List Fetch) × (b : List Fetch) × IsOrdered l.model l.first a (trace_left l.model l.first l.one)
+    × IsOrdered l.model l.second b (trace_left l.model l.second l.other) × (wanted_types a ≡ wanted_types b) × (l.index ≡ length a)
     × (l.index ≤ l.one.at) × (l.one.at ≤ length l.first)
 
 abbrev pub decreases-loop-index : goal.decreases-loop-index

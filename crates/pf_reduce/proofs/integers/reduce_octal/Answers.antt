@@ -37,7 +37,8 @@ padded_core-requires-2 c = rw (c.empty-2.ensures, c.kept_precision-kept.ensures)
 
 pub returns-clause-same : goal.returns-clause-same
 returns-clause-same c = rw (c.padded_core-2.ensures.value, c.empty-2.ensures, c.kept_precision-kept.ensures)
-    (octal_after_hoisted c.args.model c.args.directive.now c.of.ensures.defined c.requires.octal c.requires.alt c.max-precision.result c.max_digits-digits.result _
+    (octal_after_hoisted c.args.model c.args.directive.now c.of.ensures.defined c.requires.octal c.requires.alt c.max-precision.result
+    c.max_digits-digits.result _
     c.without_idle_width-padding.result (c.max-precision.ensures ∙ ap (λ k. max k 1) c.effective_precision.ensures.value) c.max_digits-digits.ensures.value
     (rw (c.of.ensures.value, c.max.ensures) at c.with_width_at_most.ensures) c.without_idle_width-padding.ensures
     (1 + c.saturating_sub-zeros.result) _ c.right_justify_if_unseen-padding.result (ap (λ k. 1 + k) c.saturating_sub-zeros.ensures) c.hoist_zeros.ensures

@@ -9,7 +9,9 @@ pub loop-piece-init : goal.loop-piece-init
 loop-piece-init c = record { can = tt; finite = tt; so_far = none_checked c.args.model _ c.args.text.now c.args.args.now _ (search rules) c.requires }
 
 pub returns-in-Err-clause-matched : goal.returns-in-Err-clause-matched
-returns-in-Err-clause-matched c = let found = c.loop-piece.invariant.so_far.found in (refused c.args.model c.loop-piece.piece-iterator c.next.new.self c.args.text.now _ found c.in-Some.piece c.in-Some.ensures.steps c.in-Err.refusal c.in-Err.is).refused
+returns-in-Err-clause-matched c = let found = c.loop-piece.invariant.so_far.found in
+    (refused c.args.model c.loop-piece.piece-iterator c.next.new.self c.args.text.now _ found c.in-Some.piece c.in-Some.ensures.steps c.in-Err.refusal
+    c.in-Err.is).refused
 
 pub with_next-check-requires : goal.with_next-check-requires
 with_next-check-requires c =
@@ -20,17 +22,24 @@ pub loop-piece-preserved-in-Directive : goal.loop-piece-preserved-in-Directive
 loop-piece-preserved-in-Directive c =
     let so_far = c.loop-piece.invariant.so_far in
     let d = c.in-Directive.directive in
-    let pushed : CachesItems c.push.new.self (so_far.found.items ++ items_of c.in-Ok.piece) = rw c.in-Directive.is (c.push.ensures so_far.found.items so_far.keeps) in
+    let pushed : CachesItems c.push.new.self (so_far.found.items ++ items_of c.in-Ok.piece) = rw c.in-Directive.is
+    (c.push.ensures so_far.found.items so_far.keeps) in
     record {
       can = tt;
       finite = tt;
-      so_far = directive_checked c.args.model so_far c.in-Some.ensures.steps c.in-Ok.is _ _ pushed d c.arg_type.result c.in-Directive.is c.arg_type.ensures (c.with_next-check.ensures so_far.types so_far.checked);
+      so_far = directive_checked c.args.model so_far c.in-Some.ensures.steps c.in-Ok.is _ _ pushed d c.arg_type.result c.in-Directive.is c.arg_type.ensures
+          (c.with_next-check.ensures so_far.types so_far.checked);
     }
 
 pub loop-piece-preserved : goal.loop-piece-preserved
 loop-piece-preserved c =
     let so_far = c.loop-piece.invariant.so_far in
-    record { can = tt; finite = tt; so_far = other_checked c.args.model so_far c.in-Some.ensures.steps c.in-Ok.is _ _ (c.push-in_default.ensures so_far.found.items so_far.keeps) c.in_default.not-Directive so_far.checked }
+    record {
+      can = tt;
+      finite = tt;
+      so_far = other_checked c.args.model so_far c.in-Some.ensures.steps c.in-Ok.is _ _
+          (c.push-in_default.ensures so_far.found.items so_far.keeps) c.in_default.not-Directive so_far.checked;
+    }
 
 pub returns-clause-matched : goal.returns-clause-matched
 returns-clause-matched c =

@@ -27,5 +27,6 @@ loop-left-preserved c =
       size = length-set _ _ _ ∙ c.loop-left.invariant.size;
       within = omega arith;
       room = omega (arith, c.loop-left.invariant.room);
-      digits = rw c.glyph.ensures (digit_in_front (digit_glyph c.args.capitals) c.args.base c.loop-left.left c.loop-left.start c.loop-left.buf _ base c.loop-left-test.true (omega (arith, c.loop-left.invariant.room)) (omega (arith, c.loop-left.invariant.size)) c.loop-left.invariant.digits);
+      digits = rw c.glyph.ensures (digit_in_front (digit_glyph c.args.capitals) c.args.base c.loop-left.left c.loop-left.start c.loop-left.buf _ base
+          c.loop-left-test.true (omega (arith, c.loop-left.invariant.room)) (omega (arith, c.loop-left.invariant.size)) c.loop-left.invariant.digits);
     }

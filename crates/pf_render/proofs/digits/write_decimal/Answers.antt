@@ -16,4 +16,5 @@ returns-then-number-eq0-clause-digits c = λ capitals.
 pub returns-clause-digits : goal.returns-clause-digits
 returns-clause-digits c = λ capitals.
     let some : 0 < c.args.number = omega arith in
-    rw (c.write_digits.ensures.written, drop_all MAX_DIGITS c.args.buf.now (omega arith)) (append-nil _ ∙ decimal_glyphs capitals c.args.number some c.ranges.number.fits)
+    rw (c.write_digits.ensures.written, drop_all MAX_DIGITS c.args.buf.now (omega arith))
+    (append-nil _ ∙ decimal_glyphs capitals c.args.number some c.ranges.number.fits)

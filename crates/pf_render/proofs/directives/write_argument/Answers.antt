@@ -13,11 +13,18 @@ returns-in-String g c =
 pub returns-in-Char : goal.returns-in-Char
 returns-in-Char g c =
     let out = c.write_char.ensures c.args.model in
-    let number : to_z w128 (of_z w128 c.number_of.result) ≡ c.number_of.result = omega (arith, ints) in
-    (out.0, PrintsOnly-is c.args.model c.args.directive.now (argument_of c.args.argument) out.0 c.requires.typed (rw c.number_of.ensures (rw number at out.1)), out.2)
+    let number : to_z w128 (of_z w128 c.number_of.result) ≡ c.number_of.result = omega (arith, ints) in (
+      out.0,
+      PrintsOnly-is c.args.model c.args.directive.now (argument_of c.args.argument) out.0 c.requires.typed (rw c.number_of.ensures (rw number at out.1)),
+      out.2,
+    )
 
 pub returns-in_default : goal.returns-in_default
 returns-in_default g c =
     let out = c.write_integer.ensures in
-    let number : to_z w128 (of_z w128 c.number_of-in_default.result) ≡ c.number_of-in_default.result = omega (arith, ints) in
-    (out.0, PrintsOnly-is c.args.model c.args.directive.now (argument_of c.args.argument) out.0 c.requires.typed (rw c.number_of-in_default.ensures (rw number at out.1)), out.2)
+    let number : to_z w128 (of_z w128 c.number_of-in_default.result) ≡ c.number_of-in_default.result = omega (arith, ints) in (
+      out.0,
+      PrintsOnly-is c.args.model c.args.directive.now (argument_of c.args.argument) out.0 c.requires.typed
+          (rw c.number_of-in_default.ensures (rw number at out.1)),
+      out.2,
+    )

@@ -5,12 +5,23 @@ use Rattle.pf_render.proofs.fields.write_parts.Goals as goal
 
 pub overflow_add-result : goal.overflow_add-result
 overflow_add-result g c =
-    omega (arith, c.requires, part-within c.args.parts.now c.loop-part.part-index _ c.loop-part-test.true c.loop-part.written c.in-Err.short.written c.loop-part.invariant.written c.in-Err.ensures.0.within)
+    omega (
+      arith,
+      c.requires,
+      part-within c.args.parts.now c.loop-part.part-index _ c.loop-part-test.true c.loop-part.written c.in-Err.short.written
+          c.loop-part.invariant.written c.in-Err.ensures.0.within,
+    )
 
 pub returns-in-Err : goal.returns-in-Err
-returns-in-Err g c = part-stopped c.args.parts.now c.loop-part.part-index _ c.loop-part-test.true _ _ _ _ _ _ c.loop-part.invariant.written c.loop-part.invariant.out c.in-Err.ensures.0 c.in-Err.ensures.1
+returns-in-Err g c = part-stopped c.args.parts.now c.loop-part.part-index _ c.loop-part-test.true _ _ _ _ _ _ c.loop-part.invariant.written
+    c.loop-part.invariant.out c.in-Err.ensures.0 c.in-Err.ensures.1
 
 pub overflow_add-written : goal.overflow_add-written
 overflow_add-written g c =
     let part = slice_index_or c.args.parts.now c.loop-part.part-index (record { ref_ptr = (0, 0); now = [] }) in
-    omega (arith, c.requires, part-within c.args.parts.now c.loop-part.part-index _ c.loop-part-test.true c.loop-part.written (length part.now) c.loop-part.invariant.written (le_refl (length part.now)))
+    omega (
+      arith,
+      c.requires,
+      part-within c.args.parts.now c.loop-part.part-index _ c.loop-part-test.true c.loop-part.written
+          (length part.now) c.loop-part.invariant.written (le_refl (length part.now)),
+    )

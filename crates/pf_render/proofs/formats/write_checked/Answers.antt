@@ -9,7 +9,8 @@ use Rattle.pf_render.proofs.formats.write_checked.Goals as goal
 
 pub write_cached-requires-clause-typed : goal.write_cached-requires-clause-typed
 write_cached-requires-clause-typed g c =
-    subst (λ parts. HasTypes c.args.model (arguments c.args.args.now) (types c.args.model (items_of_parts parts))) (sym c.as_slice.ensures.value) (typed_parts c.args.model c.args.text.now c.args.args.now c.requires.takes c.args.cache.now c.requires.cache c.if-cache.true)
+    subst (λ parts. HasTypes c.args.model (arguments c.args.args.now) (types c.args.model (items_of_parts parts))) (sym c.as_slice.ensures.value)
+    (typed_parts c.args.model c.args.text.now c.args.args.now c.requires.takes c.args.cache.now c.requires.cache c.if-cache.true)
 
 pub returns-then-cache : goal.returns-then-cache
 returns-then-cache g c =

@@ -26,14 +26,24 @@ write-requires-clause-typed g c =
 pub loop-piece-preserved : goal.loop-piece-preserved
 loop-piece-preserved g c =
     let text = c.in_ok-write.ensures in
-    record { can = tt; finite = tt; so_far = piece_written c.args.model c.loop-piece.invariant.so_far c.in-Some.ensures.steps c.in-Ok.is c.of.result c.of.ensures c.write.new.self c.write.new.writer text.0 text.1 text.2 }
+    record {
+      can = tt;
+      finite = tt;
+      so_far = piece_written c.args.model c.loop-piece.invariant.so_far c.in-Some.ensures.steps c.in-Ok.is c.of.result
+          c.of.ensures c.write.new.self c.write.new.writer text.0 text.1 text.2;
+    }
 
 pub returns-in_err-write : goal.returns-in_err-write
 returns-in_err-write g c =
     let so_far = c.loop-piece.invariant.so_far in
     let p = err_from_is_err_and c.from_residual.result c.from_residual.ensures.1 in
-    let text = c.in_err-write.ensures in
-    (so_far.out, so_far.renders, rw (p.1, p.2) (wrote_part c.args.model so_far.printing c.of.result _ (others_are c.args.model so_far c.in-Some.ensures.steps c.in-Ok.is c.of.result c.of.ensures) c.write.new.writer c.write.new.self text.0 text.1 _ text.2))
+    let text = c.in_err-write.ensures in (
+      so_far.out,
+      so_far.renders,
+      rw (p.1, p.2) (wrote_part c.args.model so_far.printing c.of.result _
+          (others_are c.args.model so_far c.in-Some.ensures.steps c.in-Ok.is c.of.result c.of.ensures) c.write.new.writer c.write.new.self text.0 text.1 _
+          text.2),
+    )
 
 pub returns : goal.returns
 returns g c = text_written c.args.model c.loop-piece.invariant.so_far c.in-None.ensures.steps

@@ -11,7 +11,8 @@ returns-in_default-clause-canonical c model =
     let i = c.loop-at.invariant in
     let few : length text ≤ 64 = c.requires.few in
     let none : HasNoMark c.marks_of-marks.result c.loop-at.at (length text) = λ k low high. c.in_default.ensures k low (omega (arith, few, high)) in
-    unmarked_canonical model c.marks_of-marks.result text c.loop-at.at (length text) _ i.within (omega arith) c.marks_of-marks.ensures none (i.canonical model).1
+    unmarked_canonical model c.marks_of-marks.result text c.loop-at.at (length text) _ i.within (omega arith) c.marks_of-marks.ensures none
+    (i.canonical model).1
 
 pub returns-then-offset-text-clause-canonical : goal.returns-then-offset-text-clause-canonical
 returns-then-offset-text-clause-canonical c model =
@@ -19,13 +20,15 @@ returns-then-offset-text-clause-canonical c model =
     let i = c.loop-at.invariant in
     let high : length text ≤ c.in-Some.offset = c.if-offset-text.true in
     let none : HasNoMark c.marks_of-marks.result c.loop-at.at (length text) = λ k low below. c.in-Some.ensures.2 k low (omega (arith, high, below)) in
-    unmarked_canonical model c.marks_of-marks.result text c.loop-at.at (length text) _ i.within (omega arith) c.marks_of-marks.ensures none (i.canonical model).1
+    unmarked_canonical model c.marks_of-marks.result text c.loop-at.at (length text) _ i.within (omega arith) c.marks_of-marks.ensures none
+    (i.canonical model).1
 
 pub returns-then-len-eq0-clause-canonical : goal.returns-then-len-eq0-clause-canonical
 returns-then-len-eq0-clause-canonical c model =
     let text = c.args.text.now in
     let found = c.in-Some.ensures in
-    unmarked_canonical model c.marks_of-marks.result text c.loop-at.at c.in-Some.offset _ found.0 (omega (arith, c.if-offset-text.false)) c.marks_of-marks.ensures found.2
+    unmarked_canonical model c.marks_of-marks.result text c.loop-at.at c.in-Some.offset _ found.0
+    (omega (arith, c.if-offset-text.false)) c.marks_of-marks.ensures found.2
     (c.loop-at.invariant.canonical model).1
 
 pub loop-at-preserved : goal.loop-at-preserved

@@ -13,5 +13,7 @@ returns-then-has_canonical_parts-clause-canonical c model =
     let conv = c.in-Some.conv in
     let items = Directive (parts alternative modifier conv) ∷ [] in
     let canonical = parts_are_canonical model alternative modifier conv (sym c.has_canonical_parts.ensures ∙ c.if-has_canonical_parts.true) in
-    let bytes = c.in-Some.ensures.whole ∙ ap (λ t. t ++ conv_letter conv ∷ []) (c.modifier_at-modifier.ensures.whole ∙ ap (λ t. t ++ length_letters modifier) (c.alternative_at-alternative.ensures.whole ∙ ap (λ t. t ++ alternative_bytes alternative) c.requires.1)) in
+    let bytes = c.in-Some.ensures.whole ∙ ap (λ t. t ++ conv_letter conv ∷ [])
+    (c.modifier_at-modifier.ensures.whole ∙ ap (λ t. t ++ length_letters modifier)
+    (c.alternative_at-alternative.ensures.whole ∙ ap (λ t. t ++ alternative_bytes alternative) c.requires.1)) in
     (items, subst (λ t. IsCanonicalRun model t items) (sym bytes) canonical)

@@ -7,7 +7,8 @@ use Rattle.pf_text.proofs.pieces.check.Goals as goal
 
 pub loop-piece-init : goal.loop-piece-init
 loop-piece-init c =
-    let given : HasGiven c.into_iter-piece-iterator.result c.args.text.now [] [] = subst (λ p. HasGiven p c.args.text.now [] []) (sym c.into_iter-piece-iterator.ensures.into_iter_gives) c.new-piece-items.ensures in
+    let given : HasGiven c.into_iter-piece-iterator.result c.args.text.now [] [] = subst (λ p. HasGiven p c.args.text.now [] [])
+    (sym c.into_iter-piece-iterator.ensures.into_iter_gives) c.new-piece-items.ensures in
     let found : HasFound Lp64 c.into_iter-piece-iterator.result c.args.text.now [] = record { read = []; items = []; given = given; types_are = refl } in
     record { can = tt; finite = tt; found = ([], found) }
 
@@ -18,13 +19,18 @@ loop-piece-preserved c =
     record {
       can = tt;
       finite = tt;
-      found = (found.0 ++ more, more_found Lp64 c.loop-piece.piece-iterator c.next.new.self c.args.text.now found.0 found.1 c.in-Some.piece c.in-Some.ensures.steps c.in-Ok.field-0 more c.in-Ok.is refl);
+      found = (
+        found.0 ++ more,
+        more_found Lp64 c.loop-piece.piece-iterator c.next.new.self c.args.text.now found.0 found.1 c.in-Some.piece
+            c.in-Some.ensures.steps c.in-Ok.field-0 more c.in-Ok.is refl,
+      );
     }
 
 pub returns-in-Err : goal.returns-in-Err
 returns-in-Err c =
     let found = c.loop-piece.invariant.found in
-    (refused Lp64 c.loop-piece.piece-iterator c.next.new.self c.args.text.now found.0 found.1 c.in-Some.piece c.in-Some.ensures.steps c.in-Err.refusal c.in-Err.is).refused
+    (refused Lp64 c.loop-piece.piece-iterator c.next.new.self c.args.text.now found.0 found.1 c.in-Some.piece c.in-Some.ensures.steps c.in-Err.refusal
+    c.in-Err.is).refused
 
 pub returns : goal.returns
 returns c =

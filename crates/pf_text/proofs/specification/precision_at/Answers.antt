@@ -5,4 +5,5 @@ use Rattle.pf_text.proofs.specification.precision_at.Goals as goal
 pub returns : goal.returns
 returns c =
     let digits = c.digits_at-number in
-    precision_read c.args.text.now c.args.start digits.result.1 digits.result.0 (omega (arith, c.if-start-text.false)) c.if-text-start-ne46.false digits.ensures.small digits.ensures.digits
+    precision_read c.args.text.now c.args.start digits.result.1 digits.result.0
+    (omega (arith, c.if-start-text.false)) c.if-text-start-ne46.false digits.ensures.small digits.ensures.digits

@@ -13,8 +13,15 @@ pub push_number-requires : goal.push_number-requires
 push_number-requires t c = (omega arith, omega (arith, c.requires, length-decimal-push c.args.number c.if-number-lt10.false c.ranges.number.fits))
 
 pub push-requires-2 : goal.push-requires-2
-push-requires-2 t c =
-    (omega arith, omega (arith, c.requires, length-decimal-push c.args.number c.if-number-lt10.false c.ranges.number.fits, length-appended c.args.out.now.items c.push_number.new.out.items (decimal (c.args.number / 10)) c.push_number.ensures))
+push-requires-2 t c = (
+  omega arith,
+  omega (
+    arith,
+    c.requires,
+    length-decimal-push c.args.number c.if-number-lt10.false c.ranges.number.fits,
+    length-appended c.args.out.now.items c.push_number.new.out.items (decimal (c.args.number / 10)) c.push_number.ensures,
+  ),
+)
 
 pub returns : goal.returns
 returns t c =

@@ -8,7 +8,12 @@ use Rattle.pf_text.proofs.spelling.push_flags.Goals as goal
 pub push_flag-requires : goal.push_flag-requires
 push_flag-requires g c =
     let before = take c.loop-flag.flag-index all_flags in
-    omega (arith, length-appended c.args.out.now.items c.loop-flag.out.items (flags_kept c.args.flags before) c.loop-flag.invariant, flags_kept-le c.args.flags before, length-take c.loop-flag.flag-index all_flags)
+    omega (
+      arith,
+      length-appended c.args.out.now.items c.loop-flag.out.items (flags_kept c.args.flags before) c.loop-flag.invariant,
+      flags_kept-le c.args.flags before,
+      length-take c.loop-flag.flag-index all_flags,
+    )
 
 pub loop-flag-preserved : goal.loop-flag-preserved
 loop-flag-preserved g c =

@@ -3,7 +3,8 @@ use Rattle.std.specs.Prelude.{Some}
 use Rattle.std.proofs.lemmas.Bool.{cases_lt}
 use Rattle.pf_posix.specs.OpaqueParts.{parts_of_opaque}
 use Rattle.pf_whole.specs.Calls.{CallsDiffer}
-use Rattle.pf_whole.proofs.CallLoops.{both_call, call_at, calls_apart, calls_apart_other, calls_from_start, calls_together, first_goes_on, next_of, placed_same, second_goes_on}
+use Rattle.pf_whole.proofs.CallLoops.{both_call, call_at, calls_apart, calls_apart_other, calls_from_start, calls_together, first_goes_on, next_of, placed_same}
+use Rattle.pf_whole.proofs.CallLoops.{second_goes_on}
 use Rattle.pf_whole.proofs.calls.first_call_difference.Goals as goal
 
 pub loop-call-init : goal.loop-call-init
@@ -68,12 +69,14 @@ returns-then-call-other c =
       | inl less ↦
           let least : c.min.result ≡ call.index = omega (arith, c.min.ensures, less) in
           subst (λ n. CallsDiffer c.args.model c.args.first.now c.args.second.now (Some n)) (sym least)
-          (calls_apart c.args.model c.args.first.now c.args.second.now c.loop-call.one c.loop-call.two call other c.in-Some.after c.in-Some-next_call.after_other i next also
+          (calls_apart c.args.model c.args.first.now c.args.second.now c.loop-call.one c.loop-call.two call other c.in-Some.after
+          c.in-Some-next_call.after_other i next also
           (omega (arith, less)) apart)
       | inr order ↦
           let least : c.min.result ≡ other.index = omega (arith, c.min.ensures, order) in
           subst (λ n. CallsDiffer c.args.model c.args.first.now c.args.second.now (Some n)) (sym least)
-          (calls_apart_other c.args.model c.args.first.now c.args.second.now c.loop-call.one c.loop-call.two call other c.in-Some.after c.in-Some-next_call.after_other i next also
+          (calls_apart_other c.args.model c.args.first.now c.args.second.now c.loop-call.one c.loop-call.two call other c.in-Some.after
+          c.in-Some-next_call.after_other i next also
           order apart)
     ]
 

@@ -28,8 +28,11 @@ argument_count-own-requires c =
     let t = c.args.text.now in
     let stretch = c.in-Some.stretch in
     let before = before_directive t c.args.rest.at r.0 stretch c.in-Some-opaque.directive (c.in-Some.ensures.head r.0 r.1) c.in-Some-opaque.is in
-    let s = parts_of_opaque c.in-Some-opaque.directive in
-    (types_of_opaque c.args.model s, opaque_args c.args.model (between t stretch.end stretch.after) s before.spells (between_few t stretch.end stretch.after _ c.requires.accepted.limit))
+    let s = parts_of_opaque c.in-Some-opaque.directive in (
+      types_of_opaque c.args.model s,
+      opaque_args c.args.model (between t stretch.end stretch.after) s before.spells
+          (between_few t stretch.end stretch.after _ c.requires.accepted.limit),
+    )
 
 pub overflow_add-index : goal.overflow_add-index
 overflow_add-index c =
@@ -40,7 +43,15 @@ overflow_add-index c =
     let part = between t c.args.rest.at stretch.end in
     let known = map widened (types c.args.model (first_items r.0)) in
     let count = counted c.args.model part known c.argument_count.result (stretch_args c.args.model part (first_items r.0) has) c.argument_count.ensures in
-    omega (arith, count, stretch_args_few c.args.model part (first_items r.0) has.reads, has.limit, c.requires.few, c.requires.within, c.requires.accepted.limit)
+    omega (
+      arith,
+      count,
+      stretch_args_few c.args.model part (first_items r.0) has.reads,
+      has.limit,
+      c.requires.few,
+      c.requires.within,
+      c.requires.accepted.limit,
+    )
 
 pub overflow_add-after : goal.overflow_add-after
 overflow_add-after c =
@@ -56,7 +67,8 @@ overflow_add-after c =
     let s = parts_of_opaque c.in-Some-opaque.directive in
     let own = between t stretch.end stretch.after in
     let few = between_few t stretch.end stretch.after _ c.requires.accepted.limit in
-    let more = counted c.args.model own (types_of_opaque c.args.model s) c.argument_count-own.result (opaque_args c.args.model own s before.spells few) c.argument_count-own.ensures in
+    let more = counted c.args.model own (types_of_opaque c.args.model s) c.argument_count-own.result
+    (opaque_args c.args.model own s before.spells few) c.argument_count-own.ensures in
     omega (
       arith,
       count,
@@ -83,10 +95,12 @@ returns c = λ left reads.
     let own = between t stretch.end stretch.after in
     let has = stretch_has t c.args.rest.at left stretch (c.in-Some.ensures.head left reads) c.requires.accepted.limit in
     let items_are : first_items left ≡ before.items = ap first_items before.left_is in
-    let count = counted model part (map widened (types model (first_items left))) c.argument_count.result (stretch_args model part (first_items left) has) c.argument_count.ensures in
+    let count = counted model part (map widened (types model (first_items left))) c.argument_count.result
+    (stretch_args model part (first_items left) has) c.argument_count.ensures in
     let many : length (map widened (types model (first_items left))) ≡ length (types model before.items) =
     length_map widened (types model (first_items left)) ∙ ap (λ l. length (types model l)) items_are in
-    let more = counted model own (types_of_opaque model s) c.argument_count-own.result (opaque_args model own s before.spells (between_few t stretch.end stretch.after _ c.requires.accepted.limit))
+    let more = counted model own (types_of_opaque model s) c.argument_count-own.result
+    (opaque_args model own s before.spells (between_few t stretch.end stretch.after _ c.requires.accepted.limit))
     c.argument_count-own.ensures in
     let call : PlacedDirective = record { index = c.args.rest.index + c.argument_count.result; directive = directive } in
     let after : Rest = record { at = stretch.after; index = c.args.rest.index + c.argument_count.result + c.argument_count-own.result } in

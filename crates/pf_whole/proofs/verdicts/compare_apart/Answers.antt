@@ -8,18 +8,21 @@ pub returns-in-Ok-Some : goal.returns-in-Ok-Some
 returns-in-Ok-Some c =
     let found = subst (ComparesArgumentTypes c.args.model c.args.first.now c.args.second.now) c.in-Ok-Some.field-0-is c.in-Ok-Some.ensures in
     record {
-      is = types_verdict c.args.model c.args.first.now c.args.second.now c.in-Ok-Some.index c.requires.accepted_first c.requires.accepted_second c.requires.apart found;
+      is = types_verdict c.args.model c.args.first.now c.args.second.now c.in-Ok-Some.index c.requires.accepted_first c.requires.accepted_second
+          c.requires.apart found;
       typed = tt;
     }
 
 pub unreachable-requires : goal.unreachable-requires
-unreachable-requires c = fit_anyway c.args.model c.args.first.now c.args.second.now c.in-Err.field-0.0 c.in-Err.field-0.1 c.requires.accepted_first c.requires.accepted_second c.in-Err.ensures
+unreachable-requires c = fit_anyway c.args.model c.args.first.now c.args.second.now c.in-Err.field-0.0 c.in-Err.field-0.1 c.requires.accepted_first
+    c.requires.accepted_second c.in-Err.ensures
 
 pub returns-in-Some : goal.returns-in-Some
 returns-in-Some c =
     let types = subst (ComparesArgumentTypes c.args.model c.args.first.now c.args.second.now) c.in-Ok-None.field-0-is c.in-Ok-None.ensures in
     record {
-      is = calls_verdict c.args.model c.args.first.now c.args.second.now c.in-Some.index c.requires.accepted_first c.requires.accepted_second c.requires.apart types c.in-Some.ensures;
+      is = calls_verdict c.args.model c.args.first.now c.args.second.now c.in-Some.index c.requires.accepted_first c.requires.accepted_second c.requires.apart
+          types c.in-Some.ensures;
       typed = tt;
     }
 
@@ -36,7 +39,8 @@ returns-in_err-first_difference c =
       c.requires.accepted_first,
       c.requires.accepted_second,
       c.requires.apart,
-      λ a b k l. shape_of c.args.model c.args.first.now c.args.second.now a b c.requires.accepted_first c.requires.accepted_second types c.in_default.ensures k l,
+      λ a b k l. shape_of c.args.model c.args.first.now c.args.second.now a b c.requires.accepted_first c.requires.accepted_second types c.in_default.ensures k
+          l,
     )
 
 pub returns : goal.returns

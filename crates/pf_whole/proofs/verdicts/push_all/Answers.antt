@@ -4,7 +4,12 @@ use Rattle.pf_whole.proofs.CountLemmas.{no_items}
 use Rattle.pf_whole.proofs.verdicts.push_all.Goals as goal
 
 pub loop-argument-init : goal.loop-argument-init
-loop-argument-init c = record { can = tt; finite = tt; given = sym (append-nil c.args.shown.now.items); left = sym c.into_iter-argument-iterator.ensures.into_iter_gives.0 }
+loop-argument-init c = record {
+  can = tt;
+  finite = tt;
+  given = sym (append-nil c.args.shown.now.items);
+  left = sym c.into_iter-argument-iterator.ensures.into_iter_gives.0;
+}
 
 pub loop-argument-preserved : goal.loop-argument-preserved
 loop-argument-preserved c =

@@ -9,4 +9,5 @@ pub returns-clause-given : goal.returns-clause-given
 returns-clause-given c model start left taken given h =
     let w = pending_in c.args.self.now in
     let more = take c.args.count w in
-    given_more model c.args.self.now.is_open c.args.self.now.transducer w more (pending_text c.skip.new.self) start left taken given (sym (take-append-drop c.args.count w) ∙ ap (λ t. more ++ t) (sym c.skip.ensures)) h
+    given_more model c.args.self.now.is_open c.args.self.now.transducer w more (pending_text c.skip.new.self) start left taken given
+    (sym (take-append-drop c.args.count w) ∙ ap (λ t. more ++ t) (sym c.skip.ensures)) h

@@ -10,7 +10,8 @@ returns-then-at-spaces c =
     let p = c.args.self.now in
     let n = c.from-spaces.result in
     let same : n ≡ p.spaces = c.from-spaces.ensures in
-    front_of_first (replicate p.spaces space) (replicate p.zeros zero_digit ++ text_after_zeros p) _ n c.args.at (length-replicate p.spaces space ∙ sym same) c.if-at-spaces.true
+    front_of_first (replicate p.spaces space) (replicate p.zeros zero_digit ++ text_after_zeros p) _ n c.args.at
+    (length-replicate p.spaces space ∙ sym same) c.if-at-spaces.true
     (rw (drop-replicate c.args.at p.spaces space, ← same) (c.repeated.ensures space c.spaces.ensures))
 
 pub returns-then-behind-zeros : goal.returns-then-behind-zeros
@@ -20,8 +21,10 @@ returns-then-behind-zeros c =
     let m = c.from-zeros.result in
     let same : n ≡ p.spaces = c.from-spaces.ensures in
     let zeros : m ≡ p.zeros = c.from-zeros.ensures in
-    front_of_second (replicate p.spaces space) (replicate p.zeros zero_digit ++ text_after_zeros p) _ n c.args.at (length-replicate p.spaces space ∙ sym same) c.if-at-spaces.false
-    (front_of_first (replicate p.zeros zero_digit) (text_after_zeros p) _ m (c.args.at - n) (length-replicate p.zeros zero_digit ∙ sym zeros) c.if-behind-zeros.true
+    front_of_second (replicate p.spaces space) (replicate p.zeros zero_digit ++ text_after_zeros p) _ n c.args.at
+    (length-replicate p.spaces space ∙ sym same) c.if-at-spaces.false
+    (front_of_first (replicate p.zeros zero_digit) (text_after_zeros p) _ m (c.args.at - n)
+    (length-replicate p.zeros zero_digit ∙ sym zeros) c.if-behind-zeros.true
     (rw (drop-replicate (c.args.at - n) p.zeros zero_digit, ← zeros) (c.repeated-then-behind-zeros.ensures zero_digit c.zeros.ensures)))
 
 pub returns : goal.returns
@@ -31,5 +34,7 @@ returns c =
     let m = c.from-zeros.result in
     let same : n ≡ p.spaces = c.from-spaces.ensures in
     let zeros : m ≡ p.zeros = c.from-zeros.ensures in
-    front_of_second (replicate p.spaces space) (replicate p.zeros zero_digit ++ text_after_zeros p) _ n c.args.at (length-replicate p.spaces space ∙ sym same) c.if-at-spaces.false
-    (front_of_second (replicate p.zeros zero_digit) (text_after_zeros p) _ m (c.args.at - n) (length-replicate p.zeros zero_digit ∙ sym zeros) c.if-behind-zeros.false c.front_after_zeros.ensures)
+    front_of_second (replicate p.spaces space) (replicate p.zeros zero_digit ++ text_after_zeros p) _ n c.args.at
+    (length-replicate p.spaces space ∙ sym same) c.if-at-spaces.false
+    (front_of_second (replicate p.zeros zero_digit) (text_after_zeros p) _ m (c.args.at - n)
+    (length-replicate p.zeros zero_digit ∙ sym zeros) c.if-behind-zeros.false c.front_after_zeros.ensures)

@@ -21,7 +21,8 @@ loop-at-preserved c =
       within = omega (arith, len, length-drop at text, few);
       through = λ model t out items h.
           let before = i.through model t out items h in
-          passed_more model t out before.0 text at f c.feed_chunk.new.self (rw take_rest at c.in-Ok.ensures.fed model (t ++ take at text) (out ++ before.0) before.1 before.2);
+          passed_more model t out before.0 text at f c.feed_chunk.new.self
+          (rw take_rest at c.in-Ok.ensures.fed model (t ++ take at text) (out ++ before.0) before.1 before.2);
     }
 
 pub returns-in-Err : goal.returns-in-Err
@@ -29,7 +30,8 @@ returns-in-Err c model t out items h =
     let text = c.args.text.now in
     let at = c.loop-at.at in
     let before = c.loop-at.invariant.through model t out items h in
-    passed_to_refused model t out before.0 text at c.in-Err.refused (rw take_rest at c.in-Err.ensures.fed model (t ++ take at text) (out ++ before.0) before.1 before.2)
+    passed_to_refused model t out before.0 text at c.in-Err.refused
+    (rw take_rest at c.in-Err.ensures.fed model (t ++ take at text) (out ++ before.0) before.1 before.2)
 
 pub returns : goal.returns
 returns c model t out items h =

@@ -8,7 +8,8 @@ use Rattle.pf_canon.proofs.transducer.Transducer.passed.Given as goal
 abbrev pub invariant-loop-at : goal.invariant-loop-at
 invariant-loop-at l = record {
   within : l.at ≤ length l.text;
-  through : ((model : Model) (t out : Text) (items : List Item) → IsThrough model l.fn.self t items out → (more : Text) × (now : List Item) × IsThrough model l.self (t ++ take l.at l.text) now (out ++ more));
+  through : ((model : Model) (t out : Text) (items : List Item) → IsThrough model l.fn.self t items out
+      → (more : Text) × (now : List Item) × IsThrough model l.self (t ++ take l.at l.text) now (out ++ more));
 }
 
 abbrev pub decreases-loop-at : goal.decreases-loop-at

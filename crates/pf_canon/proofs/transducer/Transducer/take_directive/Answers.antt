@@ -9,4 +9,5 @@ returns-clause-fed c model t out items h =
     let few = s.few in
     let one = s.one in
     directive_taken model c.args.self.now c.settle_directive.new.self t out c.args.text.now items c.in_ok-directive.len c.in_ok-directive.directive
-    c.settle_directive.result p.within.0 p.within.1 h s.model (rw (sym s.scanner) at (p.passed t items h.after)) s.settles (omega (arith, one)) (omega (arith, few))
+    c.settle_directive.result p.within.0 p.within.1 h s.model (rw (sym s.scanner) at (p.passed t items h.after)) s.settles (omega (arith, one))
+    (omega (arith, few))

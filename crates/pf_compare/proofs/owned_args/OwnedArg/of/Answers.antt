@@ -7,4 +7,5 @@ use Rattle.pf_compare.proofs.CandidateLemmas.{repeated_byte}
 use Rattle.pf_compare.proofs.owned_args.OwnedArg.of.Goals as goal
 
 pub of_one_byte-requires : goal.of_one_byte-requires
-of_one_byte-requires c = repeated_byte Lp64 c.in-Repeat.count c.in-Repeat.byte c.args.arg_type (subst (λ (candidate : Candidate). HasType Lp64 (candidate_argument candidate) c.args.arg_type) c.in-Repeat.is c.requires)
+of_one_byte-requires c = repeated_byte Lp64 c.in-Repeat.count c.in-Repeat.byte c.args.arg_type
+    (subst (λ (candidate : Candidate). HasType Lp64 (candidate_argument candidate) c.args.arg_type) c.in-Repeat.is c.requires)

@@ -7,7 +7,8 @@ pub overflow_add-self-in-Character : goal.overflow_add-self-in-Character
 overflow_add-self-in-Character c =
     let t = c.args.source.now in
     let at = c.args.self.now.at in
-    let few = gives_within t c.args.self.now.context at c.in-Character.value c.in-Character.len (sym (rw (take_rest t at) at c.in-Character.ensures)) c.requires in
+    let few = gives_within t c.args.self.now.context at c.in-Character.value c.in-Character.len
+    (sym (rw (take_rest t at) at c.in-Character.ensures)) c.requires in
     omega (arith, few.1)
 
 pub overflow_add-at : goal.overflow_add-at
@@ -45,5 +46,6 @@ pub returns-in-Character-clause-further : goal.returns-in-Character-clause-furth
 returns-in-Character-clause-further c =
     let t = c.args.source.now in
     let at = c.args.self.now.at in
-    let few = gives_within t c.args.self.now.context at c.in-Character.value c.in-Character.len (sym (rw (take_rest t at) at c.in-Character.ensures)) c.requires in
+    let few = gives_within t c.args.self.now.context at c.in-Character.value c.in-Character.len
+    (sym (rw (take_rest t at) at c.in-Character.ensures)) c.requires in
     (omega (arith, few.0), few.1, omega arith, omega (arith, few.0, few.1))

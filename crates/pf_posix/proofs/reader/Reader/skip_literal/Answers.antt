@@ -9,5 +9,6 @@ returns-clause-next c model =
     let self = c.args.self.now in
     let n = c.run_len-run.result in
     ap (λ s. trace_from model self.numbering s self.at (drop self.at t)) c.requires.between
-    ∙ run_passed model self.numbering t self.at n (omega (arith, c.requires.within)) c.run_len-run.ensures.within c.run_len-run.ensures.short c.run_len-run.ensures.run
+    ∙ run_passed model self.numbering t self.at n (omega (arith, c.requires.within)) c.run_len-run.ensures.within c.run_len-run.ensures.short
+    c.run_len-run.ensures.run
     ∙ ap (λ s. trace_from model self.numbering s (self.at + n) (drop (self.at + n) t)) (sym c.requires.between)

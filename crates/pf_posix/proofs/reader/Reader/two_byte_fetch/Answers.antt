@@ -8,5 +8,7 @@ returns-in-Some c =
     let self = c.args.self.now in
     let model = c.args.model in (
       omega (arith, c.if-next-text.false),
-      rw (c.requires.between, c.conversion_type.ensures) (two_bytes_read model self.numbering t self.at c.in-Some.conversion (not_numbered self.numbering c.in-Undecided.is) (omega (arith, c.if-next-text.false)) (omega (arith, c.if-next-ge-MAX_TEXT_LEN.false)) c.requires.first (sym c.conversion_of.ensures ∙ c.in-Some.is)),
+      rw (c.requires.between, c.conversion_type.ensures) (two_bytes_read model self.numbering t self.at c.in-Some.conversion
+          (not_numbered self.numbering c.in-Undecided.is) (omega (arith, c.if-next-text.false))
+          (omega (arith, c.if-next-ge-MAX_TEXT_LEN.false)) c.requires.first (sym c.conversion_of.ensures ∙ c.in-Some.is)),
     )

@@ -4,7 +4,8 @@ use Rattle.pf_posix.proofs.tables.Table.add_fetch.Goals as goal
 
 pub returns-in-Some : goal.returns-in-Some
 returns-in-Some c seen h =
-    rw (c.larger-self.ensures) (told_some c.args.self.now seen h c.args.index c.args.wanted c.requires c.in-Some.there c.number.result c.number-in-Some.result c.in-Some.is c.number.ensures c.number-in-Some.ensures)
+    rw (c.larger-self.ensures) (told_some c.args.self.now seen h c.args.index c.args.wanted c.requires c.in-Some.there c.number.result c.number-in-Some.result
+    c.in-Some.is c.number.ensures c.number-in-Some.ensures)
 
 pub returns-in-None : goal.returns-in-None
 returns-in-None c seen h =

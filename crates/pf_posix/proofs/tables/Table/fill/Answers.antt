@@ -3,13 +3,20 @@ use Rattle.pf_values.specs.declared.refusals.RefusalKind.TheVariants.{TwoTypes}
 use Rattle.pf_posix.specs.Readings.{conflicts}
 use Rattle.pf_posix.specs.Refusals.{IsPosixRefusedAt}
 use Rattle.pf_posix.specs.Tabled.{TableHolds}
-use Rattle.pf_posix.proofs.TableLemmas.{all_numbered, conflict_refused, end_by_number, finished, first_by_number, next_by_number, numbered_of, same_fetch, refused_by_number}
+use Rattle.pf_posix.proofs.TableLemmas.{all_numbered, conflict_refused, end_by_number, finished, first_by_number, next_by_number, numbered_of, same_fetch}
+use Rattle.pf_posix.proofs.TableLemmas.{refused_by_number}
 use Rattle.pf_posix.proofs.tables.Table.fill.Goals as goal
 
 pub loop-model-init : goal.loop-model-init
 loop-model-init c =
-    let first = c.requires.first in
-    ([], first.0, first_by_number c.args.model c.args.text.now c.args.first first.0 _ (numbered_of c.args.first.number c.requires.number) first.2, c.requires.empty, first.1, c.requires.within)
+    let first = c.requires.first in (
+      [],
+      first.0,
+      first_by_number c.args.model c.args.text.now c.args.first first.0 _ (numbered_of c.args.first.number c.requires.number) first.2,
+      c.requires.empty,
+      first.1,
+      c.requires.within,
+    )
 
 pub returns-then-not-add_fetch : goal.returns-then-not-add_fetch
 returns-then-not-add_fetch c =
@@ -19,7 +26,8 @@ returns-then-not-add_fetch c =
     let same = same_fetch f c.from-number.result i.2.number i.2.within (c.from-number.ensures ∙ c.unwrap_or.ensures) in
     let at : i.1 ≡ c.at.result - 1 = omega (arith, i.4, c.at.ensures) in
     subst (λ r. IsPosixRefusedAt c.args.model t r.kind r.at) (sym c.refusal.ensures)
-    (subst (IsPosixRefusedAt c.args.model t TwoTypes) at (conflict_refused c.args.model t i.0 f i.1 _ i.2 (ap (conflicts i.0) (sym same) ∙ c.if-not-add_fetch.ensures i.0 i.3)))
+    (subst (IsPosixRefusedAt c.args.model t TwoTypes) at (conflict_refused c.args.model t i.0 f i.1 _ i.2
+    (ap (conflicts i.0) (sym same) ∙ c.if-not-add_fetch.ensures i.0 i.3)))
 
 pub loop-model-preserved : goal.loop-model-preserved
 loop-model-preserved c =
@@ -28,8 +36,14 @@ loop-model-preserved c =
     let f = c.loop-model.fetch in
     let same = same_fetch f c.from-number.result i.2.number i.2.within (c.from-number.ensures ∙ c.unwrap_or.ensures) in
     let both = subst (λ g. (conflicts i.0 g ≡ false) × TableHolds c.add_fetch.new.self (i.0 ++ g ∷ [])) same (c.if-not-add_fetch.ensures i.0 i.3) in
-    let next = c.in-Fetched.ensures.next in
-    (i.0 ++ f ∷ [], next.0, next_by_number c.args.model t i.0 f i.1 _ i.2 both.0 c.in-Fetched.next next.0 _ next.2, both.1, next.1, c.in-Fetched.ensures.further.1)
+    let next = c.in-Fetched.ensures.next in (
+      i.0 ++ f ∷ [],
+      next.0,
+      next_by_number c.args.model t i.0 f i.1 _ i.2 both.0 c.in-Fetched.next next.0 _ next.2,
+      both.1,
+      next.1,
+      c.in-Fetched.ensures.further.1,
+    )
 
 pub returns-in-End : goal.returns-in-End
 returns-in-End c =
@@ -39,7 +53,8 @@ returns-in-End c =
     let same = same_fetch f c.from-number.result i.2.number i.2.within (c.from-number.ensures ∙ c.unwrap_or.ensures) in
     let both = subst (λ g. (conflicts i.0 g ≡ false) × TableHolds c.add_fetch.new.self (i.0 ++ g ∷ [])) same (c.if-not-add_fetch.ensures i.0 i.3) in
     let verdict = end_by_number c.args.model t i.0 f i.1 _ i.2 both.0 c.in-End.ensures.next in
-    finished c.args.model t c.add_fetch.new.self (i.0 ++ f ∷ []) _ c.finish.result verdict (all_numbered c.args.model t i.0 f i.1 _ i.2 both.0) both.1 refl (c.finish.ensures (i.0 ++ f ∷ []) both.1)
+    finished c.args.model t c.add_fetch.new.self (i.0 ++ f ∷ []) _ c.finish.result verdict (all_numbered c.args.model t i.0 f i.1 _ i.2 both.0) both.1 refl
+    (c.finish.ensures (i.0 ++ f ∷ []) both.1)
 
 pub returns-in-Refused : goal.returns-in-Refused
 returns-in-Refused c =

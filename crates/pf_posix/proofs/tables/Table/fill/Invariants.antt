@@ -7,7 +7,8 @@ use Rattle.pf_posix.proofs.tables.Table.fill.Given as goal
 
 abbrev pub invariant-loop-model : goal.invariant-loop-model
 invariant-loop-model l =
-    (seen : List Fetch) × (at : ℕ) × IsByNumber l.model l.text seen l.fetch at (trace_left l.model l.text l.reader) × TableHolds l.self seen × (l.reader.at ≡ at + 1) × (l.reader.at ≤ length l.text)
+    (seen : List Fetch) × (at : ℕ) × IsByNumber l.model l.text seen l.fetch at (trace_left l.model l.text l.reader) × TableHolds l.self seen
+    × (l.reader.at ≡ at + 1) × (l.reader.at ≤ length l.text)
 
 abbrev pub decreases-loop-model : goal.decreases-loop-model
 decreases-loop-model l = length l.text - l.reader.at

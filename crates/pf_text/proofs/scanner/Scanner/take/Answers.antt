@@ -12,13 +12,17 @@ use Rattle.pf_text.proofs.scanner.Scanner.take.Goals as goal
 pub returns-then-self-ge-MAX_TEXT_LEN-clause-fed : goal.returns-then-self-ge-MAX_TEXT_LEN-clause-fed
 returns-then-self-ge-MAX_TEXT_LEN-clause-fed c t items h =
     let byte = c.args.byte in
-    let full : length t ≡ MAX_TEXT_LEN = omega (arith, h.offset, h.limit, c.if-self-ge-MAX_TEXT_LEN.true) in
-    (h.offset, λ more. subst (λ p. IsRefusedAt (t ++ byte ∷ more) TooLong p) (sym h.offset) (too_long_at t h.part items (state_of c.args.self.now.automaton) h.good.splits h.state byte more full))
+    let full : length t ≡ MAX_TEXT_LEN = omega (arith, h.offset, h.limit, c.if-self-ge-MAX_TEXT_LEN.true) in (
+      h.offset,
+      λ more. subst (λ p. IsRefusedAt (t ++ byte ∷ more) TooLong p) (sym h.offset)
+          (too_long_at t h.part items (state_of c.args.self.now.automaton) h.good.splits h.state byte more full),
+    )
 
 pub returns-in-Ok-clause-fed : goal.returns-in-Ok-clause-fed
 returns-in-Ok-clause-fed c t items h =
     let byte = c.args.byte in
-    let leads : LeadsTo h.part byte (state_of c.step.new.self.automaton) c.in-Ok.step = subst (Judges h.part byte) c.in-Ok.ensures.made (judge (state_of c.args.self.now.automaton) h.part byte h.state) in
+    let leads : LeadsTo h.part byte (state_of c.step.new.self.automaton) c.in-Ok.step = subst (Judges h.part byte) c.in-Ok.ensures.made
+    (judge (state_of c.args.self.now.automaton) h.part byte h.state) in
     let now = stepped t h.part items byte h.good.splits (state_of c.step.new.self.automaton) c.in-Ok.step leads in
     record {
       after = record {

@@ -16,4 +16,5 @@ returns-clause-passed c t items h reads =
     let room = room_left scanner.offset few in
     let least = c.min-taken.ensures ∙ ap (min run.result) room in
     let end = not_wrapped scanner.offset taken (omega (arith, least, few)) in
-    subst (λ o. Passes t items text taken (record scanner { offset = o })) (sym end) (passed scanner t text items taken run.result _ h reads found room c.min-taken.ensures)
+    subst (λ o. Passes t items text taken (record scanner { offset = o })) (sym end)
+    (passed scanner t text items taken run.result _ h reads found room c.min-taken.ensures)

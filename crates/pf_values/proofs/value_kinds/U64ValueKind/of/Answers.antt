@@ -6,4 +6,5 @@ use Rattle.pf_values.proofs.ValueKindLemmas.{remainder-converted}
 use Rattle.pf_values.proofs.value_kinds.U64ValueKind.of.Goals as goal
 
 pub returns : goal.returns
-returns c = remainder-converted B64 c.args.argument _ c.rem_euclid.result (to_z w128 (of_z w128 c.rem_euclid.result)) (omega (arith, ints)) c.rem_euclid.ensures.value (omega (arith, ints))
+returns c = remainder-converted B64 c.args.argument _ c.rem_euclid.result (to_z w128 (of_z w128 c.rem_euclid.result))
+    (omega (arith, ints)) c.rem_euclid.ensures.value (omega (arith, ints))
