@@ -27,8 +27,8 @@ IsRefusedWhole model side t code error = IsRefusedAs (IsPosixRefusedAt model t) 
 
 -- the first text is refused, or it is accepted and the second refused
 abbrev pub IsOneRefusedWhole : Model → Text → Text → ℤ → CError → Type 0
-IsOneRefusedWhole model f g code error =
-    IsOneRefusedAs (IsPosixAccepted model) (IsPosixRefusedAt model) f g code error
+IsOneRefusedWhole model first second code error =
+    IsOneRefusedAs (IsPosixAccepted model) (IsPosixRefusedAt model) first second code error
 
 -- the numbers of the types are put, where the buffer has room for them, and how many they are is
 -- answered; or the text is refused, or memory for its types is out
@@ -42,40 +42,40 @@ PutsArguments model t out error code out_now error_now =
 
 -- the types of two accepted texts are equal
 abbrev pub Fit : Model → Text → Text → Type 0
-Fit model f g = (types : List ArgumentType) × HasArguments model f types × HasArguments model g types
+Fit model first second = (types : List ArgumentType) × HasArguments model first types × HasArguments model second types
 
 -- 1 where they are, 0 where they aren't, with the error untouched; or one text is refused
 abbrev pub AnswersFit : Model → Text → Text → CError → ℤ → CError → Type 0
-AnswersFit model f g error code error_now =
-    (IsPosixAccepted model f × IsPosixAccepted model g × IsTruthCode (Fit model f g) code
+AnswersFit model first second error code error_now =
+    (IsPosixAccepted model first × IsPosixAccepted model second × IsTruthCode (Fit model first second) code
     × (error_now ≡ error))
-    ⊎ IsOneRefusedWhole model f g code error_now
+    ⊎ IsOneRefusedWhole model first second code error_now
 
 -- two texts are compared in one data model after the other, and one is refused
-pub record StopsFitsIn (models : List Model) (f g : Text) (refusal : Side × Refusal) : Type 0 where
+pub record StopsFitsIn (models : List Model) (first second : Text) (refusal : Side × Refusal) : Type 0 where
   pub before : List Model
   pub model : Model
   pub after : List Model
   pub split : models ≡ before ++ model ∷ after
-  pub accepted : AllByRecursion (λ m. IsPosixAccepted m f × IsPosixAccepted m g) before
-  pub refused : FaultForFits model f g refusal
+  pub accepted : AllByRecursion (λ m. IsPosixAccepted m first × IsPosixAccepted m second) before
+  pub refused : FaultForFits model first second refusal
 
 -- one of two texts is refused in a data model, and none is in those before it
-pub record IsRefusedFirstIn (models : List Model) (f g : Text) (code : ℤ) (error : CError) : Type 0 where
+pub record IsRefusedFirstIn (models : List Model) (first second : Text) (code : ℤ) (error : CError) : Type 0 where
   pub before : List Model
   pub model : Model
   pub after : List Model
   pub split : models ≡ before ++ model ∷ after
-  pub accepted : AllByRecursion (λ m. IsPosixAccepted m f × IsPosixAccepted m g) before
-  pub refused : IsOneRefusedWhole model f g code error
+  pub accepted : AllByRecursion (λ m. IsPosixAccepted m first × IsPosixAccepted m second) before
+  pub refused : IsOneRefusedWhole model first second code error
 
 -- the data models in which their types are equal, where both are accepted in all, with the error
 -- untouched; or one text is refused in the first data model in which one is
 abbrev pub AnswersFitModels : Text → Text → CError → ℤ → CError → Type 0
-AnswersFitModels f g error code error_now =
-    (AllByRecursion (λ model. IsPosixAccepted model f × IsPosixAccepted model g) ALL
-    × IsModelsCode (λ model. Fit model f g) code × (error_now ≡ error))
-    ⊎ IsRefusedFirstIn ALL f g code error_now
+AnswersFitModels first second error code error_now =
+    (AllByRecursion (λ model. IsPosixAccepted model first × IsPosixAccepted model second) ALL
+    × IsModelsCode (λ model. Fit model first second) code × (error_now ≡ error))
+    ⊎ IsRefusedFirstIn ALL first second code error_now
 
 -- the index of an argument, or the number for none
 abbrev pub index_or_none : Option ℕ → ℕ

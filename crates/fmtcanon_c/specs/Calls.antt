@@ -47,14 +47,14 @@ AnswersCanonical model t error code error_now =
 
 -- the first text is refused, or it is accepted and the second refused
 abbrev pub IsOneRefusedBy : Text → Text → ℤ → CError → Type 0
-IsOneRefusedBy f g code error = IsOneRefusedAs IsAccepted IsRefusedAt f g code error
+IsOneRefusedBy first second code error = IsOneRefusedAs IsAccepted IsRefusedAt first second code error
 
 -- 1 where two accepted texts mean the same, 0 where they don't, with the error untouched; or one is
 -- refused
 abbrev pub AnswersSame : Model → Text → Text → CError → ℤ → CError → Type 0
-AnswersSame model f g error code error_now =
-    (IsAccepted f × IsAccepted g × IsTruthCode (AreEquivalent model f g) code × (error_now ≡ error))
-    ⊎ IsOneRefusedBy f g code error_now
+AnswersSame model first second error code error_now =
+    (IsAccepted first × IsAccepted second × IsTruthCode (AreEquivalent model first second) code × (error_now ≡ error))
+    ⊎ IsOneRefusedBy first second code error_now
 
 -- Of some data models those in which it is so, as a sum: the first counts so much, and each other
 -- twice as much as the one before it.
@@ -72,10 +72,10 @@ IsModelsCode Is code = (sum : ℕ) × AreModels Is 1 ALL sum × (code ≡ pos su
 -- the data models in which two accepted texts mean the same, with the error untouched; or one is
 -- refused
 abbrev pub AnswersModels : Text → Text → CError → ℤ → CError → Type 0
-AnswersModels f g error code error_now =
-    (IsAccepted f × IsAccepted g × IsModelsCode (λ model. AreEquivalent model f g) code
+AnswersModels first second error code error_now =
+    (IsAccepted first × IsAccepted second × IsModelsCode (λ model. AreEquivalent model first second) code
     × (error_now ≡ error))
-    ⊎ IsOneRefusedBy f g code error_now
+    ⊎ IsOneRefusedBy first second code error_now
 
 -- nothing was put: the text is refused, or memory is out
 abbrev pub PutsNothing : Text → Type 0 → Text → CError → ℤ → Text → CError → Type 0
@@ -140,22 +140,22 @@ pub record IsComparisonCode (comparison : Comparison) (answer : CComparison) : T
 
 -- two texts are compared, the words of the arguments are put where the buffer has room for them,
 -- and how many bytes they are is answered
-pub record PutsComparison (model : Model) (f g out : Text) (error : CError) (code : ℤ) (out_now : Text)
+pub record PutsComparison (model : Model) (first second out : Text) (error : CError) (code : ℤ) (out_now : Text)
     (answer_now : CComparison) (error_now : CError) : Type 0 where
   pub comparison : Comparison
-  pub is : IsComparisonOf model f g comparison
+  pub is : IsComparisonOf model first second comparison
   pub answer_is : IsComparisonCode comparison answer_now
   pub code_is : code ≡ pos (length (words_of comparison.verdict))
   pub out_is : out_now ≡ put (words_of comparison.verdict) out
   pub error_is : error_now ≡ error
 
 -- nothing was put or answered: one text is refused, or memory is out
-pub record PutsNoComparison (model : Model) (f g out : Text) (answer : CComparison) (error : CError)
+pub record PutsNoComparison (model : Model) (first second out : Text) (answer : CComparison) (error : CError)
     (code : ℤ) (out_now : Text) (answer_now : CComparison) (error_now : CError) : Type 0 where
   pub out_is : out_now ≡ out
   pub answer_is : answer_now ≡ answer
-  pub why : IsOneRefusedBy f g code error_now
-      ⊎ IsOut (FaultForCompare model f g compare_faults.Memory) code error error_now
+  pub why : IsOneRefusedBy first second code error_now
+      ⊎ IsOut (FaultForCompare model first second compare_faults.Memory) code error error_now
 
 -- the answer of a comparison that was made
 abbrev pub AnswersVerdict : Comparison → Text → CComparison → ℤ → Text → CComparison → Type 0

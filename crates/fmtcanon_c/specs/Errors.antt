@@ -29,9 +29,9 @@ pub record IsRefusedAs (Refuses : RefusalKind → ℕ → Type 0) (side : Side) 
 -- the first text is refused, or it is accepted and the second refused
 abbrev pub IsOneRefusedAs : (Text → Type 0) → (Text → RefusalKind → ℕ → Type 0) → Text → Text → ℤ
     → CError → Type 0
-IsOneRefusedAs Accepts Refuses f g code error =
-    IsRefusedAs (Refuses f) First code error
-    ⊎ (Accepts f × IsRefusedAs (Refuses g) Second code error)
+IsOneRefusedAs Accepts Refuses first second code error =
+    IsRefusedAs (Refuses first) First code error
+    ⊎ (Accepts first × IsRefusedAs (Refuses second) Second code error)
 
 -- a text is refused by the profile
 abbrev pub IsRefusedBy : Side → Text → ℤ → CError → Type 0

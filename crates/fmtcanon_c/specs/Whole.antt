@@ -23,8 +23,8 @@ IsRefusedUnnumbered model side t code error = IsRefusedAs (IsWholeRefusedAt mode
 
 -- the first text is refused, or it is accepted and the second refused
 abbrev pub IsOneRefusedUnnumbered : Model → Text → Text → ℤ → CError → Type 0
-IsOneRefusedUnnumbered model f g code error =
-    IsOneRefusedAs IsWholeAccepted (IsWholeRefusedAt model) f g code error
+IsOneRefusedUnnumbered model first second code error =
+    IsOneRefusedAs IsWholeAccepted (IsWholeRefusedAt model) first second code error
 
 -- the canonical text and a NUL are put, where the buffer has room for them, and its length is
 -- answered; or the text is refused, or memory is out
@@ -44,15 +44,15 @@ AnswersWholeLength model t error code error_now =
 -- 1 where two accepted texts are alike, 0 where they aren't, with the error untouched; or one is
 -- refused
 abbrev pub AnswersAlike : Model → Text → Text → CError → ℤ → CError → Type 0
-AnswersAlike model f g error code error_now =
-    (IsWholeAccepted f × IsWholeAccepted g × IsTruthCode (AreWholeAlike model f g) code
+AnswersAlike model first second error code error_now =
+    (IsWholeAccepted first × IsWholeAccepted second × IsTruthCode (AreWholeAlike model first second) code
     × (error_now ≡ error))
-    ⊎ IsOneRefusedUnnumbered model f g code error_now
+    ⊎ IsOneRefusedUnnumbered model first second code error_now
 
 -- The data models in which two accepted texts are alike, with the error untouched; or one is refused.
 -- A text that is accepted in one data model is accepted in all, so the refusal is that of the first.
 abbrev pub AnswersAlikeModels : Text → Text → CError → ℤ → CError → Type 0
-AnswersAlikeModels f g error code error_now =
-    (IsWholeAccepted f × IsWholeAccepted g × IsModelsCode (λ model. AreWholeAlike model f g) code
+AnswersAlikeModels first second error code error_now =
+    (IsWholeAccepted first × IsWholeAccepted second × IsModelsCode (λ model. AreWholeAlike model first second) code
     × (error_now ≡ error))
-    ⊎ IsOneRefusedUnnumbered Lp64 f g code error_now
+    ⊎ IsOneRefusedUnnumbered Lp64 first second code error_now

@@ -50,23 +50,23 @@ pub record IsWholeComparisonCode (verdict : WholeVerdict) (answer : CComparison)
 
 -- two texts are compared, the words of the arguments are put where the buffer has room for them,
 -- and how many bytes they are is answered
-pub record PutsWholeComparison (model : Model) (f g out : Text) (error : CError) (code : ℤ)
+pub record PutsWholeComparison (model : Model) (first second out : Text) (error : CError) (code : ℤ)
     (out_now : Text) (answer_now : CComparison) (error_now : CError) : Type 0 where
   pub verdict : WholeVerdict
-  pub is : IsComparison model f g verdict
+  pub is : IsComparison model first second verdict
   pub answer_is : IsWholeComparisonCode verdict answer_now
   pub code_is : code ≡ pos (length (words_of_whole verdict))
   pub out_is : out_now ≡ put (words_of_whole verdict) out
   pub error_is : error_now ≡ error
 
 -- nothing was put or answered: one text is refused, or memory is out
-pub record PutsNoWholeComparison (model : Model) (f g out : Text) (answer : CComparison)
+pub record PutsNoWholeComparison (model : Model) (first second out : Text) (answer : CComparison)
     (error : CError) (code : ℤ) (out_now : Text) (answer_now : CComparison) (error_now : CError)
     : Type 0 where
   pub out_is : out_now ≡ out
   pub answer_is : answer_now ≡ answer
-  pub why : IsOneRefusedUnnumbered model f g code error_now
-      ⊎ IsOut (FaultForWholeCompare model f g Memory) code error error_now
+  pub why : IsOneRefusedUnnumbered model first second code error_now
+      ⊎ IsOut (FaultForWholeCompare model first second Memory) code error error_now
 
 -- the answer of a comparison that was made
 abbrev pub AnswersWholeVerdict : WholeVerdict → Text → CComparison → ℤ → Text → CComparison → Type 0
