@@ -4,7 +4,7 @@ ghost use Rattle.std.specs.Prelude.{◌≡◌};
 ghost use Rattle.fmtcanon_c.specs.Models.{InModel};
 
 use crate::interface::{CError, NO_MEMORY, NO_MODEL, model_of, put_refusal, put_string};
-use pf_canon::{canonical, canonical_len, is_canonical, short_canonical};
+use pf_canon::{canonical, canonical_len, is_canonical, is_verbatim, short_canonical};
 use pf_text::{Side, TextFault, check};
 use pf_values::Model;
 use std::alloc::Global;
@@ -71,10 +71,28 @@ fn put_canonical(
 ) -> i64
     ensures { PutsCanonical model text.now out.old error.old result out.new error.new }
 {
+    if is_verbatim(model, text) {
+        put_string(out, text);
+        return text.len() as i64;
+    }
+    put_other_canonical(alloc, model, text, out, error)
+}
+
+// Puts the canonical text of a format that isn't verbatim. Never inlined, so that one that is doesn't make
+// the room.
+#[inline(never)]
+fn put_other_canonical(
+    alloc: Global,
+    model: Model,
+    text: &[u8],
+    out: &mut [u8],
+    error: &mut CError,
+) -> i64
+    ensures { PutsCanonical model text.now out.old error.old result out.new error.new }
+{
     match short_canonical(model, text) {
-        Ok(Some(short)) => {
-            let canonical = short.as_slice();
-            put_string(out, canonical);
+        Ok(Some(canonical)) => {
+            put_string(out, &canonical);
             canonical.len() as i64
         }
         Ok(None) => put_long_canonical(alloc, model, text, out, error),

@@ -17,7 +17,7 @@ mod transducer;
 
 pub use canonical_bytes::CanonBytes;
 pub use canonical_texts::{
-    ShortText, append_canonical, canonical, canonical_len, canonical_with_room, is_canonical,
+    append_canonical, canonical, canonical_len, canonical_with_room, is_canonical, is_verbatim,
     short_canonical,
 };
 pub use comparison::{same_stream, same_text};
