@@ -14,7 +14,7 @@ use crate::marks::{MAX_MARKED, MIN_MARKED, marks_of, next_marked};
 use crate::search::literal_len;
 use crate::specification::directive_of_parts;
 use pf_values::limits::MAX_TEXT_LEN;
-use pf_values::{ArgType, Conv, Model};
+use pf_values::{ArgType, Conv, Length, Model};
 
 /// Puts the types of the arguments that a text takes in front of `types`, and returns how many there
 /// are. None if they aren't known, or have no room: then `signature` has them, or why there are none.
@@ -137,11 +137,7 @@ fn typed_item(model: Model, text: &[u8], at: usize) -> Option<(Option<ArgType>, 
 fn bare_type(model: Model, conv: Conv) -> ArgType
     ensures { result ≡ arg_type model (specification_of no_flags None None lengths.None conv) }
 {
-    match conv {
-        Conv::D | Conv::I | Conv::C => ArgType::Int,
-        Conv::U | Conv::O | Conv::X | Conv::UpperX | Conv::B => ArgType::UInt,
-        Conv::S => ArgType::Str,
-    }
+    conv.arg_type(model, Length::None)
 }
 
 // The type of the argument that the directive at the front of a text takes, which begins with `%`,

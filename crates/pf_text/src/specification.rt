@@ -77,12 +77,14 @@ fn is_defined(flags: FlagSet, precision: Option<u16>, length: Length, conv: Conv
     ensures { IsTrue result
         → first_broken undefined_kinds (specification_of flags None precision length conv) ≡ None }
 {
-    match conv {
-        Conv::D | Conv::I | Conv::U => !flags.has(Flag::Alt),
-        Conv::O | Conv::X | Conv::UpperX | Conv::B => !flags.has(Flag::Group),
-        Conv::C => precision.is_none() && suits_text(flags, length),
-        Conv::S => suits_text(flags, length),
+    let kind = conv.kind();
+    if kind.is_text() {
+        return suits_text(flags, length) && !(kind.is_char() && precision.is_some());
     }
+    if flags.has(Flag::Alt) && !kind.has_alternative_form() {
+        return false;
+    }
+    !flags.has(Flag::Group) || kind.is_grouped()
 }
 
 // Whether flags and a length modifier are defined for a byte or a string: no `#`, no `0`, no `'` and

@@ -1,6 +1,7 @@
 //! Conversions, and what they print.
 ghost use Rattle.std.specs.Prelude.{◌≡◌};
 ghost use Rattle.pf_values.specs.meaning.Bases.{is_defined};
+ghost use Rattle.pf_values.specs.meaning.DataModel.{type_under};
 ghost use Rattle.pf_values.specs.meaning.Conversions.{
   alternative_under,
   base_under,
@@ -14,6 +15,9 @@ ghost use Rattle.pf_values.specs.meaning.Conversions.{
 };
 
 use crate::bases::{Alternative, Base};
+use crate::lengths::Length;
+use crate::models::Model;
+use crate::types::ArgType;
 
 /// A conversion (C11 7.21.6.1, paragraph 8).
 #[derive(Clone, Copy, Debug, PartialEq, Eq)]
@@ -90,6 +94,20 @@ impl Conv {
         match self {
             Conv::I => Conv::D,
             other => other,
+        }
+    }
+
+    /// The type of its argument under a length modifier in this data model (C11 7.21.6.1, paragraphs 7
+    /// and 8).
+    #[inline(always)]
+    pub fn arg_type(self, model: Model, length: Length) -> ArgType
+        ensures { result ≡ type_under model self length }
+    {
+        match self.kind() {
+            Kind::Signed => length.signed_type(model),
+            Kind::Unsigned(_, _) => length.unsigned_type(model),
+            Kind::Char => ArgType::Int,
+            Kind::String => ArgType::Str,
         }
     }
 

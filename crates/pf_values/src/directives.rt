@@ -189,12 +189,7 @@ impl Directive {
     pub fn arg_type(&self, model: DataModel) -> ArgType
         ensures { result ≡ arg_type model self.now }
     {
-        match self.conv.kind() {
-            Kind::Signed => length_row(model, self.length).signed,
-            Kind::Unsigned(_, _) => length_row(model, self.length).unsigned,
-            Kind::Char => ArgType::Int,
-            Kind::String => ArgType::Str,
-        }
+        self.conv.arg_type(model, self.length)
     }
 
     /// The bits of the value that it prints; 0 for `c` and `s`.
