@@ -19,6 +19,7 @@ use Rattle.pf_reduce.specs.Reducing.{IsNormalCore, IsReducedTo, core_of}
 use Rattle.pf_reduce.specs.declared.results.Core.{Core}
 use Rattle.pf_reduce.specs.declared.results.Core.TheVariants.{Normal, Silent}
 use Rattle.pf_reduce.specs.declared.results.Reduced.{Reduced}
+use Rattle.pf_compare.proofs.ReductionLemmas.{bytes_canonical}
 use Rattle.pf_canon.proofs.Printing.{reduced_alike, reduced_items}
 use Rattle.pf_probes.proofs.Unique.{equivalent_one}
 use Rattle.fmtcanon.specs.Shows.{IsLineOf, Shown, Specified, reduced_line}
@@ -64,11 +65,6 @@ padding_reads (suc n) m items h = (
   padding_reads n m items h,
   refl,
 )
-
--- bytes are canonical after anything but a silent directive
-bytes_canonical : (model : Model) (bytes : Text) → AreCanonical model (map Byte bytes)
-bytes_canonical model [] = tt
-bytes_canonical model (b ∷ bytes) = bytes_canonical model bytes
 
 before_canonical : (model : Model) (bytes : Text) (items : List Item) → AreCanonical model items → AreCanonical model (map Byte bytes ++ items)
 before_canonical model [] items h = h

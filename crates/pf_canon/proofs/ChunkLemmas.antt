@@ -189,17 +189,18 @@ directive_made model new t out text verbatim_len at len output h =
           (subst (λ u. IsThrough model new u h.items (o ++ output_text output)) whole h.through);
     }
 
--- verbatim bytes and a directive that were taken one after another
-pub items_taken : (model : Model) (mid new : Transducer) (text out settled : Text) (at run len : ℕ)
-    → TakesVerbatim model (take at text) out (drop at text) run mid
-    → ((t out : Text) (items : List Item) → IsThrough model mid t items out → GrowsByDirective model t out (drop (at + run) text) len settled new)
-    → (now : List Item) × IsThrough model new (take (at + run + len) text) now (out ++ (take run (drop at text) ++ settled))
-items_taken model mid new text out settled at run len v d =
-    let mid_through = subst (λ u. IsThrough model mid u v.items (out ++ take run (drop at text))) (sym (take-add at run text)) v.through in
-    let h = d (take (at + run) text) (out ++ take run (drop at text)) v.items mid_through in (
+-- a directive and verbatim bytes that were taken one after another
+pub items_taken : (model : Model) (mid new : Transducer) (text out settled : Text) (at len run : ℕ)
+    → GrowsByDirective model (take at text) out (drop at text) len settled mid
+    → ((t out : Text) (items : List Item) → IsThrough model mid t items out → TakesVerbatim model t out (drop (at + len) text) run new)
+    → (now : List Item) × IsThrough model new (take (at + len + run) text) now (out ++ (settled ++ take run (drop (at + len) text)))
+items_taken model mid new text out settled at len run d v =
+    let bytes = take run (drop (at + len) text) in
+    let mid_through = subst (λ u. IsThrough model mid u d.items (out ++ settled)) (sym (take-add at len text)) d.through in
+    let h = v (take (at + len) text) (out ++ settled) d.items mid_through in (
       h.items,
-      subst (IsThrough model new (take (at + run + len) text) h.items) (append_assoc out (take run (drop at text)) settled)
-          (subst (λ u. IsThrough model new u h.items ((out ++ take run (drop at text)) ++ settled)) (sym (take-add (at + run) len text)) h.through),
+      subst (IsThrough model new (take (at + len + run) text) h.items) (append_assoc out settled bytes)
+          (subst (λ u. IsThrough model new u h.items ((out ++ settled) ++ bytes)) (sym (take-add (at + len) run text)) h.through),
     )
 
 most_silents : (count : ℕ) → most_len (silents count) ≡ 4120 * count

@@ -63,9 +63,9 @@ pub(crate) fn put_chunks<S: Sink>(
     }
 }
 
-// Takes verbatim bytes and whole directives of a text from `from` on as long as these follow each other,
-// and puts what they settle. Returns the transducer that took them, and the offset after them. Most
-// texts have nothing else.
+// Takes whole directives of a text from `from` on, each with the verbatim bytes after it, as long as these
+// follow each other, and puts what they settle. Returns the transducer that took them, and the offset after
+// them. Most texts have nothing else after their first verbatim bytes.
 #[inline(always)]
 fn put_items<S: Sink>(
     mut transducer: Transducer,
@@ -80,16 +80,14 @@ fn put_items<S: Sink>(
 {
     let mut at = from;
     while at < text.len() {
+        let Some((output, len)) = transducer.take_directive(&text[at..]) else {
+            break;
+        };
+        output.put(sink);
+        at += len;
         let run = transducer.pass_verbatim(&text[at..]);
         sink.put(&text[at..at + run]);
         at += run;
-        match transducer.take_directive(&text[at..]) {
-            Some((output, len)) => {
-                output.put(sink);
-                at += len;
-            }
-            None => break,
-        }
     }
     (transducer, at)
 }
