@@ -19,7 +19,7 @@ use Rattle.pf_reduce.specs.Reducing.{IsNormalCore, IsReducedTo, core_of}
 use Rattle.pf_reduce.specs.declared.results.Core.{Core}
 use Rattle.pf_reduce.specs.declared.results.Core.TheVariants.{Normal, Silent}
 use Rattle.pf_reduce.specs.declared.results.Reduced.{Reduced}
-use Rattle.pf_compare.proofs.ReductionLemmas.{bytes_canonical}
+use Rattle.pf_compare.proofs.ReductionLemmas.{reduced_canonical}
 use Rattle.pf_canon.proofs.Printing.{reduced_alike, reduced_items}
 use Rattle.pf_probes.proofs.Unique.{equivalent_one}
 use Rattle.fmtcanon.specs.Shows.{IsLineOf, Shown, Specified, reduced_line}
@@ -66,16 +66,6 @@ padding_reads (suc n) m items h = (
   refl,
 )
 
-before_canonical : (model : Model) (bytes : Text) (items : List Item) → AreCanonical model items → AreCanonical model (map Byte bytes ++ items)
-before_canonical model [] items h = h
-before_canonical model (b ∷ bytes) items h = before_canonical model bytes items h
-
-core_canonical : (model : Model) (core : Core) (trail : ℕ) → IsNormalCore model core → (core ≡ Silent → trail ≡ 0)
-    → AreCanonical model (Directive (core_of core) ∷ map Byte (replicate trail space))
-core_canonical model (Normal n) trail h none = (inl h.1, bytes_canonical model (replicate trail space))
-core_canonical model Silent zero h none = (inr (refl, tt), tt)
-core_canonical model Silent (suc n) h none = absurd (let e = none refl in omega (arith, e))
-
 -- the text of a reduction
 abbrev reduction_text : Reduced → Text
 reduction_text r = flat_map item_spelling (reduced_items r)
@@ -83,9 +73,7 @@ reduction_text r = flat_map item_spelling (reduced_items r)
 reduction_reads : (model : Model) (s : Specification) (r : Reduced) → IsReducedTo model s r → ReadsCanonically model (reduction_text r) (reduced_items r)
 reduction_reads model s r h = record {
   reads = padding_reads r.spaces r.zeros (Directive (core_of r.core) ∷ map Byte (replicate r.trail space)) (core_reads model r.core r.trail h.normal);
-  canonical = before_canonical model (replicate r.spaces space ++ replicate r.zeros zero_digit)
-      (Directive (core_of r.core) ∷ map Byte (replicate r.trail space))
-      (core_canonical model r.core r.trail h.normal (λ e. (h.silent e).2));
+  canonical = reduced_canonical model s r h;
   whole = refl;
 }
 

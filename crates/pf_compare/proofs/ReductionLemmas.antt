@@ -84,7 +84,7 @@ core_canonical model Silent trail h g = (
   bytes_canonical model (replicate trail space),
 )
 
-reduced_canonical : (model : Model) (s : Specification) (r : Reduced) → IsReducedTo model s r → AreCanonical model (reduced_items r)
+pub reduced_canonical : (model : Model) (s : Specification) (r : Reduced) → IsReducedTo model s r → AreCanonical model (reduced_items r)
 reduced_canonical model s r h =
     canonical_behind model (replicate r.spaces space ++ replicate r.zeros zero_digit) (Directive (core_of r.core) ∷ map Byte (replicate r.trail space))
     (core_canonical model r.core r.trail h.normal (λ e. (h.silent e).2))
