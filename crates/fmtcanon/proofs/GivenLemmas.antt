@@ -4,7 +4,7 @@ use Rattle.std.specs.Prelude.{MatchOption, ⊤}
 use Rattle.pf_text.specs.declared.refusals.Side.TheVariants as sides
 use Rattle.pf_literals.specs.Answers.{HasNoOffset, IsOffsetOf}
 use Rattle.pf_literals.specs.Sources.{IsSourceOf}
-use Rattle.pf_literals.proofs.HasPlaceLemmas.{has_place}
+use Rattle.pf_literals.proofs.HasOffsetLemmas.{has_offset}
 use Rattle.pf_posix.specs.Refusals.{IsPosixRefusedAt}
 use Rattle.pf_posix.specs.Unnumbered.{IsNumberedAt, IsWholeRefusedAt}
 use Rattle.pf_text.specs.declared.refusals.Refusal.{Refusal}
@@ -55,7 +55,7 @@ unnumbered_within model bytes kind at h = posix_within model bytes kind at h.0
 offset_there : (text bytes : Text) (index : ℕ) (found : Option ℕ)
     → MatchOption found (HasNoOffset text index) (IsOffsetOf text index) → IsSourceOf text bytes → index ≤ length bytes
     → IsOffsetOf text index (unwrap_or found index)
-offset_there text bytes index None none is within = let there = has_place text bytes index is within in absurd (none there.0 there.1)
+offset_there text bytes index None none is within = let there = has_offset text bytes index is within in absurd (none there.0 there.1)
 offset_there text bytes index (Some at) offset is within = offset
 
 -- the offset of a byte in literals
