@@ -13,43 +13,84 @@ enum { MOST = 1 << 20 };
 
 static char texts[4 * MOST], other[MOST], out[MOST];
 static int types[MOST];
+static fmtcanon_error error;
 
 /* A byte that begins no directive and is another than this one. */
 static char another(char byte) { return byte == 'q' ? 'r' : 'q'; }
 
-static int64_t call(const char *name, const char *text, size_t len)
+static int64_t same(const char *text, size_t len, size_t other_len)
 {
-    fmtcanon_error error;
-    unsigned char *codes = (unsigned char *)out;
-    size_t other_len = len;
-    memcpy(other, text, len + 1);
-    if (!strcmp(name, "nothing")) return 0;
-    if (!strcmp(name, "parse_printf_format")) return (int64_t)parse_printf_format(text, MOST, types);
-    if (!strcmp(name, "check")) return fmtcanon_check(text, len, &error);
-    if (!strcmp(name, "types")) return fmtcanon_types(FMTCANON_LP64, text, len, codes, sizeof out, &error);
-    if (!strcmp(name, "arguments")) return fmtcanon_arguments(FMTCANON_LP64, text, len, codes, sizeof out, &error);
-    if (!strcmp(name, "is_canonical")) return fmtcanon_is_canonical(FMTCANON_LP64, text, len, &error);
-    if (!strcmp(name, "canonical")) return fmtcanon_canonical(FMTCANON_LP64, text, len, out, sizeof out, &error);
-    if (!strcmp(name, "canonical_length")) return fmtcanon_canonical_length(FMTCANON_LP64, text, len, &error);
-    if (!strcmp(name, "fits, itself")) return fmtcanon_fits(FMTCANON_LP64, text, len, other, len, &error);
-    if (!strcmp(name, "same, first byte changed")) other[0] = another(other[0]);
-    if (!strcmp(name, "same, last byte changed")) other[len - 1] = another(other[len - 1]);
-    if (!strcmp(name, "same, a byte appended")) other[other_len++] = 'x';
     return fmtcanon_same(FMTCANON_LP64, text, len, other, other_len, &error);
 }
+
+/* `other` has a copy of the text. */
+static int64_t nothing(const char *text, size_t len) { return (void)text, (void)len, 0; }
+static int64_t parse(const char *text, size_t len) { return (void)len, (int64_t)parse_printf_format(text, MOST, types); }
+static int64_t check(const char *text, size_t len) { return fmtcanon_check(text, len, &error); }
+
+static int64_t types_of(const char *text, size_t len)
+{
+    return fmtcanon_types(FMTCANON_LP64, text, len, (unsigned char *)out, sizeof out, &error);
+}
+
+static int64_t arguments(const char *text, size_t len)
+{
+    return fmtcanon_arguments(FMTCANON_LP64, text, len, (unsigned char *)out, sizeof out, &error);
+}
+
+static int64_t is_canonical(const char *text, size_t len) { return fmtcanon_is_canonical(FMTCANON_LP64, text, len, &error); }
+
+static int64_t canonical(const char *text, size_t len)
+{
+    return fmtcanon_canonical(FMTCANON_LP64, text, len, out, sizeof out, &error);
+}
+
+static int64_t length(const char *text, size_t len) { return fmtcanon_canonical_length(FMTCANON_LP64, text, len, &error); }
+static int64_t fits(const char *text, size_t len) { return fmtcanon_fits(FMTCANON_LP64, text, len, other, len, &error); }
+static int64_t same_itself(const char *text, size_t len) { return same(text, len, len); }
+static int64_t first_changed(const char *text, size_t len) { return other[0] = another(other[0]), same(text, len, len); }
+
+static int64_t last_changed(const char *text, size_t len)
+{
+    return other[len - 1] = another(other[len - 1]), same(text, len, len);
+}
+
+static int64_t appended(const char *text, size_t len) { return other[len] = 'x', same(text, len, len + 1); }
+
+static const struct {
+    const char *name;
+    int64_t (*call)(const char *, size_t);
+} CALLS[] = {
+    {"nothing", nothing},
+    {"parse_printf_format", parse},
+    {"check", check},
+    {"types", types_of},
+    {"arguments", arguments},
+    {"is_canonical", is_canonical},
+    {"canonical", canonical},
+    {"canonical_length", length},
+    {"fits, itself", fits},
+    {"same, itself", same_itself},
+    {"same, first byte changed", first_changed},
+    {"same, last byte changed", last_changed},
+    {"same, a byte appended", appended},
+};
 
 int main(int count, char **words)
 {
     FILE *file = count == 4 ? fopen(words[3], "rb") : NULL;
-    size_t size = file ? fread(texts, 1, sizeof texts, file) : 0;
+    size_t size = file ? fread(texts, 1, sizeof texts, file) : 0, which = 0;
     int64_t sum = 0;
     int round;
     if (size == 0 || size == sizeof texts || texts[size - 1] != 0) return 2;
+    while (strcmp(CALLS[which].name, words[1]))
+        if (++which == sizeof CALLS / sizeof *CALLS) return 2;
     for (round = 0; round < atoi(words[2]); round++) {
         const char *text = texts;
         while (text < texts + size) {
             size_t len = strlen(text);
-            sum += call(words[1], text, len);
+            memcpy(other, text, len + 1);
+            sum += CALLS[which].call(text, len);
             text += len + 1;
         }
     }
