@@ -51,7 +51,7 @@ fn put_types(alloc: Global, model: Model, text: &[u8], out: &mut [u8], error: &m
     }
 }
 
-// Puts the codes of any number of types, or finds out why there are none.
+// Puts the codes of any number of types, or returns the code of the error.
 #[inline(never)]
 fn put_signature(
     alloc: Global,

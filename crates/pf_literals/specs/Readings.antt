@@ -19,8 +19,8 @@ abbrev pub prefixed : List ℕ → List ℕ → SourceReading → SourceReading
 prefixed bytes offsets (Whole more others close) = Whole (bytes ++ more) (offsets ++ others) close
 prefixed bytes offsets (Fault kind at) = Fault kind at
 
--- what one turn makes of what is read from the next byte on, in a context and behind so many bytes
--- that are passed over
+-- a token at the offset `at`, in front of what `next` reads after it: `next` takes the context after the
+-- token, and how many further bytes the token has
 abbrev pub after_token : ℕ → Context → Token → (Context → ℕ → SourceReading) → SourceReading
 after_token at context White next = next context 0
 after_token at context OpenQuote next = next Inside 0
@@ -34,7 +34,7 @@ reading_at_end Before at = Fault NoLiteral at
 reading_at_end Inside at = Fault Unterminated at
 reading_at_end (Behind close) at = Whole [] [] close
 
--- what a text is read as in a context, from a byte on, behind so many bytes that are passed over
+-- what a text is read as in a context: its first byte is at the offset `at`, and `skip` bytes are passed over
 abbrev pub read_from : Context → ℕ → ℕ → Bytes → SourceReading
 read_from context skip at [] = reading_at_end context at
 read_from context (suc skip) at (byte ∷ text) = read_from context skip (at + 1) text

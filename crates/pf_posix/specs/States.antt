@@ -41,8 +41,7 @@ abbrev pub parts_at : Option ℕ → PartialSpecification
 parts_at position =
     record { position = position; flags = no_flags; width = false; precision = false }
 
--- why a byte is refused where it isn't allowed: a zero byte and `%` have reasons of their
--- own
+-- why a byte is refused where it isn't allowed: NUL and `%` have kinds of their own
 abbrev pub stray : ℕ → RefusalKind → RefusalKind
 stray byte kind = if byte == 0 then NulByte else if byte == percent then BadPercent else kind
 

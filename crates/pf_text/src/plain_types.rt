@@ -16,8 +16,8 @@ use crate::specification::directive_of_parts;
 use pf_values::limits::MAX_TEXT_LEN;
 use pf_values::{ArgType, Conv, Length, Model};
 
-/// Puts the types of the arguments that a text takes in front of `types`, and returns how many there
-/// are. None if they aren't known, or have no room: then `signature` has them, or why there are none.
+/// Puts the types of the arguments that a text takes at the front of `types`, and returns how many there
+/// are. `None` if they aren't known or have no room; then call `signature`.
 pub fn known_types(model: Model, text: &[u8], types: &mut [ArgType]) -> Option<usize>
     ensures { MatchOption result ⊤ (λ count. (count ≤ length types.new)
         × TakesTypes model text.now (take count types.new)) }
