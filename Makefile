@@ -28,9 +28,9 @@ SHARED = $(C)/libfmtcanon.so.$(VERSION)
 # The oldest processors that the library is to run on. It doesn't test for them.
 CPU = x86-64
 
-# How many checks the gate runs side by side: one a processor, with 4 GB of free memory for each.
-# Left alone, `rt ci` plans twice the memory that a check takes, and the greatest crate starts last.
-JOBS = $(shell awk -v n="$$(nproc)" '/^MemAvailable/ { m = int($$2 / 4000000); \
+# How many checks `rt ci` runs side by side, and how many the mutants beside it: one a processor, with 5 GB of free
+# memory for both. Left alone, `rt ci` plans twice the memory that a check takes, and the greatest crate starts last.
+JOBS = $(shell awk -v n="$$(nproc)" '/^MemAvailable/ { m = int($$2 / 5000000); \
     if (m > n) m = n; if (m < 1) m = 1; print m }' /proc/meminfo)
 
 .PHONY: all program library archive test gate tried trials check-more mutants tools c-tools
@@ -79,8 +79,9 @@ $(C)/second.a: library
 MINUTES = out/minutes
 TIMED = tests/timed.sh $(MINUTES)
 
-# What `rt ci` prints, which says what became of the edits in must-fail/.
+# What `rt ci` prints, which says what became of the edits in must-fail/; and what the mutants print beside it.
 CI_LOG = out/ci.log
+MUTANTS_LOG = out/mutants.log
 
 # The trials use the program that `gate` has just proved and built. Nothing else can go on from the proofs of `rt ci`, so
 # the crates are proved once more where the mutants and the library need that: tests/kept.py remembers these proofs, and
@@ -88,8 +89,8 @@ CI_LOG = out/ci.log
 test:
 	mkdir -p $(dir $(MINUTES))
 	rm -f $(MINUTES)
-	$(TIMED) $(MAKE) gate
-	$(TIMED) $(MAKE) mutants REFUSED_BY_CI='--ci $(CI_LOG)'
+	$(TIMED) tests/beside_ci.sh $(MAKE) $(MUTANTS_LOG)
+	$(TIMED) $(MAKE) mutants WHICH='--ci $(CI_LOG)'
 	$(TIMED) $(MAKE) library-over-kept
 	$(TIMED) $(MAKE) tried
 	@cat $(MINUTES)
@@ -127,7 +128,7 @@ check-more: program library $(C)/second.a
 
 mutants: tools
 	python3 tests/mutants_test.py
-	python3 tests/mutants.py --jobs $(JOBS) $(REFUSED_BY_CI)
+	python3 tests/mutants.py --jobs $(JOBS) $(WHICH)
 
 library-over-kept: tools
 	python3 tests/proofs.py --jobs $(JOBS) fmtcanon_c

@@ -1,10 +1,12 @@
 """Remembers on this machine what has been verified: proofs of crates, and mutants that were refused.
 
-Both are kept in the user's cache folder under a checksum of everything that they depend on, so that nothing kept is ever out
-of date: what has changed has another checksum, and is verified again. Entries are written apart and then renamed, so that two
-runs can share the folder. What isn't used for a while is removed.
+Both are kept in the user's cache folder under a checksum of everything that they depend on, so that nothing kept is
+ever out of date: what has changed has another checksum, and is verified again. Entries are written apart and then
+renamed, and a run locks the proofs that it uses until it ends, so that several runs can share the folder. What isn't
+used for a while is removed.
 """
 
+import fcntl
 import json
 import os
 import shutil
@@ -63,16 +65,38 @@ def last_use(entry):
         return 0
 
 
+def locked(entry, how):
+    """Returns a lock of an entry, which closing it ends, or None if the entry is gone or another lock is in the way."""
+    try:
+        lock = os.open(entry, os.O_RDONLY)
+    except OSError:
+        return None
+    try:
+        fcntl.flock(lock, how | fcntl.LOCK_NB)
+        # Another run may have put a new entry in its place meanwhile.
+        if os.path.samestat(os.fstat(lock), os.stat(entry)):
+            return lock
+    except OSError:
+        pass
+    os.close(lock)
+    return None
+
+
 def remove_oldest(entries, most):
-    """Removes all but the entries that were used last."""
+    """Removes all but the entries that were used last, and those that a run has locked."""
     for entry in sorted(entries, key=last_use, reverse=True)[most:]:
+        lock = locked(entry, fcntl.LOCK_EX)
+        if lock is None:
+            continue
         # Renamed first, so that no run takes half of it.
         gone = entry.with_name(f"gone-{os.getpid()}-{entry.name}")
         try:
             entry.rename(gone)
+            shutil.rmtree(gone, ignore_errors=True) if gone.is_dir() else gone.unlink()
         except OSError:
-            continue
-        shutil.rmtree(gone, ignore_errors=True) if gone.is_dir() else gone.unlink()
+            pass
+        finally:
+            os.close(lock)
 
 
 class Kept:
@@ -80,6 +104,8 @@ class Kept:
 
     def __init__(self, folder, anew=False):
         self.folder, self.anew = Path(folder), anew
+        # The locks of the proofs that this run uses.
+        self.locks = {}
         for part in ["proofs", "verdicts", "work"]:
             (self.folder / part).mkdir(exist_ok=True)
 
@@ -92,6 +118,22 @@ class Kept:
             yield folder
         finally:
             shutil.rmtree(folder, ignore_errors=True)
+            self.unlock()
+
+    def is_there(self, proof):
+        """Returns whether a proof is there, and then locks it, so that no other run removes it before this one ends."""
+        if proof not in self.locks:
+            lock = locked(proof, fcntl.LOCK_SH)
+            if lock is None:
+                return False
+            self.locks[proof] = lock
+        os.utime(proof)
+        return True
+
+    def unlock(self):
+        """Ends the locks of this run."""
+        while self.locks:
+            os.close(self.locks.popitem()[1])
 
     def sweep(self):
         """Removes what killed runs left, and what was not used for long."""
@@ -107,18 +149,12 @@ class Kept:
     def proof(self, crate, key):
         """Returns the folder with what a check of the crate proved under this checksum, or None."""
         found = self.folder / "proofs" / f"{crate}-{key}"
-        if self.anew:
-            return None
-        try:
-            os.utime(found)
-            return found
-        except OSError:
-            return None
+        return found if not self.anew and self.is_there(found) else None
 
     def newest_proof(self, crate):
         """Returns the folder with what the last check of the crate proved, whatever its sources were, or None."""
-        found = [] if self.anew else [it for it in (self.folder / "proofs").glob(f"{crate}-*") if it.is_dir()]
-        return max(found, key=last_use, default=None)
+        found = [] if self.anew else sorted((self.folder / "proofs").glob(f"{crate}-*"), key=last_use, reverse=True)
+        return next((it for it in found if self.is_there(it)), None)
 
     def keep_proof(self, crate, key, out):
         """Keeps what a check of the crate proved, which is in the folder `out`, and returns where it is."""
@@ -129,11 +165,15 @@ class Kept:
                 (out / part).rename(new / part)
         if to.exists():
             remove_oldest([to], 0)
+        lock = locked(new, fcntl.LOCK_SH)
         try:
             new.rename(to)
+            self.locks[to] = lock
         except OSError:
             # Another run has kept the same.
+            os.close(lock)
             shutil.rmtree(new, ignore_errors=True)
+            self.is_there(to)
         return to
 
     def verdicts(self, crate, key):

@@ -1,7 +1,7 @@
 """Reads mutants: edits of one function's body that the prover must refuse.
 
-`crates/NAME/mutants.txt` has the mutants of a crate, and `crates/NAME/must-fail/` a few more, one a file, which `rt ci` tries
-too. Both have lines of these kinds; lines that are empty or start with `#` are skipped:
+`crates/NAME/mutants.txt` has the mutants of a crate, and `crates/NAME/must-fail/` a few more, one a file, which `rt ci`
+tries too. Both have lines of these kinds; lines that are empty or start with `#` are skipped:
 
     mutant: NAME    starts a mutant (in mutants.txt; in must-fail/ the file has the name)
     file: PATH      the file that the lines after it change, until the next `file:`
@@ -12,7 +12,7 @@ too. Both have lines of these kinds; lines that are empty or start with `#` are 
 A mutant has one or more pairs of `old:` and `new:`, which apply one after the other.
 """
 
-from dataclasses import dataclass, field
+from dataclasses import dataclass, field, replace
 
 import rattle_functions
 
@@ -51,6 +51,8 @@ class Mutant:
     # Paths in the crate; empty if a text is outside every body, as in a constant or in specs/.
     functions: frozenset = frozenset()
     why_broken: str = ""
+    # Whether `rt ci` tries it, too.
+    is_in_ci: bool = False
 
     def is_broken(self):
         return bool(self.why_broken)
@@ -68,7 +70,9 @@ def lines_of(text):
 
 
 def read_pairs(text, name=None):
-    """Returns the pairs of each mutant of a text by its name; those before any `mutant:` line are of the mutant `name`."""
+    """Returns the pairs of each mutant of a text by its name; those before any `mutant:` line are of the mutant
+    `name`.
+    """
     found = {name: []} if name else {}
     parts = {}
     for word, rest in lines_of(text):
@@ -113,7 +117,9 @@ def places_of(pairs, crate, homes):
 
 
 def functions_at(text, file, homes, start, end):
-    """Returns the path of the function whose body includes these offsets, in a set; an empty set outside the bodies of src/."""
+    """Returns the path of the function whose body includes these offsets, in a set; an empty set outside the bodies of
+    src/.
+    """
     if not file.startswith("src/"):
         return set()
     found = rattle_functions.functions(text, file, homes)
@@ -154,12 +160,15 @@ def pairs_in(crate):
 
 def mutants_of(crate):
     """Returns the mutants of the crate in that folder."""
-    homes = homes_in(crate)
-    return [mutant_of(f"{crate.name}/{name}", pairs, crate, homes) for name, pairs in pairs_in(crate).items()]
+    homes, found = homes_in(crate), pairs_in(crate)
+    mutants = {name: mutant_of(f"{crate.name}/{name}", pairs, crate, homes) for name, pairs in found.items()}
+    return [replace(it, is_in_ci=(crate / f"must-fail/{name}.edit").exists()) for name, it in mutants.items()]
 
 
 def batches(mutants, crate, most):
-    """Returns the mutants in groups of at most `most`, with the texts of each group, in which no function is changed twice."""
+    """Returns the mutants in groups of at most `most`, with the texts of each group, in which no function is changed
+    twice.
+    """
     groups = []
     for mutant in mutants:
         for group in groups:

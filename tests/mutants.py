@@ -1,23 +1,24 @@
 #!/usr/bin/env python3
 """Tries mutants: the prover must refuse each, at the very function that it changes.
 
-Usage: tests/mutants.py [--jobs N] [--anew] [--ci LOG] [CRATE ..] [NAME ..]
+Usage: tests/mutants.py [--jobs N] [--anew] [--ci LOG | --not-in-ci] [CRATE ..] [NAME ..]
 
-A mutant is an edit of a crate's `mutants.txt`, or of its `must-fail/` (tests/mutant_files.py has the format). It is tried on a
-copy of the sources, over what a proof of the crate as it stands has kept. Mutants of different functions share a check. Names
-of crates or of mutants select those to try.
+A mutant is an edit of a crate's `mutants.txt`, or of its `must-fail/` (tests/mutant_files.py has the format). It is
+tried on a copy of the sources, over what a proof of the crate as it stands has kept. Mutants of different functions
+share a check. Names of crates or of mutants select those to try.
 
-A mutant is refused if a goal is open in a function whose body it changes: no search proves it, and there is no answer to it.
-The crate without it is proved, so the goal is open because of the mutant. If an answer of a file of proofs/ doesn't fit the
-goal, it is tried again without that answer, since another wording of the same body would not fit it either. If a file of
-proofs/ only names what is gone, or no goal is open without the answer, the mutant may be harmless: then the tests of the crate,
-or of the last crate above it that has any, are run with it, and one must fail. A mutant of a constant, of a table or of a file
-of specs/ is tried alone, and any function or lemma may refuse it.
+A mutant is refused if a goal is open in a function whose body it changes: no search proves it, and there is no answer
+to it. The crate without it is proved, so the goal is open because of the mutant. If an answer of a file of proofs/
+doesn't fit the goal, it is tried again without that answer, since another wording of the same body would not fit it
+either. If a file of proofs/ only names what is gone, or no goal is open without the answer, the mutant may be harmless:
+then the tests of the crate, or of the last crate above it that has any, are run with it, and one must fail. A mutant of
+a constant, of a table or of a file of specs/ is tried alone, and any function or lemma may refuse it.
 
-Mutants that were refused are remembered in the user's cache folder, under a checksum of everything that the verdict depends
-on: the mutant, the sources of the crate and of those below it, the kit, and the scripts that judge. They are not tried again,
-unless --anew is given. --ci LOG names what `rt ci` has just printed: a mutant of must-fail/ is not tried again if the log shows
-an open goal of a function that it changes.
+Mutants that were refused are remembered in the user's cache folder, under a checksum of everything that the verdict
+depends on: the mutant, the sources of the crate and of those below it, the kit, and the scripts that judge. They are
+not tried again, unless --anew is given. --ci LOG names what `rt ci` has just printed: a mutant of must-fail/ is not
+tried again if the log shows an open goal of a function that it changes. --not-in-ci leaves those of must-fail/ out, for
+a run beside `rt ci`; where nothing can be kept, it leaves all to the run after it.
 
 Its last line is 'N passed, M failed', and it exits with 1 if M isn't 0.
 """
@@ -35,6 +36,7 @@ from pathlib import Path
 sys.dont_write_bytecode = True
 sys.path.insert(0, str(Path(__file__).resolve().parent))
 
+from kept import cache_folder  # noqa: E402
 from mutant_files import applied, batches, mutants_of, text_in  # noqa: E402
 from proofs import open_proofs, say  # noqa: E402
 from reports import Report, Verdict, failed_tests, refused_by_ci, verdict_of, without_answers  # noqa: E402
@@ -83,7 +85,9 @@ class Trial:
             say(f"{mutant.name}: {outcome.verdict.value}: {outcome.why}")
 
     def keep(self, *refusals):
-        """Keeps refusals, each of a mutant by an open goal or by a test of a crate, once it is known that the crate is proved without it."""
+        """Keeps refusals, each of a mutant by an open goal or by a test of a crate, once it is known that the crate is
+        proved without it.
+        """
         with self.lock:
             self.unkept += refusals
             if not self.is_proved:
@@ -91,10 +95,14 @@ class Trial:
             refusals, self.unkept = self.unkept, []
         sums, kept = self.proofs.sums, self.proofs.kept
         for mutant, tests_of in refusals:
-            kept.keep_verdict(self.name, sums.of_crate(self.name), sums.of_mutant(mutant, tests_of), self.outcomes[mutant.name].why)
+            kept.keep_verdict(
+                self.name, sums.of_crate(self.name), sums.of_mutant(mutant, tests_of), self.outcomes[mutant.name].why
+            )
 
     def tested_by(self):
-        """Returns the crate whose tests are run with a mutant: this one, or the last above it that has any; None if there is none."""
+        """Returns the crate whose tests are run with a mutant: this one, or the last above it that has any; None if
+        there is none.
+        """
         sources = self.proofs.sources
         return next((it for it in [self.name, *reversed(sources.above(self.name))] if sources.has_tests(it)), None)
 
@@ -134,7 +142,9 @@ class Trial:
             yield Task((self.name, number), call, after, self.rank(2, -len(group)))
 
     def rank(self, *order):
-        """Returns the rank of a task. What takes longest goes first: the mutants of a high crate, and those tried alone."""
+        """Returns the rank of a task. What takes longest goes first: the mutants of a high crate, and those tried
+        alone.
+        """
         return (1, -len(self.proofs.sources.below(self.name)), *order)
 
     def alone(self, mutant, after=frozenset()):
@@ -152,7 +162,9 @@ class Trial:
             self.free_workspaces.append(workspace)
 
     def verdicts(self, mutants, texts):
-        """Returns the verdict on each of these mutants, whose texts are these: by one check, and by more without answers that don't fit."""
+        """Returns the verdict on each of these mutants, whose texts are these: by one check, and by more without
+        answers that don't fit.
+        """
         report = self.checked(mutants, texts)
         found = {it.name: verdict_of(report, it) for it in mutants}
         unsure = [it for it in mutants if found[it.name][0] is Verdict.BY_AN_ANSWER]
@@ -162,7 +174,13 @@ class Trial:
                 break
             texts, report = less, self.checked(unsure, less)
             again = {it.name: verdict_of(report, it) for it in unsure}
-            found.update({name: (verdict, f"{why}, without the answer to it") for name, (verdict, why) in again.items() if verdict is Verdict.REFUSED})
+            found.update(
+                {
+                    name: (verdict, f"{why}, without the answer to it")
+                    for name, (verdict, why) in again.items()
+                    if verdict is Verdict.REFUSED
+                }
+            )
             unsure = [it for it in unsure if again[it.name][0] is Verdict.BY_AN_ANSWER]
         return [found[it.name] for it in mutants]
 
@@ -173,11 +191,16 @@ class Trial:
             return Report(workspace.check(paths, "--allow-holes"), self.name)
 
     def unanswered(self, mutants, texts, report):
-        """Returns these texts, and those of proof files without the answers that don't fit the functions that these mutants change."""
+        """Returns these texts, and those of proof files without the answers that don't fit the functions that these
+        mutants change.
+        """
         unfit = {}
         for file, name in {it for mutant in mutants for path in mutant.functions for it in report.unfit_answers(path)}:
             unfit.setdefault(f"proofs/{file}", set()).add(name)
-        return {**texts, **{file: without_answers(text_in(self.crate, texts, file), names) for file, names in unfit.items()}}
+        return {
+            **texts,
+            **{file: without_answers(text_in(self.crate, texts, file), names) for file, names in unfit.items()},
+        }
 
     def judge_together(self, mutants, texts):
         """Tries mutants in one check, and returns the tasks that try those alone that it doesn't show refused."""
@@ -191,7 +214,9 @@ class Trial:
         return more
 
     def judge_alone(self, mutant):
-        """Tries a mutant with nothing beside it, and runs the tests with it if no open goal refuses it, but a proof file does."""
+        """Tries a mutant with nothing beside it, and runs the tests with it if no open goal refuses it, but a proof
+        file does.
+        """
         texts, tests_of = applied(mutant.pairs, self.crate, {}), None
         [(verdict, why)] = self.verdicts([mutant], texts)
         if verdict in (Verdict.BY_AN_ANSWER, Verdict.BY_A_PROOF_FILE):
@@ -251,16 +276,18 @@ class Trial:
         return ", ".join(f"{counts[it]} {it.value}" for it in Source)
 
 
-def trials_of(names, wanted, proofs):
-    """Yields a trial of each crate that has mutants, or mutants with a wanted name."""
+def trials_of(names, is_wanted, proofs):
+    """Yields a trial of each crate that has wanted mutants."""
     for name in names:
-        mutants = [it for it in mutants_of(proofs.sources.crate(name)) if not wanted or it.name.partition("/")[2] in wanted]
+        mutants = [it for it in mutants_of(proofs.sources.crate(name)) if is_wanted(it)]
         if mutants:
             yield Trial(name, mutants, proofs)
 
 
 def try_all(trials, proofs, jobs, log=""):
-    """Tries the mutants of these trials, except those that are remembered or that `rt ci` refused; proves first what that needs."""
+    """Tries the mutants of these trials, except those that are remembered or that `rt ci` refused; proves first what
+    that needs.
+    """
     for trial in trials:
         trial.recall()
         trial.take_from_ci(log)
@@ -273,14 +300,27 @@ def main():
     parser = argparse.ArgumentParser(description="Tries mutants: the prover must refuse each.")
     parser.add_argument("--jobs", type=int, default=1, help="how many checks run side by side")
     parser.add_argument("--anew", action="store_true", help="try all, and use nothing that is kept")
-    parser.add_argument("--ci", metavar="LOG", help="what `rt ci` has just printed for this tree")
-    parser.add_argument("words", nargs="*", metavar="CRATE | NAME", help="the crates and the mutants to try; all if none is named")
+    from_ci = parser.add_mutually_exclusive_group()
+    from_ci.add_argument("--ci", metavar="LOG", help="what `rt ci` has just printed for this tree")
+    from_ci.add_argument("--not-in-ci", action="store_true", help="leave out those that `rt ci` tries, too")
+    parser.add_argument(
+        "words", nargs="*", metavar="CRATE | NAME", help="the crates and the mutants to try; all if none is named"
+    )
     options = parser.parse_args()
+    if options.not_in_ci and cache_folder() is None:
+        say("nothing can be kept, so no mutant is tried before `rt ci` has ended")
+        return 0
     log = Path(options.ci).read_text(encoding="utf-8", errors="replace") if options.ci else ""
     with open_proofs(options.anew) as proofs:
         every = proofs.sources.names()
         names = [it for it in options.words if it in every] or every
-        trials = list(trials_of(names, [it for it in options.words if it not in every], proofs))
+        wanted = [it for it in options.words if it not in every]
+
+        def is_wanted(mutant):
+            is_named = not wanted or mutant.name.partition("/")[2] in wanted
+            return is_named and not (options.not_in_ci and mutant.is_in_ci)
+
+        trials = list(trials_of(names, is_wanted, proofs))
         try_all(trials, proofs, options.jobs, log)
         passed, failed = (sum(it) for it in zip(*[trial.report() for trial in trials] or [(0, 0)]))
     for trial in trials:

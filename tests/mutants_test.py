@@ -3,8 +3,8 @@
 
 Usage: tests/mutants_test.py [--anew]
 
-Its crates are those of tests/toy_crates.py, which the prover checks in seconds. If all tests passed before on this machine,
-with the same kit and the same scripts, they are not run again, unless --anew is given.
+Its crates are those of tests/toy_crates.py, which the prover checks in seconds. If all tests passed before on this
+machine, with the same kit and the same scripts, they are not run again, unless --anew is given.
 """
 
 import contextlib
@@ -77,7 +77,12 @@ class Functions(unittest.TestCase):
 
     def test_paths(self):
         found = rattle_functions.functions(SOURCE, "src/readers/lines.rt", HOMES)
-        wanted = ["readers::Reader::new", "readers::lines::OutcomeFromRefusal::from", "readers::lines::PairU8Copy::copy", "readers::lines::front"]
+        wanted = [
+            "readers::Reader::new",
+            "readers::lines::OutcomeFromRefusal::from",
+            "readers::lines::PairU8Copy::copy",
+            "readers::lines::front",
+        ]
         self.assertEqual([it.path for it in found], wanted)
         self.assertEqual([it.path for it in rattle_functions.functions("fn main() {}", "src/main.rt", {})], ["main"])
 
@@ -101,14 +106,27 @@ class Files(unittest.TestCase):
     TEXT = "fn a() { 1 }\nfn b() { 1 }\n"
 
     def test_read(self):
-        text = "# Mutants.\nfile: src/a.rt\n\nmutant: m\nafter: fn b\nold: 1\nnew: 2\nold: a\nnew:\nmutant: n\nold:  b\nnew: c\n"
-        wanted = {"m": [Pair("src/a.rt", "1", "2", "fn b"), Pair("src/a.rt", "a", "")], "n": [Pair("src/a.rt", " b", "c")]}
+        text = (
+            "# Mutants.\nfile: src/a.rt\n\nmutant: m\nafter: fn b\nold: 1\nnew: 2\nold: a\nnew:\n"
+            "mutant: n\nold:  b\nnew: c\n"
+        )
+        wanted = {
+            "m": [Pair("src/a.rt", "1", "2", "fn b"), Pair("src/a.rt", "a", "")],
+            "n": [Pair("src/a.rt", " b", "c")],
+        }
         self.assertEqual(read_pairs(text), wanted)
         self.assertEqual(read_pairs("file: src/a.rt\nold: 1\nnew: 2\n", "m"), {"m": [Pair("src/a.rt", "1", "2")]})
 
     def test_not_readable(self):
         head = "mutant: m\nfile: src/a.rt\nold: 1\nnew: 2\n"
-        for text in [f"{head}3\n", f"{head}what: 3\n", f"{head}{head}", "mutant: m\nnew: 2\n", "file: src/a.rt\nold: 1\nnew: 2\n", f"{head}new: 3\n"]:
+        for text in [
+            f"{head}3\n",
+            f"{head}what: 3\n",
+            f"{head}{head}",
+            "mutant: m\nnew: 2\n",
+            "file: src/a.rt\nold: 1\nnew: 2\n",
+            f"{head}new: 3\n",
+        ]:
             with self.assertRaises(ValueError):
                 read_pairs(text)
 
@@ -124,8 +142,14 @@ class Files(unittest.TestCase):
     @in_folder
     def test_both_folders(self, folder):
         crate = folder / "low"
-        toy_crates.write(folder, {"low/src/lib.rt": "fn a() { 1 }\n", "low/mutants.txt": "mutant: m\nfile: src/lib.rt\nold: 1\nnew: 2\n", "low/must-fail/n.edit": "file: src/lib.rt\nold: 1\nnew: 3\n"})
-        self.assertEqual([(it.name, it.functions) for it in mutants_of(crate)], [("low/n", {"a"}), ("low/m", {"a"})])
+        files = {
+            "low/src/lib.rt": "fn a() { 1 }\n",
+            "low/mutants.txt": "mutant: m\nfile: src/lib.rt\nold: 1\nnew: 2\n",
+            "low/must-fail/n.edit": "file: src/lib.rt\nold: 1\nnew: 3\n",
+        }
+        toy_crates.write(folder, files)
+        found = [(it.name, it.functions, it.is_in_ci) for it in mutants_of(crate)]
+        self.assertEqual(found, [("low/n", {"a"}, True), ("low/m", {"a"}, False)])
         toy_crates.write(folder, {"low/must-fail/m.edit": "file: src/lib.rt\nold: 1\nnew: 3\n"})
         with self.assertRaises(ValueError):
             mutants_of(crate)
@@ -133,16 +157,23 @@ class Files(unittest.TestCase):
     @in_folder
     def test_batches(self, folder):
         toy_crates.write(folder, {"src/lib.rt": "fn a() { 1 + 2 }\nfn b() { 3 }\n"})
-        mutants = [Mutant(old, [Pair("src/lib.rt", old, "9")], frozenset(path)) for old, path in [("1", "a"), ("2", "a"), ("3", "b")]]
+        mutants = [
+            Mutant(old, [Pair("src/lib.rt", old, "9")], frozenset(path))
+            for old, path in [("1", "a"), ("2", "a"), ("3", "b")]
+        ]
         self.assertEqual([[it.name for it in group] for group, _ in batches(mutants, folder, 60)], [["1", "3"], ["2"]])
-        self.assertEqual([texts["src/lib.rt"] for _, texts in batches(mutants, folder, 60)], ["fn a() { 9 + 2 }\nfn b() { 9 }\n", "fn a() { 1 + 9 }\nfn b() { 3 }\n"])
+        self.assertEqual(
+            [texts["src/lib.rt"] for _, texts in batches(mutants, folder, 60)],
+            ["fn a() { 9 + 2 }\nfn b() { 9 }\n", "fn a() { 1 + 9 }\nfn b() { 3 }\n"],
+        )
         self.assertEqual([len(group) for group, _ in batches(mutants, folder, 1)], [1, 1, 1])
 
 
 class Reports(unittest.TestCase):
     """What is read from the prover's report."""
 
-    TEXT = """fn pf_x::a::Left::new: no proof: expected answers in ./proofs/a/Left/new/Answers.antt; `search` did not prove `returns`
+    TEXT = """fn pf_x::a::Left::new: no proof: expected answers in ./proofs/a/Left/new/Answers.antt; \
+`search` did not prove `returns`
 fn pf_x::a::Right::new: no proof: it calls `pf_x::a::Left::new`, which is not proved
 fn pf_x::a::fn::Right::has::any: no proof: expected answers in ./proofs/x; `search` did not prove `returns-2`
 fn pf_x::a::Right::has: no proof: it calls `pf_x::a::fn::Right::has::any`, which is not proved
@@ -157,31 +188,51 @@ only=3 holes=0
 
     def test_a_goal_of_a_closure(self):
         report = Report(self.TEXT, "pf_x")
-        self.assertEqual(list(report.open_goals("a::Right::has")), ["the goal `returns-2` of pf_x::a::fn::Right::has::any"])
+        self.assertEqual(
+            list(report.open_goals("a::Right::has")), ["the goal `returns-2` of pf_x::a::fn::Right::has::any"]
+        )
 
     def test_an_answer_that_does_not_fit(self):
-        text = "./proofs/a/Left/new/Answers.antt:5:1 error: `returns`: the two types differ\nfn pf_x::a::Left::new: not proved\nonly=1 holes=0\n"
+        text = (
+            "./proofs/a/Left/new/Answers.antt:5:1 error: `returns`: the two types differ\n"
+            "fn pf_x::a::Left::new: not proved\nonly=1 holes=0\n"
+        )
         report, mutant = Report(text, "pf_x"), Mutant("m", functions=frozenset(["a::Left::new"]))
         self.assertEqual(list(report.open_goals("a::Left::new")), [])
         self.assertEqual(list(report.unfit_answers("a::Left::new")), [("a/Left/new/Answers.antt", "returns")])
-        self.assertEqual(verdict_of(report, mutant), (Verdict.BY_AN_ANSWER, "the answer `returns` of proofs/a/Left/new/Answers.antt"))
+        self.assertEqual(
+            verdict_of(report, mutant), (Verdict.BY_AN_ANSWER, "the answer `returns` of proofs/a/Left/new/Answers.antt")
+        )
 
     def test_without_answers(self):
-        text = "use A.{b}\n\npub b : goal.b\nunfolding c\nb d =\n    e\n\nhelper : T\nhelper = f\n\npub b-2 : goal.b-2\nb-2 d = g\n"
-        self.assertEqual(without_answers(text, {"b"}), text.replace("pub b : goal.b\nunfolding c\nb d =\n    e\n\n", ""))
+        text = (
+            "use A.{b}\n\npub b : goal.b\nunfolding c\nb d =\n    e\n\n"
+            "helper : T\nhelper = f\n\npub b-2 : goal.b-2\nb-2 d = g\n"
+        )
+        self.assertEqual(
+            without_answers(text, {"b"}), text.replace("pub b : goal.b\nunfolding c\nb d =\n    e\n\n", "")
+        )
         self.assertEqual(without_answers(text, {"b-2", "helper"}), text[: text.index("helper")])
         self.assertEqual(without_answers(text, {"c"}), text)
 
     def test_without_steps_that_answers_used(self):
         steps = "use A.Goals.{then-branch, else-branch}\n"
-        text = f"use A.Goals as goal\n{steps}\npub b : goal.b\nb d = elim d [ | then-branch w ↦ e ]\n\npub c : goal.c\nc d = f\n"
+        text = (
+            f"use A.Goals as goal\n{steps}\npub b : goal.b\nb d = elim d [ | then-branch w ↦ e ]\n\n"
+            "pub c : goal.c\nc d = f\n"
+        )
         self.assertEqual(without_answers(text, {"b"}), "use A.Goals as goal\n\npub c : goal.c\nc d = f\n")
         self.assertEqual(without_answers(text, {"c"}), text.replace("pub c : goal.c\nc d = f\n", ""))
         self.assertEqual(without_answers(text, {"e"}), text)
 
     def test_a_lemma_that_fails_with_a_mutant_of_no_function(self):
-        text = "./proofs/Limits.antt:5:1 error: `above`: the two types differ\nfn pf_x::a::Left::new: not proved\nonly=1 holes=0\n"
-        self.assertEqual(verdict_of(Report(text, "pf_x"), Mutant("m")), (Verdict.REFUSED, "`above` of proofs/Limits.antt"))
+        text = (
+            "./proofs/Limits.antt:5:1 error: `above`: the two types differ\n"
+            "fn pf_x::a::Left::new: not proved\nonly=1 holes=0\n"
+        )
+        self.assertEqual(
+            verdict_of(Report(text, "pf_x"), Mutant("m")), (Verdict.REFUSED, "`above` of proofs/Limits.antt")
+        )
 
     def test_no_verdict(self):
         mutant = Mutant("m", [Pair("src/a.rt", "1", "2")], frozenset(["a::Left::new"]))
@@ -203,13 +254,17 @@ class CiLog(unittest.TestCase):
     def said(self, line, name="low/m"):
         with tempfile.TemporaryDirectory(prefix="fmtcanon-test-") as folder:
             crate = Path(folder) / "low"
-            toy_crates.write(Path(folder), {"low/src/lib.rt": "fn a()\n    -> u32\n    ensures { x }\n{\n    1\n}\nfn b() {}\n"})
+            source = "fn a()\n    -> u32\n    ensures { x }\n{\n    1\n}\nfn b() {}\n"
+            toy_crates.write(Path(folder), {"low/src/lib.rt": source})
             mutant = Mutant(name, [Pair("src/lib.rt", "    1", "    2")], frozenset(["a"]))
             return refused_by_ci(f"rt: note\nrt: must-fail {line}\n", mutant, crate)
 
     def test_open_goal(self):
         for line in [1, 2, 3, 5]:
-            self.assertEqual(self.said(f"low/m.edit: refused, as it must be: note: src/lib.rt:{line}:1: {self.NOTE}"), f"by rt ci: src/lib.rt:{line}: {self.NOTE}")
+            self.assertEqual(
+                self.said(f"low/m.edit: refused, as it must be: note: src/lib.rt:{line}:1: {self.NOTE}"),
+                f"by rt ci: src/lib.rt:{line}: {self.NOTE}",
+            )
 
     def test_no_open_goal_of_that_function(self):
         open_goal = f"refused, as it must be: note: src/lib.rt:2:15: {self.NOTE}"
@@ -219,7 +274,10 @@ class CiLog(unittest.TestCase):
             f"low/m.edit: refused, as it must be: note: src/lib.rt:7:1: {self.NOTE}",
             f"low/m.edit: refused, as it must be: note: src/other.rt:2:15: {self.NOTE}",
             "low/m.edit: refused, as it must be: ./proofs/a/Answers.antt:5:1: error: `returns`: the two types differ",
-            "low/m.edit: refused, as it must be (only because a proof file names what the edit took away): note: src/lib.rt:2:15: it is not proved",
+            (
+                "low/m.edit: refused, as it must be (only because a proof file names what the edit took away): "
+                "note: src/lib.rt:2:15: it is not proved"
+            ),
             f"low/m.edit: NOT REFUSED: note: src/lib.rt:2:15: {self.NOTE}",
             "low/m.edit: NOT TRIED: its check was killed",
         ]:
@@ -257,17 +315,44 @@ class Keeping(unittest.TestCase):
         self.assertIsNone(Kept(folder, anew=True).proof("low", "k4"))
         self.assertEqual(kept.newest_proof("low").name, "low-k4")
         self.assertIsNone(kept.newest_proof("high"))
+        kept.unlock()
         kept.sweep()
         self.assertEqual(sorted(it.name for it in (folder / "proofs").iterdir()), ["low-k2", "low-k3", "low-k4"])
+
+    @in_folder
+    def test_a_proof_that_a_run_uses(self, folder):
+        kept, other = Kept(folder), Kept(folder)
+        for number in range(MOST_PROOFS + 2):
+            toy_crates.write(folder, {"out/incremental/a.oantt": ""})
+            kept.keep_proof("low", f"k{number}", folder / "out")
+        kept.unlock()
+        other.proof("low", "k0")
+        for number in range(MOST_PROOFS + 2):
+            os.utime(folder / f"proofs/low-k{number}", (number, number))
+        kept.sweep()
+        self.assertEqual(
+            sorted(it.name for it in (folder / "proofs").iterdir()), ["low-k0", "low-k2", "low-k3", "low-k4"]
+        )
+        other.unlock()
+        kept.sweep()
+        self.assertEqual(sorted(it.name for it in (folder / "proofs").iterdir()), ["low-k2", "low-k3", "low-k4"])
+        self.assertIsNone(other.proof("low", "k0"))
 
     @in_folder
     def test_what_killed_runs_left(self, folder):
         kept = Kept(folder)
         ended = subprocess.Popen(["true"])
         ended.wait()
-        toy_crates.write(folder, {f"work/{ended.pid}-x/file": "", f"proofs/new-{ended.pid}-x/file": "", f"work/{os.getpid()}-y/file": ""})
+        files = {
+            f"work/{ended.pid}-x/file": "",
+            f"proofs/new-{ended.pid}-x/file": "",
+            f"work/{os.getpid()}-y/file": "",
+        }
+        toy_crates.write(folder, files)
         kept.sweep()
-        self.assertEqual([it.name for part in ["work", "proofs"] for it in (folder / part).iterdir()], [f"{os.getpid()}-y"])
+        self.assertEqual(
+            [it.name for part in ["work", "proofs"] for it in (folder / part).iterdir()], [f"{os.getpid()}-y"]
+        )
 
     @in_folder
     def test_what_another_run_has_just_removed(self, folder):
@@ -303,11 +388,20 @@ class Confirming(unittest.TestCase):
     REFUSED = "fn low::a: no proof: `search` did not prove `returns`\nonly=1 holes=0\n"
 
     def outcome(self, folder, sound, first):
-        """Returns how many mutants passed and failed, and the verdicts that were kept; `first` names the task that runs first."""
-        toy_crates.write(folder, {"tree/crates.txt": "low:\n", "tree/HANDLES": "", "tree/crates/low/src/lib.rt": "fn a() { 1 }\n"})
+        """Returns how many mutants passed and failed, and the verdicts that were kept; `first` names the task that runs
+        first.
+        """
+        files = {"tree/crates.txt": "low:\n", "tree/HANDLES": "", "tree/crates/low/src/lib.rt": "fn a() { 1 }\n"}
+        toy_crates.write(folder, files)
         (folder / "copy").mkdir()
         sums = Checksums(Sources(folder / "tree", folder / "copy"), "kit", [])
-        proofs = unittest.mock.Mock(sources=sums.sources, sums=sums, kept=Kept(folder), lacking=lambda _: [], workspace=lambda _: FakeWorkspace(sound, self.REFUSED))
+        proofs = unittest.mock.Mock(
+            sources=sums.sources,
+            sums=sums,
+            kept=Kept(folder),
+            lacking=lambda _: [],
+            workspace=lambda _: FakeWorkspace(sound, self.REFUSED),
+        )
         trial = Trial("low", [Mutant("low/m", [Pair("src/lib.rt", "1", "2")], frozenset("a"))], proofs)
         for task in sorted(trial.tasks(1), key=lambda it: it.name != ("low", first)):
             task.call()
@@ -329,7 +423,11 @@ class Checksum(unittest.TestCase):
     """What a verdict depends on: everything that can change it, and nothing else."""
 
     CHANGED = [
-        "crates/low/src/lib.rt", "crates/low/specs/Doubles.antt", "crates/low/proofs/twice/Answers.antt", "crates/middle/src/lib.rt", "HANDLES",
+        "crates/low/src/lib.rt",
+        "crates/low/specs/Doubles.antt",
+        "crates/low/proofs/twice/Answers.antt",
+        "crates/middle/src/lib.rt",
+        "HANDLES",
     ]
 
     def sums(self, folder, files, kit="kit", script="script"):
@@ -354,7 +452,8 @@ class Checksum(unittest.TestCase):
 
     @in_folder
     def test_a_line_of_crates_txt(self, folder):
-        before, after = self.sums(folder, {}).of_crate("high"), self.sums(folder, {"crates.txt": "low:\nmiddle: low memchr\nhigh: low middle\n"})
+        lines = "low:\nmiddle: low memchr\nhigh: low middle\n"
+        before, after = self.sums(folder, {}).of_crate("high"), self.sums(folder, {"crates.txt": lines})
         self.assertNotEqual(after.of_crate("high"), before)
 
     @in_folder
@@ -372,13 +471,23 @@ class Checksum(unittest.TestCase):
     @in_folder
     def test_neither_documents_nor_crates_above_nor_other_mutants(self, folder):
         before = self.sums(folder, {}).of_crate("low")
-        files = {"docs/PAGE.md": "Another page.\n", "crates/high/src/lib.rt": "", "crates/low/mutants.txt": "# None.\n", "crates/low/CALLING.md": ""}
+        files = {
+            "docs/PAGE.md": "Another page.\n",
+            "crates/high/src/lib.rt": "",
+            "crates/low/mutants.txt": "# None.\n",
+            "crates/low/CALLING.md": "",
+        }
         self.assertEqual(self.sums(folder, files).of_crate("low"), before)
 
     @in_folder
     def test_mutants(self, folder):
         sums = self.sums(folder, {})
-        pairs = [[Pair("src/lib.rt", "1", "2")], [Pair("src/lib.rt", "1", "3")], [Pair("src/lib.rt", "1", "2", "a")], [Pair("src/lib.rt", "1", "2")] * 2]
+        pairs = [
+            [Pair("src/lib.rt", "1", "2")],
+            [Pair("src/lib.rt", "1", "3")],
+            [Pair("src/lib.rt", "1", "2", "a")],
+            [Pair("src/lib.rt", "1", "2")] * 2,
+        ]
         found = {sums.of_mutant(Mutant("m", it)) for it in pairs}
         self.assertEqual(len(found), 4)
         self.assertNotIn(sums.of_mutant(Mutant("m", pairs[0]), "high"), found)
@@ -407,14 +516,20 @@ class Scheduling(unittest.TestCase):
 
     def test_order(self):
         ran = []
-        task = lambda name, after="", rank=0, more=(): Task(name, lambda: (ran.append(name) or True, more), frozenset(after), rank)  # noqa: E731
+        task = lambda name, after="", rank=0, more=(): Task(  # noqa: E731
+            name, lambda: (ran.append(name) or True, more), frozenset(after), rank
+        )
         done = run_all([task("c", "a"), task("b", "", 2), task("a", "", 1, [task("d", "", 0)])], 1)
         self.assertEqual(ran, ["a", "c", "d", "b"])
         self.assertEqual(done, set("abcd"))
 
     def test_after_a_failure(self):
         ran = []
-        tasks = [Task("a", lambda: (False, [])), Task("b", lambda: (ran.append("b") or True, []), frozenset("a")), Task("c", lambda: (True, []))]
+        tasks = [
+            Task("a", lambda: (False, [])),
+            Task("b", lambda: (ran.append("b") or True, []), frozenset("a")),
+            Task("c", lambda: (True, [])),
+        ]
         self.assertEqual(run_all(tasks, 2), {"c"})
         self.assertEqual(ran, [])
 
@@ -473,14 +588,23 @@ class Whole(unittest.TestCase):
         """Returns the verdict that a run prints of each mutant, its last two lines, and its status."""
         environment = {**os.environ, "XDG_CACHE_HOME": str(self.folder / "cache")}
         command = [sys.executable, str(self.folder / "tests/mutants.py"), "--jobs", "2", *words]
-        done = subprocess.run(command, env=environment, stdout=subprocess.PIPE, stderr=subprocess.STDOUT, encoding="utf-8", check=False)
-        found, last = (dict(re.findall(rf"^{it}low/([\w-]+): ([^:]+): ", done.stdout, re.MULTILINE)) for it in ["", "not refused: "])
+        done = subprocess.run(
+            command, env=environment, stdout=subprocess.PIPE, stderr=subprocess.STDOUT, encoding="utf-8", check=False
+        )
+        found, last = (
+            dict(re.findall(rf"^{it}low/([\w-]+): ([^:]+): ", done.stdout, re.MULTILINE))
+            for it in ["", "not refused: "]
+        )
         self.assertEqual(last, {name: verdict for name, verdict in found.items() if not Verdict(verdict).is_good()})
-        return {name: Verdict(verdict) for name, verdict in found.items()}, done.stdout.splitlines()[-2:], done.returncode
+        verdicts = {name: Verdict(verdict) for name, verdict in found.items()}
+        return verdicts, done.stdout.splitlines()[-2:], done.returncode
 
     def counts(self, tried, remembered, passed, failed):
         """Returns the last two lines of a run with these counts."""
-        counted = f"mutants: {tried} tried in this run, {remembered} remembered from earlier runs on this machine, 0 refused by rt ci in this run"
+        counted = (
+            f"mutants: {tried} tried in this run, {remembered} remembered from earlier runs on this machine, "
+            "0 refused by rt ci in this run"
+        )
         return [counted, f"{passed} passed, {failed} failed"]
 
     def test_each_kind(self):
@@ -497,16 +621,37 @@ class Whole(unittest.TestCase):
         toy_crates.write(self.folder, {"crates/low/mutants.txt": toy_crates.mutants_text(names)})
         both = {name: toy_crates.MUTANTS[name][1] for name in names}
         self.assertEqual(self.run_script(), (both, self.counts(2, 0, 2, 0), 0))
-        toy_crates.write(self.folder, {"docs/PAGE.md": "Another page.\n", "crates/low/mutants.txt": f"# More.\n{toy_crates.mutants_text(names)}"})
+        files = {
+            "docs/PAGE.md": "Another page.\n",
+            "crates/low/mutants.txt": f"# More.\n{toy_crates.mutants_text(names)}",
+        }
+        toy_crates.write(self.folder, files)
         self.assertEqual(self.run_script(), ({}, self.counts(0, 2, 2, 0), 0))
         # The one that a test shows depends on the crate whose test it is.
         toy_crates.write(self.folder, {"crates/high/src/tests.rt": toy_crates.FILES["crates/high/src/tests.rt"] + "\n"})
         self.assertEqual(self.run_script(), ({"renamed-and-wrong": Verdict.BY_A_TEST}, self.counts(1, 1, 2, 0), 0))
-        self.assertEqual(self.run_script("--anew", "no-search"), ({"no-search": Verdict.REFUSED}, self.counts(1, 0, 1, 0), 0))
+        self.assertEqual(
+            self.run_script("--anew", "no-search"), ({"no-search": Verdict.REFUSED}, self.counts(1, 0, 1, 0), 0)
+        )
+
+    def test_beside_ci(self):
+        files = {
+            "crates/low/must-fail/no-search.edit": f"{toy_crates.MUTANTS['no-search'][0]}\n",
+            "crates/low/mutants.txt": toy_crates.mutants_text(["no-answer"]),
+        }
+        toy_crates.write(self.folder, files)
+        refused = Verdict.REFUSED
+        self.assertEqual(self.run_script("--not-in-ci"), ({"no-answer": refused}, self.counts(1, 0, 1, 0), 0))
+        self.assertEqual(self.run_script(), ({"no-search": refused}, self.counts(1, 1, 2, 0), 0))
+        shutil.rmtree(self.folder / "cache")
+        (self.folder / "cache").write_text("", encoding="utf-8")
+        said = ["nothing can be kept, so no mutant is tried before `rt ci` has ended"]
+        self.assertEqual(self.run_script("--not-in-ci"), ({}, said, 0))
 
     def test_a_crate_that_is_not_proved(self):
         wrong = toy_crates.FILES["crates/low/src/lib.rt"].replace("LIMIT: u32 = 100", "LIMIT: u32 = 101")
-        toy_crates.write(self.folder, {"crates/low/src/lib.rt": wrong, "crates/low/mutants.txt": toy_crates.mutants_text(["no-search"])})
+        files = {"crates/low/src/lib.rt": wrong, "crates/low/mutants.txt": toy_crates.mutants_text(["no-search"])}
+        toy_crates.write(self.folder, files)
         verdicts, [counted, last], status = self.run_script()
         self.assertEqual((verdicts, last, status), ({"no-search": Verdict.NOT_JUDGED}, "0 passed, 1 failed", 1))
 
@@ -515,7 +660,10 @@ class Whole(unittest.TestCase):
         command = [sys.executable, str(self.folder / "tests/proofs.py"), "middle"]
         for made, kept in [(2, 0), (0, 2)]:
             done = subprocess.run(command, env=environment, stdout=subprocess.PIPE, encoding="utf-8", check=False)
-            wanted = [f"proved in this run: {made}; kept from earlier runs on this machine: {kept}", "2 passed, 0 failed"]
+            wanted = [
+                f"proved in this run: {made}; kept from earlier runs on this machine: {kept}",
+                "2 passed, 0 failed",
+            ]
             self.assertEqual((done.stdout.splitlines()[-2:], done.returncode), (wanted, 0))
             self.assertTrue((self.folder / "crates/low/out/rlib/stamp").is_file())
             shutil.rmtree(self.folder / "crates/low/out")

@@ -1,10 +1,11 @@
 #!/usr/bin/env python3
-"""Proves crates, beginning with what earlier runs on this machine proved, and leaves in their `out/` folders what rt goes on from.
+"""Proves crates, beginning with what earlier runs on this machine proved, and leaves in their `out/` folders what rt
+goes on from.
 
 Usage: tests/proofs.py [--jobs N] [--anew] CRATE ..
 
-The crates below these are proved, too. What is proved is kept in the user's cache folder, under a checksum of everything that
-it depends on (tests/kept.py). A crate whose checksum is there is not proved again.
+The crates below these are proved, too. What is proved is kept in the user's cache folder, under a checksum of
+everything that it depends on (tests/kept.py). A crate whose checksum is there is not proved again.
 
 Its last line is 'N passed, M failed', and it exits with 1 if M isn't 0.
 """
@@ -27,9 +28,13 @@ from schedule import Task, run_all  # noqa: E402
 from sources import TOP, Sources, kit_folder, kit_sum  # noqa: E402
 
 # The files whose code makes what is kept.
-SCRIPTS = [TOP / "tests" / f"{it}.py" for it in "kept mutant_files mutants proofs rattle_functions reports schedule sources".split()]
+SCRIPTS = [
+    TOP / "tests" / f"{it}.py"
+    for it in "kept mutant_files mutants proofs rattle_functions reports schedule sources".split()
+]
 PRINTING = threading.Lock()
-# How long a test may take with a mutant. One that takes longer says nothing: some use up a memory that is too large here.
+# How long a test may take with a mutant. One that takes longer says nothing: some use up a memory that is too large
+# here.
 SECONDS = 10
 
 
@@ -66,14 +71,19 @@ class Proofs:
         return [it for it in dict.fromkeys(every) if not self.find(it)]
 
     def tasks(self, names):
-        """Returns the tasks that prove these crates and those below, if they aren't proved. A crate that many need goes first."""
+        """Returns the tasks that prove these crates and those below, if they aren't proved. A crate that many need goes
+        first.
+        """
         lacking = self.lacking(names)
         for name in lacking:
             after = frozenset(("proof", it) for it in self.sources.below(name) if it in lacking)
-            yield Task(("proof", name), lambda it=name: (self.prove(it), []), after, (0, -len(self.sources.above(name))))
+            rank = (0, -len(self.sources.above(name)))
+            yield Task(("proof", name), lambda it=name: (self.prove(it), []), after, rank)
 
     def workspace(self, name):
-        """Returns a copy of the sources in which the crate can be checked: with its own kept work, and the libraries that it needs."""
+        """Returns a copy of the sources in which the crate can be checked: with its own kept work, and the libraries
+        that it needs.
+        """
         workspace = Workspace(self.sources, name, Path(tempfile.mkdtemp(dir=self.folder)))
         for below in self.sources.below(name):
             workspace.put(below, self.find(below), ["rlib"])
@@ -167,7 +177,10 @@ def main():
         proved = [it for it in every if it in proofs.places]
         for name in proved:
             proofs.put_into(TOP, name)
-    say(f"proved in this run: {len(proved) - len(every) + len(lacking)}; kept from earlier runs on this machine: {len(every) - len(lacking)}")
+    say(
+        f"proved in this run: {len(proved) - len(every) + len(lacking)}; "
+        f"kept from earlier runs on this machine: {len(every) - len(lacking)}"
+    )
     say(f"{len(proved)} passed, {len(every) - len(proved)} failed")
     return 1 if len(proved) < len(every) else 0
 

@@ -1,4 +1,6 @@
-"""Finds the functions of a Rattle source file, with the names by which a check knows them, and where their bodies are."""
+"""Finds the functions of a Rattle source file, with the names by which a check knows them, and where their bodies
+are.
+"""
 
 import re
 from dataclasses import dataclass
@@ -11,10 +13,11 @@ NO_CODE = re.compile(r"""//[^\n]*|/\*.*?\*/|b?"(?:\\.|[^"\\])*"|b?'(?:\\(?:x..|u
 
 @dataclass(frozen=True)
 class Function:
-    """A function: its path below the crate, and the offsets at which its `fn`, its contract and its body begin and its body ends.
+    """A function: its path below the crate, and the offsets at which its `fn`, its contract and its body begin and its
+    body ends.
 
-    It may have `pub` or `pub(..)` before its name, with `extern` after that, and the head of the block that it is in, where it
-    is in one.
+    It may have `pub` or `pub(..)` before its name, with `extern` after that, and the head of the block that it is in,
+    where it is in one.
     """
 
     path: str
@@ -69,7 +72,9 @@ def full_name(type_text, parameters):
 
 
 def block_path(head, module, homes):
-    """The path of a block: that of its type, or where it is of a trait its module and `TypeTrait`, as `OutcomeFromFault`."""
+    """The path of a block: that of its type, or where it is of a trait its module and `TypeTrait`, as
+    `OutcomeFromFault`.
+    """
     parameters, head = split_parameters(head.strip())
     of_trait, is_of_trait, of_type = head.partition(" for ")
     name = plain_name(of_type if is_of_trait else head)
@@ -99,7 +104,9 @@ def body_of(code, start):
     while True:
         opens, ends = code.find("{", at), code.find(";", at)
         # A semicolon in the head can only be in an array's type.
-        ends_here = ends != -1 and (opens == -1 or ends < opens) and code[start:ends].count("[") == code[start:ends].count("]")
+        ends_here = (
+            ends != -1 and (opens == -1 or ends < opens) and code[start:ends].count("[") == code[start:ends].count("]")
+        )
         if opens == -1 or ends_here:
             return None
         closes = group_end(code, opens)

@@ -9,7 +9,11 @@ from mutant_files import applied, homes_in
 # What is said of a proof file that names what the code no longer has.
 MISFITS = re.compile(r"has no field|is not in scope|has no `|was not admitted")
 # What `rt ci` says of an edit of must-fail/ that leaves a goal open, with the place in the source that the goal is of.
-OPEN_IN_CI = re.compile(r"^rt: must-fail (\w+)/(\S+)\.edit: refused, as it must be: note: (src/\S+\.rt):(\d+):\d+: (it is not proved that .*)$", re.MULTILINE)
+OPEN_IN_CI = re.compile(
+    r"^rt: must-fail (\w+)/(\S+)\.edit: refused, as it must be: "
+    r"note: (src/\S+\.rt):(\d+):\d+: (it is not proved that .*)$",
+    re.MULTILINE,
+)
 
 
 class Verdict(Enum):
@@ -39,21 +43,29 @@ class Report:
         return bool(re.search(r"^(only=\d+ )?holes=\d+$", self.text, re.MULTILINE))
 
     def names(self, path):
-        """Returns the names under which the check lists the function at this path: its own, and those of its closures."""
+        """Returns the names under which the check lists the function at this path: its own, and those of its
+        closures.
+        """
         module, _, name = path.rpartition("::")
         outer, _, block = module.rpartition("::")
-        closures = [f"{self.crate}::{m}::fn::{f}::" if m else f"{self.crate}::fn::{f}::" for m, f in [(module, name), (outer, f"{block}::{name}")]]
+        closures = [
+            f"{self.crate}::{m}::fn::{f}::" if m else f"{self.crate}::fn::{f}::"
+            for m, f in [(module, name), (outer, f"{block}::{name}")]
+        ]
         own = f"{self.crate}::{path}"
         return [it for it in self.lines if it == own or it.startswith(tuple(closures))]
 
     def answers(self, folder):
         """Yields the file and the name of each answer below a folder of proofs/ that doesn't prove its goal."""
-        for file, name, said in re.findall(rf"^\./proofs/({folder}\w+\.antt):\S+ error: `([^`]+)`: (.*)$", self.text, re.MULTILINE):
+        error = rf"^\./proofs/({folder}\w+\.antt):\S+ error: `([^`]+)`: (.*)$"
+        for file, name, said in re.findall(error, self.text, re.MULTILINE):
             if not MISFITS.search(said):
                 yield file, name
 
     def open_goals(self, path=None):
-        """Yields the goals that no search proves and that have no answer, of the function at this path; or those of any, and lemmas that fail."""
+        """Yields the goals that no search proves and that have no answer, of the function at this path; or those of
+        any, and lemmas that fail.
+        """
         if path is None:
             for file, name in self.answers(r"(?:[\w+-]+/)*"):
                 yield f"`{name}` of proofs/{file}"
@@ -97,7 +109,8 @@ def verdict_of(report, mutant):
 
 
 def without_answers(text, names):
-    """Returns the text of a proof file without the answers of these names, and without the steps of goals that only they used.
+    """Returns the text of a proof file without the answers of these names, and without the steps of goals that only
+    they used.
 
     What is named inside an answer stays.
     """
@@ -111,13 +124,16 @@ def without_answers(text, names):
 
 
 def failed_tests(said):
-    """Returns the names of the tests that failed. One that only took too long, in a slow build beside other work, says nothing."""
+    """Returns the names of the tests that failed. One that only took too long, in a slow build beside other work, says
+    nothing.
+    """
     failed = re.findall(r"^test (\S+) \.\.\. FAILED\n((?: +.*\n)*)", said, re.MULTILINE)
     return [name for name, why in failed if "within the time limit" not in why]
 
 
 def refused_by_ci(log, mutant, crate):
-    """Returns why `rt ci` refused a mutant of must-fail/, if its log shows an open goal of a function that the mutant changes, or None.
+    """Returns why `rt ci` refused a mutant of must-fail/, if its log shows an open goal of a function that the mutant
+    changes, or None.
 
     `crate` is the folder of the crate, whose sources are those that `rt ci` read.
     """

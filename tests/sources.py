@@ -1,4 +1,6 @@
-"""The crates' sources as they are when a script starts, and checksums of everything that a check of a crate depends on."""
+"""The crates' sources as they are when a script starts, and checksums of everything that a check of a crate depends
+on.
+"""
 
 import hashlib
 import os
@@ -37,7 +39,9 @@ def kit_folder():
 
 
 def kit_sum(kit):
-    """Returns a checksum of a kit: the texts that identify it, and the size and time of each file that a check reads."""
+    """Returns a checksum of a kit: the texts that identify it, and the size and time of each file that a check
+    reads.
+    """
     texts = [(kit / name).read_bytes() for name in ["KIT-ID", "WHAT"]]
     stats = []
     for part in KIT_PARTS:
@@ -54,7 +58,9 @@ class Sources:
         self.folder = Path(folder)
         for name in ["crates.txt", "HANDLES"]:
             shutil.copy(Path(top) / name, self.folder)
-        self.lines = {it.split()[0].rstrip(":"): it for it in self.text("crates.txt").splitlines() if it.split("#")[0].strip()}
+        self.lines = {
+            it.split()[0].rstrip(":"): it for it in self.text("crates.txt").splitlines() if it.split("#")[0].strip()
+        }
         for name in self.lines:
             for part in [*PARTS, *MUTANTS]:
                 source = Path(top) / "crates" / name / part
@@ -90,7 +96,9 @@ class Sources:
 
     def is_library(self, name):
         """Returns whether other crates can need this one."""
-        return "staticlib" not in self.lines[name].partition(":")[0] and not (self.crate(name) / "src/main.rt").is_file()
+        return (
+            "staticlib" not in self.lines[name].partition(":")[0] and not (self.crate(name) / "src/main.rt").is_file()
+        )
 
     def has_tests(self, name):
         """Returns whether a crate has tests of its own."""
@@ -98,7 +106,9 @@ class Sources:
 
     @lru_cache(maxsize=None)
     def sum_of(self, name):
-        """Returns a checksum of what is handed to a check of a crate: its files and its line of crates.txt, and those of the crates below it."""
+        """Returns a checksum of what is handed to a check of a crate: its files and its line of crates.txt, and those
+        of the crates below it.
+        """
         files = [(part, contents_of(self.crate(name) / part)) for part in PARTS]
         below = [self.sum_of(it) for it in self.below(name)]
         return checksum(self.text("HANDLES"), self.lines[name], files, below)
