@@ -2,9 +2,10 @@
 ghost use Rattle.fmtcanon_c.specs.Calls.{Checks, AnswersCanonical, IsLengthCode, PutsCanonical, AnswersLength};
 ghost use Rattle.std.specs.Prelude.{◌≡◌};
 ghost use Rattle.fmtcanon_c.specs.Models.{InModel};
+ghost use Rattle.pf_canon.specs.ShortTexts.{IsVerbatimFront, front_model};
 
 use crate::interface::{CError, NO_MEMORY, NO_MODEL, model_of, put_refusal, put_string};
-use pf_canon::{canonical, canonical_len, is_canonical, is_verbatim, short_canonical};
+use pf_canon::{ShortText, VerbatimFront, canonical, canonical_len, is_canonical};
 use pf_text::{Side, TextFault, check};
 use pf_values::Model;
 use std::alloc::Global;
@@ -71,11 +72,12 @@ fn put_canonical(
 ) -> i64
     ensures { PutsCanonical model text.now out.old error.old result out.new error.new }
 {
-    if is_verbatim(model, text) {
+    let front = VerbatimFront::of(model, text);
+    if front.is_all(text) {
         put_string(out, text);
         return text.len() as i64;
     }
-    put_other_canonical(alloc, model, text, out, error)
+    put_other_canonical(alloc, model, &front, text, out, error)
 }
 
 // Puts the canonical text of a format that isn't verbatim. Never inlined, so that one that is doesn't make
@@ -84,18 +86,23 @@ fn put_canonical(
 fn put_other_canonical(
     alloc: Global,
     model: Model,
+    front: &VerbatimFront,
     text: &[u8],
     out: &mut [u8],
     error: &mut CError,
 ) -> i64
+    requires model { front_model front.now ≡ model }
+    requires taken { IsVerbatimFront text.now front.now }
     ensures { PutsCanonical model text.now out.old error.old result out.new error.new }
 {
-    match short_canonical(model, text) {
-        Ok(Some(canonical)) => {
-            put_string(out, &canonical);
+    let mut short = ShortText::new();
+    match short.put(front, text) {
+        Ok(true) => {
+            let canonical = short.as_slice();
+            put_string(out, canonical);
             canonical.len() as i64
         }
-        Ok(None) => put_long_canonical(alloc, model, text, out, error),
+        Ok(false) => put_long_canonical(alloc, model, text, out, error),
         Err(refusal) => put_refusal(error, Side::First, refusal),
     }
 }

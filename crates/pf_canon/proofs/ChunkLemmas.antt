@@ -71,7 +71,7 @@ use Rattle.pf_canon.specs.Transducer.{
   step_output_text,
 }
 use Rattle.pf_text.specs.CanonicalRuns.{PassesCanonicalRun, PassesSilents, silents}
-use Rattle.pf_canon.proofs.TextLemmas.{most_len-append, not_truncated}
+use Rattle.pf_canon.proofs.TextLemmas.{most_len-append, not_truncated, taken_on}
 use Rattle.pf_values.proofs.Alike.{alike_refl}
 use Rattle.pf_canon.proofs.MakingLemmas.{made_more, made_settled, made_silents}
 use Rattle.pf_canon.proofs.TransducerLemmas.{directive_grown, grown, passed, passed_run, through_few}
@@ -181,26 +181,24 @@ pub directive_made : (model : Model) (new : Transducer) (t out text : Text) (ver
     → GrowsByChunk model t out text (record { verbatim_len = verbatim_len; start = at; len = at + len; item_output = outputs.Output output }) new
 directive_made model new t out text verbatim_len at len output h =
     let o = out ++ take verbatim_len text in
-    let whole : (t ++ take at text) ++ take len (drop at text) ≡ t ++ take (at + len) text =
-    append_assoc t (take at text) (take len (drop at text)) ∙ ap (λ u. t ++ u) (sym (take-add at len text)) in
     record {
       items = h.items;
       through = subst (IsThrough model new (t ++ take (at + len) text) h.items) (append_assoc out (take verbatim_len text) (output_text output))
-          (subst (λ u. IsThrough model new u h.items (o ++ output_text output)) whole h.through);
+          (subst (λ u. IsThrough model new u h.items (o ++ output_text output)) (taken_on t text at len) h.through);
     }
 
 -- a directive and verbatim bytes that were taken one after another
-pub items_taken : (model : Model) (mid new : Transducer) (text out settled : Text) (at len run : ℕ)
-    → GrowsByDirective model (take at text) out (drop at text) len settled mid
+pub items_taken : (model : Model) (mid new : Transducer) (t text out settled : Text) (at len run : ℕ)
+    → GrowsByDirective model (t ++ take at text) out (drop at text) len settled mid
     → ((t out : Text) (items : List Item) → IsThrough model mid t items out → TakesVerbatim model t out (drop (at + len) text) run new)
-    → (now : List Item) × IsThrough model new (take (at + len + run) text) now (out ++ (settled ++ take run (drop (at + len) text)))
-items_taken model mid new text out settled at len run d v =
+    → (now : List Item) × IsThrough model new (t ++ take (at + len + run) text) now (out ++ (settled ++ take run (drop (at + len) text)))
+items_taken model mid new t text out settled at len run d v =
     let bytes = take run (drop (at + len) text) in
-    let mid_through = subst (λ u. IsThrough model mid u d.items (out ++ settled)) (sym (take-add at len text)) d.through in
-    let h = v (take (at + len) text) (out ++ settled) d.items mid_through in (
+    let mid_through = subst (λ u. IsThrough model mid u d.items (out ++ settled)) (taken_on t text at len) d.through in
+    let h = v (t ++ take (at + len) text) (out ++ settled) d.items mid_through in (
       h.items,
-      subst (IsThrough model new (take (at + len + run) text) h.items) (append_assoc out settled bytes)
-          (subst (λ u. IsThrough model new u h.items ((out ++ settled) ++ bytes)) (sym (take-add (at + len) run text)) h.through),
+      subst (IsThrough model new (t ++ take (at + len + run) text) h.items) (append_assoc out settled bytes)
+          (subst (λ u. IsThrough model new u h.items ((out ++ settled) ++ bytes)) (taken_on t text (at + len) run) h.through),
     )
 
 most_silents : (count : ℕ) → most_len (silents count) ≡ 4120 * count

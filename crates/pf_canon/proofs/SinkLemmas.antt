@@ -1,33 +1,7 @@
 -- What a sink was given.
-use Rattle.std.proofs.Common.{
-  ◌≡◌,
-  ℕ,
-  ◌+◌,
-  ◌-◌,
-  ◌*◌,
-  ◌≤◌,
-  ◌<◌,
-  ◌^◌,
-  [],
-  ◌++◌,
-  replicate,
-  refl,
-  sym,
-  ap,
-  ◌∙◌,
-  subst,
-  arith,
-  length,
-  take,
-  ◌≢◌,
-  Bool,
-  drop,
-  Option,
-  Some,
-  None,
-}
+use Rattle.std.proofs.Common.{◌≡◌, ℕ, ◌+◌, ◌-◌, ◌*◌, ◌≤◌, ◌<◌, ◌^◌, [], ◌++◌, replicate, refl, sym, ap, ◌∙◌, subst, arith, length, take, ◌≢◌, Bool, Option, Some, None}
 use Rattle.std.specs.Prelude.{flat_map, MatchResult, Result, Ok, Err, IsTrue, MatchOption, ◌↔◌}
-use Rattle.std.proofs.lemmas.List.{replicate-append-replicate, length-append, length-take-le, append-nil, append_cancel_left, take-append-drop}
+use Rattle.std.proofs.lemmas.List.{replicate-append-replicate, length-append, length-take-le, append-nil, append_cancel_left}
 use Rattle.std.specs.Borrow.{Bor}
 use Rattle.pf_values.specs.meaning.Canonical.{item_spelling, IsCanonicalText}
 use Rattle.pf_values.specs.declared.models.Model.{Model}
@@ -124,19 +98,13 @@ same_used_up (Some start) (Some left) t bytes e h same = append_cancel_left byte
 same_used_up (Some start) None t bytes e h same = h [] (e ∙ sym same ∙ sym (append-nil bytes))
 same_used_up None left t bytes e h same = absurd e
 
--- A text is canonical exactly if nothing is left of it after its canonical text. Both begin with
--- its verbatim bytes.
-pub stripped_to_end : (model : Model) (t more : Text) (verbatim_len : ℕ) (start left : Option (Bor Text)) (is : Bool) → IsLeft start (drop verbatim_len t)
-    → IsCanonicalFor model t (take verbatim_len t ++ more) → IsFrontStripped start more left → IsTrue is ↔ IsLeft left [] → IsAccepted t
-    × (IsTrue is ↔ IsCanonicalText model t)
-stripped_to_end model t more verbatim_len start left is rest h cut e =
-    let front = take verbatim_len t in
-    let whole = take-append-drop verbatim_len t in (
-      (h.items, h.accepted),
-      (
-        λ yes. subst (IsCanonicalText model) (sym (sym whole ∙ ap (λ u. front ++ u) (used_up start left (drop verbatim_len t) more rest cut (e.0 yes))))
-            h.canonical_is.canonical,
-        λ is_text. e.1 (same_used_up start left (drop verbatim_len t) more rest cut (append_cancel_left front more (drop verbatim_len t)
-            (h.kept is_text ∙ sym whole))),
-      ),
-    )
+-- a text is canonical exactly if nothing is left of it after its canonical text
+pub stripped_to_end : (model : Model) (t c : Text) (start left : Option (Bor Text)) (is : Bool) → IsLeft start t → IsCanonicalFor model t c
+    → IsFrontStripped start c left → IsTrue is ↔ IsLeft left [] → IsAccepted t × (IsTrue is ↔ IsCanonicalText model t)
+stripped_to_end model t c start left is rest h cut e = (
+  (h.items, h.accepted),
+  (
+    λ yes. subst (IsCanonicalText model) (sym (used_up start left t c rest cut (e.0 yes))) h.canonical_is.canonical,
+    λ is_text. e.1 (same_used_up start left t c rest cut (h.kept is_text)),
+  ),
+)

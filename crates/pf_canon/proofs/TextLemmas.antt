@@ -98,6 +98,14 @@ built_more model t out now at chunk new g e = (g.items, rw (e, take-add at chunk
 pub in_its_own : (model : Model) (r : Transducer) (t out : Text) (items : List Item) → IsThrough model r t items out → IsThrough r.model r t items out
 in_its_own model r t out items h = subst (λ m. IsThrough m r t items out) (sym h.model_is) h
 
+-- more of a text, after what came before it
+pub taken_on : (t text : Text) (at len : ℕ) → (t ++ take at text) ++ take len (drop at text) ≡ t ++ take (at + len) text
+taken_on t text at len = append_assoc t (take at text) (take len (drop at text)) ∙ ap (λ u. t ++ u) (sym (take-add at len text))
+
+-- it took nothing of a text
+pub begun_of : (model : Model) (r : Transducer) (t : Text) → IsThrough model r [] [] [] → IsUpTo r t 0 []
+begun_of model r t h = (omega arith, [], in_its_own model r [] [] [] h)
+
 -- there may be no memory for a text of some bytes
 pub hindered : (model : Model) (t c : Text) → IsCanonicalFor model t c → 0 < length c → FaultForCanonical model t Memory
 hindered model t c h some = (c, h, λ none. absurd (omega (arith, some, ap length none)))

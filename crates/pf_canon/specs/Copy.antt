@@ -1,5 +1,5 @@
 -- What a copy has taken and written. This project's own.
-use Rattle.std.specs.Prelude.{◌≡◌, ℕ, ◌<◌, Bool, true, false, length, Result, Ok, Err, ◌≢◌, ◌≤◌, List, ◌∷◌, ◌++◌, take, ◌⊎◌}
+use Rattle.std.specs.Prelude.{◌≡◌, ℕ, ◌<◌, Bool, true, false, length, MatchResult, Result, Ok, Err, ◌≢◌, ◌≤◌, List, ◌∷◌, ◌++◌, take, ◌⊎◌}
 use Rattle.std.specs.Io.KnownBytes.{Appends, Consumes, IsAtEnd}
 use Rattle.pf_values.specs.Counting.{Known, WritesAll, WritesFirst, HasFailed, failures_of}
 use Rattle.pf_values.specs.meaning.Text.{Text}
@@ -10,6 +10,7 @@ use Rattle.pf_values.specs.meaning.Canonical.{IsCanonicalOf}
 use Rattle.pf_values.specs.meaning.Items.{Item, IsAccepted}
 use Rattle.pf_values.specs.meaning.Refusals.{IsRefusedAt}
 use Rattle.pf_text.specs.declared.refusals.Refusal.{Refusal}
+use Rattle.pf_canon.specs.declared.copy.CopyProgress.{CopyProgress}
 use Rattle.pf_canon.specs.declared.copy.Gathered.{Gathered}
 use Rattle.pf_canon.specs.Sink.{Counts}
 use Rattle.pf_canon.specs.declared.faults.CopyFault.{CopyFault}
@@ -110,6 +111,15 @@ StopsIn model front text w x (faults.Refused refusal) =
     × IsRefusedAfter model (front ++ fed) last w x refusal
 StopsIn model front text w x (faults.Write written) = FirstOut model (front ++ text) w x written
 StopsIn model front text w x faults.Read = ⊥
+
+-- part of a text after `front` was taken, and what it settles was gathered, or why the copy stopped there
+abbrev pub CopiesPart : Transducer → Transducer → Text → Known → Known → Text → Text → ℕ
+    → Result CopyProgress CopyFault → Type 0
+CopiesPart old new text x y buffer still written result =
+    (model : Model) (front : Text) (start : Known) → IsGathered model old front start x buffer written
+    → MatchResult result
+    (λ progress. IsGathered model new (front ++ take progress.len text) start y still progress.written)
+    (StopsIn model front text start y)
 
 -- a fault of the writer was counted
 abbrev pub WriteCounts : {W E : Type 0} → Counted W → Counted W → Result E CopyFault → Type 0

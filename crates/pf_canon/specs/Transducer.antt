@@ -61,10 +61,14 @@ pub record IsThrough (model : Model) (r : Transducer) (t : Text) (items : List I
   pub few : r.silents ≤ length t
   pub short : length out + 4 * r.silents ≤ most_len items
 
--- in its data model, it took the first `at` bytes of a text, which settle `out`
+-- in its data model, it took `before` and then the first `at` bytes of a text, which settle `out`
+abbrev pub IsUpToAfter : Text → Transducer → Text → ℕ → Text → Type 0
+IsUpToAfter before r text at out = (at ≤ length text) × (items : List Item)
+    × IsThrough r.model r (before ++ take at text) items out
+
+-- it took the first `at` bytes of a text alone
 abbrev pub IsUpTo : Transducer → Text → ℕ → Text → Type 0
-IsUpTo r text at out = (at ≤ length text) × (items : List Item)
-    × IsThrough r.model r (take at text) items out
+IsUpTo = IsUpToAfter []
 
 -- the item that a step ends, if it does
 abbrev pub more_of : Step → List Item

@@ -1,9 +1,9 @@
 //! A text taken chunk by chunk, and what each chunk settles put into a sink.
-ghost use Rattle.std.specs.Prelude.{◌≡◌, ◌++◌, MatchResult};
+ghost use Rattle.std.specs.Prelude.{◌≡◌, ◌≤◌, ◌++◌, length, MatchResult};
 ghost use Rattle.pf_values.specs.meaning.Refusals.{IsRefusedAt};
 ghost use Rattle.pf_values.specs.meaning.Text.{Text};
 ghost use Rattle.pf_canon.specs.Answers.{IsCanonicalFor};
-ghost use Rattle.pf_canon.specs.Transducer.{IsChunkWithin, IsUpTo, chunk_output_text, data_model_of, item_output_text};
+ghost use Rattle.pf_canon.specs.Transducer.{IsChunkWithin, IsUpTo, IsUpToAfter, chunk_output_text, data_model_of, item_output_text};
 
 use crate::output::StepOutput;
 use crate::sink::Sink;
@@ -63,27 +63,27 @@ pub(crate) fn put_chunks<S: Sink>(
     }
 }
 
-// Takes whole directives of a text from `from` on, each with the verbatim bytes after it, as long as these
-// follow each other, and puts what they settle. Returns the transducer that took them, and the offset after
-// them. Most texts have nothing else after their first verbatim bytes.
+/// Takes whole directives of a text from `from` on, each with the verbatim bytes after it, as long as
+/// these follow each other, and puts what they settle. Returns the transducer that took them, and the
+/// offset after them. Most texts have nothing else after their first verbatim bytes.
 #[inline(always)]
-fn put_items<S: Sink>(
+pub(crate) fn put_items<S: Sink>(
     mut transducer: Transducer,
     text: &[u8],
     from: usize,
     sink: &mut S,
 ) -> (Transducer, usize)
-    ensures { (out : Text) → IsUpTo transducer text.now from out
-        → (more : Text) × S.given sink.old sink.new more
-        × (data_model_of result.0 ≡ data_model_of transducer)
-        × IsUpTo result.0 text.now result.1 (out ++ more) }
+    ensures put { (more : Text) × S.given sink.old sink.new more
+        × ((before out : Text) → IsUpToAfter before transducer text.now from out
+        → (data_model_of result.0 ≡ data_model_of transducer)
+        × IsUpToAfter before result.0 text.now result.1 (out ++ more)) }
+    ensures within { from ≤ length text.now → result.1 ≤ length text.now }
 {
     let mut at = from;
     while at < text.len() {
-        let Some((output, len)) = transducer.take_directive(&text[at..]) else {
+        let Some(len) = transducer.put_directive(&text[at..], sink) else {
             break;
         };
-        output.put(sink);
         at += len;
         let run = transducer.pass_verbatim(&text[at..]);
         sink.put(&text[at..at + run]);

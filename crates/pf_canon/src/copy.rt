@@ -4,12 +4,12 @@ ghost use Rattle.std.specs.Io.KnownBytes.{Appends, Consumes, IsAtEnd};
 ghost use Rattle.pf_values.specs.Counting.{Known, device_of};
 ghost use Rattle.pf_values.specs.meaning.Text.{Text};
 ghost use Rattle.pf_canon.specs.declared.faults.CopyFault.TheVariants.{Read};
-ghost use Rattle.pf_canon.specs.Transducer.{IsChunkWithin, RefusesChunk, chunk_output_text};
-ghost use Rattle.pf_canon.specs.Copy.{CopiesAll, CopyStops, Gathers, HasGathered, IsGathered, IsWritten, Puts, ReadCounts, StopsIn, WriteCounts};
+ghost use Rattle.pf_canon.specs.Transducer.{IsChunkWithin, IsUpToAfter, RefusesChunk, chunk_output_text, data_model_of};
+ghost use Rattle.pf_canon.specs.Copy.{CopiesAll, CopiesPart, CopyStops, Gathers, HasGathered, IsWritten, Puts, ReadCounts, StopsIn, WriteCounts};
 ghost use Rattle.pf_canon.specs.Output.{output_text};
 ghost use Rattle.pf_canon.specs.SinkLaws.{gathers};
 
-use crate::chunk::Chunk;
+use crate::chunk::{Chunk, put_items};
 use crate::faults::CopyFault;
 use crate::limits::{COPY_BLOCK, GATHERED};
 use crate::output::Output;
@@ -101,7 +101,7 @@ fn copy_block<W: Write>(
     let mut at = 0;
     let mut written = written;
     while at < text.len() {
-        let progress = match copy_chunk(transducer, &text[at..], w, &mut buffer, written) {
+        let progress = match copy_front(transducer, &text[at..], w, &mut buffer, written) {
             Ok(progress) => progress,
             Err(fault) => return Err(fault),
         };
@@ -111,6 +111,54 @@ fn copy_block<W: Write>(
     match put(w, &buffer, written) {
         Ok(count) => Ok(count),
         Err(count) => Err(CopyFault::Write(count)),
+    }
+}
+
+// Copies what is at the front of a text: directives with the verbatim bytes after each, or else a chunk.
+#[inline(always)]
+fn copy_front<W: Write>(
+    transducer: &mut Transducer,
+    text: &[u8],
+    w: &mut Counted<W>,
+    buffer: &mut WriteBuffer,
+    written: u128,
+) -> Result<CopyProgress, CopyFault>
+    requires { 0 < length text.now }
+    ensures copied { CopiesPart transducer.old transducer.new text.now
+        (W.contents (device_of w.old)) (W.contents (device_of w.new)) buffer.old.items
+        buffer.new.items written result }
+    ensures some { IfOk result (λ progress. 0 < progress.len) }
+    ensures within { IfOk result (λ progress. progress.len ≤ length text.now) }
+    ensures counts { WriteCounts w.old w.new result }
+{
+    match copy_items(transducer, text, w, buffer, written) {
+        Ok(items) if items.len > 0 => Ok(items),
+        Ok(items) => copy_chunk(transducer, text, w, buffer, items.written),
+        Err(fault) => Err(fault),
+    }
+}
+
+// Copies whole directives at the front of a text, each with the verbatim bytes after it, as long as these
+// follow each other. The last bytes of what is settled may stay in the buffer.
+#[inline(always)]
+fn copy_items<W: Write>(
+    transducer: &mut Transducer,
+    text: &[u8],
+    w: &mut Counted<W>,
+    buffer: &mut WriteBuffer,
+    written: u128,
+) -> Result<CopyProgress, CopyFault>
+    ensures copied { CopiesPart transducer.old transducer.new text.now
+        (W.contents (device_of w.old)) (W.contents (device_of w.new)) buffer.old.items
+        buffer.new.items written result }
+    ensures within { IfOk result (λ progress. progress.len ≤ length text.now) }
+    ensures counts { WriteCounts w.old w.new result }
+{
+    let (taken, len, gathered) = gather_items(*transducer, text, w, buffer, written);
+    *transducer = taken;
+    match gathered {
+        Ok(written) => Ok(CopyProgress { len, written }),
+        Err(written) => Err(CopyFault::Write(written)),
     }
 }
 
@@ -124,13 +172,9 @@ fn copy_chunk<W: Write>(
     written: u128,
 ) -> Result<CopyProgress, CopyFault>
     requires { 0 < length text.now }
-    ensures copied { (model : Model) (front : Text) (start : Known)
-        → IsGathered model transducer.old front start (W.contents (device_of w.old))
-        buffer.old.items written
-        → MatchResult result
-        (λ progress. IsGathered model transducer.new (front ++ take progress.len text.now) start
-        (W.contents (device_of w.new)) buffer.new.items progress.written)
-        (StopsIn model front text.now start (W.contents (device_of w.new))) }
+    ensures copied { CopiesPart transducer.old transducer.new text.now
+        (W.contents (device_of w.old)) (W.contents (device_of w.new)) buffer.old.items
+        buffer.new.items written result }
     ensures some { IfOk result (λ progress. 0 < progress.len) }
     ensures within { IfOk result (λ progress. progress.len ≤ length text.now) }
     ensures counts { WriteCounts w.old w.new result }
@@ -282,6 +326,36 @@ fn put_both<W: Write>(
     };
     buffer.clear();
     put(w, bytes, count)
+}
+
+// Gathers what the directives at the front of a text settle, as `put_items` takes them, and counts on as
+// `put` does.
+#[inline(always)]
+fn gather_items<W: Write>(
+    transducer: Transducer,
+    text: &[u8],
+    w: &mut Counted<W>,
+    buffer: &mut WriteBuffer,
+    count: u128,
+) -> (Transducer, usize, Result<u128, u128>)
+    ensures gathered { (more : Text)
+        × Gathers W.contents w.old w.new buffer.old.items more count buffer.new.items result.2
+        × ((before out : Text) → IsUpToAfter before transducer text.now 0 out
+        → (data_model_of result.0 ≡ data_model_of transducer)
+        × IsUpToAfter before result.0 text.now result.1 (out ++ more)) }
+    ensures within { result.1 ≤ length text.now }
+{
+    let mut out = Gathered {
+        writer: w,
+        buffer,
+        count,
+        has_failed: false,
+    };
+    let (taken, len) = put_items(transducer, text, 0, &mut out);
+    if out.has_failed {
+        return (taken, len, Err(out.count));
+    }
+    (taken, len, Ok(out.count))
 }
 
 /// Gathers what a chunk at the front of a text settles, and counts on as `put` does.

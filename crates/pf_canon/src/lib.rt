@@ -12,14 +12,16 @@ mod faults;
 pub mod laws;
 pub mod limits;
 mod output;
+mod plain_canonical;
+mod short_texts;
 mod sink;
 mod transducer;
 
 pub use canonical_bytes::CanonBytes;
 pub use canonical_texts::{
-    append_canonical, canonical, canonical_len, canonical_with_room, is_canonical, is_verbatim,
-    short_canonical,
+    append_canonical, canonical, canonical_len, canonical_with_room, is_canonical,
 };
 pub use comparison::{same_stream, same_text};
 pub use copy::{canonical_stream, copy_canonical};
 pub use faults::{CopyFault, SideFault, StreamFault};
+pub use short_texts::{ShortText, VerbatimFront};

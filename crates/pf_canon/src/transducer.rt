@@ -11,6 +11,7 @@ ghost use Rattle.pf_canon.specs.Transducer.{SettlesEnd, GrowsByChunk, HasScanned
 
 use crate::chunk::{Chunk, ChunkRefusal};
 use crate::output::{Output, StepOutput};
+use crate::sink::Sink;
 use pf_reduce::{Core, Reduced, reduce};
 use pf_text::{Refusal, Scanner, Spelling, Step, spell};
 use pf_values::{Directive, Model};
@@ -227,6 +228,22 @@ impl Transducer {
     {
         let (directive, len) = self.scanner.pass_directive(text)?;
         Some((self.settle_directive(&directive), len))
+    }
+
+    /// Takes the whole directive at the front of a text, puts what it settles, and returns how many bytes
+    /// it has. It takes none where `take_directive` doesn't.
+    #[inline(always)]
+    pub(crate) fn put_directive<S: Sink>(&mut self, text: &[u8], sink: &mut S) -> Option<usize>
+        ensures put { IfSome result (λ len. (settled : Text) × S.given sink.old sink.new settled
+            × ((model : Model) (t out : Text) (items : List Item)
+            → IsThrough model self.old t items out
+            → GrowsByDirective model t out text.now len settled self.new)) }
+        ensures within { MatchOption result ((self.new ≡ self.old) × (sink.new ≡ sink.old))
+            (λ len. (0 < len) × (len ≤ length text.now)) }
+    {
+        let (output, len) = self.take_directive(text)?;
+        output.put(sink);
+        Some(len)
     }
 
     /// A transducer that took a text after what this one took, or why that is refused.

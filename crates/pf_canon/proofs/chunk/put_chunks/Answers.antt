@@ -1,4 +1,4 @@
-use Rattle.std.proofs.Common.{◌+◌, ◌≤◌, ◌++◌, arith, length, take, drop, refl, subst}
+use Rattle.std.proofs.Common.{◌+◌, ◌≤◌, [], ◌++◌, arith, length, take, drop, refl, subst}
 use Rattle.std.proofs.lemmas.List.{append_assoc, length-drop, take_all, take_rest}
 use Rattle.pf_canon.specs.Answers.{IsCanonicalFor}
 use Rattle.pf_canon.specs.Output.{output_text}
@@ -9,9 +9,10 @@ use Rattle.pf_canon.proofs.chunk.put_chunks.Goals as goal
 pub loop-at-init : goal.loop-at-init
 loop-at-init g c = record {
   through = λ out up.
-      let i = c.put_items-at.ensures out up in
+      let put = c.put_items-at.ensures.put in
       let now = c.put_items-at.result in
-      (i.0, i.1, i.3.0, i.3.1, subst (λ m. IsThrough m now.0 (take now.1 c.args.text.now) i.3.1 (out ++ i.0)) i.2 i.3.2);
+      let h = put.2 [] out up in
+      (put.0, put.1, h.1.0, h.1.1, subst (λ m. IsThrough m now.0 (take now.1 c.args.text.now) h.1.1 (out ++ put.0)) h.0 h.1.2);
 }
 
 pub loop-at-preserved : goal.loop-at-preserved

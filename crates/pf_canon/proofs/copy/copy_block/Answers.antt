@@ -1,9 +1,9 @@
-use Rattle.std.proofs.Common.{◌≤◌, ◌++◌, ◌∙◌, ap, sym, subst, take, drop, length, arith, rules}
-use Rattle.std.proofs.Math.Seq.{take-add}
-use Rattle.std.proofs.lemmas.List.{append_assoc, length-drop, take_all, take_rest, take-append-drop}
+use Rattle.std.proofs.Common.{◌≤◌, ◌++◌, ◌∙◌, sym, subst, take, drop, length, arith, rules}
+use Rattle.std.proofs.lemmas.List.{length-drop, take_all, take_rest, take-append-drop}
 use Rattle.pf_values.specs.Counting.{device_of}
 use Rattle.pf_canon.specs.Copy.{IsGathered}
 use Rattle.pf_canon.proofs.CopyLemmas.{block_first, block_out, stops_behind}
+use Rattle.pf_canon.proofs.TextLemmas.{taken_on}
 use Rattle.pf_canon.proofs.copy.copy_block.Goals as goal
 
 pub returns-in-Err-clause-copied : goal.returns-in-Err-clause-copied
@@ -24,9 +24,9 @@ loop-at-preserved g c =
       counts = c.in-Ok.ensures.counts ∙ c.loop-at.invariant.counts;
       copied = λ model front start h.
           let now = rw take_rest at c.in-Ok.ensures.copied model (front ++ take at text) start (c.loop-at.invariant.copied model front start h) in
-          subst (λ t. IsGathered model c.copy_chunk.new.transducer t start (g.W.Write.contents (device_of c.copy_chunk.new.w)) c.copy_chunk.new.buffer.items
+          subst (λ t. IsGathered model c.copy_front.new.transducer t start (g.W.Write.contents (device_of c.copy_front.new.w)) c.copy_front.new.buffer.items
           c.in-Ok.progress.written)
-          (append_assoc front (take at text) (take len (drop at text)) ∙ ap (λ t. front ++ t) (sym (take-add at len text))) now;
+          (taken_on front text at len) now;
     }
 
 pub returns-in-Ok-put-clause-copied : goal.returns-in-Ok-put-clause-copied
