@@ -29,9 +29,10 @@ from devices import ANSWERED, NOT_ASKED, REFUSED, WRONG, library_of, name_of  # 
 from harness import TIMEOUT, TOP, main, run  # noqa: E402
 
 OUT_OF_MEMORY = (4, b"out of memory\n")
-# The records or pairs of two runs, and how many KiB more than the first the second may hold.
+# The records or pairs of two runs, and how many KiB more than the first the second may hold: more than random addresses
+# make it seem, and less than 40,000 times 64 bytes.
 FEW, MANY = 1_000, 41_000
-SLACK = 256
+SLACK = 1_024
 # The replies of a long conversation, and how many canonical texts of 4,088 bytes each has: more than 2^30 bytes in all.
 REPLIES, TEXTS = 1_030, 256
 # The most that it may hold, in KiB.
