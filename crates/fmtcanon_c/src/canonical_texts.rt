@@ -2,7 +2,7 @@
 ghost use Rattle.fmtcanon_c.specs.Calls.{Checks, AnswersCanonical, IsLengthCode, PutsCanonical, AnswersLength};
 ghost use Rattle.std.specs.Prelude.{◌≡◌};
 ghost use Rattle.fmtcanon_c.specs.Models.{InModel};
-ghost use Rattle.pf_canon.specs.ShortTexts.{IsVerbatimFront, front_model};
+ghost use Rattle.pf_canon.specs.VerbatimFronts.{IsVerbatimFront, front_model};
 
 use crate::interface::{CError, NO_MEMORY, NO_MODEL, model_of, put_refusal, put_string};
 use pf_canon::{ShortText, VerbatimFront, canonical, canonical_len, is_canonical};

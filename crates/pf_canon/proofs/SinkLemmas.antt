@@ -1,7 +1,7 @@
 -- What a sink was given.
-use Rattle.std.proofs.Common.{◌≡◌, ℕ, ◌+◌, ◌-◌, ◌*◌, ◌≤◌, ◌<◌, ◌^◌, [], ◌++◌, replicate, refl, sym, ap, ◌∙◌, subst, arith, length, take, ◌≢◌, Bool, Option, Some, None}
+use Rattle.std.proofs.Common.{◌≡◌, ℕ, ◌+◌, ◌-◌, ◌*◌, ◌≤◌, ◌<◌, ◌^◌, [], ◌++◌, replicate, refl, sym, ap, ◌∙◌, subst, arith, length, ◌≢◌, Bool, Option, Some, None}
 use Rattle.std.specs.Prelude.{flat_map, MatchResult, Result, Ok, Err, IsTrue, MatchOption, ◌↔◌}
-use Rattle.std.proofs.lemmas.List.{replicate-append-replicate, length-append, length-take-le, append-nil, append_cancel_left}
+use Rattle.std.proofs.lemmas.List.{replicate-append-replicate, append-nil, append_cancel_left}
 use Rattle.std.specs.Borrow.{Bor}
 use Rattle.pf_values.specs.meaning.Canonical.{item_spelling, IsCanonicalText}
 use Rattle.pf_values.specs.declared.models.Model.{Model}
@@ -51,12 +51,12 @@ module _ {S : Type 0} {given : S → S → Text → Type 0} (laws : IsSink given
   repeated_all old new times left none h = let e : times - left ≡ times = omega (arith, none) in subst (given old new) (ap of e) h
 
 -- the verbatim bytes of a text, and then what follows of its canonical text
-pub verbatim_put : {S : Type 0} {given : S → S → Text → Type 0} (laws : IsSink given) (model : Model) (t verbatim : Text) (old mid new : S)
-    (r : Result (Unit {0}) Refusal) → given old mid verbatim
-    → MatchResult r (λ _. (more : Text) × given mid new more × IsCanonicalFor model t (verbatim ++ more)) (λ refusal. IsRefusedAt t refusal.kind refusal.at)
+pub front_put : {S : Type 0} {given : S → S → Text → Type 0} (laws : IsSink given) (model : Model) (t front : Text) (old mid new : S)
+    (r : Result (Unit {0}) Refusal) → given old mid front
+    → MatchResult r (λ _. (more : Text) × given mid new more × IsCanonicalFor model t (front ++ more)) (λ refusal. IsRefusedAt t refusal.kind refusal.at)
     → MatchResult r (λ _. (c : Text) × given old new c × IsCanonicalFor model t c) (λ refusal. IsRefusedAt t refusal.kind refusal.at)
-verbatim_put laws model t verbatim old mid new (Ok done) h g = (verbatim ++ g.0, laws.both old mid new verbatim g.0 h g.1, g.2)
-verbatim_put laws model t verbatim old mid new (Err refusal) h g = g
+front_put laws model t front old mid new (Ok done) h g = (front ++ g.0, laws.both old mid new front g.0 h g.1, g.2)
+front_put laws model t front old mid new (Err refusal) h g = g
 
 -- the bytes of a canonical text can be counted
 few_bytes : (model : Model) (t c : Text) → IsCanonicalFor model t c → length c < 2 ^ 128
@@ -65,16 +65,7 @@ few_bytes model t c h =
     let limit = h.accepted.limit in
     omega (arith, few, limit, most_items h.items, items_few t h.items h.accepted.reads)
 
--- so they are where the verbatim bytes were counted, and then what follows
-pub counted : (model : Model) (t more : Text) (verbatim_len len : ℕ) → verbatim_len ≤ length t → IsCanonicalFor model t (take verbatim_len t ++ more)
-    → Counts verbatim_len (length more) len → (c : Text) × IsCanonicalFor model t c × (len ≡ length c)
-counted model t more verbatim_len len within h counts =
-    let all = length-append (take verbatim_len t) more in
-    let front = length-take-le verbatim_len t within in
-    let few = few_bytes model t (take verbatim_len t ++ more) h in
-    (take verbatim_len t ++ more, h, omega (arith, all, front, counts (omega (arith, all, front, few))))
-
--- and where all went into empty room, whether there was enough or not
+-- so they are where all went into empty room, whether there was enough or not
 pub counted_in_room : (model : Model) (t c : Text) (before after len : ℕ) → IsCanonicalFor model t c → before ≡ 0 → Counts before (length c) after
     → (after < 2 ^ 128 → len ≡ after) → (c : Text) × IsCanonicalFor model t c × (len ≡ length c)
 counted_in_room model t c before after len h empty counts is =

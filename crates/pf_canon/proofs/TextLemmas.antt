@@ -1,8 +1,8 @@
 -- What is settled of a text in memory, chunk after chunk, and where it is refused.
-use Rattle.std.proofs.Common.{◌≡◌, ◌≢◌, ℕ, ◌∷◌, ◌++◌, Bool, true, false, length, drop, sym, ap, ◌∙◌, subst, ◌+◌, ◌*◌, ◌<◌, ◌≤◌, List, [], take, refl, arith, Ok}
+use Rattle.std.proofs.Common.{◌≡◌, ◌≢◌, ℕ, ◌∷◌, ◌++◌, Bool, true, false, length, drop, sym, ap, ◌∙◌, subst, ◌+◌, ◌*◌, ◌<◌, ◌≤◌, List, [], take, arith, Ok}
 use Rattle.std.specs.Prelude.{MatchBool, ◌==◌}
 use Rattle.std.proofs.Math.Seq.{drop-append_seam, take-add}
-use Rattle.std.proofs.lemmas.List.{append_assoc, append-nil, length-append, take_all, take-append-drop}
+use Rattle.std.proofs.lemmas.List.{append_assoc, length-append, take_all, take-append-drop}
 use Rattle.pf_values.specs.declared.limits.TheConstants.{MAX_TEXT_LEN}
 use Rattle.pf_values.specs.declared.refusals.RefusalKind.{RefusalKind}
 use Rattle.pf_values.specs.declared.refusals.RefusalKind.TheVariants.{TooLong, Truncated}
@@ -64,19 +64,6 @@ module _ (model : Model) (t c out : Text) (r : Transducer) (items : List Item) (
         kept = λ is. e ∙ rw all at ends.2 is;
         few = omega (arith, short, few, ap length e, length-append out (output_text output));
       }
-
-no_bytes : (t : Text) → length t ≤ 0 → t ≡ []
-no_bytes [] few = refl
-no_bytes (b ∷ t) few = absurd (omega arith)
-
--- a text whose bytes are all verbatim is its own canonical text
-pub settled_whole : (r : Transducer) (t : Text) (verbatim_len : ℕ) (output : Output) (up : IsUpTo r t verbatim_len (take verbatim_len t))
-    → length t ≤ verbatim_len → r.silents ≡ 0 → SettlesEnd r.model (take verbatim_len t) up.1 (take verbatim_len t) (Ok output)
-    → length (output_text output) ≤ 4 * r.silents → IsCanonicalFor r.model t t
-settled_whole r t verbatim_len output up whole none ends few =
-    let empty = no_bytes (output_text output) (omega (arith, few, none)) in
-    all_built r.model t t (take verbatim_len t) r up.1 verbatim_len output whole up.2 ends few
-    (sym (take_all verbatim_len t whole) ∙ sym (append-nil (take verbatim_len t)) ∙ ap (λ u. take verbatim_len t ++ u) (sym empty))
 
 -- a byte of the text that follows is refused
 pub refused_behind : (model : Model) (t out text : Text) (refused : ChunkRefusal) → RefusesChunk model t out text refused

@@ -109,7 +109,7 @@ byte_short : (byte : ℕ) (b : Bool) → length (if b then percent ∷ percent �
 byte_short byte true = omega arith
 byte_short byte false = omega arith
 
-run_is_short : (model : Model) (items : List Item) → AllByRecursion (IsCanonicalItem model) items → length (flat_map item_spelling items) ≤ most_len items
+pub run_is_short : (model : Model) (items : List Item) → AllByRecursion (IsCanonicalItem model) items → length (flat_map item_spelling items) ≤ most_len items
 run_is_short model [] all = omega arith
 run_is_short model (Byte byte ∷ items) all = omega (
   arith,

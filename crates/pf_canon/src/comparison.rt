@@ -10,6 +10,7 @@ ghost use Rattle.pf_canon.specs.CanonicalSlices.{AreApart, GoInStep, SlicesHaveG
 use crate::canonical_bytes::{ByteSource, ByteTransducer};
 use crate::canonical_slices::CanonicalSlices;
 use crate::early_difference::differ_after;
+use crate::early_refusal::refusal_at_difference;
 use crate::faults::{SideFault, StreamFault};
 use crate::transducer::Transducer;
 use pf_text::{Refusal, Side, check};
@@ -48,6 +49,9 @@ pub fn same_text(model: Model, first: &[u8], second: &[u8]) -> Result<bool, (Sid
     let common = common_bytes(first, second);
     if differ_after(first, second, common) {
         return Ok(false);
+    }
+    if let Some(stop) = refusal_at_difference(first, second, common) {
+        return Err(stop);
     }
     same_after_common(model, first, second, common)
 }

@@ -1,5 +1,5 @@
 //! Texts that go on with different characters after equal items.
-ghost use Rattle.std.specs.Prelude.{◌≤◌, length, IsTrue, false};
+ghost use Rattle.std.specs.Prelude.{◌≤◌, length, take, IsTrue, false};
 ghost use Rattle.pf_values.specs.declared.limits.TheConstants.{MAX_TEXT_LEN as LIMIT};
 ghost use Rattle.pf_values.specs.declared.models.Model.{Model};
 ghost use Rattle.pf_values.specs.meaning.Items.{IsAccepted};
@@ -20,10 +20,22 @@ pub(crate) fn differ_after(first: &[u8], second: &[u8], common: usize) -> bool
     if !begin_apart(first_rest, second_rest) || !is_short(first) || !is_short(second) {
         return false;
     }
-    if !is_format(&first[..common]) || !is_format(first_rest) {
+    if !are_items(first, common) || !is_format(first_rest) {
         return false;
     }
     is_format(second_rest)
+}
+
+// Whether the first `len` bytes of a text are whole items. 0 bytes are, without a look.
+#[inline(always)]
+fn are_items(text: &[u8], len: usize) -> bool
+    requires { len ≤ length text.now }
+    ensures { IsTrue result → IsAccepted (take len text.now) }
+{
+    if len == 0 {
+        return true;
+    }
+    is_format(&text[..len])
 }
 
 // Never inlined, since three texts are checked.

@@ -8,14 +8,17 @@ mod chunk;
 mod comparison;
 mod copy;
 mod early_difference;
+mod early_refusal;
 mod faults;
 pub mod laws;
 pub mod limits;
 mod output;
 mod plain_canonical;
+mod plain_texts;
 mod short_texts;
 mod sink;
 mod transducer;
+mod verbatim_front;
 
 pub use canonical_bytes::CanonBytes;
 pub use canonical_texts::{
@@ -24,4 +27,5 @@ pub use canonical_texts::{
 pub use comparison::{same_stream, same_text};
 pub use copy::{canonical_stream, copy_canonical};
 pub use faults::{CopyFault, SideFault, StreamFault};
-pub use short_texts::{ShortText, VerbatimFront};
+pub use short_texts::ShortText;
+pub use verbatim_front::VerbatimFront;

@@ -8,7 +8,7 @@ ghost use Rattle.pf_values.specs.meaning.Normal.{silent};
 
 use crate::comparison::are_equal;
 use pf_reduce::is_normal;
-use pf_text::{Scanner, is_plainly_accepted, spell};
+use pf_text::{CanonicalRuns, directive_at_front, is_plainly_accepted, spell};
 use pf_values::limits::MAX_TEXT_LEN;
 use pf_values::{Conv, Directive, Model};
 
@@ -21,11 +21,11 @@ pub(crate) fn known_canonical(model: Model, text: &[u8]) -> Option<bool>
     if text.len() as u64 > MAX_TEXT_LEN {
         return None;
     }
-    let mut scanner = Scanner::new();
-    let mut at = scanner.pass_canonical_run(text);
+    let runs = CanonicalRuns::of(text);
+    let mut at = runs.end(text, 0);
     while at < text.len() {
         let rest = &text[at..];
-        let (directive, len) = scanner.pass_directive(rest)?;
+        let (directive, len) = directive_at_front(rest)?;
         if may_be_silent(&directive) {
             return None;
         }
@@ -35,8 +35,7 @@ pub(crate) fn known_canonical(model: Model, text: &[u8]) -> Option<bool>
         if !are_equal(&spell(&directive), &rest[..len]) {
             return None;
         }
-        at += len;
-        at += scanner.pass_canonical_run(&text[at..]);
+        at = runs.end(text, at + len);
     }
     Some(true)
 }

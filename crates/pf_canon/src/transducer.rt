@@ -6,6 +6,7 @@ ghost use Rattle.pf_values.specs.meaning.Text.{Text};
 ghost use Rattle.pf_text.specs.History.{offset_of};
 ghost use Rattle.pf_canon.specs.Answers.{most_len};
 ghost use Rattle.pf_canon.specs.declared.limits.TheConstants.{MAX_DIRECTIVE_LEN};
+ghost use Rattle.pf_canon.specs.Making.{IsWritten};
 ghost use Rattle.pf_canon.specs.Output.{output_text};
 ghost use Rattle.pf_canon.specs.Transducer.{SettlesEnd, GrowsByChunk, HasScannedByte, IsChunkWithin, IsThrough, IsUpTo, TakesVerbatim, TakesText, Settles, TakesByte, SettlesDirective, TakesChunk, GrowsByDirective, chunk_output_text, byte_output_text, data_model_of, more_of, scanner_of, held_silents_of};
 
@@ -37,17 +38,17 @@ impl Transducer {
         }
     }
 
-    /// A transducer that took the first bytes of a text that are their own canonical text, and how
-    /// many these are.
-    #[inline(always)]
-    pub(crate) fn after_verbatim(model: Model, text: &[u8]) -> (Transducer, usize)
-        ensures model { data_model_of result.0 ≡ model }
-        ensures kept { IsUpTo result.0 text.now result.1 (take result.1 text.now) }
-        ensures none { held_silents_of result.0 ≡ 0 }
+    /// A transducer that took a text of `len` bytes, of whose items none waits.
+    pub(crate) fn after_items(model: Model, len: usize) -> Transducer
+        ensures model { data_model_of result ≡ model }
+        ensures after { (t out : Text) → IsWritten model t out → length t ≡ len
+            → len ≤ MAX_TEXT_LEN → (items : List Item) × IsThrough model result t items out }
     {
-        let mut transducer = Transducer::new(model);
-        let verbatim_len = transducer.pass_verbatim(text);
-        (transducer, verbatim_len)
+        Transducer {
+            model,
+            scanner: Scanner::after_items(len),
+            silents: 0,
+        }
     }
 
     /// A transducer that took a text chunk by chunk, up to its end or to what is refused, and how

@@ -1,8 +1,8 @@
 -- The front of a format in which no argument has a number.
-use Rattle.std.proofs.Common.{◌≡◌, ◌≢◌, ℕ, ◌+◌, ◌-◌, ◌<◌, ◌≤◌, List, [], ◌∷◌, ◌++◌, length, get_or, drop, take, refl, sym, ap, ◌∙◌, arith, inl, inr}
+use Rattle.std.proofs.Common.{◌≡◌, ◌≢◌, ℕ, ◌+◌, ◌-◌, ◌<◌, ◌≤◌, List, [], ◌∷◌, ◌++◌, length, get_or, drop, take, refl, sym, ap, ◌∙◌, arith, inl, inr, subst, true}
 use Rattle.std.specs.Prelude.{Some, None}
 use Rattle.std.proofs.Math.Seq.{drop-length}
-use Rattle.std.proofs.lemmas.List.{length-drop, length-map, length_push, map_push, take_rest}
+use Rattle.std.proofs.lemmas.List.{get_or-drop, length-drop, length-map, length_push, map_push, take_rest}
 use Rattle.memchr.specs.Find.{Nowhere, Passes, is_byte2}
 use Rattle.pf_values.specs.declared.limits.TheConstants.{MAX_TEXT_LEN}
 use Rattle.pf_values.specs.declared.models.Model.{Model}
@@ -18,6 +18,9 @@ use Rattle.pf_posix.specs.Refusals.{Follows}
 use Rattle.pf_posix.specs.Stages.{Between, Opened}
 use Rattle.pf_posix.specs.States.{posix_step}
 use Rattle.pf_posix.specs.Types.{fetch}
+use Rattle.pf_text.specs.Marks.{AreMarksOf, HasNoMark}
+use Rattle.pf_text.specs.declared.marks.Marks.{Marks}
+use Rattle.pf_text.proofs.MarkedRunLemmas.{no_end_between}
 use Rattle.pf_posix.proofs.Bounds.{bounded_at}
 use Rattle.pf_posix.proofs.OrderLemmas.{end_in_order, filled_none, first_in_order, next_in_order}
 use Rattle.pf_posix.proofs.PlainLemmas.{led}
@@ -66,6 +69,21 @@ module _ (model : Model) (t : Text) (at : ℕ) (old new : List ArgumentType) (co
   front_run n short low few none =
       let within = run_within n low few in
       front_moved (at + n) (run_passed model h.numbering t at n low few (omega (arith, within, short)) none)
+
+  -- or those that no mark is set for
+  pub front_unmarked : (marks : Marks) (stop : ℕ) → length t ≤ MAX_TEXT_LEN → at ≤ stop → stop ≤ length t → AreMarksOf marks t
+      → HasNoMark marks at stop → IsPlainFront model t stop old new count
+  front_unmarked marks stop short low within marked none =
+      let n = stop - at in
+      let whole : take (length t - at) (drop at t) ≡ drop at t = take_rest t at in
+      let place : at + n ≡ stop = omega (arith, low) in
+      let few = ap length whole in
+      let nowhere : Nowhere (Passes (is_byte2 37 0) (drop at t)) 0 n = λ k from below ends.
+      no_end_between marks t at stop within marked none (at + k) (omega arith) (omega (arith, place, below))
+      (subst (λ b. is_byte2 37 0 b ≡ true) (get_or-drop at t k 0) ends) in
+      subst (λ k. IsPlainFront model t k old new count) place
+      (front_run n short (omega (arith, low, within)) (omega (arith, few, length-drop at t, low, within))
+      (subst (λ (u : Text). Nowhere (Passes (is_byte2 37 0) u) 0 n) (sym whole) nowhere))
 
   -- `%%`
   pub front_percent : length t ≤ MAX_TEXT_LEN → at + 1 < length t → get_or t at 0 ≡ 37 → get_or t (at + 1) 0 ≡ 37 → IsPlainFront model t (at + 2) old new count

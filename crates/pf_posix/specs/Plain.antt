@@ -14,6 +14,7 @@ use Rattle.pf_posix.specs.declared.partial_specification.Numbering.TheVariants.{
 use Rattle.pf_posix.specs.declared.partial_specification.PartialSpecification.{PartialSpecification}
 use Rattle.pf_posix.specs.declared.partial_specification.WidthOrPrecision.{WidthOrPrecision}
 use Rattle.pf_posix.specs.declared.partial_specification.WidthOrPrecision.TheVariants.{Width}
+use Rattle.pf_posix.specs.declared.plain_reader.PlainFront.{PlainFront}
 use Rattle.pf_posix.specs.declared.types.ArgumentType.{ArgumentType}
 use Rattle.pf_posix.specs.Laws.{filled}
 use Rattle.pf_posix.specs.Readings.{Fetches, FetchTrace, trace_from, verdict, verdict_after, wanted_types}
@@ -124,3 +125,11 @@ pub record IsPlainFront (model : Model) (t : Text) (at : ℕ) (old new : List Ar
   pub unnumbered : AllByRecursion (λ f. f.number ≡ None) seen
   pub count_is : count ≡ length seen
   pub front : new ≡ filled old (wanted_types seen)
+
+-- the front of a text was read, and the slice has as many types as before
+pub record IsFrontRead (model : Model) (t : Text) (old new : List ArgumentType) (read : PlainFront) : Type 0
+  where
+    pub front : IsPlainFront model t read.at old new read.count
+    pub same_length : length new ≡ length old
+    pub within : read.at ≤ length t
+    pub few : read.count ≤ read.at

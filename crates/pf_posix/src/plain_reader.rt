@@ -4,7 +4,7 @@ ghost use Rattle.std.specs.Prelude.{◌≡◌, ◌<◌, ◌≤◌, IfSome, None,
 ghost use Rattle.pf_values.specs.declared.limits.TheConstants.{MAX_TEXT_LEN as LIMIT};
 ghost use Rattle.pf_posix.specs.declared.partial_specification.Numbering.{Numbering as NumberingOf};
 ghost use Rattle.pf_posix.specs.declared.partial_specification.Numbering.TheVariants.{Unnumbered};
-ghost use Rattle.pf_posix.specs.Plain.{FlagsRead, IsBeforeModifier, IsBeforeWidth, IsFetchedFrom, IsPlainFront, PrecisionRead, TakesConversion, WidthRead};
+ghost use Rattle.pf_posix.specs.Plain.{FlagsRead, IsBeforeModifier, IsBeforeWidth, IsFetchedFrom, IsFrontRead, PrecisionRead, TakesConversion, WidthRead};
 ghost use Rattle.pf_posix.specs.Refusals.{Follows};
 ghost use Rattle.pf_posix.specs.Stages.{Opened, PosixState};
 
@@ -16,7 +16,7 @@ use crate::partial_specification::PartialSpecification;
 use crate::tables::put;
 use crate::types::ArgumentType;
 use crate::undefined_combinations::undefined_as;
-use pf_text::{flag_of, literal_len};
+use pf_text::{MAX_MARKED, MIN_MARKED, Marks, flag_of, literal_len};
 use pf_values::limits::MAX_TEXT_LEN;
 use pf_values::{Length, Model};
 
@@ -32,10 +32,57 @@ pub(crate) struct PlainFront {
 /// Reads the front of a format whose arguments have no numbers and are no `*`, and puts their types at
 /// the front of `out`, as many as there is room for.
 pub(crate) fn plain_front(model: Model, text: &[u8], out: &mut [ArgumentType]) -> PlainFront
-    ensures front { IsPlainFront model text.now result.at out.old out.new result.count }
-    ensures length { length out.new ≡ length out.old }
-    ensures within { result.at ≤ length text.now }
-    ensures few { result.count ≤ result.at }
+    ensures { IsFrontRead model text.now out.old out.new result }
+{
+    if text.len() < MIN_MARKED {
+        return front_by_runs(model, text, out);
+    }
+    if text.len() > MAX_MARKED {
+        return front_by_runs(model, text, out);
+    }
+    front_by_marks(model, text, out)
+}
+
+// `plain_front` of a text with marks.
+#[inline(always)]
+fn front_by_marks(model: Model, text: &[u8], out: &mut [ArgumentType]) -> PlainFront
+    requires some { MIN_MARKED ≤ length text.now }
+    requires few { length text.now ≤ MAX_MARKED }
+    ensures { IsFrontRead model text.now out.old out.new result }
+{
+    let marks = Marks::of(text);
+    let mut at = 0;
+    let mut count = 0;
+    while at < text.len() {
+        let Some(offset) = marks.next_from(at) else {
+            return PlainFront {
+                at: text.len(),
+                count,
+            };
+        };
+        if !has_byte(text, offset, b'%') {
+            return PlainFront { at, count };
+        }
+        if has_byte(text, offset + 1, b'%') {
+            at = offset + 2;
+        } else {
+            match plain_fetch(model, text, offset + 1) {
+                Some((wanted, stop)) => {
+                    put(out, count, wanted);
+                    count += 1;
+                    at = stop;
+                }
+                None => return PlainFront { at, count },
+            }
+        }
+    }
+    PlainFront { at, count }
+}
+
+// `plain_front` of a text of any length.
+#[inline(never)]
+fn front_by_runs(model: Model, text: &[u8], out: &mut [ArgumentType]) -> PlainFront
+    ensures { IsFrontRead model text.now out.old out.new result }
 {
     let mut at = 0;
     let mut count = 0;

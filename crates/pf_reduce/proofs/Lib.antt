@@ -13,5 +13,6 @@ mod TextCores
 mod OwnCores
 mod UnsignedReductions
 mod SignedReductions
+mod CommonNumbers
 mod TextReductions
 pub mod Reductions

@@ -52,3 +52,9 @@ pub record IsReducedTo (model : Model) (s : Specification) (r : Reduced) : Type 
   pub prints : PrintsReduced model s r
   pub silent : r.core ≡ Silent → (s.conv ≡ S) × (r.zeros ≡ 0) × (r.trail ≡ 0)
   pub few : r.spaces + (r.zeros + r.trail) ≤ MAX_NUMBER
+
+-- what `reduce` returns
+pub record IsReduction (model : Model) (s : Specification) (r : Reduced) : Type 0 where
+  pub same : IsReducedTo model s r
+  pub kept : IsNormal model s → r ≡ itself model s
+  pub silent : s ≡ silent → r ≡ record { spaces = 0; zeros = 0; core = Silent; trail = 0 }

@@ -2,6 +2,7 @@
 //! directive prints the spaces, the zeros, what the core prints, and the spaces after it.
 #![tactic(auto)]
 
+mod common;
 mod integers;
 mod normal_directives;
 mod normality;
@@ -12,6 +13,7 @@ mod results;
 mod signs;
 mod texts;
 
+pub use common::reduce_inline;
 pub use normality::is_normal;
 pub use reduction::reduce;
 pub use results::{Core, Normal, Reduced};

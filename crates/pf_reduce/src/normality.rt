@@ -82,7 +82,8 @@ fn has_unsigned_form(model: Model, directive: &Directive, alternative: Alternati
     }
 }
 
-fn is_bare(directive: &Directive) -> bool
+#[inline(always)]
+pub(crate) fn is_bare(directive: &Directive) -> bool
     ensures { IsTrue result ↔ (
         (directive.now.flags ≡ no_flags) × (directive.now.width ≡ None)
         × (directive.now.precision ≡ None)) }

@@ -278,7 +278,7 @@ pub Reads-append : (t u : Text) (a b : List Item) → Reads t a → Reads u b �
 Reads-append t u [] b h g = rw h g
 Reads-append t u (item ∷ a) b h g = (h.0, h.1 ++ u, h.2, Reads-append h.1 u a b h.3 g, ap (λ x. x ++ u) h.4 ∙ append_assoc h.0 h.1 u)
 
-Reads-canonical : (model : Model) (t u : Text) (items more : List Item) → Reads t items → IsCanonicalRun model u more → Reads (t ++ u) (items ++ more)
+pub Reads-canonical : (model : Model) (t u : Text) (items more : List Item) → Reads t items → IsCanonicalRun model u more → Reads (t ++ u) (items ++ more)
 Reads-canonical model t u items more h g = Reads-append t u items more h (subst (λ v. Reads v more) (sym g.whole) (all_read model more g.canonical))
 
 -- no literal byte follows such items

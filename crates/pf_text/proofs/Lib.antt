@@ -12,7 +12,7 @@ pub mod LiteralLemmas
 pub mod CanonicalRunLemmas
 mod SearchLemmas
 mod MarkLemmas
-mod MarkedRunLemmas
+pub mod MarkedRunLemmas
 mod PlainLemmas
 mod BetweenLemmas
 mod TypedLemmas

@@ -11,7 +11,7 @@ use Rattle.std.proofs.lemmas.Nat.Bits.{bit_at-lt, bit_at-trailing_zeros, bit_at-
 use Rattle.std.proofs.lemmas.Simd.{bit_mask_l, get_or-chunk, length-chunk, mask_l-mod}
 use Rattle.memchr.specs.Find.{is_byte2}
 use Rattle.pf_values.specs.meaning.Text.{Text}
-use Rattle.pf_text.specs.Marks.{HasNoMark, IsMarked}
+use Rattle.pf_text.specs.Marks.{HasNoBit, IsMarked}
 
 doubled : (m p q r : ℕ) → q ≡ 2 * p → m * p ≡ r → m * q ≡ 0 + 2 * r
 doubled m p q r e h = grind (arith, e, h)
@@ -71,11 +71,11 @@ from_left marks at k low e =
     sym (ap (bit_at marks) place) ∙ sym (bits_left marks at (k - at)) ∙ e
 
 -- no mark is left
-pub none_marked : (marks at stop : ℕ) → marks / 2 ^ at ≡ 0 → HasNoMark marks at stop
+pub none_marked : (marks at stop : ℕ) → marks / 2 ^ at ≡ 0 → HasNoBit marks at stop
 none_marked marks at stop e k low high = from_left marks at k low (ap (λ m. bit_at m (k - at)) e ∙ bit_at-zero (k - at))
 
 -- or the next one is found
-pub next_found : (marks at : ℕ) → marks < 2 ^ 64 → marks / 2 ^ at ≢ 0 → HasNoMark marks at (at + trailing_zeros w64 (marks / 2 ^ at))
+pub next_found : (marks at : ℕ) → marks < 2 ^ 64 → marks / 2 ^ at ≢ 0 → HasNoBit marks at (at + trailing_zeros w64 (marks / 2 ^ at))
 next_found marks at fits some k low high =
     let left = marks / 2 ^ at in
     let found = bit_at-trailing_zeros w64 left (omega (arith, some)) (omega (arith, fits, div-le_self marks (2 ^ at))) in

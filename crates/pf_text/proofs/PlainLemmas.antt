@@ -8,7 +8,8 @@ use Rattle.pf_values.specs.declared.limits.TheConstants.{MAX_TEXT_LEN}
 use Rattle.pf_values.specs.meaning.Items.{Item, Byte, Directive, IsAccepted, IsReadAs, Reads}
 use Rattle.pf_values.specs.meaning.Text.{Text, percent}
 use Rattle.pf_text.specs.Letters.{conv_of}
-use Rattle.pf_text.specs.Marks.{HasNoMark, IsMarked}
+use Rattle.pf_text.specs.Marks.{AreMarksOf, HasNoMark}
+use Rattle.pf_text.specs.declared.marks.Marks.{Marks}
 use Rattle.pf_text.proofs.CanonicalRunLemmas.{Reads-append, bare, first_bytes}
 use Rattle.pf_text.proofs.DirectiveLemmas.{conv_read}
 use Rattle.pf_text.proofs.LiteralLemmas.{goes_on, literal_take, Reads-literals}
@@ -43,7 +44,7 @@ run_read text n within none = Reads-literals (take n text) [] [] refl (literal_t
     (λ k less. goes_on (get_or text k 0) (none k (omega arith) less)))
 
 -- or those that no mark is set for
-pub unmarked_read : (marks : ℕ) (text : Text) (at stop : ℕ) (items : List Item) → at ≤ stop → stop ≤ length text → IsMarked marks text 0 (length text)
+pub unmarked_read : (marks : Marks) (text : Text) (at stop : ℕ) (items : List Item) → at ≤ stop → stop ≤ length text → AreMarksOf marks text
     → HasNoMark marks at stop
     → Reads (take at text) items → Reads (take stop text) (items ++ map Byte (take (stop - at) (drop at text)))
 unmarked_read marks text at stop items low within marked none h =

@@ -10,7 +10,8 @@ use Rattle.pf_values.specs.meaning.Items.{Byte, Directive, IsReadAs, types}
 use Rattle.pf_values.specs.meaning.Specification.{Specification}
 use Rattle.pf_values.specs.meaning.Text.{Text}
 use Rattle.pf_values.proofs.ItemTypes.{types-append, types-bytes}
-use Rattle.pf_text.specs.Marks.{HasNoMark, IsMarked}
+use Rattle.pf_text.specs.Marks.{AreMarksOf, HasNoMark}
+use Rattle.pf_text.specs.declared.marks.Marks.{Marks}
 use Rattle.pf_text.specs.Signatures.{ReadsTyped, TakesTypes}
 use Rattle.pf_text.proofs.PlainLemmas.{one_read, read_more, run_read, unmarked_read}
 
@@ -25,8 +26,8 @@ run_typed model text n within none =
     record { items = map Byte (take n text); reads = run_read text n within none; types_are = sym (types-bytes model (take n text)) }
 
 -- bytes without a mark take no arguments
-pub unmarked_typed : (model : Model) (marks : ℕ) (text : Text) (at stop : ℕ) (found : List ArgType) → at ≤ stop → stop ≤ length text
-    → IsMarked marks text 0 (length text) → HasNoMark marks at stop
+pub unmarked_typed : (model : Model) (marks : Marks) (text : Text) (at stop : ℕ) (found : List ArgType) → at ≤ stop → stop ≤ length text
+    → AreMarksOf marks text → HasNoMark marks at stop
     → ReadsTyped model (take at text) found → ReadsTyped model (take stop text) found
 unmarked_typed model marks text at stop found low within marked none h =
     let run = take (stop - at) (drop at text) in

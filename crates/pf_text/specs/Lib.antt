@@ -11,3 +11,4 @@ pub mod PieceHistory
 pub mod Refusals
 pub mod Signatures
 pub mod WholeRuns
+pub mod PlainStops

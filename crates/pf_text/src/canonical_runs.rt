@@ -1,14 +1,15 @@
 //! The search for the end of a run of items that are spelled as the canonical text spells them.
-ghost use Rattle.std.specs.Prelude.{◌≡◌, ◌<◌, ◌≤◌, [], ◌∷◌, ◌*◌, List, drop, length, take, IsTrue, ◌↔◌};
+ghost use Rattle.std.specs.Prelude.{◌≡◌, ◌-◌, ◌<◌, ◌≤◌, [], ◌∷◌, ◌*◌, List, drop, length, take, IsTrue, ◌↔◌};
 ghost use Rattle.memchr.specs.Find.{Passes, is_byte2};
 ghost use Rattle.pf_values.specs.meaning.Items.{Item, Reads};
 ghost use Rattle.pf_values.specs.declared.models.Model.{Model};
-ghost use Rattle.pf_text.specs.CanonicalRuns.{BeginsSilent, IsCanonicalRun, alternative_bytes, has_canonical_parts, is_kept_modifier, silents};
+ghost use Rattle.pf_text.specs.CanonicalRuns.{AreRunsOf, BeginsSilent, IsCanonicalRun, alternative_bytes, has_canonical_parts, is_kept_modifier, silents};
+ghost use Rattle.pf_text.specs.Marks.{AreMarksOf};
 ghost use Rattle.pf_text.specs.Offsets.{HasBytes};
 ghost use Rattle.pf_values.specs.meaning.Text.{percent};
 
 use crate::letters::conv_of;
-use crate::marks::{MAX_MARKED, MIN_MARKED, marks_of, next_marked};
+use crate::marks::{MAX_MARKED, MIN_MARKED, Marks};
 use crate::search::literal_len;
 use crate::specification::{conv_at, modifier_at};
 use pf_values::{Conv, Length};
@@ -30,30 +31,90 @@ pub(crate) fn canonical_run_len(text: &[u8]) -> usize
     if text.len() > MAX_MARKED {
         return len_by_search(text);
     }
-    len_by_marks(text)
+    let end = canonical_run_end(text, Marks::of(text), 0);
+    if end >= text.len() {
+        return end;
+    }
+    if text[end] != b'%' {
+        return len_by_search(text);
+    }
+    end
 }
 
-// `canonical_run_len` of a text that is short enough for marks.
+/// Where the canonical runs of a text end: by its marks, if it has any.
+#[derive(Clone, Copy, Debug)]
+pub struct CanonicalRuns {
+    marks: Option<Marks>,
+}
+
+impl CanonicalRuns {
+    /// Those of this text.
+    #[inline(always)]
+    pub fn of(text: &[u8]) -> CanonicalRuns
+        ensures { AreRunsOf result text.now }
+    {
+        if text.len() < MIN_MARKED {
+            return CanonicalRuns { marks: None };
+        }
+        if text.len() > MAX_MARKED {
+            return CanonicalRuns { marks: None };
+        }
+        CanonicalRuns {
+            marks: Some(Marks::of(text)),
+        }
+    }
+
+    /// Where the run ends that begins at an offset, of items as those of `canonical_run_len`.
+    #[inline(always)]
+    pub fn end(self, text: &[u8], from: usize) -> usize
+        requires runs { AreRunsOf self text.now }
+        requires within { from ≤ length text.now }
+        ensures within { (from ≤ result) × (result ≤ length text.now) }
+        ensures canonical { (model : Model) → (items : List Item)
+            × IsCanonicalRun model (take (result - from) (drop from text.now)) items }
+    {
+        match self.marks {
+            Some(marks) => canonical_run_end(text, marks, from),
+            None => {
+                let rest = &text[from..];
+                if begins_padded(rest) {
+                    return from;
+                }
+                from + canonical_run_len(rest)
+            }
+        }
+    }
+}
+
+// Whether a directive with a width, a precision or `-` begins a text: then no search is worth while.
 #[inline(always)]
-fn len_by_marks(text: &[u8]) -> usize
-    requires some { MIN_MARKED ≤ length text.now }
+fn begins_padded(text: &[u8]) -> bool {
+    match text {
+        [b'%', next, ..] => matches!(next, b'-' | b'.' | b'0'..=b'9'),
+        _ => false,
+    }
+}
+
+// `CanonicalRuns::end` of a text of these marks.
+#[inline(always)]
+fn canonical_run_end(text: &[u8], marks: Marks, from: usize) -> usize
+    requires marks { AreMarksOf marks text.now }
     requires few { length text.now ≤ MAX_MARKED }
-    ensures within { result ≤ length text.now }
-    ensures canonical { (model : Model)
-        → (items : List Item) × IsCanonicalRun model (take result text.now) items }
-    ensures ended { result < length text.now → Passes (is_byte2 37 0) text.now result }
+    requires within { from ≤ length text.now }
+    ensures within { (from ≤ result) × (result ≤ length text.now) }
+    ensures canonical { (model : Model) → (items : List Item)
+        × IsCanonicalRun model (take (result - from) (drop from text.now)) items }
 {
-    let marks = marks_of(text);
-    let mut at = 0;
+    let mut at = from;
     while at < text.len() {
-        let Some(offset) = next_marked(marks, at) else {
+        let Some(offset) = marks.next_from(at) else {
             return text.len();
         };
         if offset >= text.len() {
             return text.len();
         }
         if text[offset] != b'%' {
-            return len_by_search(text);
+            return offset;
         }
         let len = item_len(&text[offset..]);
         if len == 0 {

@@ -19,7 +19,9 @@ mod spelling;
 mod state;
 
 pub use argument_types::signature;
+pub use canonical_runs::CanonicalRuns;
 pub use letters::{conv_of, flag_of, modifier_of};
+pub use marks::{MAX_MARKED, MIN_MARKED, Marks};
 pub use pieces::{Piece, Pieces, check};
 pub use plain::is_plainly_accepted;
 pub use plain_types::known_types;
@@ -27,4 +29,5 @@ pub use refusals::{Refusal, Side, TextFault};
 pub use scanner::{Scanner, Step};
 pub use search::literal_len;
 pub use signatures::Signature;
+pub use specification::directive_at_front;
 pub use spelling::{Spelling, push_flags, spell};

@@ -1,24 +1,52 @@
-//! Where a short text has the bytes `%` and 0, as the bits of a number: so its runs of literal bytes
-//! need no search.
+//! Where a short text has the bytes `%` and 0: so its runs of literal bytes need no search.
 ghost use Rattle.std.specs.Prelude.{◌≡◌, ◌+◌, ◌<◌, ◌≤◌, length, MatchOption};
-ghost use Rattle.pf_text.specs.Marks.{HasNoMark, IsMarked};
+ghost use Rattle.pf_text.specs.Marks.{AreMarksOf, HasNoBit, HasNoMark, IsMarked};
 
 use crate::search::ends_at;
 
-/// The fewest bytes of a text that `marks_of` marks.
-pub(crate) const MIN_MARKED: usize = HALF;
+/// The fewest bytes of a text that has marks.
+pub const MIN_MARKED: usize = HALF;
 
-/// The most bytes of a text that `marks_of` marks: one for each bit.
-pub(crate) const MAX_MARKED: usize = 64;
+/// The most bytes of a text that has marks: one for each bit.
+pub const MAX_MARKED: usize = 64;
 
 const LANES: usize = 16;
 
 // The lanes of the vector for a text that is shorter.
 const HALF: usize = 8;
 
-/// Marks the bytes `%` and 0 of a text, each by the bit of its offset.
+/// Marks at the bytes `%` and 0 of a text: each is the bit of its offset.
+#[derive(Clone, Copy, Debug)]
+pub struct Marks {
+    bits: u64,
+}
+
+impl Marks {
+    /// Marks a text of 8 to 64 bytes.
+    #[inline(always)]
+    pub fn of(text: &[u8]) -> Marks
+        requires some { MIN_MARKED ≤ length text.now }
+        requires few { length text.now ≤ MAX_MARKED }
+        ensures { AreMarksOf result text.now }
+    {
+        Marks {
+            bits: marks_of(text),
+        }
+    }
+
+    /// The first marked offset from `at` on.
+    #[inline(always)]
+    pub fn next_from(self, at: usize) -> Option<usize>
+        requires { at < 64 }
+        ensures { MatchOption result (HasNoMark self at 64)
+            (λ offset. (at ≤ offset) × (offset < 128) × HasNoMark self at offset) }
+    {
+        next_marked(self.bits, at)
+    }
+}
+
 #[inline(always)]
-pub(crate) fn marks_of(text: &[u8]) -> u64
+fn marks_of(text: &[u8]) -> u64
     requires some { MIN_MARKED ≤ length text.now }
     requires few { length text.now ≤ MAX_MARKED }
     ensures { IsMarked result text.now 0 (length text.now) }
@@ -51,12 +79,11 @@ fn marks_at<const N: usize>(text: &[u8], at: usize) -> u64
     ends_at::<N>(text, at) << at as u32
 }
 
-/// The first marked offset from `at` on.
 #[inline(always)]
-pub(crate) fn next_marked(marks: u64, at: usize) -> Option<usize>
+fn next_marked(marks: u64, at: usize) -> Option<usize>
     requires { at < 64 }
-    ensures { MatchOption result (HasNoMark marks at 64)
-        (λ offset. (at ≤ offset) × (offset < 128) × HasNoMark marks at offset) }
+    ensures { MatchOption result (HasNoBit marks at 64)
+        (λ offset. (at ≤ offset) × (offset < 128) × HasNoBit marks at offset) }
 {
     let left = marks >> at as u32;
     if left == 0 {

@@ -1,12 +1,13 @@
 //! The pieces of a format in memory: runs of literal bytes, `%%`, and directives; and whether a
 //! text is a format.
-ghost use Rattle.std.specs.Prelude.{◌≡◌, ◌<◌, ◌≤◌, List, [], length, IsFalse, MatchOption, MatchResult, ⊤};
-ghost use Rattle.pf_values.specs.meaning.Items.{IsAccepted, Item};
+ghost use Rattle.std.specs.Prelude.{◌≡◌, ◌<◌, ◌≤◌, List, [], length, take, IsFalse, MatchOption, MatchResult, ⊤};
+ghost use Rattle.pf_values.specs.declared.limits.TheConstants.{MAX_TEXT_LEN};
+ghost use Rattle.pf_values.specs.meaning.Items.{IsAccepted, Item, Reads};
 ghost use Rattle.pf_values.specs.meaning.Refusals.{IsRefusedAt};
 ghost use Rattle.pf_values.specs.meaning.Text.{Text};
 ghost use Rattle.pf_text.specs.History.{EndsRun};
 
-use crate::plain::is_plainly_accepted;
+use crate::plain::{is_plainly_accepted, plain_stop};
 use crate::refusals::Refusal;
 use crate::scanner::{Scanner, Step};
 use pf_values::{ArgType, Directive, Model};
@@ -59,6 +60,20 @@ impl<'a> Pieces<'a> {
         Pieces {
             rest: text,
             scanner: Scanner::new(),
+            is_over: false,
+        }
+    }
+
+    // The pieces of a text after its first `len` bytes, which are whole items.
+    fn after_items(text: &'a [u8], len: usize) -> Pieces<'a>
+        requires within { len ≤ length text.now }
+        requires few { len ≤ MAX_TEXT_LEN }
+        ensures { (items : List Item) → Reads (take len text.now) items
+            → HasGiven result text.now (take len text.now) items }
+    {
+        Pieces {
+            rest: &text[len..],
+            scanner: Scanner::after_items(len),
             is_over: false,
         }
     }
@@ -176,6 +191,7 @@ impl<'a> Iterator for Pieces<'a> {
 }
 
 /// Whether the text is accepted, or where and why it is refused.
+#[inline(always)]
 pub fn check(text: &[u8]) -> Result<(), Refusal>
     ensures { MatchResult result (λ _. IsAccepted text.now)
         (λ refusal. IsRefusedAt text.now refusal.kind refusal.at) }
@@ -183,7 +199,31 @@ pub fn check(text: &[u8]) -> Result<(), Refusal>
     if is_plainly_accepted(text) {
         return Ok(());
     }
-    for piece in Pieces::new(text) {
+    check_other(text)
+}
+
+// `check` of a text that may be refused: what is known of its front isn't read byte by byte.
+#[inline(never)]
+fn check_other(text: &[u8]) -> Result<(), Refusal>
+    ensures { MatchResult result (λ _. IsAccepted text.now)
+        (λ refusal. IsRefusedAt text.now refusal.kind refusal.at) }
+{
+    match plain_stop(text) {
+        Some(stop) => check_after_items(text, stop),
+        None => Ok(()),
+    }
+}
+
+// `check` of a text whose first `len` bytes are whole items.
+#[inline(never)]
+fn check_after_items(text: &[u8], len: usize) -> Result<(), Refusal>
+    requires within { len ≤ length text.now }
+    requires few { len ≤ MAX_TEXT_LEN }
+    requires read { (items : List Item) × Reads (take len text.now) items }
+    ensures { MatchResult result (λ _. IsAccepted text.now)
+        (λ refusal. IsRefusedAt text.now refusal.kind refusal.at) }
+{
+    for piece in Pieces::after_items(text, len) {
         match piece {
             Ok(_) => {}
             Err(refusal) => return Err(refusal),

@@ -3,9 +3,10 @@
 ghost use Rattle.std.specs.Prelude.{◌≡◌, ◌+◌, ◌*◌, ◌^◌, ◌<◌, ◌≤◌, List, [], ◌∷◌, drop, length, take, IsTrue};
 ghost use Rattle.pf_values.specs.meaning.Items.{IsAccepted, Item, Reads};
 ghost use Rattle.pf_values.specs.meaning.Text.{percent};
+ghost use Rattle.pf_text.specs.PlainStops.{IsPlainStop};
 
 use crate::letters::conv_of;
-use crate::marks::{MAX_MARKED, MIN_MARKED, marks_of, next_marked};
+use crate::marks::{MAX_MARKED, MIN_MARKED, Marks};
 use crate::search::literal_len;
 use crate::specification::directive_of_parts;
 use pf_values::limits::MAX_TEXT_LEN;
@@ -16,54 +17,65 @@ use pf_values::limits::MAX_TEXT_LEN;
 pub fn is_plainly_accepted(text: &[u8]) -> bool
     ensures { IsTrue result → IsAccepted text.now }
 {
-    if text.len() < MIN_MARKED {
-        return is_read_by_runs(text);
+    match plain_stop(text) {
+        Some(_) => false,
+        None => true,
     }
-    if text.len() > MAX_MARKED {
-        return is_read_by_runs(text);
-    }
-    is_read_by_marks(text)
 }
 
-// Whether a text with marks is known to be accepted.
+/// The offset up to which it is known that a text is whole items. `None` if that is its end.
 #[inline(always)]
-fn is_read_by_marks(text: &[u8]) -> bool
+pub(crate) fn plain_stop(text: &[u8]) -> Option<usize>
+    ensures { IsPlainStop text.now result }
+{
+    if text.len() < MIN_MARKED {
+        return stop_by_runs(text);
+    }
+    if text.len() > MAX_MARKED {
+        return stop_by_runs(text);
+    }
+    stop_by_marks(text)
+}
+
+// `plain_stop` of a text with marks.
+#[inline(always)]
+fn stop_by_marks(text: &[u8]) -> Option<usize>
     requires some { MIN_MARKED ≤ length text.now }
     requires few { length text.now ≤ MAX_MARKED }
-    ensures { IsTrue result → IsAccepted text.now }
+    ensures { IsPlainStop text.now result }
 {
-    let marks = marks_of(text);
+    let marks = Marks::of(text);
     let mut at = 0;
     while at < text.len() {
-        let Some(offset) = next_marked(marks, at) else {
-            return true;
+        let Some(offset) = marks.next_from(at) else {
+            return None;
         };
         let len = item_len(text, offset);
         if len == 0 {
-            return false;
+            return Some(at);
         }
         at = offset + len;
     }
-    true
+    None
 }
 
-// Whether a text of any length is known to be accepted.
+// `plain_stop` of a text of any length.
 #[inline(never)]
-fn is_read_by_runs(text: &[u8]) -> bool
-    ensures { IsTrue result → IsAccepted text.now }
+fn stop_by_runs(text: &[u8]) -> Option<usize>
+    ensures { IsPlainStop text.now result }
 {
     if text.len() as u64 > MAX_TEXT_LEN {
-        return false;
+        return Some(0);
     }
     let mut at = 0;
     while at < text.len() {
         let len = front_len(text, at);
         if len == 0 {
-            return false;
+            return Some(at);
         }
         at += len;
     }
-    true
+    None
 }
 
 // How many bytes at an offset are literal, or are an item of the other kinds; 0 if that isn't known.

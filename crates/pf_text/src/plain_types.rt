@@ -10,7 +10,7 @@ ghost use Rattle.pf_values.specs.meaning.Text.{percent};
 ghost use Rattle.pf_text.specs.Signatures.{ReadsTyped, TakesTypes};
 
 use crate::letters::conv_of;
-use crate::marks::{MAX_MARKED, MIN_MARKED, marks_of, next_marked};
+use crate::marks::{MAX_MARKED, MIN_MARKED, Marks};
 use crate::search::literal_len;
 use crate::specification::directive_of_parts;
 use pf_values::limits::MAX_TEXT_LEN;
@@ -39,11 +39,11 @@ fn types_by_marks(model: Model, text: &[u8], types: &mut [ArgType]) -> Option<us
     ensures { MatchOption result ⊤ (λ count. (count ≤ length types.new)
         × TakesTypes model text.now (take count types.new)) }
 {
-    let marks = marks_of(text);
+    let marks = Marks::of(text);
     let mut count = 0;
     let mut at = 0;
     while at < text.len() {
-        let Some(offset) = next_marked(marks, at) else {
+        let Some(offset) = marks.next_from(at) else {
             return Some(count);
         };
         let (arg_type, len) = typed_item(model, text, offset)?;

@@ -50,6 +50,16 @@ impl Scanner {
         }
     }
 
+    /// A reader that has taken a text of whole items, of `len` bytes.
+    pub fn after_items(len: usize) -> Scanner
+        ensures { (t : Text) (items : List Item) → Reads t items → length t ≡ len
+            → len ≤ MAX_TEXT_LEN → IsAfter result t items }
+    {
+        let mut scanner = Scanner::new();
+        scanner.offset = len as u64;
+        scanner
+    }
+
     /// Takes one more byte, and returns the item that it ends, if it ends one. A refused byte isn't
     /// taken, and from then on every call returns that refusal.
     #[inline(always)]

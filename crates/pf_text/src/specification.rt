@@ -23,7 +23,7 @@ use pf_values::{Conv, Directive, Flag, FlagSet, Length};
 /// The directive at the front of a text, and how many bytes it has. None where the text begins
 /// otherwise, or its specification is cut off or refused.
 #[inline(always)]
-pub(crate) fn directive_at_front(text: &[u8]) -> Option<(Directive, usize)>
+pub fn directive_at_front(text: &[u8]) -> Option<(Directive, usize)>
     ensures { MatchOption result ⊤ (λ front. (0 < front.1) × (front.1 ≤ length text.now)
         × IsReadAs (take front.1 text.now) (items.Directive front.0)) }
 {

@@ -9,6 +9,7 @@ use streams::streams_to;
 
 mod callers;
 mod devices;
+mod short_texts;
 mod steps;
 mod streams;
 

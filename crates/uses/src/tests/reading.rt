@@ -3,6 +3,7 @@ use pf_text::{Scanner, Step};
 use pf_values::limits::MAX_TEXT_LEN;
 
 mod callers;
+mod fast_answers;
 mod readers;
 mod signatures;
 mod spellings;

@@ -1,17 +1,19 @@
-use Rattle.std.proofs.Common.{◌≡◌, ◌≤◌, ◌+◌, ◌∙◌, [], arith, drop, length, refl, subst, sym, take}
-use Rattle.std.proofs.lemmas.List.{drop-drop, length-drop, take_rest}
+use Rattle.std.proofs.Common.{◌≡◌, ◌+◌, ◌-◌, ◌∙◌, arith, drop, refl, subst, sym, take}
+use Rattle.std.proofs.lemmas.List.{drop-drop, take_rest}
 use Rattle.pf_values.specs.meaning.Items.{IsAccepted}
 use Rattle.pf_values.specs.meaning.Spelling.{spelling_of}
-use Rattle.pf_canon.proofs.KnownLemmas.{all_taken, directive_taken, first_taken, other_known, other_taken, run_taken}
+use Rattle.pf_text.specs.CanonicalRuns.{IsCanonicalRun}
+use Rattle.pf_canon.proofs.KnownLemmas.{all_taken, directive_taken, other_known, other_taken, run_taken}
 use Rattle.pf_canon.proofs.plain_canonical.known_canonical.Goals as goal
 
 pub loop-at-init : goal.loop-at-init
 loop-at-init c =
-    let text = c.args.text.now in
-    let run = c.pass_canonical_run-at in
+    let end = c.end-at in
+    let all : end.result - 0 ≡ end.result = omega arith in
+    let run = end.ensures.canonical c.args.model in
     record {
-      within = run.ensures.within;
-      taken = first_taken c.args.model run.new.self text run.result (run.ensures.passed c.args.model [] [] c.new-scanner.ensures refl);
+      within = end.ensures.within.1;
+      taken = (run.0, subst (λ n. IsCanonicalRun c.args.model (take n c.args.text.now) run.0) all run.1);
     }
 
 pub returns-then-not-is_normal : goal.returns-then-not-is_normal
@@ -21,9 +23,8 @@ returns-then-not-is_normal c =
     let at = c.loop-at.at in
     let i = c.loop-at.invariant.taken in
     let front = c.in_ok-directive in
-    let takes = rw take_rest at front.ensures.passed (take at text) i.items i.after in
     other_known model text (drop front.len (drop at text)) c.known_other.result
-    (λ rest. other_taken model c.loop-at.scanner c.pass_directive.new.self text at front.len front.directive i takes
+    (λ rest. other_taken model text at i.0 i.1 front.len front.directive (rw take_rest at front.ensures.2)
     (λ normal. absurd (let yes = c.if-not-is_normal.ensures.1 normal in cc)) (c.if-may_be_silent.ensures refl)
     (omega (arith, c.if-text-gt-MAX_TEXT_LEN.false)) (subst IsAccepted (drop-drop front.len at text) rest))
     (rw (take_rest, take_rest) at c.known_other.ensures)
@@ -36,19 +37,17 @@ loop-at-preserved c =
     let i = c.loop-at.invariant.taken in
     let front = c.in_ok-directive in
     let len = front.len in
-    let run = c.pass_canonical_run-at-in-loop-at in
-    let takes = rw take_rest at front.ensures.passed (take at text) i.items i.after in
-    let first : len ≤ length (drop at text) = rw take_rest at front.ensures.within.1 in
-    let then : run.result ≤ length (drop (at + len) text) = rw take_rest at run.ensures.within in
+    let end = c.end-at-in-loop-at in
     let spelled : spelling_of front.directive ≡ take len (drop at text) =
     sym c.spell.ensures.bytes ∙ sym c.deref.ensures.0 ∙ rw take_rest at c.if-not-are_equal.ensures in
-    let now = directive_taken model c.loop-at.scanner c.pass_directive.new.self text at len front.directive i takes (c.if-not-is_normal.ensures.0 refl) spelled in
+    let now = directive_taken model text at i.0 i.1 len front.directive (c.if-not-is_normal.ensures.0 refl) spelled in
+    let run = end.ensures.canonical model in
     record {
-      within = omega (arith, first, then, length-drop at text, length-drop (at + len) text);
-      taken = run_taken model c.pass_directive.new.self run.new.self text (at + len) run.result now
-          (rw take_rest at run.ensures.passed model (take (at + len) text) now.items now.after now.reads);
+      within = end.ensures.within.1;
+      taken = (_, run_taken model text (at + len) _ now end.result run.0 end.ensures.within.0 run.1);
     }
 
 pub returns : goal.returns
-returns c = all_taken c.args.model c.loop-at.scanner c.args.text.now c.loop-at.at (omega (arith, c.loop-at-test.false))
-    (omega (arith, c.if-text-gt-MAX_TEXT_LEN.false)) c.loop-at.invariant.taken
+returns c =
+    let i = c.loop-at.invariant.taken in
+    all_taken c.args.model c.args.text.now c.loop-at.at i.0 i.1 (omega (arith, c.loop-at-test.false)) (omega (arith, c.if-text-gt-MAX_TEXT_LEN.false))

@@ -1,0 +1,90 @@
+-- A canonical text that is put together from canonical runs and reduced directives.
+use Rattle.std.proofs.Common.{◌≡◌, ℕ, ◌+◌, ◌-◌, ◌≤◌, List, [], ◌∷◌, ◌++◌, length, take, drop, refl, sym, ap, ◌∙◌, subst, arith}
+use Rattle.std.proofs.Math.Seq.{take-add}
+use Rattle.std.proofs.lemmas.List.{append-nil, length-append}
+use Rattle.pf_values.specs.declared.limits.TheConstants.{MAX_TEXT_LEN}
+use Rattle.pf_values.specs.declared.models.Model.{Model}
+use Rattle.pf_values.specs.meaning.Items.{Item, Directive, IsReadAs}
+use Rattle.pf_values.specs.Settled.{EndsInNoSilent}
+use Rattle.pf_values.specs.meaning.Normal.{silent}
+use Rattle.pf_values.specs.meaning.Specification.{Specification}
+use Rattle.pf_values.specs.meaning.Text.{Text}
+use Rattle.pf_text.specs.CanonicalRuns.{IsCanonicalRun}
+use Rattle.pf_text.proofs.CanonicalRunLemmas.{Reads-append, Reads-canonical}
+use Rattle.pf_canon.specs.Answers.{IsCanonicalFor}
+use Rattle.pf_canon.specs.Making.{IsMaking, IsWritten}
+use Rattle.pf_canon.specs.declared.limits.TheConstants.{MAX_DIRECTIVE_LEN}
+use Rattle.pf_values.proofs.Alike.{alike_refl, alike-printed}
+use Rattle.pf_canon.proofs.MakingLemmas.{made_more, made_run}
+use Rattle.pf_canon.proofs.TextLemmas.{most_len-append}
+use Rattle.pf_canon.proofs.TransducerLemmas.{ended, run_is_short}
+
+-- nothing is written yet
+nothing_ends : EndsInNoSilent []
+nothing_ends before e = omega (arith, ap length e, length-append before (Directive silent ∷ []))
+
+nothing_made : (model : Model) → IsMaking model [] 0 [] []
+nothing_made model = record {
+  done = [];
+  reads = refl;
+  whole = refl;
+  canonical = tt;
+  open_end = nothing_ends;
+  alike = alike-printed model [] [] (alike_refl model []);
+  kept = λ is. refl;
+}
+
+pub none_written : (model : Model) → IsWritten model [] []
+none_written model = record { items = []; reads = refl; made = nothing_made model; short = omega arith }
+
+-- a canonical run is written as it is
+pub run_written : (model : Model) (t out run : Text) (more : List Item) → IsWritten model t out → IsCanonicalRun model run more
+    → IsWritten model (t ++ run) (out ++ run)
+run_written model t out run more h g =
+    let start = subst (IsMaking model out 0 (h.items ++ more)) (sym (append-nil more)) (made_more model out 0 h.items [] more h.made) in
+    record {
+      items = h.items ++ more;
+      reads = Reads-canonical model t run h.items more h.reads g;
+      made = subst (λ u. IsMaking model (out ++ u) 0 (h.items ++ more) []) (sym g.whole) (made_run model more out (h.items ++ more) [] g.canonical start);
+      short = omega (arith, h.short, length-append out run, ap length g.whole, run_is_short model more g.canonical, most_len-append h.items more);
+    }
+
+-- as is one between two offsets of a text
+pub slice_written : (model : Model) (text : Text) (start at : ℕ) (out : Text) (items : List Item) → start ≤ at → IsWritten model (take start text) out
+    → IsCanonicalRun model (take (at - start) (drop start text)) items
+    → IsWritten model (take at text) (out ++ take (at - start) (drop start text))
+slice_written model text start at out items low h g =
+    let run = take (at - start) (drop start text) in
+    let place : start + (at - start) ≡ at = omega (arith, low) in
+    subst (λ t. IsWritten model t (out ++ run)) (sym (take-add start (at - start) text) ∙ ap (λ n. take n text) place)
+    (run_written model (take start text) out run items h g)
+
+-- a directive is written as what it is reduced to
+pub directive_written : (model : Model) (t out bytes settled : Text) (d : Specification) → IsWritten model t out → IsReadAs bytes (Directive d)
+    → length settled ≤ MAX_DIRECTIVE_LEN
+    → ((out : Text) (items rest : List Item) → IsMaking model out 0 items (Directive d ∷ rest) → IsMaking model (out ++ settled) 0 items rest)
+    → IsWritten model (t ++ bytes) (out ++ settled)
+directive_written model t out bytes settled d h reads short settles =
+    let more = Directive d ∷ [] in
+    record {
+      items = h.items ++ more;
+      reads = Reads-append t bytes h.items more h.reads (bytes, [], reads, refl, sym (append-nil bytes));
+      made = settles out (h.items ++ more) [] (made_more model out 0 h.items [] more h.made);
+      short = omega (arith, h.short, short, length-append out settled, most_len-append h.items more);
+    }
+
+-- all of a text is written
+pub all_written : (model : Model) (t out : Text) → length t ≤ MAX_TEXT_LEN → IsWritten model t out → IsCanonicalFor model t out
+all_written model t out few h =
+    let end = ended model t out 0 h.items h.reads h.made [] refl in
+    record {
+      items = h.items;
+      accepted = record { reads = h.reads; limit = few };
+      canonical_is = rw append-nil at end.1;
+      kept = λ is. sym (append-nil out) ∙ end.2 is;
+      few = h.short;
+    }
+
+-- a canonical run is its own canonical text
+pub verbatim_canonical : (model : Model) (t : Text) (items : List Item) → length t ≤ MAX_TEXT_LEN → IsCanonicalRun model t items → IsCanonicalFor model t t
+verbatim_canonical model t items few h = all_written model t t few (run_written model [] [] t items (none_written model) h)

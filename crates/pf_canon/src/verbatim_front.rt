@@ -1,0 +1,66 @@
+//! The bytes at the front of a format that need no change.
+ghost use Rattle.std.specs.Prelude.{IsTrue, MatchResult, ◌≡◌};
+ghost use Rattle.pf_values.specs.meaning.Refusals.{IsRefusedAt};
+ghost use Rattle.pf_values.specs.meaning.Text.{Text};
+ghost use Rattle.pf_canon.specs.Answers.{IsCanonicalFor};
+ghost use Rattle.pf_canon.specs.VerbatimFronts.{IsVerbatimFront, front_model};
+
+use crate::chunk::put_chunks;
+use crate::plain_texts::put_plain;
+use crate::sink::Sink;
+use crate::transducer::Transducer;
+use pf_text::{CanonicalRuns, Refusal};
+use pf_values::Model as DataModel;
+use pf_values::limits::MAX_TEXT_LEN;
+
+/// The bytes at the front of a format that are verbatim, that is, their own canonical text in a data
+/// model.
+#[derive(Clone, Copy, Debug)]
+pub struct VerbatimFront {
+    model: DataModel,
+    runs: CanonicalRuns,
+    len: usize,
+}
+
+impl VerbatimFront {
+    /// The verbatim bytes at the front of a format.
+    #[inline(always)]
+    pub fn of(model: DataModel, text: &[u8]) -> VerbatimFront
+        ensures model { front_model result ≡ model }
+        ensures front { IsVerbatimFront text.now result }
+    {
+        let runs = CanonicalRuns::of(text);
+        let len = runs.end(text, 0);
+        VerbatimFront { model, runs, len }
+    }
+
+    /// Whether all bytes of the format are verbatim, as they are in most. Then it is accepted, and its
+    /// own canonical text. False for a refused text, and for some formats that are canonical, too.
+    #[inline(always)]
+    pub fn is_all(&self, text: &[u8]) -> bool
+        requires { IsVerbatimFront text.now self.now }
+        ensures { IsTrue result → IsCanonicalFor (front_model self.now) text.now text.now }
+    {
+        if self.len != text.len() {
+            return false;
+        }
+        if text.len() as u64 > MAX_TEXT_LEN {
+            return false;
+        }
+        true
+    }
+
+    /// Puts all of the canonical text of the format.
+    pub(crate) fn put<S: Sink>(&self, text: &[u8], sink: &mut S) -> Result<(), Refusal>
+        requires { IsVerbatimFront text.now self.now }
+        ensures { MatchResult result (λ _. (c : Text) × S.given sink.old sink.new c
+            × IsCanonicalFor (front_model self.now) text.now c)
+            (λ refusal. IsRefusedAt text.now refusal.kind refusal.at) }
+    {
+        let at = put_plain(self.model, text, self.runs, self.len, sink);
+        if at == text.len() {
+            return Ok(());
+        }
+        put_chunks(Transducer::after_items(self.model, at), text, at, sink)
+    }
+}

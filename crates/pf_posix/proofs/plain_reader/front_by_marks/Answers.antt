@@ -1,0 +1,65 @@
+use Rattle.std.proofs.Common.{◌≤◌, ◌∙◌, arith, length, refl, sym}
+use Rattle.std.proofs.lemmas.Bool.{eqb-true}
+use Rattle.pf_text.specs.Marks.{HasNoMark}
+use Rattle.pf_posix.specs.Plain.{IsPlainFront}
+use Rattle.pf_posix.proofs.PlainFrontLemmas.{front_fetched, front_percent, front_unmarked, no_front}
+use Rattle.pf_posix.proofs.plain_reader.front_by_marks.Goals as goal
+
+pub loop-at-init : goal.loop-at-init
+loop-at-init c = record { within = omega arith; few = omega arith; same = refl; front = no_front c.args.model c.args.text.now c.args.out.now }
+
+pub returns-in_default : goal.returns-in_default
+returns-in_default c =
+    let t = c.args.text.now in
+    let i = c.loop-at.invariant in
+    let few : length t ≤ 64 = c.requires.few in
+    let none : HasNoMark c.of-marks.result c.loop-at.at (length t) = λ k low high. c.in_default.ensures k low (omega (arith, few, high)) in
+    record {
+      front = front_unmarked c.args.model t c.loop-at.at _ _ _ i.front c.of-marks.result (length t) (omega (arith, few)) i.within (omega arith)
+          c.of-marks.ensures none;
+      same_length = i.same;
+      within = omega arith;
+      few = omega (arith, i.few, i.within);
+    }
+
+pub loop-at-preserved-then-has_byte : goal.loop-at-preserved-then-has_byte
+loop-at-preserved-then-has_byte c =
+    let t = c.args.text.now in
+    let i = c.loop-at.invariant in
+    let few : length t ≤ 64 = c.requires.few in
+    let offset = c.in-Some.offset in
+    let first = c.if-not-has_byte.ensures in
+    let second = c.if-has_byte.ensures in
+    let here = first.within refl in
+    let within = second.within refl in
+    let front : IsPlainFront c.args.model t offset c.args.out.now c.loop-at.out c.loop-at.count =
+    front_unmarked c.args.model t c.loop-at.at _ _ _ i.front c.of-marks.result offset (omega (arith, few)) c.in-Some.ensures.0 (omega (arith, here))
+    c.of-marks.ensures c.in-Some.ensures.2 in
+    record {
+      within = omega (arith, within);
+      few = omega (arith, i.few, c.in-Some.ensures.0);
+      same = i.same;
+      front =
+          front_percent c.args.model t offset _ _ _ front (omega (arith, few)) within (eqb-true _ _ (sym first.same)) (eqb-true _ _ (sym second.same));
+    }
+
+pub loop-at-preserved : goal.loop-at-preserved
+loop-at-preserved c =
+    let t = c.args.text.now in
+    let i = c.loop-at.invariant in
+    let few : length t ≤ 64 = c.requires.few in
+    let offset = c.in-Some.offset in
+    let first = c.if-not-has_byte.ensures in
+    let here = first.within refl in
+    let read = c.in-Some-plain_fetch in
+    let front : IsPlainFront c.args.model t offset c.args.out.now c.loop-at.out c.loop-at.count =
+    front_unmarked c.args.model t c.loop-at.at _ _ _ i.front c.of-marks.result offset (omega (arith, few)) c.in-Some.ensures.0 (omega (arith, here))
+    c.of-marks.ensures c.in-Some.ensures.2 in
+    record {
+      within = read.ensures.within.1;
+      few = omega (arith, i.few, c.in-Some.ensures.0, read.ensures.within.0);
+      same = c.put.ensures.length ∙ i.same;
+      front =
+          front_fetched c.args.model t offset _ _ _ front read.wanted read.stop c.put.new.out (omega (arith, few)) here (eqb-true _ _ (sym first.same))
+          read.ensures.fetched c.put.ensures.filled;
+    }

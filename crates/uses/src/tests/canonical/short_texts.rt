@@ -1,0 +1,73 @@
+//! What the C library calls instead of `canonical`: verbatim fronts, canonical texts on the stack, and
+//! reductions where they are called.
+use pf_canon::{ShortText, VerbatimFront};
+use pf_reduce::{Core, Reduced, reduce_inline};
+use pf_text::{Refusal, directive_at_front, spell};
+use pf_values::{Model, RefusalKind};
+
+fn is_verbatim(format: &[u8]) -> bool {
+    VerbatimFront::of(Model::Lp64, format).is_all(format)
+}
+
+// Whether all of a format's canonical text has room, and is this.
+fn is_put(format: &[u8], wanted: &[u8]) -> Result<bool, Refusal> {
+    let front = VerbatimFront::of(Model::Lp64, format);
+    let mut text = ShortText::new();
+    let has_room = text.put(&front, format)?;
+    Ok(has_room && text.as_slice() == wanted)
+}
+
+#[test]
+fn short_canonical_texts(rt: HostRuntime) {
+    let refusal = Refusal {
+        kind: RefusalKind::BadPercent,
+        at: 5,
+    };
+    assert!(rt;
+        [
+            is_put(b"a%i%5c%%", b"a%d    %c%%"),
+            is_put(b"%d%.0s!", b"%d!%.0s"),
+            is_put(b"%200d", b""),
+            is_put(b"a%i%5%", b""),
+        ] == [Ok(true), Ok(true), Ok(false), Err(refusal)]
+            && is_verbatim(b"a%d%%")
+            && !is_verbatim(b"a%i%%")
+    );
+}
+
+// What a directive is reduced to: its spaces, its zeros, and whether its core is spelled like this.
+fn reduced(directive: &[u8], wanted: &[u8]) -> Option<(u16, u16, bool, u16)> {
+    let (directive, _) = directive_at_front(directive)?;
+    let Reduced {
+        spaces,
+        zeros,
+        core,
+        trail,
+    } = reduce_inline(Model::Lp64, &directive);
+    match core {
+        Core::Normal(normal) => {
+            let is_core = spell(&normal.directive()).as_slice() == wanted;
+            Some((spaces, zeros, is_core, trail))
+        }
+        Core::Silent => None,
+    }
+}
+
+#[test]
+fn reductions_in_place(rt: HostRuntime) {
+    assert!(rt;
+        [
+            reduced(b"%zu", b"%lu"),
+            reduced(b"%08x", b"%.8x"),
+            reduced(b"%020x", b"%.8x"),
+            reduced(b"%-20d", b"%-11d"),
+            reduced(b"%.0s", b""),
+        ] == [
+            Some((0, 0, true, 0)),
+            Some((0, 0, true, 0)),
+            Some((0, 12, true, 0)),
+            Some((0, 0, true, 9)),
+            None,
+        ]
+    );
+}

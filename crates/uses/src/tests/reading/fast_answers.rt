@@ -1,0 +1,96 @@
+//! What is known of a text without its reader: marks, canonical runs, whole directives, and types.
+use pf_text::{
+    CanonicalRuns, Marks, Refusal, Scanner, directive_at_front, is_plainly_accepted, known_types,
+    literal_len, spell,
+};
+use pf_values::{ArgType, Model, RefusalKind};
+
+#[test]
+fn percent_and_nul_are_marked(rt: HostRuntime) {
+    let text = b"ab%cd\0efgh".as_slice();
+    let marks = Marks::of(text);
+    assert!(rt;
+        [marks.next_from(0), marks.next_from(3), marks.next_from(6)] == [Some(2), Some(5), None]
+            && literal_len(text) == 2
+    );
+}
+
+// Where the canonical run ends that begins at an offset.
+fn run_end(text: &[u8], from: usize) -> Option<usize> {
+    if from > text.len() {
+        return None;
+    }
+    Some(CanonicalRuns::of(text).end(text, from))
+}
+
+// Eight bytes have marks, and six don't.
+#[test]
+fn canonical_runs_end(rt: HostRuntime) {
+    assert!(rt;
+        [
+            run_end(b"%da%i%s-", 0),
+            run_end(b"%da%i%s-", 5),
+            run_end(b"%d%-3d", 0),
+            run_end(b"%d%-3d", 2),
+        ] == [Some(3), Some(8), Some(2), Some(2)]
+    );
+}
+
+// Whether the directive at the front is spelled like this, and how many bytes it has.
+fn front(text: &[u8], wanted: &[u8]) -> Option<(bool, usize)> {
+    let (directive, len) = directive_at_front(text)?;
+    Some((spell(&directive).as_slice() == wanted, len))
+}
+
+#[test]
+fn a_directive_at_the_front(rt: HostRuntime) {
+    assert!(rt;
+        [
+            front(b"%0000005d%", b"%05d"),
+            front(b"%-8.3ld", b"%-8.3ld"),
+            front(b"a%d", b""),
+            front(b"%%", b""),
+            front(b"%-", b""),
+            front(b"%y", b""),
+        ] == [Some((true, 9)), Some((true, 7)), None, None, None, None]
+    );
+}
+
+// How a text ends after seven bytes of whole items and `%`.
+#[test]
+fn a_reader_goes_on_after_items(rt: HostRuntime) {
+    let mut scanner = Scanner::after_items(7);
+    let is_taken = scanner.feed(b'%').is_ok();
+    let refusal = Refusal {
+        kind: RefusalKind::Truncated,
+        at: 8,
+    };
+    assert!(rt; is_taken && scanner.offset() == 8 && scanner.finish() == Err(refusal));
+}
+
+// Whether the types of a format's arguments are known to be these.
+fn are_known(text: &[u8], wanted: &[ArgType]) -> bool {
+    let mut types = [ArgType::Int; 3];
+    match known_types(Model::Lp64, text, &mut types) {
+        Some(count) => &types[..count] == wanted,
+        None => false,
+    }
+}
+
+#[test]
+fn most_formats_are_known(rt: HostRuntime) {
+    assert!(rt;
+        [
+            is_plainly_accepted(b"%d%%"),
+            is_plainly_accepted(b"%d of %-8.3s%%"),
+            is_plainly_accepted(b"%f"),
+            is_plainly_accepted(b"100%, or not"),
+            are_known(b"%u", &[ArgType::UInt]),
+            are_known(
+                b"%s: %zd of %hhu",
+                &[ArgType::Str, ArgType::Long, ArgType::Int]
+            ),
+            are_known(b"%s: %f of %hhu", &[]),
+        ] == [true, true, false, false, true, true, false]
+    );
+}
