@@ -32,7 +32,9 @@ pub(crate) struct ChunkRefusal {
     pub(crate) refusal: Refusal,
 }
 
-/// Takes the chunks of a text from `at` on and then its end, and puts what they settle.
+/// Takes the chunks of a text from `at` on and then its end, and puts what they settle. Never inlined, since
+/// most texts need no chunks.
+#[inline(never)]
 pub(crate) fn put_chunks<S: Sink>(
     transducer: Transducer,
     text: &[u8],
@@ -61,6 +63,24 @@ pub(crate) fn put_chunks<S: Sink>(
         }
         Err(refusal) => Err(refusal),
     }
+}
+
+/// Takes whole items at the front of a text, first those that need no transducer, and puts what they settle.
+/// Returns the transducer that took them, and how many bytes they have.
+#[inline(always)]
+pub(crate) fn put_all_items<S: Sink>(
+    mut transducer: Transducer,
+    text: &[u8],
+    sink: &mut S,
+) -> (Transducer, usize)
+    ensures put { (more : Text) × S.given sink.old sink.new more
+        × ((before out : Text) → IsUpToAfter before transducer text.now 0 out
+        → (data_model_of result.0 ≡ data_model_of transducer)
+        × IsUpToAfter before result.0 text.now result.1 (out ++ more)) }
+    ensures within { result.1 ≤ length text.now }
+{
+    let front = transducer.put_front(text, sink);
+    put_items(transducer, text, front, sink)
 }
 
 /// Takes whole directives of a text from `from` on, each with the verbatim bytes after it, as long as

@@ -1,5 +1,5 @@
 //! Two texts, compared in step.
-ghost use Rattle.std.specs.Prelude.{◌≡◌, ◌≤◌, Some, Err, IfOk, IfSome, MatchResult, ◌≢◌, [], MatchBool};
+ghost use Rattle.std.specs.Prelude.{◌≡◌, ◌≤◌, Some, Err, IfOk, IfSome, MatchResult, ◌≢◌, [], IsTrue, MatchBool};
 ghost use Rattle.pf_values.specs.Counting.{HasFailed, Known, device_of, failures_of};
 ghost use Rattle.pf_values.specs.declared.models.Model.{Model as ModelOf};
 ghost use Rattle.pf_values.specs.meaning.Text.{Text};
@@ -9,8 +9,9 @@ ghost use Rattle.pf_canon.specs.CanonicalSlices.{AreApart, GoInStep, SlicesHaveG
 
 use crate::canonical_bytes::{ByteSource, ByteTransducer};
 use crate::canonical_slices::CanonicalSlices;
-use crate::early_difference::differ_after;
-use crate::early_refusal::refusal_at_difference;
+use crate::common_bytes::common_bytes;
+use crate::early_difference::{differ_after, take_other_types};
+use crate::early_refusal::{item_start, refusal_of_item};
 use crate::faults::{SideFault, StreamFault};
 use crate::transducer::Transducer;
 use pf_text::{Refusal, Side, check};
@@ -43,15 +44,42 @@ pub fn same_stream<R: Read, S: Read>(
 pub fn same_text(model: Model, first: &[u8], second: &[u8]) -> Result<bool, (Side, Refusal)>
     ensures { MatchResult result (AreTextsSame model first.now second.now) (TextStops first.now second.now) }
 {
-    if are_equal(first, second) {
+    let common = common_bytes(first, second);
+    if are_all(first, second, common) {
         return same_itself(first);
     }
-    let common = common_bytes(first, second);
-    if differ_after(first, second, common) {
+    same_others(model, first, second, common)
+}
+
+// Whether the first `common` bytes of two texts, which are equal, are all of both.
+#[inline(always)]
+fn are_all(first: &[u8], second: &[u8], common: usize) -> bool
+    requires { AreCommon first.now second.now common }
+    ensures { IsTrue result → first.now ≡ second.now }
+{
+    common == first.len() && common == second.len()
+}
+
+// Compares two texts that differ after their first `common` bytes.
+#[inline(always)]
+fn same_others(
+    model: Model,
+    first: &[u8],
+    second: &[u8],
+    common: usize,
+) -> Result<bool, (Side, Refusal)>
+    requires { AreCommon first.now second.now common }
+    ensures { MatchResult result (AreTextsSame model first.now second.now) (TextStops first.now second.now) }
+{
+    let start = item_start(first, common);
+    if start == common {
+        if differ_after(model, first, second, common) {
+            return Ok(false);
+        }
+    } else if let Some(refusal) = refusal_of_item(first, second, start) {
+        return Err((Side::Second, refusal));
+    } else if take_other_types(model, first, second) {
         return Ok(false);
-    }
-    if let Some(stop) = refusal_at_difference(first, second, common) {
-        return Err(stop);
     }
     same_after_common(model, first, second, common)
 }
@@ -68,6 +96,7 @@ fn same_itself(text: &[u8]) -> Result<bool, (Side, Refusal)>
 }
 
 // Compares two texts whose first `common` bytes are equal. These are read once.
+#[inline(never)]
 fn same_after_common(
     model: Model,
     first: &[u8],
@@ -249,41 +278,6 @@ fn drain_both<A: ByteSource, B: ByteSource>(
             fault,
         }),
     }
-}
-
-// How many bytes are compared at once.
-const LANES: usize = 16;
-
-/// How many bytes two texts begin with in common.
-pub(crate) fn common_bytes(x: &[u8], y: &[u8]) -> usize
-    ensures { AreCommon x.now y.now result }
-{
-    let most = x.len().min(y.len());
-    let mut at = 0;
-    while most - at >= LANES {
-        let next = at + LANES;
-        if !are_equal(&x[at..next], &y[at..next]) {
-            return common_from(x, y, at);
-        }
-        at = next;
-    }
-    common_from(x, y, at)
-}
-
-// Counts the equal bytes at the front one by one, after the first `known`, which are equal.
-fn common_from(x: &[u8], y: &[u8], known: usize) -> usize
-    requires { AreCommon x.now y.now known }
-    ensures { AreCommon x.now y.now result }
-{
-    let most = x.len().min(y.len());
-    let mut at = known;
-    while at < most {
-        if x[at] != y[at] {
-            return at;
-        }
-        at += 1;
-    }
-    at
 }
 
 /// How many bytes both begin with: as many as the shorter one has, or none.

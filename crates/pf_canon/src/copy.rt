@@ -9,7 +9,7 @@ ghost use Rattle.pf_canon.specs.Copy.{CopiesAll, CopiesPart, CopyStops, Gathers,
 ghost use Rattle.pf_canon.specs.Output.{output_text};
 ghost use Rattle.pf_canon.specs.SinkLaws.{gathers};
 
-use crate::chunk::{Chunk, put_items};
+use crate::chunk::{Chunk, put_all_items};
 use crate::faults::CopyFault;
 use crate::limits::{COPY_BLOCK, GATHERED};
 use crate::output::Output;
@@ -328,7 +328,7 @@ fn put_both<W: Write>(
     put(w, bytes, count)
 }
 
-// Gathers what the directives at the front of a text settle, as `put_items` takes them, and counts on as
+// Gathers what the directives at the front of a text settle, as `put_all_items` takes them, and counts on as
 // `put` does.
 #[inline(always)]
 fn gather_items<W: Write>(
@@ -351,7 +351,7 @@ fn gather_items<W: Write>(
         count,
         has_failed: false,
     };
-    let (taken, len) = put_items(transducer, text, 0, &mut out);
+    let (taken, len) = put_all_items(transducer, text, &mut out);
     if out.has_failed {
         return (taken, len, Err(out.count));
     }

@@ -1,34 +1,66 @@
-//! Texts that go on with different characters after equal items.
-ghost use Rattle.std.specs.Prelude.{◌≤◌, length, take, IsTrue, false};
+//! Texts that are known to differ without their canonical texts.
+ghost use Rattle.std.specs.Prelude.{◌≢◌, ◌≤◌, length, take, IsTrue, false};
 ghost use Rattle.pf_values.specs.declared.limits.TheConstants.{MAX_TEXT_LEN as LIMIT};
-ghost use Rattle.pf_values.specs.declared.models.Model.{Model};
 ghost use Rattle.pf_values.specs.meaning.Items.{IsAccepted};
+ghost use Rattle.pf_text.specs.History.{IsLiteral};
 ghost use Rattle.pf_canon.specs.Comparison.{AreCommon, AreTextsSame, BeginApart};
 
-use pf_text::is_plainly_accepted;
+use pf_text::{is_plainly_accepted, known_types};
 use pf_values::limits::MAX_TEXT_LEN;
+use pf_values::{ArgType, Model};
 
-/// Whether two texts are known to differ right after their first `common` bytes, which are equal: these
-/// are whole items, and then come different ordinary characters, or one text ends. So they print
-/// different bytes for all arguments. False if that isn't so, or if a text is refused.
-pub(crate) fn differ_after(first: &[u8], second: &[u8], common: usize) -> bool
+/// Whether two texts whose first `common` bytes are equal are known to differ. Either these are whole
+/// items, and then come different ordinary characters, or one text ends: so they print different bytes
+/// for all arguments. Or one goes on with `%`, and they take arguments of different types. False if
+/// neither is so, or if a text is refused.
+#[inline(always)]
+pub(crate) fn differ_after(model: Model, first: &[u8], second: &[u8], common: usize) -> bool
     requires { AreCommon first.now second.now common }
-    ensures { IsTrue result → (model : Model) → AreTextsSame model first.now second.now false }
+    ensures { IsTrue result → AreTextsSame model first.now second.now false }
 {
     let first_rest = &first[common..];
     let second_rest = &second[common..];
-    if !begin_apart(first_rest, second_rest) || !is_short(first) || !is_short(second) {
+    if !begin_apart(first_rest, second_rest) {
+        return take_other_types(model, first, second);
+    }
+    if !is_short(first) || !is_short(second) || !are_items(first, common) {
         return false;
     }
-    if !are_items(first, common) || !is_format(first_rest) {
+    if !is_rest(first_rest) {
         return false;
     }
-    is_format(second_rest)
+    is_rest(second_rest)
 }
 
-// Whether the first `len` bytes of a text are whole items. 0 bytes are, without a look.
+// The most arguments whose types are compared.
+const COMPARED: usize = 32;
+
+/// Whether two texts are known to be accepted, and to take arguments of different types.
+#[inline(never)]
+pub(crate) fn take_other_types(model: Model, first: &[u8], second: &[u8]) -> bool
+    ensures { IsTrue result → AreTextsSame model first.now second.now false }
+{
+    let mut first_types = [ArgType::Int; COMPARED];
+    let mut second_types = [ArgType::Int; COMPARED];
+    let Some(first_count) = known_types(model, first, &mut first_types) else {
+        return false;
+    };
+    let Some(second_count) = known_types(model, second, &mut second_types) else {
+        return false;
+    };
+    are_unequal(&first_types[..first_count], &second_types[..second_count])
+}
+
 #[inline(always)]
-fn are_items(text: &[u8], len: usize) -> bool
+fn are_unequal(first: &[ArgType], second: &[ArgType]) -> bool
+    ensures { IsTrue result → first.now ≢ second.now }
+{
+    first != second
+}
+
+/// Whether the first `len` bytes of a text are whole items. 0 bytes are, without a look.
+#[inline(always)]
+pub(crate) fn are_items(text: &[u8], len: usize) -> bool
     requires { len ≤ length text.now }
     ensures { IsTrue result → IsAccepted (take len text.now) }
 {
@@ -38,9 +70,29 @@ fn are_items(text: &[u8], len: usize) -> bool
     is_format(&text[..len])
 }
 
+// Whether a text that doesn't begin with `%` is accepted. Most often it is one byte, or none.
+#[inline(always)]
+fn is_rest(text: &[u8]) -> bool
+    ensures { IsTrue result → IsAccepted text.now }
+{
+    match text {
+        [] => true,
+        [byte] => is_literal(*byte),
+        _ => is_format(text),
+    }
+}
+
+#[inline(always)]
+fn is_literal(byte: u8) -> bool
+    ensures { IsTrue result → IsLiteral byte }
+{
+    byte != b'%' && byte != 0
+}
+
+/// Whether a text is known to be accepted.
 // Never inlined, since three texts are checked.
 #[inline(never)]
-fn is_format(text: &[u8]) -> bool
+pub(crate) fn is_format(text: &[u8]) -> bool
     ensures { IsTrue result → IsAccepted text.now }
 {
     is_plainly_accepted(text)
@@ -59,9 +111,9 @@ fn begin_apart(first: &[u8], second: &[u8]) -> bool
     }
 }
 
-// Whether a text isn't longer than a format may be.
+/// Whether a text isn't longer than a format may be.
 #[inline(always)]
-fn is_short(text: &[u8]) -> bool
+pub(crate) fn is_short(text: &[u8]) -> bool
     ensures { IsTrue result → length text.now ≤ LIMIT }
 {
     text.len() as u64 <= MAX_TEXT_LEN

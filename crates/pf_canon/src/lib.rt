@@ -4,7 +4,9 @@
 mod canonical_bytes;
 mod canonical_slices;
 mod canonical_texts;
+mod changed_directives;
 mod chunk;
+mod common_bytes;
 mod comparison;
 mod copy;
 mod early_difference;

@@ -8,13 +8,14 @@ ghost use Rattle.pf_canon.specs.Answers.{most_len};
 ghost use Rattle.pf_canon.specs.declared.limits.TheConstants.{MAX_DIRECTIVE_LEN};
 ghost use Rattle.pf_canon.specs.Making.{IsWritten};
 ghost use Rattle.pf_canon.specs.Output.{output_text};
-ghost use Rattle.pf_canon.specs.Transducer.{SettlesEnd, GrowsByChunk, HasScannedByte, IsChunkWithin, IsThrough, IsUpTo, TakesVerbatim, TakesText, Settles, TakesByte, SettlesDirective, TakesChunk, GrowsByDirective, chunk_output_text, byte_output_text, data_model_of, more_of, scanner_of, held_silents_of};
+ghost use Rattle.pf_canon.specs.Transducer.{SettlesEnd, GrowsByChunk, HasScannedByte, IsChunkWithin, IsThrough, IsUpTo, IsUpToAfter, TakesVerbatim, TakesText, Settles, TakesByte, SettlesDirective, TakesChunk, GrowsByDirective, chunk_output_text, byte_output_text, data_model_of, more_of, scanner_of, held_silents_of};
 
 use crate::chunk::{Chunk, ChunkRefusal};
 use crate::output::{Output, StepOutput};
+use crate::plain_texts::put_plain;
 use crate::sink::Sink;
 use pf_reduce::{Core, Reduced, reduce};
-use pf_text::{Refusal, Scanner, Spelling, Step, spell};
+use pf_text::{CanonicalRuns, Refusal, Scanner, Spelling, Step, spell};
 use pf_values::{Directive, Model};
 
 /// A data model, the scanner's state inside the current item, and the number of `%.0s` not yet
@@ -49,6 +50,26 @@ impl Transducer {
             scanner: Scanner::after_items(len),
             silents: 0,
         }
+    }
+
+    /// Takes whole items at the front of a text as `put_plain` does, and puts what they settle. Returns how many
+    /// bytes they have: 0 inside an item, and if a silent directive waits.
+    pub(crate) fn put_front<S: Sink>(&mut self, text: &[u8], sink: &mut S) -> usize
+        ensures put { (more : Text) × S.given sink.old sink.new more
+            × ((before out : Text) → IsUpToAfter before self.old text.now 0 out
+            → (data_model_of self.new ≡ data_model_of self.old)
+            × IsUpToAfter before self.new text.now result (out ++ more)) }
+        ensures within { result ≤ length text.now }
+    {
+        if self.silents > 0 {
+            return 0;
+        }
+        if !self.scanner.may_pass(text.len()) {
+            return 0;
+        }
+        let len = put_plain(self.model, text, CanonicalRuns::of(text), 0, sink);
+        self.scanner.pass_items(len);
+        len
     }
 
     /// A transducer that took a text chunk by chunk, up to its end or to what is refused, and how

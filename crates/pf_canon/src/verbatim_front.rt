@@ -5,6 +5,7 @@ ghost use Rattle.pf_values.specs.meaning.Text.{Text};
 ghost use Rattle.pf_canon.specs.Answers.{IsCanonicalFor};
 ghost use Rattle.pf_canon.specs.VerbatimFronts.{IsVerbatimFront, front_model};
 
+use crate::changed_directives::kept_len;
 use crate::chunk::put_chunks;
 use crate::plain_texts::put_plain;
 use crate::sink::Sink;
@@ -34,6 +35,23 @@ impl VerbatimFront {
         VerbatimFront { model, runs, len }
     }
 
+    /// With the directives after it that are verbatim, too, and the verbatim bytes after each.
+    pub(crate) fn extended(&self, text: &[u8]) -> VerbatimFront
+        requires { IsVerbatimFront text.now self.now }
+        ensures model { front_model result ≡ front_model self.now }
+        ensures front { IsVerbatimFront text.now result }
+    {
+        let mut len = self.len;
+        while len < text.len() {
+            let kept = kept_len(self.model, &text[len..]);
+            if kept == 0 {
+                return VerbatimFront { len, ..*self };
+            }
+            len = self.runs.end(text, len + kept);
+        }
+        VerbatimFront { len, ..*self }
+    }
+
     /// Whether all bytes of the format are verbatim, as they are in most. Then it is accepted, and its
     /// own canonical text. False for a refused text, and for some formats that are canonical, too.
     #[inline(always)]
@@ -51,6 +69,7 @@ impl VerbatimFront {
     }
 
     /// Puts all of the canonical text of the format.
+    #[inline(always)]
     pub(crate) fn put<S: Sink>(&self, text: &[u8], sink: &mut S) -> Result<(), Refusal>
         requires { IsVerbatimFront text.now self.now }
         ensures { MatchResult result (λ _. (c : Text) × S.given sink.old sink.new c

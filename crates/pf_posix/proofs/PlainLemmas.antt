@@ -1,19 +1,26 @@
 -- Specifications with neither numbers of arguments nor `*`, read at places of a text.
 use Rattle.std.proofs.Common.{◌≡◌, ℕ, ◌+◌, ◌-◌, ◌*◌, ◌<◌, ◌≤◌, Bool, true, false, length, get_or, drop, refl, sym, ap, ◌∙◌, arith}
 use Rattle.std.proofs.Common.{subst, inl, inr, Ok}
-use Rattle.std.specs.Prelude.{Some, None, ◌⊎◌, ◌==◌, nat_lt, if◌then◌else◌}
+use Rattle.std.specs.Prelude.{Option, Some, None, option_map, ◌⊎◌, ◌==◌, ◌&&◌, nat_lt, if◌then◌else◌}
 use Rattle.std.proofs.lemmas.Bool.Decides.{nat_tests}
 use Rattle.std.proofs.lemmas.List.{drop_more}
+use Rattle.pf_values.specs.declared.conversions.Conv.{Conv}
+use Rattle.pf_values.specs.declared.conversions.Conv.TheVariants as convs
 use Rattle.pf_values.specs.declared.flags.Flag.{Flag}
+use Rattle.pf_values.specs.declared.lengths.Length.{Length}
 use Rattle.pf_values.specs.declared.lengths.Length.TheVariants as lengths
 use Rattle.pf_values.specs.declared.limits.TheConstants.{MAX_NUMBER, MAX_TEXT_LEN}
 use Rattle.pf_values.specs.declared.models.Model.{Model}
+use Rattle.pf_values.specs.meaning.Conversions.{conv_letter, is_text, kind_of}
+use Rattle.pf_values.specs.meaning.DataModel.{type_under}
 use Rattle.pf_values.specs.meaning.Flags.{flag_byte, with_flag}
+use Rattle.pf_values.specs.meaning.Lengths.{is_long}
 use Rattle.pf_values.specs.meaning.Text.{Text}
-use Rattle.pf_text.specs.Letters.{flag_of}
+use Rattle.pf_text.specs.Letters.{conv_of, flag_of, modifier_of}
 use Rattle.pf_text.specs.States.{is_digit}
-use Rattle.pf_text.proofs.Sound.{byte_of_flag}
+use Rattle.pf_text.proofs.Sound.{byte_of_conv, byte_of_flag}
 use Rattle.pf_posix.specs.declared.conversions.Conversion.{Conversion}
+use Rattle.pf_posix.specs.declared.conversions.Conversion.TheVariants.{Profile}
 use Rattle.pf_posix.specs.declared.conversions.Modifier.{Modifier}
 use Rattle.pf_posix.specs.declared.conversions.Modifier.TheVariants.{Integer, LongDouble}
 use Rattle.pf_posix.specs.declared.partial_specification.Numbering.{Numbering}
@@ -25,7 +32,7 @@ use Rattle.pf_posix.specs.declared.types.ArgumentType.{ArgumentType}
 use Rattle.pf_posix.specs.Defined.{undefined_as}
 use Rattle.pf_posix.specs.Letters.{conversion_of, is_first_digit, length_modifier_of}
 use Rattle.pf_posix.specs.PartsInText.{second_modifier}
-use Rattle.pf_posix.specs.Plain.{DigitsRead, FlagsRead, IsBeforeModifier, IsBeforePrecision, IsBeforeWidth, IsFetchedFrom, Leads, ModifierRead, PrecisionRead}
+use Rattle.pf_posix.specs.Plain.{DigitsRead, FlagsRead, IsBeforeModifier, IsBeforePrecision, IsBeforeWidth, IsFetchedFrom, Leads, LengthRead, ModifierRead, PrecisionRead}
 use Rattle.pf_posix.specs.Plain.{TakesConversion, TakesDigit, WidthRead}
 use Rattle.pf_posix.specs.Readings.{moved, trace_from}
 use Rattle.pf_posix.specs.Refusals.{Follows}
@@ -33,12 +40,24 @@ use Rattle.pf_posix.specs.Specifications.{conversion_letter}
 use Rattle.pf_posix.specs.Stages.{PosixState, Between, Opened, First, Flags, Digits, Modified, Point}
 use Rattle.pf_posix.specs.States.{after_amount, after_numbers, among_flags, conversion_at, conversion_by, move_to, parts_at, posix_step, with_digit, with_width}
 use Rattle.pf_posix.specs.States.{after_modifier_letter}
-use Rattle.pf_posix.specs.Types.{fetch, conversion_type}
+use Rattle.pf_posix.specs.Types.{fetch, conversion_type, widened}
 use Rattle.pf_posix.proofs.Judging.{byte_of_conversion}
+use Rattle.pf_posix.proofs.Profile.{type_here}
 use Rattle.pf_posix.proofs.Reaching.{letter_tests}
 use Rattle.pf_posix.proofs.Running.{IsLater, first_later, first_step, flag_tests, flags_digit, flags_other, letter_later, plain_percent, point_later}
 use Rattle.pf_posix.proofs.TwoByteLemmas.{not_numbered, two_bytes_step}
 use Rattle.pf_posix.proofs.WalkLemmas.{within_limit}
+
+conversion_known : (conv : Conv) → conversion_of (conv_letter conv) ≡ Some (Profile conv)
+conversion_known convs.D = refl
+conversion_known convs.I = refl
+conversion_known convs.U = refl
+conversion_known convs.O = refl
+conversion_known convs.X = refl
+conversion_known convs.UpperX = refl
+conversion_known convs.B = refl
+conversion_known convs.C = refl
+conversion_known convs.S = refl
 
 -- one byte
 module _ (model : Model) (numbering : Numbering) (t : Text) (short : length t ≤ MAX_TEXT_LEN) where
@@ -85,6 +104,31 @@ module _ (model : Model) (numbering : Numbering) (t : Text) (short : length t �
       fetched_here Opened at (conversion_type model (Integer lengths.None) conversion) less
       (ap (posix_step model numbering Opened) (byte_of_conversion (get_or t at 0) conversion e)
       ∙ two_bytes_step model numbering conversion (not_numbered numbering follows))
+
+  pub bare_typed : (at : ℕ) (wanted : ArgumentType) → Follows numbering (Some Unnumbered) → at < length t
+      → Some wanted ≡ option_map (conversion_type model (Integer lengths.None)) (conversion_of (get_or t at 0))
+      → IsFetchedFrom model numbering t Opened at wanted (at + 1)
+  bare_typed at wanted follows less e = go (conversion_of (get_or t at 0)) refl e where
+    go : (found : Option Conversion) → conversion_of (get_or t at 0) ≡ found
+        → Some wanted ≡ option_map (conversion_type model (Integer lengths.None)) found
+        → IsFetchedFrom model numbering t Opened at wanted (at + 1)
+    go None known e = cc
+    go (Some conversion) known e =
+        let same : wanted ≡ conversion_type model (Integer lengths.None) conversion = cc in
+        rw same (bare at conversion follows less known)
+
+  -- a conversion of the profile
+  pub profile_here : (state : PosixState) (at : ℕ) (parts : PartialSpecification) (modifier : Length) (conv : Conv) → at < length t
+      → parts.position ≡ None
+      → TakesConversion model numbering state parts (Integer modifier) → conv_of (get_or t at 0) ≡ Some conv
+      → undefined_as parts.flags parts.width parts.precision (Integer modifier) (Profile conv) ≡ None
+      → (is_text conv && is_long modifier) ≡ false
+      → IsFetchedFrom model numbering t state at (widened (type_under model conv modifier)) (at + 1)
+  profile_here state at parts modifier conv less position takes e defined narrow =
+      let known : conversion_of (get_or t at 0) ≡ Some (Profile conv) =
+      ap conversion_of (byte_of_conv (get_or t at 0) conv e) ∙ conversion_known conv in
+      rw (sym (type_here model (kind_of conv) modifier narrow))
+      (converted_here state at parts (Integer modifier) (Profile conv) less position takes known defined)
 
 -- `.` and letters
 later_of : (byte : ℕ) → (byte ≡ 46) ⊎ (57 < byte) → IsLater byte
@@ -210,10 +254,20 @@ module _ (t : Text) (start first number stop : ℕ) (parts : PartialSpecificatio
         go later (inr e) = digits_wide model numbering parts later number h.1 e
 
 -- a precision
+no_precision : (model : Model) (numbering : Numbering) (state : PosixState) (parts : PartialSpecification) → IsBeforePrecision model numbering state parts
+    → IsBeforeModifier model numbering state parts
+no_precision model numbering state parts h =
+    record {
+      position = h.position;
+      letter = λ byte high. let no : (byte == 46) ≡ false = grind (arith, nat_tests) in h.later byte (inr high) ∙ rw no refl;
+    }
+
 pub precision_none : (t : Text) (start : ℕ) (parts : PartialSpecification) → PrecisionRead t start parts parts start
-precision_none t start parts model numbering state short h =
-    let letter = λ (byte : ℕ) (high : 57 < byte). let no : (byte == 46) ≡ false = grind (arith, nat_tests) in h.later byte (inr high) ∙ rw no refl in
-    (state, record { position = h.position; letter = letter }, refl)
+precision_none t start parts model numbering state short h = (state, no_precision model numbering state parts h, refl)
+
+-- nothing before a modifier
+pub no_parts : (model : Model) (numbering : Numbering) → Follows numbering (Some Unnumbered) → IsBeforeModifier model numbering Opened (parts_at None)
+no_parts model numbering follows = no_precision model numbering Opened (parts_at None) (no_width model numbering Opened (parts_at None) follows (inl (refl, refl)))
 
 point_digit : (model : Model) (numbering : Numbering) (parts : PartialSpecification)
     → TakesDigit model numbering Precision (Digits Precision parts) (Point parts) 0
@@ -283,3 +337,20 @@ pub numbers_take : (model : Model) (numbering : Numbering) (state : PosixState) 
     → TakesConversion model numbering state parts (Integer lengths.None)
 numbers_take model numbering state parts h conversion =
     let tests = letter_tests conversion in h.letter (conversion_letter conversion) tests.high ∙ rw (tests.modifier) refl
+
+-- a modifier of integers, or none
+of_integers : (byte : ℕ) (first : Length) → modifier_of byte ≡ Some first → length_modifier_of byte ≡ Some (Integer first)
+of_integers byte first e = let other : (byte == 76) ≡ false = grind (arith, nat_tests) in rw (other, e) refl
+
+pub length_none : (t : Text) (start : ℕ) → LengthRead t start lengths.None start
+length_none t start model numbering state parts short h = (state, numbers_take model numbering state parts h, refl)
+
+pub length_given : (t : Text) (start stop : ℕ) (first modifier : Length) → start < length t → modifier_of (get_or t start 0) ≡ Some first
+    → ModifierRead t (start + 1) (Integer first) (Integer modifier) stop → LengthRead t start modifier stop
+length_given t start stop first modifier less e read model numbering state parts short h =
+    let known = of_integers (get_or t start 0) first e in
+    let begun = modifier_begun model numbering state parts (get_or t start 0) (Integer first) h known in (
+      Modified parts (Integer modifier),
+      modified_takes model numbering parts (Integer modifier),
+      led model numbering t short state start (Modified parts (Integer first)) less begun ∙ read model numbering parts short,
+    )

@@ -146,7 +146,7 @@ no_stars : (o : Option ℕ) → star_fetches (given o) ≡ []
 no_stars None = refl
 no_stars (Some n) = refl
 
-type_here : (model : Model) (kind : Kind) (length : Length) → (prints_text kind && is_long length) ≡ false
+pub type_here : (model : Model) (kind : Kind) (length : Length) → (prints_text kind && is_long length) ≡ false
     → kind_type model kind length ≡ widened (type_of_kind model kind length)
 type_here model kinds.Signed length e = refl
 type_here model (kinds.Unsigned base capitals) length e = refl

@@ -1,13 +1,15 @@
 -- A format's front with neither numbers of arguments nor `*`, as the code reads it at offsets of the text.
 -- No public contract names these.
-use Rattle.std.specs.Prelude.{◌≡◌, ◌≢◌, ℕ, ◌+◌, ◌-◌, ◌<◌, ◌≤◌, true, List, drop, length, Some, None, ◌⊎◌}
+use Rattle.std.specs.Prelude.{◌≡◌, ◌≢◌, ℕ, ◌+◌, ◌-◌, ◌<◌, ◌≤◌, true, List, [], ◌∷◌, ◌++◌, Option, drop, length, Some, None, ◌⊎◌}
 use Rattle.std.specs.List.{AllByRecursion}
+use Rattle.pf_values.specs.declared.lengths.Length.{Length}
 use Rattle.pf_values.specs.declared.limits.TheConstants.{MAX_TEXT_LEN}
 use Rattle.pf_values.specs.declared.models.Model.{Model}
 use Rattle.pf_values.specs.meaning.Text.{Text, point, zero_digit}
 use Rattle.pf_text.specs.States.{is_digit}
 use Rattle.pf_posix.specs.declared.conversions.Conversion.{Conversion}
 use Rattle.pf_posix.specs.declared.conversions.Modifier.{Modifier}
+use Rattle.pf_posix.specs.declared.conversions.Modifier.TheVariants.{Integer}
 use Rattle.pf_posix.specs.declared.fetches.Fetch.{Fetch}
 use Rattle.pf_posix.specs.declared.partial_specification.Numbering.{Numbering}
 use Rattle.pf_posix.specs.declared.partial_specification.Numbering.TheVariants.{Unnumbered}
@@ -87,17 +89,47 @@ PrecisionRead t start parts more stop = (model : Model) (numbering : Numbering) 
     → (later : PosixState) × IsBeforeModifier model numbering later more
     × Leads model numbering t state start later stop
 
+-- all parts before a modifier
+abbrev pub PartsRead : Text → ℕ → PartialSpecification → ℕ → Type 0
+PartsRead t start parts stop = (model : Model) (numbering : Numbering) → Follows numbering (Some Unnumbered)
+    → length t ≤ MAX_TEXT_LEN
+    → (state : PosixState) × IsBeforeModifier model numbering state parts
+    × Leads model numbering t Opened start state stop
+
 -- the second letter of a modifier, or none
 abbrev pub ModifierRead : Text → ℕ → Modifier → Modifier → ℕ → Type 0
 ModifierRead t start first modifier stop = (model : Model) (numbering : Numbering)
     (parts : PartialSpecification) → length t ≤ MAX_TEXT_LEN
     → Leads model numbering t (Modified parts first) start (Modified parts modifier) stop
 
+-- a modifier of integers, or none
+abbrev pub LengthRead : Text → ℕ → Length → ℕ → Type 0
+LengthRead t start modifier stop = (model : Model) (numbering : Numbering) (state : PosixState)
+    (parts : PartialSpecification) → length t ≤ MAX_TEXT_LEN → IsBeforeModifier model numbering state parts
+    → (later : PosixState) × TakesConversion model numbering later parts (Integer modifier)
+    × Leads model numbering t state start later stop
+
 -- the rest of a specification fetches an argument of this type, and ends at this offset
 abbrev pub IsFetchedFrom : Model → Numbering → Text → PosixState → ℕ → ArgumentType → ℕ → Type 0
 IsFetchedFrom model numbering t state start wanted stop = (last : ℕ) × (stop ≡ last + 1)
     × (trace_from model numbering state start (drop start t)
     ≡ Fetches (fetch None wanted) last (trace_from model Unnumbered Between stop (drop stop t)))
+
+-- a specification fetches an argument of this type and ends at this offset, and the type is put at an index
+pub record IsPutAt (model : Model) (t : Text) (start : ℕ) (old new : List ArgumentType) (count stop : ℕ) : Type 0 where
+  pub wanted : ArgumentType
+  pub fetched : (numbering : Numbering) → Follows numbering (Some Unnumbered)
+      → IsFetchedFrom model numbering t Opened start wanted stop
+  pub put : (first before : List ArgumentType) → old ≡ filled first before → count ≡ length before
+      → new ≡ filled first (before ++ wanted ∷ [])
+  pub same_length : length new ≡ length old
+  pub from : start < stop
+  pub within : stop ≤ length t
+
+-- so it is, or nothing was put
+abbrev pub IsFetchPut : Model → Text → ℕ → List ArgumentType → List ArgumentType → ℕ → Option ℕ → Type 0
+IsFetchPut model t start old new count None = new ≡ old
+IsFetchPut model t start old new count (Some stop) = IsPutAt model t start old new count stop
 
 -- what was fetched has no numbers, and what is left is read so
 pub record IsInOrder (model : Model) (t : Text) (seen : List Fetch) (left : FetchTrace) : Type 0 where

@@ -21,6 +21,7 @@ use std::alloc::{AllocError, Global};
 /// paragraphs 3 to 9; POSIX fprintf on numbered arguments). Their types, as many as `out` has room
 /// for, are put at its front, and the rest of `out` is as it was. If the format is refused, `out` has
 /// the same length, and its contents are unspecified.
+#[inline(always)]
 pub fn arguments(model: Model, text: &[u8], out: &mut [ArgumentType]) -> Result<u64, Refusal>
     ensures types { MatchResult result
         (λ count. HasCount model text.now out.old out.new count)

@@ -1,6 +1,10 @@
 //! An argument that is fetched, and the type of the argument of a conversion (C11 7.21.6.1,
 //! paragraphs 7 and 8).
-ghost use Rattle.std.specs.Prelude.{◌≡◌, if◌then◌else◌};
+ghost use Rattle.std.specs.Prelude.{◌≡◌, if◌then◌else◌, IfSome, Some, option_map};
+ghost use Rattle.pf_values.specs.declared.lengths.Length.TheVariants as lengths;
+ghost use Rattle.pf_values.specs.declared.models.Model.{Model as ModelOf};
+ghost use Rattle.pf_posix.specs.declared.conversions.Modifier.TheVariants.{Integer};
+ghost use Rattle.pf_posix.specs.Letters.{conversion_of};
 ghost use Rattle.pf_posix.specs.Types.{counted_type, floating_type, int_type, kind_type, integer_length, conversion_type, pointer_to};
 ghost use Rattle.pf_posix.specs.declared.types.ArgumentType.TheVariants.{Profile, WideChar, WideString};
 ghost use Rattle.pf_values.specs.declared.types.ArgType.TheVariants as profile;
@@ -35,6 +39,23 @@ pub(crate) fn conversion_type(
         Conversion::UpperS => ArgumentType::WideString,
         Conversion::Pointer => ArgumentType::Pointer,
         Conversion::Count => counted_type(model, integer_length(modifier)),
+    }
+}
+
+/// The type of the argument of a specification that is only a conversion. None if it isn't known: for the
+/// rare ones, a test would cost the others more.
+#[inline(always)]
+pub(crate) fn bare_type(byte: u8) -> Option<ArgumentType>
+    ensures { IfSome result (λ wanted. (model : ModelOf) → Some wanted
+        ≡ option_map (conversion_type model (Integer lengths.None)) (conversion_of byte)) }
+{
+    match byte {
+        b'd' | b'i' | b'c' => Some(ArgumentType::Profile(ArgType::Int)),
+        b'u' | b'o' | b'x' | b'X' | b'b' => Some(ArgumentType::Profile(ArgType::UInt)),
+        b's' => Some(ArgumentType::Profile(ArgType::Str)),
+        b'f' | b'g' => Some(ArgumentType::Double),
+        b'p' => Some(ArgumentType::Pointer),
+        _ => None,
     }
 }
 

@@ -16,6 +16,7 @@ mod opaque_reader;
 mod pairs;
 mod partial_specification;
 mod plain_reader;
+mod profile_reader;
 mod reader;
 mod stretches;
 mod tables;

@@ -4,19 +4,20 @@ ghost use Rattle.std.specs.Prelude.{◌≡◌, ◌<◌, ◌≤◌, IfSome, None,
 ghost use Rattle.pf_values.specs.declared.limits.TheConstants.{MAX_TEXT_LEN as LIMIT};
 ghost use Rattle.pf_posix.specs.declared.partial_specification.Numbering.{Numbering as NumberingOf};
 ghost use Rattle.pf_posix.specs.declared.partial_specification.Numbering.TheVariants.{Unnumbered};
-ghost use Rattle.pf_posix.specs.Plain.{FlagsRead, IsBeforeModifier, IsBeforeWidth, IsFetchedFrom, IsFrontRead, PrecisionRead, TakesConversion, WidthRead};
+ghost use Rattle.pf_posix.specs.Plain.{FlagsRead, IsBeforeModifier, IsFetchPut, IsFetchedFrom, IsFrontRead, PartsRead, PrecisionRead, TakesConversion, WidthRead};
 ghost use Rattle.pf_posix.specs.Refusals.{Follows};
 ghost use Rattle.pf_posix.specs.Stages.{Opened, PosixState};
 
 use crate::conversions::Modifier;
-use crate::fetches::conversion_type;
+use crate::fetches::{bare_type, conversion_type};
 use crate::letters::{conversion_of, length_modifier_of};
 use crate::opaque_reader::{begins_number, digits_at, has_byte, modifier_with};
 use crate::partial_specification::PartialSpecification;
+use crate::profile_reader::profile_after;
 use crate::tables::put;
 use crate::types::ArgumentType;
 use crate::undefined_combinations::undefined_as;
-use pf_text::{MAX_MARKED, MIN_MARKED, Marks, flag_of, literal_len};
+use pf_text::{MAX_MARKED, MIN_MARKED, Marks, flag_of, literal_len, modifier_of};
 use pf_values::limits::MAX_TEXT_LEN;
 use pf_values::{Length, Model};
 
@@ -31,6 +32,7 @@ pub(crate) struct PlainFront {
 
 /// Reads the front of a format whose arguments have no numbers and are no `*`, and puts their types at
 /// the front of `out`, as many as there is room for.
+#[inline(never)]
 pub(crate) fn plain_front(model: Model, text: &[u8], out: &mut [ArgumentType]) -> PlainFront
     ensures { IsFrontRead model text.now out.old out.new result }
 {
@@ -60,15 +62,18 @@ fn front_by_marks(model: Model, text: &[u8], out: &mut [ArgumentType]) -> PlainF
                 count,
             };
         };
-        if !has_byte(text, offset, b'%') {
+        let next = offset + 1;
+        if next >= text.len() {
             return PlainFront { at, count };
         }
-        if has_byte(text, offset + 1, b'%') {
+        if text[offset] != b'%' {
+            return PlainFront { at, count };
+        }
+        if text[next] == b'%' {
             at = offset + 2;
         } else {
-            match plain_fetch(model, text, offset + 1) {
-                Some((wanted, stop)) => {
-                    put(out, count, wanted);
+            match put_fetch(model, text, next, out, count) {
+                Some(stop) => {
                     count += 1;
                     at = stop;
                 }
@@ -99,9 +104,8 @@ fn front_by_runs(model: Model, text: &[u8], out: &mut [ArgumentType]) -> PlainFr
         } else if has_byte(text, at + 1, b'%') {
             at += 2;
         } else {
-            match plain_fetch(model, text, at + 1) {
-                Some((wanted, stop)) => {
-                    put(out, count, wanted);
+            match put_fetch(model, text, at + 1, out, count) {
+                Some(stop) => {
                     count += 1;
                     at = stop;
                 }
@@ -112,10 +116,81 @@ fn front_by_runs(model: Model, text: &[u8], out: &mut [ArgumentType]) -> PlainFr
     PlainFront { at, count }
 }
 
-// The type of the argument of the specification after a `%`, and where it ends. None if it has a `*`,
-// or isn't accepted.
+// Puts the type of the argument of the specification after a `%`, and returns where it ends. None if it
+// has a `*`, or isn't accepted.
 #[inline(always)]
-fn plain_fetch(model: Model, text: &[u8], start: usize) -> Option<(ArgumentType, usize)>
+fn put_fetch(
+    model: Model,
+    text: &[u8],
+    start: usize,
+    out: &mut [ArgumentType],
+    count: usize,
+) -> Option<usize>
+    requires start { start ≤ length text.now }
+    requires short { length text.now ≤ LIMIT }
+    ensures { IsFetchPut model text.now start out.old out.new count result }
+{
+    if start >= text.len() {
+        return None;
+    }
+    match bare_type(text[start]) {
+        Some(wanted) => {
+            put(out, count, wanted);
+            Some(start + 1)
+        }
+        None => put_with_parts(model, text, start, out, count),
+    }
+}
+
+// Puts the type of the argument of a specification with more than a conversion, as `put_fetch` does.
+#[inline(always)]
+fn put_with_parts(
+    model: Model,
+    text: &[u8],
+    start: usize,
+    out: &mut [ArgumentType],
+    count: usize,
+) -> Option<usize>
+    requires start { start ≤ length text.now }
+    requires short { length text.now ≤ LIMIT }
+    ensures { IsFetchPut model text.now start out.old out.new count result }
+{
+    match fetch_of_profile(model, text, start) {
+        Some((wanted, stop)) => {
+            put(out, count, wanted);
+            Some(stop)
+        }
+        None => put_any(model, text, start, out, count),
+    }
+}
+
+// Puts the type of the argument of a specification that `fetch_of_profile` doesn't read, as `put_fetch`
+// does. It isn't inlined: that keeps the loop of the others short.
+#[inline(never)]
+fn put_any(
+    model: Model,
+    text: &[u8],
+    start: usize,
+    out: &mut [ArgumentType],
+    count: usize,
+) -> Option<usize>
+    requires start { start ≤ length text.now }
+    requires short { length text.now ≤ LIMIT }
+    ensures { IsFetchPut model text.now start out.old out.new count result }
+{
+    match fetch_of_any(model, text, start) {
+        Some((wanted, stop)) => {
+            put(out, count, wanted);
+            Some(stop)
+        }
+        None => None,
+    }
+}
+
+// The type of the argument of a specification of the profile, as most are, and where it ends. If it begins
+// with a length modifier, the tests of flags fall away.
+#[inline(always)]
+fn fetch_of_profile(model: Model, text: &[u8], start: usize) -> Option<(ArgumentType, usize)>
     requires start { start ≤ length text.now }
     requires short { length text.now ≤ LIMIT }
     ensures fetched { IfSome result (λ read. (numbering : NumberingOf) → Follows numbering (Some Unnumbered)
@@ -125,51 +200,39 @@ fn plain_fetch(model: Model, text: &[u8], start: usize) -> Option<(ArgumentType,
     if start >= text.len() {
         return None;
     }
-    match conversion_of(text[start]) {
-        Some(conversion) => Some((
-            conversion_type(model, Modifier::Integer(Length::None), conversion),
-            start + 1,
-        )),
-        None => fetch_with_parts(model, text, start),
+    match modifier_of(text[start]) {
+        Some(_) => profile_after(model, text, start, PartialSpecification::at(None)),
+        None => {
+            let (parts, at) = parts_from(text, start)?;
+            profile_after(model, text, at, parts)
+        }
     }
 }
 
-// The type of the argument of a specification with more than a conversion, and where it ends. Most have no
-// flags, and the tests of these then fall away.
+// The type of the argument of any specification without a `*`, and where it ends.
 #[inline(always)]
-fn fetch_with_parts(model: Model, text: &[u8], start: usize) -> Option<(ArgumentType, usize)>
-    requires start { start < length text.now }
+fn fetch_of_any(model: Model, text: &[u8], start: usize) -> Option<(ArgumentType, usize)>
+    requires start { start ≤ length text.now }
     requires short { length text.now ≤ LIMIT }
     ensures fetched { IfSome result (λ read. (numbering : NumberingOf) → Follows numbering (Some Unnumbered)
         → IsFetchedFrom model numbering text.now Opened start read.0 read.1) }
     ensures within { IfSome result (λ read. (start < read.1) × (read.1 ≤ length text.now)) }
 {
-    match flag_of(text[start]) {
-        None => fetch_after_flags(model, text, start, PartialSpecification::at(None)),
-        Some(_) => {
-            let (parts, at) = flags_from(text, start);
-            fetch_after_flags(model, text, at, parts)
-        }
-    }
+    let (parts, at) = parts_from(text, start)?;
+    fetch_after(model, text, at, parts)
 }
 
+// The parts from an offset on that come before a length modifier, and where they end. None if a number
+// passes the limit.
 #[inline(always)]
-fn fetch_after_flags(
-    model: Model,
-    text: &[u8],
-    start: usize,
-    parts: PartialSpecification,
-) -> Option<(ArgumentType, usize)>
-    requires start { start ≤ length text.now }
-    requires short { length text.now ≤ LIMIT }
-    ensures fetched { IfSome result (λ read. (numbering : NumberingOf) (state : PosixState)
-        → Follows numbering (Some Unnumbered) → IsBeforeWidth state parts
-        → IsFetchedFrom model numbering text.now state start read.0 read.1) }
-    ensures within { IfSome result (λ read. (start < read.1) × (read.1 ≤ length text.now)) }
+fn parts_from(text: &[u8], start: usize) -> Option<(PartialSpecification, usize)>
+    requires { start ≤ length text.now }
+    ensures parts { IfSome result (λ read. PartsRead text.now start read.0 read.1) }
+    ensures within { IfSome result (λ read. (start ≤ read.1) × (read.1 ≤ length text.now)) }
 {
-    let (parts, at) = width_from(text, start, parts)?;
-    let (parts, at) = precision_from(text, at, parts)?;
-    fetch_after(model, text, at, parts)
+    let (parts, at) = flags_from(text, start);
+    let (parts, at) = width_from(text, at, parts)?;
+    precision_from(text, at, parts)
 }
 
 // The flags from an offset on, and where they end (C11 7.21.6.1, paragraph 6).

@@ -63,7 +63,19 @@ impl ArgumentType {
     ];
 
     /// Returns the number of the type, from 1 to 17.
+    #[inline(always)]
     pub fn number(self) -> u8
+        ensures { result ≡ number_of_type self }
+    {
+        match self {
+            ArgumentType::Profile(arg_type) => arg_type.number(),
+            _ => self.number_by_row(),
+        }
+    }
+
+    // The number of the type, by a jump that those of the profile do without.
+    #[inline(never)]
+    fn number_by_row(self) -> u8
         ensures { result ≡ number_of_type self }
     {
         match self {

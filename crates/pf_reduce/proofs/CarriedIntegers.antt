@@ -60,7 +60,7 @@ no_string_under model kinds.String e s t body h = cc
 abbrev pub IsValueOf : Model → Specification → ℤ → Type 0
 IsValueOf model s v = FitsIn (is_signed s.conv) (bit_count (bits_under model s.length)) v
 
-carries : (model : Model) (s : Specification) (r : Reduced) → is_text s.conv ≡ false → is_text (core_of r.core).conv ≡ false
+pub carries : (model : Model) (s : Specification) (r : Reduced) → is_text s.conv ≡ false → is_text (core_of r.core).conv ≡ false
     → is_signed (core_of r.core).conv ≡ is_signed s.conv → bits_under model (core_of r.core).length ≡ bits_under model s.length
     → ((v : ℤ) → IsValueOf model s v → field s (value_text s v) ≡ around r (field (core_of r.core) (value_text (core_of r.core) v)))
     → Carries model s r
@@ -94,7 +94,7 @@ kept_type model conv length =
 pub kept_bits : (model : Model) (length : Length) → bits_under model (kept_length model length) ≡ bits_under model length
 kept_bits model length = ap (λ r. r.bits) (kept_row model length)
 
-kept_text : (conv : Conv) → is_text (kept_conv conv) ≡ is_text conv
+pub kept_text : (conv : Conv) → is_text (kept_conv conv) ≡ is_text conv
 kept_text conv = ap prints_text (kept_kind conv)
 
 pub kept_sign : (conv : Conv) → is_signed (kept_conv conv) ≡ is_signed conv

@@ -23,7 +23,7 @@ use Rattle.pf_reduce.proofs.SignedReductions.{signed_by}
 use Rattle.pf_reduce.proofs.UnsignedReductions.{unprefixed_by}
 
 -- each number has a digit
-some_digit : (conv : Conv) (b : Bits) → is_text conv ≡ false → 1 ≤ most_digits conv b
+pub some_digit : (conv : Conv) (b : Bits) → is_text conv ≡ false → 1 ≤ most_digits conv b
 some_digit C b e = cc
 some_digit S b e = cc
 some_digit D B8 e = omega arith

@@ -14,5 +14,8 @@ mod OwnCores
 mod UnsignedReductions
 mod SignedReductions
 mod CommonNumbers
+mod LetterLemmas
+mod TableLemmas
+mod PaddedLemmas
 mod TextReductions
 pub mod Reductions

@@ -26,20 +26,20 @@ idle_field : (left : Bool) (w : ℕ) (body : Text) → w ≤ length body → fie
 idle_field true w body h = let e : w - length body ≡ 0 - length body = omega arith in ap (λ n. body ++ replicate n space) e
 idle_field false w body h = let e : w - length body ≡ 0 - length body = omega arith in ap (λ n. replicate n space ++ body) e
 
+pub no_width : (p : Padding) (least : ℕ) → p.width ≤ least → HasNoIdleWidth p least (record p { width = 0 })
+no_width p least few = record {
+  same = λ body h. ap (λ t. replicate p.spaces space ++ (replicate p.zeros zero_digit ++ (t ++ replicate p.trail space)))
+      (idle_field p.left p.width body (omega (arith, few, h)));
+  constant = refl;
+  left = refl;
+  idle = λ h. refl;
+  kept = λ more. absurd (omega (arith, few, more));
+}
+
 pub without_idle : (p : Padding) (least : ℕ) → (q : Padding) × HasNoIdleWidth p least q
 without_idle p least = elim (cases_lt least p.width) [
   | inl more ↦ (p, record { same = λ body h. refl; constant = refl; left = refl; idle = λ few. absurd (omega (arith, few, more)); kept = λ h. refl })
-  | inr few ↦ (
-    record p { width = 0 },
-    record {
-      same = λ body h. ap (λ t. replicate p.spaces space ++ (replicate p.zeros zero_digit ++ (t ++ replicate p.trail space)))
-          (idle_field p.left p.width body (omega (arith, few, h)));
-      constant = refl;
-      left = refl;
-      idle = λ h. refl;
-      kept = λ more. absurd (omega (arith, few, more));
-    },
-  )
+  | inr few ↦ (record p { width = 0 }, no_width p least few)
 ]
 
 pub made_right : (p : Padding) (most : ℕ) → p.width ≤ most → IsRightIfUnseen p most (record p { left = false })

@@ -32,9 +32,9 @@ record HasNoSign (flags : FlagSet) : Type 0 where
   space : has flags Space ≡ false
 
 -- `u o x X b`
-record IsUnsigned (conv : Conv) : Type 0 where
-  text : is_text conv ≡ false
-  sign : is_signed conv ≡ false
+pub record IsUnsigned (conv : Conv) : Type 0 where
+  pub text : is_text conv ≡ false
+  pub sign : is_signed conv ≡ false
 
 kept_unsigned : (conv : Conv) → is_signed conv ≡ false → kept_conv conv ≡ conv
 kept_unsigned I h = cc
@@ -96,7 +96,7 @@ prefixed_form : (model : Model) (s : Specification) (alt zero : Bool) → has s.
     → HasUnsignedForm model Prefixed s
 prefixed_form model s alt zero e f h = subst (λ a. HasPrefixedForm model a (has s.flags Zero) s) (sym e) (subst (λ z. HasPrefixedForm model alt z s) (sym f) h)
 
-has_unprefixed : (model : Model) (conv : Conv) (s : Specification) → IsUnsigned conv → has s.flags Alt ≡ false → IsNormalUnprefixed model s
+pub has_unprefixed : (model : Model) (conv : Conv) (s : Specification) → IsUnsigned conv → has s.flags Alt ≡ false → IsNormalUnprefixed model s
     → HasNormalForm model (kind_of conv) s
 has_unprefixed model U s is alt h = h
 has_unprefixed model O s is alt h = raised_form model s false alt h

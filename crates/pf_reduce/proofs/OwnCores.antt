@@ -103,7 +103,7 @@ side_alone : (left : Bool) → with_side left no_flags ≡ record { minus = left
 side_alone true = refl
 side_alone false = refl
 
-bare : (m p s a z g : Bool) → p ≡ false → s ≡ false → a ≡ false → z ≡ false → g ≡ false
+pub bare : (m p s a z g : Bool) → p ≡ false → s ≡ false → a ≡ false → z ≡ false → g ≡ false
     → with_side m no_flags ≡ record { minus = m; plus = p; space = s; alt = a; zero = z; group = g }
 bare m p s a z g hp hs ha hz hg = rw (hp, hs, ha, hz, hg) (side_alone m)
 

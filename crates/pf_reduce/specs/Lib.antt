@@ -5,3 +5,5 @@ pub mod Padded
 pub mod Prefixes
 pub mod Signs
 pub mod Cores
+pub mod Changes
+pub mod MostDigits

@@ -68,9 +68,9 @@ fn reduce_bare(model: Model, directive: &Directive) -> Reduced
     )
 }
 
-// Whether the flag `0` alone fills a field that the digits can reach.
+/// Whether the flag `0` alone fills a field that the digits can reach.
 #[inline(always)]
-fn is_filled(model: Model, directive: &Directive) -> bool
+pub(crate) fn is_filled(model: Model, directive: &Directive) -> bool
     ensures flags { IsTrue result → directive.now.flags ≡ with_flag no_flags Zero }
     ensures precision { IsTrue result → directive.now.precision ≡ None }
     ensures some { IsTrue result → 2 ≤ width_of directive.now }

@@ -2,8 +2,10 @@
 //! directive prints the spaces, the zeros, what the core prints, and the spaces after it.
 #![tactic(auto)]
 
+mod changes;
 mod common;
 mod integers;
+mod most_digits;
 mod normal_directives;
 mod normality;
 mod numbers;
@@ -13,6 +15,7 @@ mod results;
 mod signs;
 mod texts;
 
+pub use changes::{Change, change_of};
 pub use common::reduce_inline;
 pub use normality::is_normal;
 pub use reduction::reduce;

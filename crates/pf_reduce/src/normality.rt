@@ -58,7 +58,9 @@ fn has_normal_form(model: Model, directive: &Directive) -> bool
     }
 }
 
-fn has_signed_form(model: Model, directive: &Directive) -> bool
+/// Whether the flags, the field width and the precision are those of a normal `d`.
+#[inline(always)]
+pub(crate) fn has_signed_form(model: Model, directive: &Directive) -> bool
     ensures { IsTrue result ↔ HasSignedForm model directive.now }
 {
     if directive.flags().has(Flag::Zero) {
@@ -93,7 +95,9 @@ pub(crate) fn is_bare(directive: &Directive) -> bool
         && directive.precision().is_none()
 }
 
-fn is_normal_string(directive: &Directive) -> bool
+/// Whether they are those of a normal `s`.
+#[inline(always)]
+pub(crate) fn is_normal_string(directive: &Directive) -> bool
     ensures { IsTrue result ↔ IsNormalString directive.now }
 {
     let width = width(directive);
@@ -106,7 +110,9 @@ fn is_normal_string(directive: &Directive) -> bool
     }
 }
 
-fn is_normal_unprefixed(model: Model, directive: &Directive) -> bool
+/// Whether they are those of a normal `u`, or of `o`, `x`, `X` and `b` without `#`.
+#[inline(always)]
+pub(crate) fn is_normal_unprefixed(model: Model, directive: &Directive) -> bool
     ensures { IsTrue result ↔ IsNormalUnprefixed model directive.now }
 {
     let width = width(directive);
@@ -136,6 +142,7 @@ fn is_normal_octal(model: Model, directive: &Directive) -> bool
     1 <= precision && precision <= digits && precision < width && width <= digits + 1
 }
 
+#[inline(always)]
 fn is_normal_filled(directive: &Directive) -> bool
     ensures { IsTrue result ↔ IsNormalFilled directive.now }
 {
@@ -156,6 +163,7 @@ fn is_normal_prefixed(model: Model, directive: &Directive) -> bool
     !directive.flags().has(Flag::Minus) || precision != 0 || width > 3
 }
 
+#[inline(always)]
 fn is_normal_signed(model: Model, directive: &Directive) -> bool
     ensures { IsTrue result ↔ IsNormalSigned model directive.now }
 {

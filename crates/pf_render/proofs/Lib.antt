@@ -7,3 +7,4 @@ pub mod ItemLemmas
 pub mod MatchingLemmas
 mod ProgressLemmas
 mod FormatLemmas
+mod GatheringLemmas

@@ -60,17 +60,24 @@ use Rattle.pf_render.proofs.ItemLemmas.{length_items}
 abbrev pub Match : Model → List Arg → List ArgType → Type 0
 Match model args types = AllZip (IsOfType model) args types
 
-types_matched : (model : Model) (args : List Arg) (types : List ArgType) → Match model args types → map type_of args ≡ types
+pub types_matched : (model : Model) (args : List Arg) (types : List ArgType) → Match model args types → map type_of args ≡ types
 types_matched model [] [] h = refl
 types_matched model [] (type ∷ types) h = absurd h
 types_matched model (a ∷ args) [] h = absurd h
 types_matched model (a ∷ args) (type ∷ types) h = let first = h.0.same in let rest = types_matched model args types h.1 in cc
 
-typed_matched : (model : Model) (args : List Arg) (types : List ArgType) → Match model args types → HasTypes model (map argument_of args) types
+pub typed_matched : (model : Model) (args : List Arg) (types : List ArgType) → Match model args types → HasTypes model (map argument_of args) types
 typed_matched model [] [] h = tt
 typed_matched model [] (type ∷ types) h = absurd h
 typed_matched model (a ∷ args) [] h = absurd h
 typed_matched model (a ∷ args) (type ∷ types) h = (h.0.typed, typed_matched model args types h.1)
+
+pub match_append : (model : Model) (args others : List Arg) (types more : List ArgType) → Match model args types → Match model others more
+    → Match model (args ++ others) (types ++ more)
+match_append model [] others [] more h g = g
+match_append model [] others (type ∷ types) more h g = absurd h
+match_append model (a ∷ args) others [] more h g = absurd h
+match_append model (a ∷ args) others (type ∷ types) more h g = (h.0, match_append model args others types more h.1 g)
 
 -- one more argument is of the type that comes next
 match_more : (model : Model) (args : List Arg) (types : List ArgType) (type : ArgType) (arg : Arg) → Match model (take (length types) args) types

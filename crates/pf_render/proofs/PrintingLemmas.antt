@@ -1,5 +1,5 @@
 -- What items print for arguments, part by part.
-use Rattle.std.proofs.Common.{◌≡◌, ◌≤◌, List, [], ◌∷◌, ◌++◌, length, map, take, drop, refl, sym, ap, ◌∙◌, arith, append_assoc}
+use Rattle.std.proofs.Common.{◌≡◌, ◌≤◌, List, [], ◌∷◌, ◌++◌, length, map, take, drop, refl, sym, ap, ◌∙◌, arith, subst, append_assoc}
 use Rattle.pf_values.specs.declared.models.Model.{Model}
 use Rattle.pf_values.specs.declared.types.ArgType.{ArgType}
 use Rattle.pf_values.specs.meaning.Arguments.{Argument, HasTypes}
@@ -47,3 +47,20 @@ pub PrintsAll-none : (model : Model) (items : List Item) (args : List Argument) 
 PrintsAll-none model [] [] out e h = h
 PrintsAll-none model [] (a ∷ args) out e h = absurd h
 PrintsAll-none model (item ∷ items) args out e h = cc
+
+-- items take their arguments first, and print first
+pub PrintsAll-append : (model : Model) (a b : List Item) (xs ys : List Argument) (o p : Text) → PrintsAll model a xs o → PrintsAll model b ys p
+    → PrintsAll model (a ++ b) (xs ++ ys) (o ++ p)
+PrintsAll-append model [] b [] ys o p h g = subst (λ t. PrintsAll model b ys (t ++ p)) (sym h) g
+PrintsAll-append model [] b (x ∷ xs) ys o p h g = absurd h
+PrintsAll-append model (Byte c ∷ a) b [] ys o p h g = (h.0 ++ p, PrintsAll-append model a b [] ys h.0 p h.1 g, ap (λ t. t ++ p) h.2)
+PrintsAll-append model (Byte c ∷ a) b (x ∷ xs) ys o p h g = (h.0 ++ p, PrintsAll-append model a b (x ∷ xs) ys h.0 p h.1 g, ap (λ t. t ++ p) h.2)
+PrintsAll-append model (Directive s ∷ a) b [] ys o p h g = absurd h
+PrintsAll-append model (Directive s ∷ a) b (x ∷ xs) ys o p h g = (
+  h.0,
+  h.1 ++ p,
+  h.2,
+  PrintsAll-append model a b xs ys h.1 p h.3 g,
+  ap (λ t. t ++ p) h.4
+      ∙ append_assoc h.0 h.1 p,
+)

@@ -5,5 +5,6 @@ pub mod Parts
 pub mod Counts
 pub mod Matching
 pub mod Rendering
+pub mod Gathering
 pub mod Caching
 pub mod Progressing

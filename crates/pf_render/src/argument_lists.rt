@@ -117,8 +117,9 @@ fn is_of_type_at(model: Model, args: &[Arg<'_>], index: usize, wanted: ArgType) 
     }
 }
 
-// Whether an argument is of this type, and a number is in its range.
-fn is_of_type(model: Model, arg: Arg<'_>, wanted: ArgType) -> bool
+/// Whether an argument is of this type, and a number is in its range.
+#[inline(always)]
+pub(crate) fn is_of_type(model: Model, arg: Arg<'_>, wanted: ArgType) -> bool
     ensures yes { IsTrue result → IsOfType model arg.entry wanted }
     ensures other { IsFalse result → IsOfType model arg.entry wanted → ⊥ }
 {

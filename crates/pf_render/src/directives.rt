@@ -27,7 +27,7 @@ pub fn render_one<W: Write>(
     ensures { (out : Text) × PrintsOnly model directive.now (argument_of argument.entry) out
         × WritesUpTo W.contents writer.old writer.new out (λ fault. fault.written) result }
 {
-    write_argument(model, directive, argument, writer)?;
+    write_argument(model, directive, &argument, writer)?;
     Ok(())
 }
 
@@ -38,17 +38,17 @@ pub fn render_one<W: Write>(
 pub(crate) fn write_argument<W: Write>(
     model: Model,
     directive: &Directive,
-    argument: Arg<'_>,
+    argument: &Arg<'_>,
     writer: &mut Counted<W>,
 ) -> Result<usize, ShortWrite>
-    requires typed { HasType model (argument_of argument) (arg_type model directive.now) }
-    ensures { (out : Text) × PrintsOnly model directive.now (argument_of argument.entry) out
+    requires typed { HasType model (argument_of argument.now) (arg_type model directive.now) }
+    ensures { (out : Text) × PrintsOnly model directive.now (argument_of argument.now) out
         × WritesCounted W.contents writer.old writer.new out result }
 {
     match directive.conv().kind() {
-        Kind::String => write_string(directive, string_of(argument), writer),
-        Kind::Char => write_char(directive, number_of(argument), writer),
-        _ => write_integer(model, directive, number_of(argument), writer),
+        Kind::String => write_string(directive, string_of(*argument), writer),
+        Kind::Char => write_char(directive, number_of(*argument), writer),
+        _ => write_integer(model, directive, number_of(*argument), writer),
     }
 }
 

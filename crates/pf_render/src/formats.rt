@@ -12,6 +12,8 @@ ghost use Rattle.pf_render.specs.Rendering.{RendersInto, RendersTo};
 
 use crate::argument_lists::check_arguments;
 use crate::faults::{RenderFault, WriteFault};
+use crate::gathered_text::GatheredText;
+use crate::gathering::{gather, write_gathered};
 use crate::piece_cache::{FormatPart, PieceCache};
 use crate::progress::Progress;
 use pf_text::Pieces;
@@ -24,6 +26,25 @@ use std::io::Write;
 /// exactly the first bytes went out, as many as the fault says, and fewer than all. It doesn't
 /// flush, and takes no memory.
 pub fn render<W: Write>(
+    model: Model,
+    text: &[u8],
+    args: &[Arg<'_>],
+    writer: &mut Counted<W>,
+) -> Result<(), RenderFault>
+    ensures { RendersInto model W.contents writer.old writer.new text.now args.now result }
+{
+    let mut room = GatheredText::new();
+    let mut gathered = Counted::new(&mut room);
+    if gather(model, text, args, &mut gathered) {
+        return write_gathered(gathered.into_inner().as_slice(), writer);
+    }
+    render_checked(model, text, args, writer)
+}
+
+// `render` of a format that is read before it is written: what it prints may be long, and a fault is
+// found there.
+#[inline(never)]
+fn render_checked<W: Write>(
     model: Model,
     text: &[u8],
     args: &[Arg<'_>],

@@ -7,6 +7,8 @@ mod directives;
 mod faults;
 mod fields;
 mod formats;
+mod gathered_text;
+mod gathering;
 mod integer_parts;
 mod integers;
 mod piece_cache;

@@ -82,7 +82,7 @@ fn write_part<W: Write>(
         × WritesCounted W.contents writer.old writer.new out result }
 {
     match part.directive {
-        Some(directive) => write_argument(model, &directive, own[0], writer),
+        Some(directive) => write_argument(model, &directive, &own[0], writer),
         None => write_counted(part.literal, writer),
     }
 }

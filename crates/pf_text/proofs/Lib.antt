@@ -14,6 +14,7 @@ mod SearchLemmas
 mod MarkLemmas
 pub mod MarkedRunLemmas
 mod PlainLemmas
+pub mod SpelledLemmas
 mod BetweenLemmas
 mod TypedLemmas
 pub mod PieceLemmas

@@ -96,7 +96,7 @@ bytes_join t start at stop bytes more h g =
       whole = g.whole ∙ ap (λ u. u ++ more) h.whole ∙ append_assoc (take start t) bytes more;
     }
 
-bytes_one : (t : Text) (at byte : ℕ) → at < length t → byte ≡ get_or t at 0 → HasBytes t at (at + 1) (byte ∷ [])
+pub bytes_one : (t : Text) (at byte : ℕ) → at < length t → byte ≡ get_or t at 0 → HasBytes t at (at + 1) (byte ∷ [])
 bytes_one t at byte some e = subst (λ b. HasBytes t at (at + 1) (b ∷ [])) (sym e) (bytes_more t at at [] (bytes_none t at (omega arith)) some)
 
 pub width_read : (t : Text) (start stop n : ℕ) → start < length t → 48 < get_or t start 0 → get_or t start 0 ≤ 57 → n ≤ MAX_NUMBER

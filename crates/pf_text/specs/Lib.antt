@@ -12,3 +12,4 @@ pub mod Refusals
 pub mod Signatures
 pub mod WholeRuns
 pub mod PlainStops
+pub mod SpelledFronts

@@ -15,6 +15,7 @@ mod scanner;
 mod search;
 mod signatures;
 mod specification;
+mod spelled_directives;
 mod spelling;
 mod state;
 
@@ -30,4 +31,5 @@ pub use scanner::{Scanner, Step};
 pub use search::literal_len;
 pub use signatures::Signature;
 pub use specification::directive_at_front;
+pub use spelled_directives::{SpelledDirective, spelled_at_front};
 pub use spelling::{Spelling, push_flags, spell};

@@ -9,6 +9,7 @@ use crate::letters::conv_of;
 use crate::marks::{MAX_MARKED, MIN_MARKED, Marks};
 use crate::search::literal_len;
 use crate::specification::directive_of_parts;
+use crate::spelled_directives::spelled_after_percent;
 use pf_values::limits::MAX_TEXT_LEN;
 
 /// Whether the text is known to be accepted. False if it is refused, and for a text of which `check` has
@@ -118,6 +119,22 @@ fn item_len(text: &[u8], at: usize) -> usize
 // that there is one.
 #[inline(never)]
 fn parts_len(text: &[u8]) -> usize
+    requires { (1 ≤ length text.now) × (take 1 text.now ≡ percent ∷ []) }
+    ensures within { result ≤ length text.now }
+    ensures read { (items : List Item) × Reads (take result text.now) items }
+{
+    if text.len() < 2 {
+        return 0;
+    }
+    match spelled_after_percent(text) {
+        Some(spelled) => spelled.len,
+        None => any_parts_len(text),
+    }
+}
+
+// `parts_len` of a directive that `spell` spells otherwise.
+#[inline(never)]
+fn any_parts_len(text: &[u8]) -> usize
     requires { (1 ≤ length text.now) × (take 1 text.now ≡ percent ∷ []) }
     ensures within { result ≤ length text.now }
     ensures read { (items : List Item) × Reads (take result text.now) items }

@@ -1,5 +1,5 @@
 //! A reader of a format, byte by byte.
-ghost use Rattle.std.specs.Prelude.{◌≡◌, ◌+◌, ◌*◌, ◌≤◌, ◌<◌, false, length, take, List, [], None, MatchBool, MatchOption, MatchResult, OnOk, Ok, Err, ⊤};
+ghost use Rattle.std.specs.Prelude.{◌≡◌, ◌+◌, ◌*◌, ◌≤◌, ◌<◌, false, length, take, List, [], ◌++◌, None, IsTrue, MatchBool, MatchOption, MatchResult, OnOk, Ok, Err, ⊤};
 ghost use Rattle.pf_values.specs.declared.limits.TheConstants.{MAX_TEXT_LEN};
 ghost use Rattle.pf_values.specs.meaning.Items.{Item, Reads};
 ghost use Rattle.pf_values.specs.meaning.Text.{Text};
@@ -232,6 +232,30 @@ impl Scanner {
         let count = count_silents(&text[..most as usize]);
         self.offset += 4 * count as u64;
         count
+    }
+
+    /// Whether whole items of up to `most` bytes may be taken by `pass_items`: not inside an item, after a
+    /// refusal, and where the text could become too long.
+    #[inline(always)]
+    pub fn may_pass(&self, most: usize) -> bool
+        ensures { (t : Text) (items : List Item) → IsAfter self.now t items → IsTrue result
+            → Reads t items × (self.now.offset + most ≤ MAX_TEXT_LEN) }
+    {
+        // The offset is never above the limit, so nothing wraps.
+        if most as u64 > MAX_TEXT_LEN.wrapping_sub(self.offset) {
+            return false;
+        }
+        self.is_between()
+    }
+
+    /// Takes whole items of `len` bytes, which the caller has read.
+    #[inline(always)]
+    pub fn pass_items(&mut self, len: usize)
+        ensures { (t text : Text) (items more : List Item) → IsAfter self.old t items → Reads t items
+            → Reads text more → length text ≡ len → self.old.offset + len ≤ MAX_TEXT_LEN
+            → IsAfter self.new (t ++ text) (items ++ more) }
+    {
+        self.offset = self.offset.wrapping_add(len as u64);
     }
 
     /// Takes a whole directive at the front of `text`, and returns how many bytes it has, too.

@@ -70,10 +70,10 @@ pub(crate) fn directive_of_parts(text: &[u8]) -> Option<(Directive, usize)>
     Some((directive, at + 1))
 }
 
-// Whether the standard and POSIX define these parts together. `Directive::new` also finds out why
-// they don't, which takes longer.
+/// Whether the standard and POSIX define these parts together. `Directive::new` also finds out why
+/// they don't, which takes longer.
 #[inline(always)]
-fn is_defined(flags: FlagSet, precision: Option<u16>, length: Length, conv: Conv) -> bool
+pub(crate) fn is_defined(flags: FlagSet, precision: Option<u16>, length: Length, conv: Conv) -> bool
     ensures { IsTrue result
         → first_broken undefined_kinds (specification_of flags None precision length conv) ≡ None }
 {
@@ -119,9 +119,9 @@ fn flags_at(text: &[u8], start: usize) -> (FlagSet, usize)
     (flags, at)
 }
 
-// The field width at an offset, and where it ends (C11 7.21.6.1, paragraph 4).
+/// The field width at an offset, and where it ends (C11 7.21.6.1, paragraph 4).
 #[inline(always)]
-fn width_at(text: &[u8], start: usize) -> (Option<u16>, usize)
+pub(crate) fn width_at(text: &[u8], start: usize) -> (Option<u16>, usize)
     requires { start ≤ length text.now }
     ensures { (bytes : Text) × SpellsWidth bytes result.0 × (is_above_limit result.0 ≡ false)
         × HasBytes text.now start result.1 bytes }

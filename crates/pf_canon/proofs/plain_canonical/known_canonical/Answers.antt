@@ -1,7 +1,6 @@
-use Rattle.std.proofs.Common.{◌≡◌, ◌+◌, ◌-◌, ◌∙◌, arith, drop, refl, subst, sym, take}
+use Rattle.std.proofs.Common.{◌≡◌, ◌+◌, ◌-◌, arith, drop, subst, take}
 use Rattle.std.proofs.lemmas.List.{drop-drop, take_rest}
 use Rattle.pf_values.specs.meaning.Items.{IsAccepted}
-use Rattle.pf_values.specs.meaning.Spelling.{spelling_of}
 use Rattle.pf_text.specs.CanonicalRuns.{IsCanonicalRun}
 use Rattle.pf_canon.proofs.KnownLemmas.{all_taken, directive_taken, other_known, other_taken, run_taken}
 use Rattle.pf_canon.proofs.plain_canonical.known_canonical.Goals as goal
@@ -16,17 +15,18 @@ loop-at-init c =
       taken = (run.0, subst (λ n. IsCanonicalRun c.args.model (take n c.args.text.now) run.0) all run.1);
     }
 
-pub returns-then-not-is_normal : goal.returns-then-not-is_normal
-returns-then-not-is_normal c =
+pub returns-then-not-is_kept : goal.returns-then-not-is_kept
+returns-then-not-is_kept c =
     let model = c.args.model in
     let text = c.args.text.now in
     let at = c.loop-at.at in
     let i = c.loop-at.invariant.taken in
-    let front = c.in_ok-directive in
-    other_known model text (drop front.len (drop at text)) c.known_other.result
-    (λ rest. other_taken model text at i.0 i.1 front.len front.directive (rw take_rest at front.ensures.2)
-    (λ normal. absurd (let yes = c.if-not-is_normal.ensures.1 normal in cc)) (c.if-may_be_silent.ensures refl)
-    (omega (arith, c.if-text-gt-MAX_TEXT_LEN.false)) (subst IsAccepted (drop-drop front.len at text) rest))
+    let len = c.in_ok-is_kept.len in
+    let front = rw take_rest at c.in_ok-is_kept.ensures in
+    let other = rw c.if-not-is_kept.true at front.known in
+    other_known model text (drop len (drop at text)) c.known_other.result
+    (λ rest. other_taken model text at i.0 i.1 len front.directive front.read other.0 other.1
+    (omega (arith, c.if-text-gt-MAX_TEXT_LEN.false)) (subst IsAccepted (drop-drop len at text) rest))
     (rw (take_rest, take_rest) at c.known_other.ensures)
 
 pub loop-at-preserved : goal.loop-at-preserved
@@ -35,12 +35,11 @@ loop-at-preserved c =
     let text = c.args.text.now in
     let at = c.loop-at.at in
     let i = c.loop-at.invariant.taken in
-    let front = c.in_ok-directive in
-    let len = front.len in
+    let len = c.in_ok-is_kept.len in
+    let front = rw take_rest at c.in_ok-is_kept.ensures in
+    let own = rw c.if-not-is_kept.false at front.known in
     let end = c.end-at-in-loop-at in
-    let spelled : spelling_of front.directive ≡ take len (drop at text) =
-    sym c.spell.ensures.bytes ∙ sym c.deref.ensures.0 ∙ rw take_rest at c.if-not-are_equal.ensures in
-    let now = directive_taken model text at i.0 i.1 len front.directive (c.if-not-is_normal.ensures.0 refl) spelled in
+    let now = directive_taken model text at i.0 i.1 len front.directive own.0 own.1 in
     let run = end.ensures.canonical model in
     record {
       within = end.ensures.within.1;

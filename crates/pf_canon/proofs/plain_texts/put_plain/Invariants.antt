@@ -1,7 +1,6 @@
-use Rattle.std.proofs.Common.{◌-◌, ◌≤◌, List, drop, length, take}
-use Rattle.pf_values.specs.meaning.Items.{Item}
+use Rattle.std.proofs.Common.{◌-◌, ◌≤◌, ◌++◌, length, take}
 use Rattle.pf_values.specs.meaning.Text.{Text}
-use Rattle.pf_text.specs.CanonicalRuns.{IsCanonicalRun}
+use Rattle.pf_canon.specs.ChangedDirectives.{between}
 use Rattle.pf_canon.specs.Making.{IsWritten}
 use Rattle.pf_canon.proofs.plain_texts.put_plain.Given as goal
 
@@ -9,8 +8,7 @@ abbrev pub invariant-loop-at : goal.invariant-loop-at
 invariant-loop-at g l = record {
   low : l.from ≤ l.at;
   within : l.at ≤ length l.text;
-  written : (out : Text) × g.S.Sink.given l.fn.sink l.sink out × IsWritten l.fn.model (take l.from l.text) out;
-  run : (items : List Item) × IsCanonicalRun l.fn.model (take (l.at - l.from) (drop l.from l.text)) items;
+  written : (out : Text) × g.S.Sink.given l.fn.sink l.sink out × IsWritten l.fn.model (take l.at l.text) (out ++ between l.from l.at l.text);
 }
 
 abbrev pub decreases-loop-at : goal.decreases-loop-at

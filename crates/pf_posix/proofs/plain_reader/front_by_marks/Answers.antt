@@ -1,5 +1,4 @@
-use Rattle.std.proofs.Common.{◌≤◌, ◌∙◌, arith, length, refl, sym}
-use Rattle.std.proofs.lemmas.Bool.{eqb-true}
+use Rattle.std.proofs.Common.{◌+◌, ◌<◌, ◌≤◌, ◌∙◌, arith, length, refl}
 use Rattle.pf_text.specs.Marks.{HasNoMark}
 use Rattle.pf_posix.specs.Plain.{IsPlainFront}
 use Rattle.pf_posix.proofs.PlainFrontLemmas.{front_fetched, front_percent, front_unmarked, no_front}
@@ -22,25 +21,22 @@ returns-in_default c =
       few = omega (arith, i.few, i.within);
     }
 
-pub loop-at-preserved-then-has_byte : goal.loop-at-preserved-then-has_byte
-loop-at-preserved-then-has_byte c =
+pub loop-at-preserved-then-text-next-eq37 : goal.loop-at-preserved-then-text-next-eq37
+loop-at-preserved-then-text-next-eq37 c =
     let t = c.args.text.now in
     let i = c.loop-at.invariant in
     let few : length t ≤ 64 = c.requires.few in
     let offset = c.in-Some.offset in
-    let first = c.if-not-has_byte.ensures in
-    let second = c.if-has_byte.ensures in
-    let here = first.within refl in
-    let within = second.within refl in
+    let within : offset + 1 < length t = omega (arith, c.if-next-text.false) in
     let front : IsPlainFront c.args.model t offset c.args.out.now c.loop-at.out c.loop-at.count =
-    front_unmarked c.args.model t c.loop-at.at _ _ _ i.front c.of-marks.result offset (omega (arith, few)) c.in-Some.ensures.0 (omega (arith, here))
+    front_unmarked c.args.model t c.loop-at.at _ _ _ i.front c.of-marks.result offset (omega (arith, few)) c.in-Some.ensures.0 (omega (arith, within))
     c.of-marks.ensures c.in-Some.ensures.2 in
     record {
       within = omega (arith, within);
       few = omega (arith, i.few, c.in-Some.ensures.0);
       same = i.same;
       front =
-          front_percent c.args.model t offset _ _ _ front (omega (arith, few)) within (eqb-true _ _ (sym first.same)) (eqb-true _ _ (sym second.same));
+          front_percent c.args.model t offset _ _ _ front (omega (arith, few)) within c.if-text-offset-ne37.false c.if-text-next-eq37.true;
     }
 
 pub loop-at-preserved : goal.loop-at-preserved
@@ -49,17 +45,16 @@ loop-at-preserved c =
     let i = c.loop-at.invariant in
     let few : length t ≤ 64 = c.requires.few in
     let offset = c.in-Some.offset in
-    let first = c.if-not-has_byte.ensures in
-    let here = first.within refl in
-    let read = c.in-Some-plain_fetch in
+    let here : offset < length t = omega (arith, c.if-next-text.false) in
+    let read = c.in-Some-put_fetch in
     let front : IsPlainFront c.args.model t offset c.args.out.now c.loop-at.out c.loop-at.count =
     front_unmarked c.args.model t c.loop-at.at _ _ _ i.front c.of-marks.result offset (omega (arith, few)) c.in-Some.ensures.0 (omega (arith, here))
     c.of-marks.ensures c.in-Some.ensures.2 in
     record {
-      within = read.ensures.within.1;
-      few = omega (arith, i.few, c.in-Some.ensures.0, read.ensures.within.0);
-      same = c.put.ensures.length ∙ i.same;
+      within = read.ensures.within;
+      few = omega (arith, i.few, c.in-Some.ensures.0, read.ensures.from);
+      same = read.ensures.same_length ∙ i.same;
       front =
-          front_fetched c.args.model t offset _ _ _ front read.wanted read.stop c.put.new.out (omega (arith, few)) here (eqb-true _ _ (sym first.same))
-          read.ensures.fetched c.put.ensures.filled;
+          front_fetched c.args.model t offset _ _ _ front read.ensures.wanted read.stop c.put_fetch.new.out (omega (arith, few)) here c.if-text-offset-ne37.false
+          read.ensures.fetched read.ensures.put;
     }

@@ -43,11 +43,11 @@ loop-at-preserved c =
     let i = c.loop-at.invariant in
     let read = c.in-Some in
     record {
-      within = read.ensures.within.1;
-      few = omega (arith, i.few, read.ensures.within.0);
-      same = c.put.ensures.length ∙ i.same;
+      within = read.ensures.within;
+      few = omega (arith, i.few, read.ensures.from);
+      same = read.ensures.same_length ∙ i.same;
       front =
-          front_fetched c.args.model c.args.text.now c.loop-at.at _ _ _ i.front read.wanted read.stop c.put.new.out
+          front_fetched c.args.model c.args.text.now c.loop-at.at _ _ _ i.front read.ensures.wanted read.stop c.put_fetch.new.out
           (omega (arith, c.if-text-gt-MAX_TEXT_LEN.false)) c.loop-at-test.true c.if-text-at-ne37.false
-          read.ensures.fetched c.put.ensures.filled;
+          read.ensures.fetched read.ensures.put;
     }

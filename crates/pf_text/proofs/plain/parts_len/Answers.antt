@@ -1,9 +1,11 @@
 use Rattle.std.proofs.Common.{◌∷◌, [], take}
 use Rattle.pf_values.specs.meaning.Items.{Directive}
 use Rattle.pf_text.proofs.PlainLemmas.{one_read}
+use Rattle.pf_text.proofs.SpelledLemmas.{spelled_reads}
 use Rattle.pf_text.proofs.plain.parts_len.Goals as goal
 
 pub returns-in-Some-clause-read : goal.returns-in-Some-clause-read
 returns-in-Some-clause-read c =
-    let directive = Directive c.in-Some.field-0-0 in
-    (directive ∷ [], one_read (take c.in-Some.len c.args.text.now) directive c.in-Some.ensures.2)
+    let d = c.in-Some.spelled in
+    let directive = Directive d.directive in
+    (directive ∷ [], one_read (take d.len c.args.text.now) directive (spelled_reads c.args.text.now d c.in-Some.ensures))

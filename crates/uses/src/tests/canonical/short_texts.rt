@@ -1,7 +1,7 @@
 //! What the C library calls instead of `canonical`: verbatim fronts, canonical texts on the stack, and
 //! reductions where they are called.
 use pf_canon::{ShortText, VerbatimFront};
-use pf_reduce::{Core, Reduced, reduce_inline};
+use pf_reduce::{Change, Core, Reduced, change_of, reduce_inline};
 use pf_text::{Refusal, directive_at_front, spell};
 use pf_values::{Model, RefusalKind};
 
@@ -68,6 +68,45 @@ fn reductions_in_place(rt: HostRuntime) {
             Some((0, 12, true, 0)),
             Some((0, 0, true, 9)),
             None,
+        ]
+    );
+}
+
+// What changes in the spelling of a directive: 0 if it isn't known, 1 for the letters, 2 for the flag `0`, and for
+// spaces the width that is left.
+fn change(directive: &[u8]) -> Option<u16> {
+    let (directive, _) = directive_at_front(directive)?;
+    match change_of(Model::Lp64, &directive) {
+        None => Some(0),
+        Some(Change::Letters) => Some(1),
+        Some(Change::Filled) => Some(2),
+        Some(Change::Padded(width)) => Some(width),
+    }
+}
+
+#[test]
+fn changes_in_place(rt: HostRuntime) {
+    assert!(rt;
+        [
+            change(b"%zu"),
+            change(b"%5d"),
+            change(b"%08lx"),
+            change(b"%-20d"),
+            change(b"%20u"),
+            change(b"%020x"),
+            change(b"%+d"),
+            change(b"%.0s"),
+            change(b"%5c"),
+        ] == [
+            Some(1),
+            Some(1),
+            Some(2),
+            Some(11),
+            Some(10),
+            Some(0),
+            Some(0),
+            Some(0),
+            Some(0)
         ]
     );
 }

@@ -65,11 +65,11 @@ fn few_calls(rt: HostRuntime) {
     }
 }
 
-// A literal run is one call.
+// A short output is one call.
 #[test]
 fn few_calls_for_literals(rt: HostRuntime) {
     let calls = calls_of(b"0123456789%%abcdefghij%dABCDEFGHIJ");
-    let is_right = calls.is_some_and(|c| c.bytes == 32 && c.calls == 5 && c.flushes == 0);
+    let is_right = calls.is_some_and(|c| c.bytes == 32 && c.calls == 1 && c.flushes == 0);
     assert!(rt; is_right);
 }
 

@@ -1,7 +1,7 @@
 //! What is known of a text without its reader: marks, canonical runs, whole directives, and types.
 use pf_text::{
     CanonicalRuns, Marks, Refusal, Scanner, directive_at_front, is_plainly_accepted, known_types,
-    literal_len, spell,
+    literal_len, spell, spelled_at_front,
 };
 use pf_values::{ArgType, Model, RefusalKind};
 
@@ -53,6 +53,49 @@ fn a_directive_at_the_front(rt: HostRuntime) {
             front(b"%-", b""),
             front(b"%y", b""),
         ] == [Some((true, 9)), Some((true, 7)), None, None, None, None]
+    );
+}
+
+// The offset of the length modifier, and how many bytes the directive has, if it is spelled as `spell` spells it.
+fn spelled(text: &[u8]) -> Option<(usize, usize)> {
+    let directive = spelled_at_front(text)?;
+    Some((directive.modifier_at, directive.len))
+}
+
+#[test]
+fn a_spelled_directive_at_the_front(rt: HostRuntime) {
+    assert!(rt;
+        [
+            spelled(b"%08lx!"),
+            spelled(b"%-8.3ld"),
+            spelled(b"%zu"),
+            spelled(b"%005d"),
+            spelled(b"%.05d"),
+            spelled(b"%+d"),
+            spelled(b"%05c"),
+            spelled(b"%5"),
+        ] == [
+            Some((3, 5)),
+            Some((5, 7)),
+            Some((1, 3)),
+            None,
+            None,
+            None,
+            None,
+            None
+        ]
+    );
+}
+
+// Seven bytes are passed between items, but none inside one or beyond the limit.
+#[test]
+fn a_reader_passes_items(rt: HostRuntime) {
+    let mut scanner = Scanner::new();
+    let may_pass = [scanner.may_pass(7), scanner.may_pass(usize::MAX)];
+    scanner.pass_items(7);
+    let is_taken = scanner.feed(b'%').is_ok();
+    assert!(rt;
+        may_pass == [true, false] && is_taken && scanner.offset() == 8 && !scanner.may_pass(1)
     );
 }
 

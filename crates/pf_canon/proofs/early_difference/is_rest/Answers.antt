@@ -1,0 +1,5 @@
+use Rattle.pf_canon.proofs.EarlyLemmas.{literal_accepted}
+use Rattle.pf_canon.proofs.early_difference.is_rest.Goals as goal
+
+pub returns-in-len1 : goal.returns-in-len1
+returns-in-len1 c = λ is. literal_accepted c.args.text.now c.in-len1.len_at_least c.in-len1.len_below (c.is_literal.ensures is)

@@ -1,0 +1,274 @@
+-- Directives that are reduced to themselves with other letters, or with a precision in place of a width.
+use Rattle.std.proofs.Common.{◌≡◌, ◌≢◌, ℕ, zero, suc, ◌+◌, ◌≤◌, max, Bool, true, false, Option, Some, None, ◌++◌, refl, sym, ap, ◌∙◌, subst, arith, rules, ℤ}
+use Rattle.std.specs.Prelude.{MatchBool, nat_abs, unwrap_or}
+use Rattle.std.proofs.lemmas.List.{append-nil}
+use Rattle.pf_values.specs.declared.bases.Alternative.{Alternative}
+use Rattle.pf_values.specs.declared.bases.Alternative.TheVariants.{Undefined, Raised, Prefixed}
+use Rattle.pf_values.specs.declared.conversions.Conv.{Conv}
+use Rattle.pf_values.specs.declared.conversions.Conv.TheVariants.{D, I, U, O, X, UpperX, B, C, S}
+use Rattle.pf_values.specs.declared.conversions.Kind.{Kind}
+use Rattle.pf_values.specs.declared.conversions.Kind.TheVariants as kinds
+use Rattle.pf_values.specs.declared.flags.Flag.TheVariants.{Minus, Zero}
+use Rattle.pf_values.specs.declared.flags.FlagSet.{FlagSet}
+use Rattle.pf_values.specs.declared.lengths.Length.{Length}
+use Rattle.pf_values.specs.declared.lengths.Length.TheVariants as lengths
+use Rattle.pf_values.specs.declared.models.Model.{Model}
+use Rattle.pf_values.specs.meaning.Bases.{alternative_of}
+use Rattle.pf_values.specs.meaning.Conversions.{is_signed, is_text, kept_conv, kind_of}
+use Rattle.pf_values.specs.meaning.DataModel.{bits_under, kept_length, most_digits, most_digits_of}
+use Rattle.pf_values.specs.meaning.Defined.{refused_as}
+use Rattle.pf_values.specs.meaning.Flags.{has, no_flags, with_flag}
+use Rattle.pf_values.specs.meaning.Normal.{HasNormalForm, HasPrefixedForm, HasSignedForm, HasUnsignedForm, IsNormal, digits_at_most, precision_of, sign_len, silent}
+use Rattle.pf_values.specs.meaning.Normal.{IsNormalFilled, IsNormalOctal, IsNormalPrefixed, IsNormalSigned, IsNormalString, IsNormalUnprefixed}
+use Rattle.pf_values.specs.meaning.Printing.{Prints, field, is_zero_filled, sign_or_prefix}
+use Rattle.pf_values.specs.meaning.Specification.{Specification, width_of}
+use Rattle.pf_values.proofs.DataModelLemmas.{kept_row}
+use Rattle.pf_values.proofs.Printed.{precision_under, printed_digits}
+use Rattle.pf_values.proofs.PrintsOnce.{value_text}
+use Rattle.pf_reduce.specs.declared.padding.Padding.{Padding}
+use Rattle.pf_reduce.specs.Changes.{HasPlainParts, as_precision, kept_letters}
+use Rattle.pf_reduce.specs.Cores.{kept_precision, padded_core}
+use Rattle.pf_reduce.specs.Padded.{padding_of}
+use Rattle.pf_reduce.specs.Reducing.{IsReducedTo, IsReduction, itself}
+use Rattle.pf_reduce.proofs.Carried.{Carries, prints_reduced}
+use Rattle.pf_reduce.proofs.CarriedIntegers.{carries, kept_bits, kept_kind, kept_sign, kept_text, kept_type}
+use Rattle.pf_reduce.proofs.CommonNumbers.{filled_not_normal, filled_reduced, some_digit}
+use Rattle.pf_reduce.proofs.Narrowing.{no_width}
+use Rattle.pf_reduce.proofs.NormalForms.{has_unprefixed}
+
+-- a byte or a string has no length modifier
+no_length-char : (s : Specification) → refused_as s ≡ None → s.conv ≡ C → s.length ≡ lengths.None
+no_length-char s allowed is = search rules
+
+no_length-string : (s : Specification) → refused_as s ≡ None → s.conv ≡ S → s.length ≡ lengths.None
+no_length-string s allowed is = search rules
+
+-- so the letters of a normal one are its own
+own_letters : (model : Model) (s : Specification) (conv : Conv) → refused_as s ≡ None → s.conv ≡ conv → is_text conv ≡ true → kept_letters model s ≡ s
+own_letters model s C allowed is e = rw (no_length-char s allowed is, is) refl
+own_letters model s S allowed is e = rw (no_length-string s allowed is, is) refl
+own_letters model s D allowed is e = cc
+own_letters model s _ allowed is e = cc
+
+-- the letters of a normal directive change nothing that is refused
+refused_kept : (model : Model) (f : FlagSet) (w p : Option ℕ) (l : Length) (conv : Conv)
+    → refused_as (record { flags = f; width = w; precision = p; length = l; conv = conv }) ≡ None
+    → refused_as (record { flags = f; width = w; precision = p; length = kept_length model l; conv = kept_conv conv }) ≡ None
+refused_kept model f w p l D h = h
+refused_kept model f w p l I h = h
+refused_kept model f w p l U h = h
+refused_kept model f w p l O h = h
+refused_kept model f w p l X h = h
+refused_kept model f w p l UpperX h = h
+refused_kept model f w p l B h = h
+refused_kept model f w p l C h = let s : Specification = record { flags = f; width = w; precision = p; length = l; conv = C } in
+    subst (λ d. refused_as d ≡ None) (sym (own_letters model s C h refl refl)) h
+refused_kept model f w p l S h = let s : Specification = record { flags = f; width = w; precision = p; length = l; conv = S } in
+    subst (λ d. refused_as d ≡ None) (sym (own_letters model s S h refl refl)) h
+
+kept_conv_twice : (conv : Conv) → kept_conv (kept_conv conv) ≡ kept_conv conv
+kept_conv_twice I = refl
+kept_conv_twice _ = refl
+
+text_kept : (conv : Conv) → is_text conv ≡ true → kept_conv conv ≡ conv
+text_kept I is = cc
+text_kept _ is = refl
+
+-- what is printed of a value
+precision_kept : (model : Model) (f : FlagSet) (w p : Option ℕ) (l : Length) (conv : Conv) (v : ℤ) (filled : Bool)
+    → precision_under filled (record { flags = f; width = w; precision = p; length = l; conv = conv }) v
+    ≡ precision_under filled (record { flags = f; width = w; precision = p; length = kept_length model l; conv = kept_conv conv }) v
+precision_kept model f w p l I v true = refl
+precision_kept model f w p l _ v true = refl
+precision_kept model f w p l _ v false = refl
+
+value_kept : (model : Model) (f : FlagSet) (w p : Option ℕ) (l : Length) (conv : Conv) (v : ℤ)
+    → value_text (record { flags = f; width = w; precision = p; length = l; conv = conv }) v
+    ≡ value_text (record { flags = f; width = w; precision = p; length = kept_length model l; conv = kept_conv conv }) v
+value_kept model f w p l I v = let s : Specification = record { flags = f; width = w; precision = p; length = l; conv = I } in
+    ap (λ k. sign_or_prefix s v ++ printed_digits s k (nat_abs v)) (precision_kept model f w p l I v (is_zero_filled s))
+value_kept model f w p l conv v = let s : Specification = record { flags = f; width = w; precision = p; length = l; conv = conv } in
+    ap (λ k. sign_or_prefix s v ++ printed_digits s k (nat_abs v)) (precision_kept model f w p l conv v (is_zero_filled s))
+
+module _ (model : Model) (s : Specification) where
+  abbrev kept : Specification
+  kept = kept_letters model s
+
+  same_digits : digits_at_most model s ≡ digits_at_most model kept
+  same_digits = ap (λ k. most_digits_of k (bits_under model s.length)) (sym (kept_kind s.conv))
+      ∙ ap (most_digits kept.conv) (sym (kept_bits model s.length))
+
+  -- the form depends on the letters only by the most digits
+  string_kept : IsNormalString s → IsNormalString kept
+  string_kept h = record { shows_some = h.shows_some; width = h.width; left = h.left }
+
+  filled_kept : IsNormalFilled s → IsNormalFilled kept
+  filled_kept h = record { right = h.right; no_precision = h.no_precision; width = h.width }
+
+  unprefixed_kept : IsNormalUnprefixed model s → IsNormalUnprefixed model kept
+  unprefixed_kept h = record {
+    not_filled = h.not_filled;
+    precision = subst (λ d. precision_of s ≤ d) same_digits h.precision;
+    least = h.least;
+    most = subst (λ d. width_of s ≤ d) same_digits h.most;
+    left = h.left;
+  }
+
+  octal_kept : IsNormalOctal model s → IsNormalOctal model kept
+  octal_kept h = record {
+    right = h.right;
+    not_filled = h.not_filled;
+    some_digit = h.some_digit;
+    precision = subst (λ d. precision_of s ≤ d) same_digits h.precision;
+    least = h.least;
+    most = subst (λ d. width_of s ≤ d + 1) same_digits h.most;
+  }
+
+  prefixed_kept : IsNormalPrefixed model s → IsNormalPrefixed model kept
+  prefixed_kept h = record {
+    least = h.least;
+    most = subst (λ d. width_of s ≤ 2 + max (precision_of s) d) same_digits h.most;
+    left = h.left;
+  }
+
+  signed_kept : IsNormalSigned model s → IsNormalSigned model kept
+  signed_kept h = record {
+    one_sign = h.one_sign;
+    least = h.least;
+    most = subst (λ d. width_of s ≤ 1 + max (precision_of s) d) same_digits h.most;
+    right_space = λ r is. subst (λ d. width_of s ≢ 1 + max (precision_of s) d) same_digits (h.right_space r is);
+    right_bare = λ r none few. subst (λ d. width_of s ≢ 1 + max (precision_of s) d) same_digits
+        (h.right_bare r none (subst (λ d. d ≤ precision_of s) (sym same_digits) few));
+    left = h.left;
+  }
+
+  prefixed_form_kept : (alt fill : Bool) → HasPrefixedForm model alt fill s → HasPrefixedForm model alt fill kept
+  prefixed_form_kept true true h = filled_kept h
+  prefixed_form_kept true false h = prefixed_kept h
+  prefixed_form_kept false true h = unprefixed_kept h
+  prefixed_form_kept false false h = unprefixed_kept h
+
+  raised_form_kept : (alt : Bool) → MatchBool alt (IsNormalOctal model s) (IsNormalUnprefixed model s)
+      → MatchBool alt (IsNormalOctal model kept) (IsNormalUnprefixed model kept)
+  raised_form_kept true h = octal_kept h
+  raised_form_kept false h = unprefixed_kept h
+
+  signed_form_kept : (fill : Bool) → MatchBool fill (IsNormalFilled s × (sign_len s ≡ 0)) (IsNormalSigned model s)
+      → MatchBool fill (IsNormalFilled kept × (sign_len kept ≡ 0)) (IsNormalSigned model kept)
+  signed_form_kept true h = (filled_kept h.0, h.1)
+  signed_form_kept false h = signed_kept h
+
+  unsigned_form_kept : (a : Alternative) → HasUnsignedForm model a s → HasUnsignedForm model a kept
+  unsigned_form_kept Undefined h = unprefixed_kept h
+  unsigned_form_kept Raised h = raised_form_kept _ h
+  unsigned_form_kept Prefixed h = prefixed_form_kept _ _ h
+
+  form_kept : (k : Kind) → HasNormalForm model k s → HasNormalForm model k kept
+  form_kept kinds.Signed h = signed_form_kept _ h
+  form_kept (kinds.Unsigned base capitals) h = unsigned_form_kept (alternative_of base) h
+  form_kept kinds.Char h = h
+  form_kept kinds.String h = string_kept h
+
+  -- a number with nothing but a modifier has the form of a normal one
+  module _ (flags : s.flags ≡ no_flags) (width : s.width ≡ None) (precision : s.precision ≡ None) where
+    no_field_width : width_of s ≡ 0
+    no_field_width = rw width refl
+
+    bare_signed : IsNormalSigned model s
+    bare_signed = record {
+      one_sign = λ e. rw flags refl;
+      least = λ some. absurd (omega (arith, some, no_field_width));
+      most = omega (arith, no_field_width);
+      right_space = λ r is. λ e. absurd (omega (arith, e, no_field_width));
+      right_bare = λ r none few. λ e. absurd (omega (arith, e, no_field_width));
+      left = λ l. absurd (let right : has s.flags Minus ≡ false = rw flags refl in cc);
+    }
+
+    unfilled_form : HasSignedForm model s
+    unfilled_form =
+        let unfilled : has s.flags Zero ≡ false = rw flags refl in
+        subst (λ z. MatchBool z (IsNormalFilled s × (sign_len s ≡ 0)) (IsNormalSigned model s)) (sym unfilled) bare_signed
+
+    bare_unprefixed : is_text s.conv ≡ false → IsNormalUnprefixed model s
+    bare_unprefixed text = record {
+      not_filled = rw flags refl;
+      precision = rw precision (some_digit s.conv (bits_under model s.length) text);
+      least = λ some. absurd (omega (arith, some, no_field_width));
+      most = omega (arith, no_field_width);
+      left = λ l. absurd (let right : has s.flags Minus ≡ false = rw flags refl in cc);
+    }
+
+    bare_form : (conv : Conv) → s.conv ≡ conv → is_text s.conv ≡ false → HasNormalForm model (kind_of conv) s
+    bare_form D is text = unfilled_form
+    bare_form I is text = unfilled_form
+    bare_form C is text = absurd (let no = text in cc)
+    bare_form S is text = absurd (let no = text in cc)
+    bare_form conv is text = has_unprefixed model conv s (record { text = refl; sign = refl }) (rw flags refl) (bare_unprefixed text)
+
+  module _ (parts : HasPlainParts s) where
+    letters_normal : HasNormalForm model (kind_of s.conv) s → IsNormal model kept
+    letters_normal form =
+        let same = kept_kind s.conv in
+        record {
+          defined = record { width = parts.defined.width; allowed = refused_kept model s.flags s.width s.precision s.length s.conv parts.defined.allowed };
+          no_group = parts.no_group;
+          length = ap (λ r. r.kept) (kept_row model s.length);
+          conv = kept_conv_twice s.conv;
+          no_plus = λ e. absurd (let none = parts.no_plus in cc);
+          no_space = λ e. absurd (let none = parts.no_space in cc);
+          precision = λ e. rw same (parts.precision e);
+          form = subst (λ k. HasNormalForm model k kept) (sym same) (form_kept (kind_of s.conv) form);
+        }
+
+    -- a number prints the same with other letters
+    letters_carried : (text : Bool) → is_text s.conv ≡ text → Carries model s (itself model kept)
+    letters_carried true is = λ argument inner typed p. subst (Prints model s argument) (sym (append-nil inner))
+        (subst (λ d. Prints model d argument inner) (own_letters model s s.conv parts.defined.allowed refl is) p)
+    letters_carried false is = carries model s (itself model kept) is (kept_text s.conv ∙ is) (kept_sign s.conv) (kept_bits model s.length)
+        (λ v fits. ap (field s) (value_kept model s.flags s.width s.precision s.length s.conv v) ∙ sym (append-nil _))
+
+    letters_reduced : IsNormal model kept → IsReducedTo model s (itself model kept)
+    letters_reduced normal = record {
+      normal = (refl, normal);
+      same_type = kept_type model s.conv s.length;
+      prints = prints_reduced model s (itself model kept) (kept_type model s.conv s.length) (letters_carried (is_text s.conv) refl);
+      silent = λ e. cc;
+      few = omega arith;
+    }
+
+    -- `%.0s` isn't normal
+    not_silent : HasNormalForm model (kind_of s.conv) s → s ≢ silent
+    not_silent form is = (subst (λ d. HasNormalForm model (kind_of d.conv) d) is form).shows_some refl
+
+    pub letters_change : HasNormalForm model (kind_of s.conv) s → IsReduction model s (itself model kept)
+    letters_change form = record {
+      same = letters_reduced (letters_normal form);
+      kept = λ h. rw (h.length, h.conv) refl;
+      silent = λ is. absurd (not_silent form is);
+    }
+
+    pub bare_change : is_text s.conv ≡ false → s.flags ≡ no_flags → s.width ≡ None → s.precision ≡ None → IsReduction model s (itself model kept)
+    bare_change text flags width precision = letters_change (bare_form flags width precision s.conv refl text)
+
+    abbrev no_field : Padding
+    no_field = record (padding_of s) { width = 0 }
+
+    written : (w : Option ℕ) → 2 ≤ unwrap_or w 0 → kept_precision (unwrap_or w 0) ≡ w
+    written None some = absurd (omega (arith, some))
+    written (Some zero) some = absurd (omega (arith, some))
+    written (Some (suc zero)) some = absurd (omega (arith, some))
+    written (Some (suc (suc w))) some = refl
+
+    -- a precision does what the flag `0` does in a field
+    pub filled_change : is_text s.conv ≡ false → is_signed s.conv ≡ false → s.flags ≡ with_flag no_flags Zero → s.precision ≡ None
+        → 2 ≤ width_of s → width_of s ≤ digits_at_most model s → IsReduction model s (itself model (as_precision model s))
+    filled_change text unsigned flags precision some most =
+        let idle = no_width (padding_of s) (width_of s) (omega arith) in
+        let filled = filled_reduced model s parts.defined text unsigned flags precision some most no_field idle in
+        let core : padded_core model s no_field no_flags (kept_precision (width_of s)) ≡ itself model (as_precision model s) =
+        rw (written s.width some, flags) refl in
+        record {
+          same = rw core at filled.reduced;
+          kept = λ h. absurd (filled_not_normal model s parts.defined text unsigned flags precision some most no_field idle h);
+          silent = λ is. absurd (let other : false ≡ true = sym text ∙ ap (λ d. is_text d.conv) is in cc);
+        }

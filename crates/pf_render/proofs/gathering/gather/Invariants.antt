@@ -1,0 +1,10 @@
+use Rattle.pf_render.proofs.GatheringLemmas.{IsGathering}
+use Rattle.pf_render.proofs.gathering.gather.Given as goal
+
+-- the pieces so far were gathered
+abbrev pub invariant-loop-piece : goal.invariant-loop-piece
+invariant-loop-piece g l = record {
+  can : (goal.iterator-loop-piece g).can_next l.piece-iterator;
+  finite : (goal.iterator-loop-piece g).is_finite l.piece-iterator;
+  so_far : IsGathering l.model g.W.Write.contents l.fn.writer l.text l.args l.writer l.piece-iterator l.taken;
+}
