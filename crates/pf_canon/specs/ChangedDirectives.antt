@@ -33,7 +33,7 @@ PutsFront given model text start at old new next stop = (more : Text) × given o
     × ((out : Text) → IsWritten model (take at text) (out ++ between start at text)
     → IsWritten model (take stop text) ((out ++ more) ++ between next stop text))
 
--- a directive of so many bytes begins a text, of which it is known whether it is a canonical item
+-- The text begins with a directive of `len` bytes; `is` says whether it is a canonical item.
 pub record IsKnownFront (model : Model) (text : Text) (is : Bool) (len : ℕ) : Type 0 where
   pub directive : Specification
   pub some : 0 < len

@@ -14,7 +14,7 @@ ghost use Rattle.pf_canon.specs.declared.limits.TheConstants.{MAX_DIRECTIVE_LEN}
 
 use crate::changed_directives::{ChangedDirective, keeps_letters};
 use crate::sink::{Sink, put_repeated};
-use pf_reduce::{Change, Core, Reduced, reduce_inline};
+use pf_reduce::{Change, Core, Reduced, reduce};
 use pf_text::{CanonicalRuns, SpelledDirective, directive_at_front, spell};
 use pf_values::limits::MAX_TEXT_LEN;
 use pf_values::padding::MAX_RUN;
@@ -262,7 +262,7 @@ fn put_reduced<S: Sink>(model: Model, directive: &Directive, sink: &mut S) -> Op
         zeros,
         core,
         trail,
-    } = reduce_inline(model, directive);
+    } = reduce(model, directive);
     match core {
         Core::Silent => None,
         Core::Normal(normal) => {

@@ -32,7 +32,7 @@ use Rattle.pf_reduce.specs.Padded.{padding_of}
 use Rattle.pf_reduce.specs.Reducing.{IsReducedTo, IsReduction, itself}
 use Rattle.pf_reduce.proofs.Carried.{Carries, prints_reduced}
 use Rattle.pf_reduce.proofs.CarriedIntegers.{carries, kept_bits, kept_kind, kept_sign, kept_text, kept_type}
-use Rattle.pf_reduce.proofs.CommonNumbers.{filled_not_normal, filled_reduced, some_digit}
+use Rattle.pf_reduce.proofs.FilledNumbers.{filled_not_normal, filled_reduced, some_digit}
 use Rattle.pf_reduce.proofs.Narrowing.{no_width}
 use Rattle.pf_reduce.proofs.NormalForms.{has_unprefixed}
 

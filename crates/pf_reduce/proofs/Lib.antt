@@ -13,7 +13,7 @@ mod TextCores
 mod OwnCores
 mod UnsignedReductions
 mod SignedReductions
-mod CommonNumbers
+mod FilledNumbers
 mod LetterLemmas
 mod TableLemmas
 mod PaddedLemmas

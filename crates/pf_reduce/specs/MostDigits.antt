@@ -34,7 +34,7 @@ conv_place B = 6
 conv_place C = 7
 conv_place S = 8
 
--- the row for values of so many bits
+-- The row of the table for values of 8, 16, 32 or 64 bits.
 abbrev pub bits_place : Bits → ℕ
 bits_place B8 = 0
 bits_place B16 = 1

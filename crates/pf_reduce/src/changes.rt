@@ -1,15 +1,16 @@
 //! Directives whose canonical text is nearly their own spelling.
-ghost use Rattle.std.specs.Prelude.{◌≡◌, IfSome, IsTrue, None, false};
+ghost use Rattle.std.specs.Prelude.{◌≡◌, ◌≤◌, IfSome, IsTrue, None, false};
+ghost use Rattle.pf_values.specs.declared.flags.Flag.TheVariants.{Zero};
 ghost use Rattle.pf_values.specs.meaning.Conversions.{is_signed, is_text, kind_of};
-ghost use Rattle.pf_values.specs.meaning.Flags.{no_flags};
-ghost use Rattle.pf_values.specs.meaning.Normal.{HasNormalForm};
+ghost use Rattle.pf_values.specs.meaning.Flags.{no_flags, with_flag};
+ghost use Rattle.pf_values.specs.meaning.Normal.{HasNormalForm, digits_at_most};
+ghost use Rattle.pf_values.specs.meaning.Specification.{width_of};
 ghost use Rattle.pf_reduce.specs.Changes.{HasPlainParts, IsChange, IsMostPrinted};
 ghost use Rattle.pf_reduce.specs.declared.changes.Change.TheVariants.{Filled};
 
-use crate::common::is_filled;
 use crate::normality::{has_signed_form, is_bare, is_normal_string, is_normal_unprefixed};
 use crate::numbers::{max_digits, width};
-use pf_values::{Conv, Directive, Flag, Kind, Model};
+use pf_values::{Conv, Directive, Flag, FlagSet, Kind, Model};
 
 /// What changes in the spelling of a directive.
 #[derive(Clone, Copy, Debug, PartialEq, Eq)]
@@ -86,6 +87,23 @@ fn is_unsigned(conv: Conv) -> bool
     ensures { IsTrue result → (is_text conv ≡ false) × (is_signed conv ≡ false) }
 {
     matches!(conv.kind(), Kind::Unsigned(_, _))
+}
+
+// Whether the flag `0` alone fills a field that the digits can reach.
+#[inline(always)]
+fn is_filled(model: Model, directive: &Directive) -> bool
+    ensures flags { IsTrue result → directive.now.flags ≡ with_flag no_flags Zero }
+    ensures precision { IsTrue result → directive.now.precision ≡ None }
+    ensures some { IsTrue result → 2 ≤ width_of directive.now }
+    ensures most { IsTrue result → width_of directive.now ≤ digits_at_most model directive.now }
+{
+    if directive.flags() != FlagSet::empty().with(Flag::Zero) {
+        return false;
+    }
+    if directive.precision().is_some() {
+        return false;
+    }
+    2 <= width(directive) && width(directive) <= max_digits(model, directive)
 }
 
 // The change of a number whose field is wider than what it prints.

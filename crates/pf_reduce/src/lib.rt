@@ -3,7 +3,6 @@
 #![tactic(auto)]
 
 mod changes;
-mod common;
 mod integers;
 mod most_digits;
 mod normal_directives;
@@ -16,7 +15,6 @@ mod signs;
 mod texts;
 
 pub use changes::{Change, change_of};
-pub use common::reduce_inline;
 pub use normality::is_normal;
 pub use reduction::reduce;
 pub use results::{Core, Normal, Reduced};

@@ -11,8 +11,8 @@ use Rattle.pf_canon.proofs.plain_texts.put_reduced.Goals as goal
 
 pub returns-in-Normal : goal.returns-in-Normal
 returns-in-Normal g c =
-    let r = c.reduce_inline-spaces.result in
-    let h = c.reduce_inline-spaces.ensures in
+    let r = c.reduce-spaces.result in
+    let h = c.reduce-spaces.ensures in
     let model = c.args.model in
     let s = c.args.directive.now in
     let core = c.directive.result in

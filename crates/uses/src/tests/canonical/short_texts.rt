@@ -1,7 +1,7 @@
 //! What the C library calls instead of `canonical`: verbatim fronts, canonical texts on the stack, and
 //! reductions where they are called.
 use pf_canon::{ShortText, VerbatimFront};
-use pf_reduce::{Change, Core, Reduced, change_of, reduce_inline};
+use pf_reduce::{Change, Core, Reduced, change_of, reduce};
 use pf_text::{Refusal, directive_at_front, spell};
 use pf_values::{Model, RefusalKind};
 
@@ -43,7 +43,7 @@ fn reduced(directive: &[u8], wanted: &[u8]) -> Option<(u16, u16, bool, u16)> {
         zeros,
         core,
         trail,
-    } = reduce_inline(Model::Lp64, &directive);
+    } = reduce(Model::Lp64, &directive);
     match core {
         Core::Normal(normal) => {
             let is_core = spell(&normal.directive()).as_slice() == wanted;
