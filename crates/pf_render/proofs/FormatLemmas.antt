@@ -1,35 +1,5 @@
 -- What a format prints, and the pieces of it that are written.
-use Rattle.std.proofs.Common.{
-  ◌≡◌,
-  ℕ,
-  suc,
-  ◌+◌,
-  ◌*◌,
-  ◌^◌,
-  ◌<◌,
-  ◌≤◌,
-  true,
-  List,
-  [],
-  ◌∷◌,
-  ◌++◌,
-  length,
-  map,
-  drop,
-  sym,
-  ap,
-  ◌∙◌,
-  subst,
-  arith,
-  Some,
-  None,
-  Ok,
-  Err,
-  Result,
-  get_or,
-  drop-cons,
-  refl,
-}
+use Rattle.std.proofs.Common.{◌≡◌, ◌+◌, ◌*◌, ◌^◌, ◌≤◌, List, [], ◌∷◌, ◌++◌, length, map, sym, ap, ◌∙◌, subst, arith, Some, None, Ok, Err, Result, refl}
 use Rattle.std.proofs.lemmas.List.{append-nil, append_assoc, append_cancel_left, length-append}
 use Rattle.pf_values.specs.declared.arguments.Arg.{Arg}
 use Rattle.pf_values.specs.declared.counted.Counted.{Counted}
@@ -45,10 +15,9 @@ use Rattle.pf_text.specs.declared.pieces.Pieces.{Pieces}
 use Rattle.pf_text.specs.declared.refusals.Refusal.{Refusal}
 use Rattle.pf_text.specs.PieceHistory.{NextReturns, NextIs, NextIsPiece, HasGiven, IsPieceBefore, items_of}
 use Rattle.pf_text.proofs.Texts.{Reads-unique}
-use Rattle.pf_render.specs.declared.piece_cache.PieceCache.{PieceCache}
-use Rattle.pf_render.specs.declared.piece_cache.FormatPart.{FormatPart}
+use Rattle.pf_render.specs.declared.format_parts.FormatPart.{FormatPart}
 use Rattle.pf_render.specs.declared.progress.Progress.{Progress}
-use Rattle.pf_render.specs.Caching.{CachesText, items_of_part, items_of_parts}
+use Rattle.pf_render.specs.FormatParts.{items_of_part}
 use Rattle.pf_render.specs.Matching.{TakesArguments}
 use Rattle.pf_render.specs.Progressing.{WritesOn, arity, next_arguments}
 use Rattle.pf_render.specs.Rendering.{Renders, RendersTo}
@@ -77,21 +46,6 @@ module _ (model : Model) (t : Text) (args : List Arg) (h : TakesArguments model 
       let out = PrintsAll-exists model h.takes.items (arguments args)
       (typed_items h.takes.items h.takes.accepted.reads) in
       (out.0, renders_items h.takes.items h.takes.accepted.reads out.0 out.1)
-
-  -- all its parts are cached
-  module _ (cache : PieceCache) (k : CachesText cache t) (whole : cache.is_complete ≡ true) where
-    pub typed_parts : HasTypes model (arguments args) (types model (items_of_parts cache.parts.items))
-    typed_parts = subst (λ i. HasTypes model (arguments args) (types model i)) (sym (k.2.same whole)) (typed_items k.0 k.1)
-
-    pub renders_parts : (out : Text) → PrintsAll model (items_of_parts cache.parts.items) (arguments args) out → Renders model t args out
-    renders_parts out prints = renders_items k.0 k.1 out (subst (λ i. PrintsAll model i (arguments args) out) (k.2.same whole) prints)
-
--- the part that comes next, and those after it
-pub next_part : (parts : List FormatPart) (n : ℕ) (part : FormatPart) → n < length parts → part ≡ get_or parts n part
-    → items_of_parts (drop n parts) ≡ items_of_part part ++ items_of_parts (drop (n + 1) parts)
-next_part parts n part less e =
-    let one_more : suc n ≡ n + 1 = omega arith in
-    ap items_of_parts (drop-cons parts n part less ∙ ap (λ k. get_or parts n part ∷ drop k parts) one_more ∙ ap (λ p. p ∷ drop (n + 1) parts) (sym e))
 
 some_items : (piece : Piece) (read rest : Text) → IsPieceBefore piece read rest → 1 ≤ length (items_of piece)
 some_items (pieces.Literal run) read rest h = go run.now h.some where

@@ -1,34 +1,6 @@
 -- The argument check after one more type, and what follows at the end.
-use Rattle.std.proofs.Common.{
-  ◌≡◌,
-  ℕ,
-  zero,
-  suc,
-  ◌+◌,
-  ◌<◌,
-  ◌≤◌,
-  List,
-  [],
-  ◌∷◌,
-  ◌++◌,
-  length,
-  map,
-  take,
-  refl,
-  sym,
-  ap,
-  ◌∙◌,
-  subst,
-  arith,
-  inl,
-  inr,
-  Ok,
-  Err,
-  None,
-  Result,
-  Some,
-}
-use Rattle.std.specs.Prelude.{OnOk, slice_get}
+use Rattle.std.proofs.Common.{◌≡◌, ℕ, zero, suc, ◌+◌, ◌<◌, ◌≤◌, List, [], ◌∷◌, ◌++◌, length, map, take, refl, sym, ap, ◌∙◌, subst, arith, inl, inr, Ok, None, Result, Some}
+use Rattle.std.specs.Prelude.{slice_get}
 use Rattle.std.specs.List.{AllZip}
 use Rattle.std.proofs.lemmas.Bool.{cases_lt}
 use Rattle.std.proofs.lemmas.List.{append-nil, length_push, take_all, take-append-le}
@@ -50,9 +22,7 @@ use Rattle.pf_text.specs.PieceHistory.{NextReturns, HasGiven, items_of}
 use Rattle.pf_values.proofs.ItemTypes.{types-append, types-bytes}
 use Rattle.pf_text.proofs.SignatureLemmas.{HasFound, all_found, more_given}
 use Rattle.pf_text.specs.Signatures as signatures
-use Rattle.pf_render.specs.declared.piece_cache.PieceCache.{PieceCache}
 use Rattle.pf_render.specs.declared.argument_lists.ArgumentCheck.{ArgumentCheck}
-use Rattle.pf_render.specs.Caching.{CachesItems, CachesText}
 use Rattle.pf_render.specs.Matching.{IsOfTypeAt, TakesArguments, HasChecked}
 use Rattle.pf_render.specs.Rendering.{HasWrongType, IsOfType}
 use Rattle.pf_render.proofs.ItemLemmas.{length_items}
@@ -196,26 +166,24 @@ length_types model [] = omega arith
 length_types model (Byte byte ∷ items) = omega (arith, length_types model items)
 length_types model (Directive s ∷ items) = omega (arith, length_types model items)
 
--- The pieces so far were given, the arguments are checked against the types that they take, and their parts are cached.
-pub record IsChecked (model : Model) (pieces : Pieces) (t : Text) (args : List Arg) (check : ArgumentCheck) (cache : PieceCache) : Type 0 where
+-- The pieces so far were given, and the arguments are checked against the types that they take.
+pub record IsChecked (model : Model) (pieces : Pieces) (t : Text) (args : List Arg) (check : ArgumentCheck) : Type 0 where
   pub types : List ArgType
   pub found : HasFound model pieces t types
   pub checked : HasChecked model check args types
-  pub keeps : CachesItems cache found.items
 
 -- no piece was given yet
-pub none_checked : (model : Model) (pieces : Pieces) (t : Text) (args : List Arg) (cache : PieceCache) → HasGiven pieces t [] [] → CachesItems cache []
-    → IsChecked model pieces t args (record { wanted = 0; matched = 0 }) cache
-none_checked model pieces t args cache given keeps =
+pub none_checked : (model : Model) (pieces : Pieces) (t : Text) (args : List Arg) → HasGiven pieces t [] []
+    → IsChecked model pieces t args (record { wanted = 0; matched = 0 })
+none_checked model pieces t args given =
     record {
       types = [];
       found = record { read = []; items = []; given = given; types_are = refl };
       checked = record { wanted_is = refl; within = omega arith; matching = tt; wrong = λ type is. cc };
-      keeps = keeps;
     }
 
-module _ (model : Model) {before : Pieces} {t : Text} {args : List Arg} {check : ArgumentCheck} {cache : PieceCache}
-    (h : IsChecked model before t args check cache) where
+module _ (model : Model) {before : Pieces} {t : Text} {args : List Arg} {check : ArgumentCheck}
+    (h : IsChecked model before t args check) where
   -- a text has few directives
   pub few_found : length h.types ≤ MAX_TEXT_LEN
   few_found = let found = h.found in omega (
@@ -227,15 +195,12 @@ module _ (model : Model) {before : Pieces} {t : Text} {args : List Arg} {check :
     found.given.scanned.limit,
   )
 
-  pub all_checked : {new : Pieces} → NextReturns before None new → signatures.TakesTypes model t h.types × CachesText cache t
-  all_checked {new} steps =
-      let end = steps.next t h.found.read h.found.items h.found.given in
-      (all_found model before new t h.types h.found steps, (h.found.items, end.reads, h.keeps))
+  pub all_checked : {new : Pieces} → NextReturns before None new → signatures.TakesTypes model t h.types
+  all_checked {new} steps = all_found model before new t h.types h.found steps
 
-  module _ {new : Pieces} {r : Result Piece Refusal} (steps : NextReturns before (Some r) new) {piece : Piece} (is : r ≡ Ok piece) (after : ArgumentCheck)
-      (more : PieceCache) (keeps : CachesItems more (h.found.items ++ items_of piece)) where
+  module _ {new : Pieces} {r : Result Piece Refusal} (steps : NextReturns before (Some r) new) {piece : Piece} (is : r ≡ Ok piece) (after : ArgumentCheck) where
     piece_checked : (wanted : List ArgType) → wanted ≡ types model (items_of piece) → HasChecked model after args (h.types ++ wanted)
-        → IsChecked model new t args after more
+        → IsChecked model new t args after
     piece_checked wanted same checked =
         let found = h.found in
         let g = more_given model before new t h.types found r steps piece is in
@@ -249,16 +214,11 @@ module _ (model : Model) {before : Pieces} {t : Text} {args : List Arg} {check :
                 ∙ sym (types-append model found.items (items_of piece));
           };
           checked = checked;
-          keeps = keeps;
         }
 
     pub directive_checked : (d : Specification) (type : ArgType) → piece ≡ pieces.Directive d → type ≡ arg_type model d
-        → HasChecked model after args (h.types ++ type ∷ []) → IsChecked model new t args after more
+        → HasChecked model after args (h.types ++ type ∷ []) → IsChecked model new t args after
     directive_checked d type e same checked = piece_checked (type ∷ []) (ap (λ x. x ∷ []) same ∙ sym (ap (λ p. types model (items_of p)) e)) checked
 
-    pub other_checked : ((d : Specification) → piece ≡ pieces.Directive d → ⊥) → HasChecked model after args h.types → IsChecked model new t args after more
+    pub other_checked : ((d : Specification) → piece ≡ pieces.Directive d → ⊥) → HasChecked model after args h.types → IsChecked model new t args after
     other_checked other checked = piece_checked [] (sym (no_types model piece other)) (subst (HasChecked model after args) (sym (append-nil h.types)) checked)
-
-pub on_ok : {T E P : Type 0} (r : Result T E) → P → OnOk r P
-on_ok (Ok x) p = p
-on_ok (Err e) p = tt

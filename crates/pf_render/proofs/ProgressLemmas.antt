@@ -38,9 +38,9 @@ use Rattle.pf_values.specs.meaning.Text.{Text}
 use Rattle.pf_values.proofs.ItemTypes.{types-append}
 use Rattle.pf_values.proofs.WriteLemmas.{WritesFirst-more}
 use Rattle.pf_render.specs.declared.faults.WriteFault.{WriteFault}
-use Rattle.pf_render.specs.declared.piece_cache.FormatPart.{FormatPart}
+use Rattle.pf_render.specs.declared.format_parts.FormatPart.{FormatPart}
 use Rattle.pf_render.specs.declared.progress.Progress.{Progress}
-use Rattle.pf_render.specs.Caching.{directive_or_bytes, items_of_part}
+use Rattle.pf_render.specs.FormatParts.{directive_or_bytes, items_of_part}
 use Rattle.pf_render.specs.Progressing.{WritesOn, WritesPart, arity, next_arguments}
 use Rattle.pf_render.proofs.PrintingLemmas.{HasTypes-split, PrintsAll-bytes, PrintsAll-none, PrintsAll-split, same_printed}
 

@@ -6,5 +6,5 @@ pub mod Counts
 pub mod Matching
 pub mod Rendering
 pub mod Gathering
-pub mod Caching
+pub mod FormatParts
 pub mod Progressing

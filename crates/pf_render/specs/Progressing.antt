@@ -10,9 +10,9 @@ use Rattle.pf_values.specs.meaning.Items.{types}
 use Rattle.pf_values.specs.meaning.Printing.{PrintsAll}
 use Rattle.pf_values.specs.meaning.Text.{Text}
 use Rattle.pf_render.specs.declared.faults.WriteFault.{WriteFault}
-use Rattle.pf_render.specs.declared.piece_cache.FormatPart.{FormatPart}
+use Rattle.pf_render.specs.declared.format_parts.FormatPart.{FormatPart}
 use Rattle.pf_render.specs.declared.progress.Progress.{Progress}
-use Rattle.pf_render.specs.Caching.{items_of_part}
+use Rattle.pf_render.specs.FormatParts.{items_of_part}
 
 -- how many arguments a part takes
 abbrev pub arity : Model → FormatPart → ℕ

@@ -1,31 +1,26 @@
 //! Whether the arguments that are given are those that a format takes.
-ghost use Rattle.std.specs.Prelude.{◌≡◌, ◌≤◌, ◌++◌, ◌∷◌, [], List, length, IsTrue, IsFalse, OnOk, MatchResult};
+ghost use Rattle.std.specs.Prelude.{◌≡◌, ◌≤◌, ◌++◌, ◌∷◌, [], List, length, IsTrue, IsFalse, MatchResult};
 ghost use Rattle.pf_values.specs.declared.limits.TheConstants.{MAX_TEXT_LEN};
 ghost use Rattle.pf_values.specs.declared.models.Model.{Model};
 ghost use Rattle.pf_values.specs.declared.types.ArgType.{ArgType};
 ghost use Rattle.pf_values.specs.meaning.Text.{Text};
 ghost use Rattle.pf_text.specs.Signatures.{TakesTypes};
-ghost use Rattle.pf_render.specs.Caching.{CachesItems, CachesText};
 ghost use Rattle.pf_render.specs.Matching.{IsOfTypeAt, TakesArguments, HasChecked};
 ghost use Rattle.pf_render.specs.Rendering.{FaultForRender, IsOfType};
 
 use crate::faults::RenderFault;
-use crate::piece_cache::PieceCache;
 use pf_text::{Piece, Pieces};
 use pf_values::{Arg, ArgType, Model};
 
-/// Whether the text is a format that takes these arguments. Its first pieces are cached.
+/// Whether the text is a format that takes these arguments.
 #[inline(never)]
-pub(crate) fn check_arguments<'a>(
+pub(crate) fn check_arguments(
     model: Model,
-    text: &'a [u8],
+    text: &[u8],
     args: &[Arg<'_>],
-    cache: &mut PieceCache<'a>,
 ) -> Result<(), RenderFault>
-    requires { CachesItems cache.old [] }
-    ensures matched { MatchResult result (λ _. TakesArguments model text.now args.now)
+    ensures { MatchResult result (λ _. TakesArguments model text.now args.now)
         (FaultForRender model text.now args.now) }
-    ensures cache { OnOk result (CachesText cache.new text.now) }
 {
     let mut check = ArgumentCheck {
         wanted: 0,
@@ -36,13 +31,8 @@ pub(crate) fn check_arguments<'a>(
             Ok(piece) => piece,
             Err(refusal) => return Err(RenderFault::Refused(refusal)),
         };
-        // The piece is cached in each arm, since there the prover knows which part it makes.
-        match piece {
-            Piece::Directive(directive) => {
-                cache.push(&piece);
-                check = check.with_next(model, directive.arg_type(model), args);
-            }
-            _ => cache.push(&piece),
+        if let Piece::Directive(directive) = piece {
+            check = check.with_next(model, directive.arg_type(model), args);
         }
     }
     check.conclude(args.len())

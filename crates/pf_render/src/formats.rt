@@ -1,20 +1,13 @@
 //! What a format prints for arguments.
-ghost use Rattle.std.specs.Prelude.{◌≤◌, length, map};
-ghost use Rattle.pf_values.specs.Arg.{argument_of};
-ghost use Rattle.pf_values.specs.meaning.Arguments.{HasTypes};
 ghost use Rattle.pf_values.specs.Counting.{WritesUpTo};
-ghost use Rattle.pf_values.specs.meaning.Items.{types};
-ghost use Rattle.pf_values.specs.meaning.Printing.{PrintsAll};
-ghost use Rattle.pf_values.specs.meaning.Text.{Text};
-ghost use Rattle.pf_render.specs.Caching.{CachesText, items_of_parts, max_cached_parts};
 ghost use Rattle.pf_render.specs.Matching.{TakesArguments};
 ghost use Rattle.pf_render.specs.Rendering.{RendersInto, RendersTo};
 
 use crate::argument_lists::check_arguments;
 use crate::faults::{RenderFault, WriteFault};
+use crate::format_parts::FormatPart;
 use crate::gathered_text::GatheredText;
 use crate::gathering::{gather, write_gathered};
-use crate::piece_cache::{FormatPart, PieceCache};
 use crate::progress::Progress;
 use pf_text::Pieces;
 use pf_values::{Arg, Counted, Model};
@@ -52,55 +45,12 @@ fn render_checked<W: Write>(
 ) -> Result<(), RenderFault>
     ensures { RendersInto model W.contents writer.old writer.new text.now args.now result }
 {
-    let mut cache = PieceCache::new();
-    check_arguments(model, text, args, &mut cache)?;
-    write_checked(model, text, &cache, args, writer)?;
+    check_arguments(model, text, args)?;
+    write_pieces(model, text, args, writer)?;
     Ok(())
 }
 
 // Writes what a format prints for the arguments that it takes.
-fn write_checked<W: Write>(
-    model: Model,
-    text: &[u8],
-    cache: &PieceCache<'_>,
-    args: &[Arg<'_>],
-    writer: &mut Counted<W>,
-) -> Result<(), WriteFault>
-    requires takes { TakesArguments model text.now args.now }
-    requires cache { CachesText cache.now text.now }
-    ensures { RendersTo model text.now args.now
-        (λ out. WritesUpTo W.contents writer.old writer.new out (λ fault. fault.written) result) }
-{
-    if cache.is_complete {
-        write_cached(model, cache.parts.as_slice(), args, writer)
-    } else {
-        write_pieces(model, text, args, writer)
-    }
-}
-
-// Writes what cached parts print.
-#[inline(never)]
-fn write_cached<W: Write>(
-    model: Model,
-    parts: &[FormatPart<'_>],
-    args: &[Arg<'_>],
-    writer: &mut Counted<W>,
-) -> Result<(), WriteFault>
-    requires few { length parts.now ≤ max_cached_parts }
-    requires typed { HasTypes model (map argument_of args.now)
-        (types model (items_of_parts parts.now)) }
-    ensures { (out : Text)
-        × PrintsAll model (items_of_parts parts.now) (map argument_of args.now) out
-        × WritesUpTo W.contents writer.old writer.new out (λ fault. fault.written) result }
-{
-    let mut progress = Progress::new();
-    for part in parts {
-        progress.write(model, part, args, writer)?;
-    }
-    Ok(())
-}
-
-// Writes a format with more pieces than the cache holds: it is read once more.
 #[inline(never)]
 fn write_pieces<W: Write>(
     model: Model,

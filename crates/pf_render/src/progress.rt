@@ -6,13 +6,13 @@ ghost use Rattle.pf_values.specs.meaning.Items.{types};
 ghost use Rattle.pf_values.specs.meaning.Printing.{PrintsAll};
 ghost use Rattle.pf_values.specs.meaning.Text.{Text};
 ghost use Rattle.pf_render.specs.Counts.{WritesCounted};
-ghost use Rattle.pf_render.specs.Caching.{items_of_part};
+ghost use Rattle.pf_render.specs.FormatParts.{items_of_part};
 ghost use Rattle.pf_render.specs.Progressing.{WritesNext, next_arguments};
 
 use crate::directives::write_argument;
 use crate::faults::WriteFault;
 use crate::fields::write_counted;
-use crate::piece_cache::FormatPart;
+use crate::format_parts::FormatPart;
 use pf_values::{Arg, Counted, Model, ShortWrite};
 use std::io::Write;
 

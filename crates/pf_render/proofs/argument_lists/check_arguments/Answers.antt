@@ -1,15 +1,13 @@
-use Rattle.std.proofs.Common.{◌++◌, arith, refl, rules}
-use Rattle.pf_text.specs.PieceHistory.{items_of}
-use Rattle.pf_render.specs.Caching.{CachesItems}
+use Rattle.std.proofs.Common.{arith, refl, rules}
 use Rattle.pf_text.proofs.SignatureLemmas.{refused}
-use Rattle.pf_render.proofs.MatchingLemmas.{all_checked, directive_checked, few_found, none_checked, on_ok, other_checked}
+use Rattle.pf_render.proofs.MatchingLemmas.{all_checked, directive_checked, few_found, none_checked, other_checked}
 use Rattle.pf_render.proofs.argument_lists.check_arguments.Goals as goal
 
 pub loop-piece-init : goal.loop-piece-init
-loop-piece-init c = record { can = tt; finite = tt; so_far = none_checked c.args.model _ c.args.text.now c.args.args.now _ (search rules) c.requires }
+loop-piece-init c = record { can = tt; finite = tt; so_far = none_checked c.args.model _ c.args.text.now c.args.args.now (search rules) }
 
-pub returns-in-Err-clause-matched : goal.returns-in-Err-clause-matched
-returns-in-Err-clause-matched c = let found = c.loop-piece.invariant.so_far.found in
+pub returns-in-Err : goal.returns-in-Err
+returns-in-Err c = let found = c.loop-piece.invariant.so_far.found in
     (refused c.args.model c.loop-piece.piece-iterator c.next.new.self c.args.text.now _ found c.in-Some.piece c.in-Some.ensures.steps c.in-Err.refusal
     c.in-Err.is).refused
 
@@ -22,12 +20,10 @@ pub loop-piece-preserved-in-Directive : goal.loop-piece-preserved-in-Directive
 loop-piece-preserved-in-Directive c =
     let so_far = c.loop-piece.invariant.so_far in
     let d = c.in-Directive.directive in
-    let pushed : CachesItems c.push.new.self (so_far.found.items ++ items_of c.in-Ok.piece) = rw c.in-Directive.is
-    (c.push.ensures so_far.found.items so_far.keeps) in
     record {
       can = tt;
       finite = tt;
-      so_far = directive_checked c.args.model so_far c.in-Some.ensures.steps c.in-Ok.is _ _ pushed d c.arg_type.result c.in-Directive.is c.arg_type.ensures
+      so_far = directive_checked c.args.model so_far c.in-Some.ensures.steps c.in-Ok.is _ d c.arg_type.result c.in-Directive.is c.arg_type.ensures
           (c.with_next-check.ensures so_far.types so_far.checked);
     }
 
@@ -37,14 +33,10 @@ loop-piece-preserved c =
     record {
       can = tt;
       finite = tt;
-      so_far = other_checked c.args.model so_far c.in-Some.ensures.steps c.in-Ok.is _ _
-          (c.push-in_default.ensures so_far.found.items so_far.keeps) c.in_default.not-Directive so_far.checked;
+      so_far = other_checked c.args.model so_far c.in-Some.ensures.steps c.in-Ok.is _ c.in_default.not-Directive so_far.checked;
     }
 
-pub returns-clause-matched : goal.returns-clause-matched
-returns-clause-matched c =
+pub returns : goal.returns
+returns c =
     let so_far = c.loop-piece.invariant.so_far in
-    c.conclude.ensures c.args.model c.args.text.now c.args.args.now so_far.types refl (all_checked c.args.model so_far c.in-None.ensures.steps).0 so_far.checked
-
-pub returns-clause-cache : goal.returns-clause-cache
-returns-clause-cache c = on_ok c.conclude.result (all_checked c.args.model c.loop-piece.invariant.so_far c.in-None.ensures.steps).1
+    c.conclude.ensures c.args.model c.args.text.now c.args.args.now so_far.types refl (all_checked c.args.model so_far c.in-None.ensures.steps) so_far.checked

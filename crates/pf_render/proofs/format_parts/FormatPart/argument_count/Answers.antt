@@ -1,8 +1,8 @@
 use Rattle.std.proofs.Common.{sym, ap, ◌∙◌, length}
 use Rattle.pf_values.specs.meaning.Items.{types}
 use Rattle.pf_values.proofs.ItemTypes.{types-bytes}
-use Rattle.pf_render.specs.Caching.{directive_or_bytes}
-use Rattle.pf_render.proofs.piece_cache.FormatPart.argument_count.Goals as goal
+use Rattle.pf_render.specs.FormatParts.{directive_or_bytes}
+use Rattle.pf_render.proofs.format_parts.FormatPart.argument_count.Goals as goal
 
 pub returns-in-None : goal.returns-in-None
 returns-in-None c model =
