@@ -1,10 +1,10 @@
 # make                   builds the program and the C library
-# make test              the gate: everything is proved and tested, except what was verified on this
-#                        machine before, then the program and the library are tried
+# make test              the gate: everything is proved and tested, a sample of the mutants is tried, then the
+#                        program and the library are tried
 # make check-more        tries the library with tools that the gate doesn't need: clang, valgrind,
 #                        gettext, libclang, mypy, lintian, debootstrap, meson, CMake, and the shells of the
 #                        completions
-# make mutants           tries mutants, which the prover must refuse, and the script that does so
+# make mutants           tries the mutants that the records don't have as refused, and writes them there
 # make install PREFIX=   installs what `make` built: the program, the C library, the Python module
 #                        with its three commands, manual pages, completions and documents; below
 #                        DESTDIR=, where that is given. It builds nothing
@@ -28,12 +28,14 @@ SHARED = $(C)/libfmtcanon.so.$(VERSION)
 # The oldest processors that the library is to run on. It doesn't test for them.
 CPU = x86-64
 
-# How many checks `rt ci` runs side by side, and how many the mutants beside it: one a processor, with 5 GB of free
-# memory for both. Left alone, `rt ci` plans twice the memory that a check takes, and the greatest crate starts last.
+# How many checks `rt ci` runs side by side: one a processor, with 5 GB of free memory. Left alone, it plans twice the memory
+# that a check takes, and the largest crate starts last. Beside it run half as many; on two processors two, since neither
+# has enough to run for all processors all the time.
 JOBS = $(shell awk -v n="$$(nproc)" '/^MemAvailable/ { m = int($$2 / 5000000); \
     if (m > n) m = n; if (m < 1) m = 1; print m }' /proc/meminfo)
+BESIDE = $(shell echo $$(( $(JOBS) > 4 ? $(JOBS) / 2 : $(JOBS) > 1 ? 2 : 1 )))
 
-.PHONY: all program library archive test gate tried trials check-more mutants tools c-tools
+.PHONY: all program library archive test gate beside-gate tried trials check-more mutants tools c-tools
 .PHONY: built places install uninstall dist deb wheel tables
 
 all: program library
@@ -44,13 +46,15 @@ program: tools
 
 library: $(C)/libfmtcanon.a $(SHARED)
 
-# rt knows what has changed.
+# The folder in which the crate of the C library is proved and built; rt knows what has changed.
+C_CRATE = crates/fmtcanon_c
+
 archive: tools c-tools
-	cd crates/fmtcanon_c && rt lib --cpu $(CPU)
+	cd $(C_CRATE) && rt lib --cpu $(CPU)
 	mkdir -p $(C)
 
 # One object, whose only global names are those of the header.
-JOIN = CC="$(CC)" library/join.sh crates/fmtcanon_c/out/libfmtcanon_c.a
+JOIN = CC="$(CC)" library/join.sh $(C_CRATE)/out/libfmtcanon_c.a
 
 # A file that stays as it is causes nothing to be made again.
 $(C)/fmtcanon.o: archive
@@ -69,9 +73,9 @@ $(SHARED): $(C)/fmtcanon.o
 
 # The library as Rattle's own compiler builds it, to compare what the two answer.
 $(C)/second.a: library
-	cd crates/fmtcanon_c && rt lib --backend rattle
+	cd $(C_CRATE) && rt lib --backend rattle
 	$(JOIN) $(C)/second.o
-	cd crates/fmtcanon_c && rt lib --cpu $(CPU)
+	cd $(C_CRATE) && rt lib --cpu $(CPU)
 	rm -f $@
 	ar rcs $@ $(C)/second.o
 
@@ -79,19 +83,13 @@ $(C)/second.a: library
 MINUTES = out/minutes
 TIMED = tests/timed.sh $(MINUTES)
 
-# What `rt ci` prints, which says what became of the edits in must-fail/; and what the mutants print beside it.
-CI_LOG = out/ci.log
-MUTANTS_LOG = out/mutants.log
-
-# The trials use the program that `gate` has just proved and built. Nothing else can go on from the proofs of `rt ci`, so
-# the crates are proved once more where the mutants and the library need that: tests/kept.py remembers these proofs, and
-# the mutants that were refused, on this machine.
-test:
+# The trials use the program that `gate` has just proved and built. Nothing can go on from the proofs of `rt ci`, so beside
+# it the crates are proved once more for the mutants and the library, in folders that stay (tests/work.py).
+test: tools c-tools
 	mkdir -p $(dir $(MINUTES))
 	rm -f $(MINUTES)
-	$(TIMED) tests/beside_ci.sh $(MAKE) $(MUTANTS_LOG)
-	$(TIMED) $(MAKE) mutants WHICH='--ci $(CI_LOG)'
-	$(TIMED) $(MAKE) library-over-kept
+	python3 tests/mutants.py --recorded
+	$(TIMED) tests/both.sh '$(TIMED) $(MAKE) gate' '$(TIMED) $(MAKE) beside-gate'
 	$(TIMED) $(MAKE) tried
 	@cat $(MINUTES)
 
@@ -99,8 +97,11 @@ tried:
 	$(TRIALS)
 
 gate: tools
-	mkdir -p $(dir $(CI_LOG))
-	bash -c 'set -o pipefail; RT_JOBS=$(JOBS) rt ci 2>&1 | tee $(CI_LOG)'
+	RT_JOBS=$(JOBS) rt ci
+
+beside-gate: tools c-tools
+	python3 tests/mutants.py --gate --jobs $(BESIDE)
+	python3 tests/mutants_test.py
 
 trials: program library
 	$(MAKE) tried
@@ -127,12 +128,7 @@ check-more: program library $(C)/second.a
 	python3 tests/short_streams.py --each $(PROGRAM)
 
 mutants: tools
-	python3 tests/mutants_test.py
-	python3 tests/mutants.py --jobs $(JOBS) $(WHICH)
-
-library-over-kept: tools
-	python3 tests/proofs.py --jobs $(JOBS) fmtcanon_c
-	$(MAKE) library
+	python3 tests/mutants.py --jobs $(JOBS)
 
 # A tool that is missing is named, and that fails.
 tools:

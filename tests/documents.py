@@ -23,6 +23,7 @@ import library  # noqa: E402
 import linear  # noqa: E402
 import literals  # noqa: E402
 import memory  # noqa: E402
+import clauses  # noqa: E402
 import mutant_files  # noqa: E402
 import opaque  # noqa: E402
 import reach  # noqa: E402
@@ -250,9 +251,9 @@ def try_numbers(trials):
     try_mutant(trials, contributing)
 
 
-def lines_of(pattern, without="/uses/src/tests"):
+def lines_of(pattern, without=("/uses/src/tests", "/uses_low/src/tests")):
     """How many lines the files of a pattern have."""
-    paths = [path for path in TOP.glob(pattern) if without not in str(path.parent / path.stem)]
+    paths = [path for path in TOP.glob(pattern) if not any(it in str(path.parent / path.stem) for it in without)]
     return sum(path.read_text(encoding="utf-8").count("\n") for path in paths)
 
 
@@ -261,7 +262,7 @@ def try_sizes(trials):
     text = with_digits((TOP / "docs/VERIFICATION.md").read_text(encoding="utf-8"))
     callers = [
         name
-        for path in (TOP / "crates/uses/src").glob("*.rt")
+        for path in TOP.glob("crates/uses*/src/*.rt")
         for name in re.findall(r"^pub fn (\w+)", path.read_text(encoding="utf-8"), re.MULTILINE)
     ]
     wrappers = re.findall(
@@ -270,9 +271,7 @@ def try_sizes(trials):
     for pattern, count in [(r"has (\d+) callers", len(callers)), (r"the (\d+) C functions of", len(wrappers))]:
         found = re.search(pattern, text)
         trials.expect(f"docs/VERIFICATION.md: {pattern}", found and int(found.group(1)), count)
-    tests = lines_of("crates/uses/src/tests/**/*.rt", "no such file") + lines_of(
-        "crates/uses/src/tests.rt", "no such file"
-    )
+    tests = lines_of("crates/uses*/src/tests/**/*.rt", ()) + lines_of("crates/uses*/src/tests.rt", ())
     counts = [
         lines_of("crates/*/src/**/*.rt"),
         lines_of("crates/*/specs/**/*.antt"),
@@ -412,10 +411,15 @@ def try_graph(trials):
 
 
 def try_edits(trials):
-    """A mutant changes each public function, except a few that are listed with a reason."""
+    """A mutant changes each public function and breaks each of its clauses, except a few that are listed with a
+    reason.
+    """
     missing, needless = unedited.all_unedited()
     trials.expect("public functions that no mutant changes", missing, [])
     trials.expect("exceptions of tests/unedited.py that a mutant changes", needless, [])
+    _, missing, needless = clauses.unbroken([])
+    trials.expect("clauses of public functions that no recorded mutant breaks", missing, [])
+    trials.expect("exceptions of tests/clauses.py that a mutant breaks", needless, [])
 
 
 def try_definitions(trials):

@@ -12,7 +12,7 @@ tries too. Both have lines of these kinds; lines that are empty or start with `#
 A mutant has one or more pairs of `old:` and `new:`, which apply one after the other.
 """
 
-from dataclasses import dataclass, field, replace
+from dataclasses import dataclass, field
 
 import rattle_functions
 
@@ -51,8 +51,6 @@ class Mutant:
     # Paths in the crate; empty if a text is outside every body, as in a constant or in specs/.
     functions: frozenset = frozenset()
     why_broken: str = ""
-    # Whether `rt ci` tries it, too.
-    is_in_ci: bool = False
 
     def is_broken(self):
         return bool(self.why_broken)
@@ -160,9 +158,8 @@ def pairs_in(crate):
 
 def mutants_of(crate):
     """Returns the mutants of the crate in that folder."""
-    homes, found = homes_in(crate), pairs_in(crate)
-    mutants = {name: mutant_of(f"{crate.name}/{name}", pairs, crate, homes) for name, pairs in found.items()}
-    return [replace(it, is_in_ci=(crate / f"must-fail/{name}.edit").exists()) for name, it in mutants.items()]
+    homes = homes_in(crate)
+    return [mutant_of(name, pairs, crate, homes) for name, pairs in pairs_in(crate).items()]
 
 
 def batches(mutants, crate, most):

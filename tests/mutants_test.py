@@ -1,13 +1,12 @@
 #!/usr/bin/env python3
-"""Tries tests/mutants.py: each kind of mutant gets its verdict, and what is remembered is forgotten when it should be.
+"""Tries tests/mutants.py: each kind of mutant gets its verdict, and a line of a record holds as long as it should.
 
-Usage: tests/mutants_test.py [--anew]
+Usage: tests/mutants_test.py
 
-Its crates are those of tests/toy_crates.py, which the prover checks in seconds. If all tests passed before on this
-machine, with the same kit and the same scripts, they are not run again, unless --anew is given.
+Its crates are those of tests/toy_crates.py, which the prover checks in seconds. Its last line is 'N passed, M failed'.
 """
 
-import contextlib
+import fcntl
 import os
 import re
 import shutil
@@ -22,15 +21,18 @@ from pathlib import Path
 sys.dont_write_bytecode = True
 sys.path.insert(0, str(Path(__file__).resolve().parent))
 
+import mutant_keys  # noqa: E402
 import rattle_functions  # noqa: E402
 import toy_crates  # noqa: E402
-from kept import MOST_PROOFS, Checksums, Kept, cache_folder, remove_oldest  # noqa: E402
+from crates import TOP, Crates  # noqa: E402
 from mutant_files import Mutant, Pair, batches, functions_at, mutants_of, read_pairs  # noqa: E402
-from mutants import Trial  # noqa: E402
-from proofs import SCRIPTS  # noqa: E402
-from reports import Report, Verdict, failed_tests, refused_by_ci, verdict_of, without_answers  # noqa: E402
+from mutant_keys import Keys  # noqa: E402
+from mutant_trials import answers_of  # noqa: E402
+from mutants import Mutants  # noqa: E402
+from refused import Record  # noqa: E402
+from reports import Report, Verdict, verdict_of  # noqa: E402
 from schedule import Task, run_all  # noqa: E402
-from sources import Sources, checksum, kit_folder, kit_sum  # noqa: E402
+from work import Work, cache_folder, open_work  # noqa: E402
 
 SOURCE = """
 impl<'a> Reader<'a> {
@@ -148,8 +150,7 @@ class Files(unittest.TestCase):
             "low/must-fail/n.edit": "file: src/lib.rt\nold: 1\nnew: 3\n",
         }
         toy_crates.write(folder, files)
-        found = [(it.name, it.functions, it.is_in_ci) for it in mutants_of(crate)]
-        self.assertEqual(found, [("low/n", {"a"}, True), ("low/m", {"a"}, False)])
+        self.assertEqual([(it.name, it.functions) for it in mutants_of(crate)], [("n", {"a"}), ("m", {"a"})])
         toy_crates.write(folder, {"low/must-fail/m.edit": "file: src/lib.rt\nold: 1\nnew: 3\n"})
         with self.assertRaises(ValueError):
             mutants_of(crate)
@@ -182,57 +183,54 @@ only=3 holes=0
 
     def test_a_goal_of_another_function_of_that_name(self):
         report = Report(self.TEXT, "pf_x")
-        self.assertEqual(list(report.open_goals("a::Left::new")), ["the goal `returns` of pf_x::a::Left::new"])
+        self.assertEqual(list(report.open_goals("a::Left::new")), ["returns of a::Left::new"])
         self.assertEqual(list(report.open_goals("a::Right::new")), [])
         self.assertEqual(list(report.open_goals("b::Left::new")), [])
 
     def test_a_goal_of_a_closure(self):
         report = Report(self.TEXT, "pf_x")
         self.assertEqual(
-            list(report.open_goals("a::Right::has")), ["the goal `returns-2` of pf_x::a::fn::Right::has::any"]
+            list(report.open_goals("a::Right::has")), ["returns-2 of a::fn::Right::has::any"]
         )
+
+    def test_all_goals_of_a_function(self):
+        text = "fn pf_x::a::b: no proof: expected answers; `search` did not prove `returns`, `f-requires-2`\nonly=1 holes=0\n"
+        found = verdict_of(Report(text, "pf_x"), Mutant("m", functions=frozenset(["a::b"])))
+        self.assertEqual(found, (Verdict.REFUSED, "returns f-requires-2 of a::b"))
+
+    def test_goals_with_answers(self):
+        text = "fn pf_x::a::b: no proof: expected answers; `search` did not prove `returns`, `f-requires`\nonly=1 holes=0\n"
+        mutant = Mutant("m", functions=frozenset(["a::b"]))
+        for answered, wanted in [
+            ({"returns"}, (Verdict.REFUSED, "f-requires of a::b")),
+            ({"returns", "f-requires"}, (Verdict.LET_THROUGH, "no goal without an answer is open in a::b")),
+        ]:
+            report = Report(text, "pf_x", {"proofs/a/b/Answers.antt": answered})
+            self.assertEqual(verdict_of(report, mutant), wanted)
+            self.assertEqual(verdict_of(report, Mutant("n"))[0], wanted[0])
 
     def test_an_answer_that_does_not_fit(self):
         text = (
             "./proofs/a/Left/new/Answers.antt:5:1 error: `returns`: the two types differ\n"
             "fn pf_x::a::Left::new: not proved\nonly=1 holes=0\n"
         )
-        report, mutant = Report(text, "pf_x"), Mutant("m", functions=frozenset(["a::Left::new"]))
-        self.assertEqual(list(report.open_goals("a::Left::new")), [])
-        self.assertEqual(list(report.unfit_answers("a::Left::new")), [("a/Left/new/Answers.antt", "returns")])
-        self.assertEqual(
-            verdict_of(report, mutant), (Verdict.BY_AN_ANSWER, "the answer `returns` of proofs/a/Left/new/Answers.antt")
-        )
+        for functions in [frozenset(["a::Left::new"]), frozenset()]:
+            found = verdict_of(Report(text, "pf_x"), Mutant("m", functions=functions))
+            self.assertEqual(found[0], Verdict.LET_THROUGH)
 
-    def test_without_answers(self):
-        text = (
-            "use A.{b}\n\npub b : goal.b\nunfolding c\nb d =\n    e\n\n"
-            "helper : T\nhelper = f\n\npub b-2 : goal.b-2\nb-2 d = g\n"
-        )
-        self.assertEqual(
-            without_answers(text, {"b"}), text.replace("pub b : goal.b\nunfolding c\nb d =\n    e\n\n", "")
-        )
-        self.assertEqual(without_answers(text, {"b-2", "helper"}), text[: text.index("helper")])
-        self.assertEqual(without_answers(text, {"c"}), text)
-
-    def test_without_steps_that_answers_used(self):
-        steps = "use A.Goals.{then-branch, else-branch}\n"
-        text = (
-            f"use A.Goals as goal\n{steps}\npub b : goal.b\nb d = elim d [ | then-branch w ↦ e ]\n\n"
-            "pub c : goal.c\nc d = f\n"
-        )
-        self.assertEqual(without_answers(text, {"b"}), "use A.Goals as goal\n\npub c : goal.c\nc d = f\n")
-        self.assertEqual(without_answers(text, {"c"}), text.replace("pub c : goal.c\nc d = f\n", ""))
-        self.assertEqual(without_answers(text, {"e"}), text)
-
-    def test_a_lemma_that_fails_with_a_mutant_of_no_function(self):
-        text = (
-            "./proofs/Limits.antt:5:1 error: `above`: the two types differ\n"
-            "fn pf_x::a::Left::new: not proved\nonly=1 holes=0\n"
-        )
-        self.assertEqual(
-            verdict_of(Report(text, "pf_x"), Mutant("m")), (Verdict.REFUSED, "`above` of proofs/Limits.antt")
-        )
+    @in_folder
+    def test_files_of_answers(self, folder):
+        files = {
+            "proofs/a/Left/new/Answers.antt": "pub returns : goal.returns\nreturns c = refl\n\nhelper : T\nhelper = f\n",
+            "proofs/a/fn/Left/new/any/Answers.antt": "pub b-2 : goal.b-2\nb-2 c = refl\n",
+            "proofs/a/Left/old/Answers.antt": "pub returns : goal.returns\nreturns c = refl\n",
+        }
+        toy_crates.write(folder, files)
+        wanted = [
+            ("proofs/a/Left/new/Answers.antt", {"returns"}),
+            ("proofs/a/fn/Left/new/any/Answers.antt", {"b-2"}),
+        ]
+        self.assertEqual(answers_of(folder, Mutant("m", functions=frozenset(["a::Left::new"]))), wanted)
 
     def test_no_verdict(self):
         mutant = Mutant("m", [Pair("src/a.rt", "1", "2")], frozenset(["a::Left::new"]))
@@ -241,274 +239,176 @@ only=3 holes=0
         for text in ["", "Killed", "error: expected `;`"]:
             self.assertIs(verdict_of(Report(text, "pf_x"), mutant)[0], Verdict.BROKEN)
 
-    def test_failed_tests(self):
-        said = "test a ... FAILED\n  wrong\ntest b ... FAILED\n  it did not end within the time limit\ntest c ... ok\n"
-        self.assertEqual(failed_tests(said), ["a"])
 
+class KeysOfMutants(unittest.TestCase):
+    """What the key of a mutant depends on: all that decides whether it is refused, and nothing else."""
 
-class CiLog(unittest.TestCase):
-    """Which mutants the log of `rt ci` shows to be refused by an open goal."""
+    # A function of the crate in the middle, which names a definition, an operator, a module and a type.
+    MIDDLE = """
+ghost use Rattle.low.specs.Doubles.{
+    doubled,
+};
+ghost use Rattle.low.specs.Signs.{◌⊕◌};
+ghost use Rattle.low.specs.Names as names;
 
-    NOTE = "it is not proved that what the function ensures holds when it returns (`returns`)"
+/// Returns something.
+pub fn made(n: Size) -> u32
+    ensures { result ≡ doubled n ⊕ names.named }
+{
+    called(n)
+}
 
-    def said(self, line, name="low/m"):
-        with tempfile.TemporaryDirectory(prefix="fmtcanon-test-") as folder:
-            crate = Path(folder) / "low"
-            source = "fn a()\n    -> u32\n    ensures { x }\n{\n    1\n}\nfn b() {}\n"
-            toy_crates.write(Path(folder), {"low/src/lib.rt": source})
-            mutant = Mutant(name, [Pair("src/lib.rt", "    1", "    2")], frozenset(["a"]))
-            return refused_by_ci(f"rt: note\nrt: must-fail {line}\n", mutant, crate)
+fn called(n: Size) -> u32
+    ensures { result ≡ n }
+{
+    n
+}
+"""
+    FILES = {
+        **toy_crates.FILES,
+        "crates/low/specs/Names.antt": """use Rattle.low.specs.Signs.{◌⊕◌}
+pub use Rattle.low.specs.Parts.{part}
 
-    def test_open_goal(self):
-        for line in [1, 2, 3, 5]:
-            self.assertEqual(
-                self.said(f"low/m.edit: refused, as it must be: note: src/lib.rt:{line}:1: {self.NOTE}"),
-                f"by rt ci: src/lib.rt:{line}: {self.NOTE}",
-            )
+abbrev pub named : ℕ
+named = part ⊕ 1
 
-    def test_no_open_goal_of_that_function(self):
-        open_goal = f"refused, as it must be: note: src/lib.rt:2:15: {self.NOTE}"
-        for line in [
-            f"low/n.edit: {open_goal}",
-            f"high/m.edit: {open_goal}",
-            f"low/m.edit: refused, as it must be: note: src/lib.rt:7:1: {self.NOTE}",
-            f"low/m.edit: refused, as it must be: note: src/other.rt:2:15: {self.NOTE}",
-            "low/m.edit: refused, as it must be: ./proofs/a/Answers.antt:5:1: error: `returns`: the two types differ",
-            (
-                "low/m.edit: refused, as it must be (only because a proof file names what the edit took away): "
-                "note: src/lib.rt:2:15: it is not proved"
-            ),
-            f"low/m.edit: NOT REFUSED: note: src/lib.rt:2:15: {self.NOTE}",
-            "low/m.edit: NOT TRIED: its check was killed",
-        ]:
-            self.assertIsNone(self.said(line), line)
-
-
-class Keeping(unittest.TestCase):
-    """What the cache folder keeps."""
-
-    @in_folder
-    def test_verdicts(self, folder):
-        kept = Kept(folder)
-        kept.keep_verdict("low", "k", "m", "why")
-        kept.keep_verdict("low", "k", "n", "that")
-        self.assertEqual(Kept(folder).verdicts("low", "k"), {"m": "why", "n": "that"})
-        self.assertEqual(kept.verdicts("low", "l"), {})
-        self.assertEqual(Kept(folder, anew=True).verdicts("low", "k"), {})
-
-    @in_folder
-    def test_a_torn_line(self, folder):
-        kept = Kept(folder)
-        kept.keep_verdict("low", "k", "m", "why")
-        with open(folder / "verdicts/low-k", "a", encoding="utf-8") as file:
-            file.write('{"key": "n", "wh')
-        self.assertEqual(kept.verdicts("low", "k"), {"m": "why"})
-
-    @in_folder
-    def test_proofs(self, folder):
-        kept = Kept(folder)
-        for number in range(MOST_PROOFS + 2):
-            toy_crates.write(folder, {"out/incremental/a.oantt": str(number)})
-            os.utime(kept.keep_proof("low", f"k{number}", folder / "out"), (number, number))
-        self.assertEqual((kept.proof("low", "k4") / "incremental/a.oantt").read_text(), "4")
-        self.assertIsNone(kept.proof("low", "k"))
-        self.assertIsNone(Kept(folder, anew=True).proof("low", "k4"))
-        self.assertEqual(kept.newest_proof("low").name, "low-k4")
-        self.assertIsNone(kept.newest_proof("high"))
-        kept.unlock()
-        kept.sweep()
-        self.assertEqual(sorted(it.name for it in (folder / "proofs").iterdir()), ["low-k2", "low-k3", "low-k4"])
-
-    @in_folder
-    def test_a_proof_that_a_run_uses(self, folder):
-        kept, other = Kept(folder), Kept(folder)
-        for number in range(MOST_PROOFS + 2):
-            toy_crates.write(folder, {"out/incremental/a.oantt": ""})
-            kept.keep_proof("low", f"k{number}", folder / "out")
-        kept.unlock()
-        other.proof("low", "k0")
-        for number in range(MOST_PROOFS + 2):
-            os.utime(folder / f"proofs/low-k{number}", (number, number))
-        kept.sweep()
-        self.assertEqual(
-            sorted(it.name for it in (folder / "proofs").iterdir()), ["low-k0", "low-k2", "low-k3", "low-k4"]
-        )
-        other.unlock()
-        kept.sweep()
-        self.assertEqual(sorted(it.name for it in (folder / "proofs").iterdir()), ["low-k2", "low-k3", "low-k4"])
-        self.assertIsNone(other.proof("low", "k0"))
-
-    @in_folder
-    def test_what_killed_runs_left(self, folder):
-        kept = Kept(folder)
-        ended = subprocess.Popen(["true"])
-        ended.wait()
-        files = {
-            f"work/{ended.pid}-x/file": "",
-            f"proofs/new-{ended.pid}-x/file": "",
-            f"work/{os.getpid()}-y/file": "",
-        }
-        toy_crates.write(folder, files)
-        kept.sweep()
-        self.assertEqual(
-            [it.name for part in ["work", "proofs"] for it in (folder / part).iterdir()], [f"{os.getpid()}-y"]
-        )
-
-    @in_folder
-    def test_what_another_run_has_just_removed(self, folder):
-        toy_crates.write(folder, {"a/file": "", "b/file": ""})
-        os.utime(folder / "a", (1, 1))
-        remove_oldest([folder / "gone", folder / "a", folder / "b"], 1)
-        self.assertEqual([it.name for it in folder.iterdir()], ["b"])
-
-    @in_folder
-    def test_no_cache_folder(self, folder):
-        toy_crates.write(folder, {"file": ""})
-        for home, wanted in [(folder / "file", None), (folder / "home", folder / "home/fmtcanon")]:
-            with unittest.mock.patch.dict(os.environ, {"XDG_CACHE_HOME": str(home)}):
-                self.assertEqual(cache_folder(), wanted)
-
-
-class FakeWorkspace:
-    """Stands for a workspace: its checks print what it is given, first without a mutant and then with one."""
-
-    def __init__(self, sound, mutated):
-        self.said = {(): sound, ("--allow-holes",): mutated}
-
-    def changed(self, _texts):
-        return contextlib.nullcontext()
-
-    def check(self, _paths, *flags):
-        return self.said[flags]
-
-
-class Confirming(unittest.TestCase):
-    """A refusal counts, and is kept, only if the crate is proved without the mutant."""
-
-    REFUSED = "fn low::a: no proof: `search` did not prove `returns`\nonly=1 holes=0\n"
-
-    def outcome(self, folder, sound, first):
-        """Returns how many mutants passed and failed, and the verdicts that were kept; `first` names the task that runs
-        first.
-        """
-        files = {"tree/crates.txt": "low:\n", "tree/HANDLES": "", "tree/crates/low/src/lib.rt": "fn a() { 1 }\n"}
-        toy_crates.write(folder, files)
-        (folder / "copy").mkdir()
-        sums = Checksums(Sources(folder / "tree", folder / "copy"), "kit", [])
-        proofs = unittest.mock.Mock(
-            sources=sums.sources,
-            sums=sums,
-            kept=Kept(folder),
-            lacking=lambda _: [],
-            workspace=lambda _: FakeWorkspace(sound, self.REFUSED),
-        )
-        trial = Trial("low", [Mutant("low/m", [Pair("src/lib.rt", "1", "2")], frozenset("a"))], proofs)
-        for task in sorted(trial.tasks(1), key=lambda it: it.name != ("low", first)):
-            task.call()
-        return trial.report(), list(Kept(folder).verdicts("low", sums.of_crate("low")).values())
-
-    @in_folder
-    def test_proved(self, folder):
-        for number, first in enumerate(["proved", 0]):
-            found = self.outcome(folder / str(number), "only=1 proved=1\n", first)
-            self.assertEqual(found, ((1, 0), ["the goal `returns` of low::a"]))
-
-    @in_folder
-    def test_not_proved(self, folder):
-        for number, first in enumerate(["proved", 0]):
-            self.assertEqual(self.outcome(folder / str(number), self.REFUSED, first), ((0, 1), []))
-
-
-class Checksum(unittest.TestCase):
-    """What a verdict depends on: everything that can change it, and nothing else."""
-
-    CHANGED = [
-        "crates/low/src/lib.rt",
-        "crates/low/specs/Doubles.antt",
-        "crates/low/proofs/twice/Answers.antt",
-        "crates/middle/src/lib.rt",
-        "HANDLES",
+abbrev pub unnamed : ℕ
+unnamed = 2
+""",
+        "crates/low/specs/Parts.antt": "abbrev pub part : ℕ\npart = 3\n",
+        "crates/low/src/sizes.rt": "pub struct Size { size: u32 }\n\nimpl Model for Size {\n    ghost Value = { ℕ };\n}\n",
+        "crates/middle/src/made.rt": MIDDLE,
+    }
+    MUTANT = Mutant("m", [Pair("src/made.rt", "called(n)", "called(n) + 1")], frozenset(["made::made"]))
+    # Edits of one file each that change the key, and that don't.
+    CHANGES = [
+        ("crates/middle/src/made.rt", "doubled n ⊕", "doubled n + n ⊕"),
+        ("crates/middle/src/made.rt", "    called(n)", "    called(n) + 0"),
+        ("crates/low/specs/Doubles.antt", "doubled n = n + n", "doubled n = n"),
+        ("crates/low/specs/Signs.antt", "n ⊕ m = n + m", "n ⊕ m = n"),
+        ("crates/low/specs/Names.antt", "unnamed = 2", "unnamed = 4"),
+        ("crates/low/specs/Parts.antt", "part = 3", "part = 4"),
+        ("crates/low/src/sizes.rt", "size: u32", "size: u64"),
+        ("crates/low/src/sizes.rt", "{ ℕ }", "{ ℤ }"),
+    ]
+    NO_CHANGES = [
+        ("crates/middle/src/made.rt", "Returns something", "Returns nothing"),
+        ("crates/middle/src/made.rt", "result ≡ n }", "result ≡ n + n }"),
+        ("crates/low/specs/Doubles.antt", "-- Twice", "-- Two times"),
+        ("crates/low/specs/Doubles.antt", "tripled n = n + n + n", "tripled n = n"),
+        ("crates/low/proofs/twice/Answers.antt", "refl", "sym"),
+        ("crates/low/src/lib.rt", "let kept = n;", "let other = n;"),
+        ("crates/high/src/lib.rt", "Returns twice", "Returns two times"),
     ]
 
-    def sums(self, folder, files, kit="kit", script="script"):
-        """Returns the checksums of the toy crates with these files in place of theirs."""
-        for name in ["tree", "copy"]:
-            shutil.rmtree(folder / name, ignore_errors=True)
-            (folder / name).mkdir()
-        toy_crates.write(folder / "tree", {**toy_crates.FILES, **files})
-        toy_crates.write(folder, {"script.py": script})
-        return Checksums(Sources(folder / "tree", folder / "copy"), kit, [folder / "script.py"])
+    def key(self, folder, edit=None, mutant=MUTANT, crate="middle"):
+        """Returns the key of a mutant, with one edit of a file."""
+        shutil.rmtree(folder, ignore_errors=True)
+        files = dict(self.FILES)
+        if edit:
+            path, old, new = edit
+            self.assertNotEqual(files[path], files[path].replace(old, new) if "proofs" not in path else "")
+            files[path] = files[path].replace(old, new, 1)
+        toy_crates.write(folder, files)
+        return Keys(Crates(folder)).key(crate, mutant)
 
     @in_folder
-    def test_crates(self, folder):
-        before = self.sums(folder, {})
-        before = {it: before.of_crate(it) for it in before.sources.names()}
-        self.assertEqual(len(set(before.values())), 3)
-        for path in self.CHANGED:
-            after = self.sums(folder, {path: toy_crates.FILES[path] + "\n"})
-            first = 1 if "middle" in path else 0
-            changed = [it for it in before if after.of_crate(it) != before[it]]
-            self.assertEqual(changed, ["low", "middle", "high"][first:], path)
-
-    @in_folder
-    def test_a_line_of_crates_txt(self, folder):
-        lines = "low:\nmiddle: low memchr\nhigh: low middle\n"
-        before, after = self.sums(folder, {}).of_crate("high"), self.sums(folder, {"crates.txt": lines})
-        self.assertNotEqual(after.of_crate("high"), before)
-
-    @in_folder
-    def test_a_file_renamed_or_added(self, folder):
-        before = self.sums(folder, {}).of_crate("low")
-        self.assertNotEqual(self.sums(folder, {"crates/low/src/more.rt": ""}).of_crate("low"), before)
-
-    @in_folder
-    def test_kit_and_script(self, folder):
-        before = self.sums(folder, {}).of_crate("low")
-        self.assertNotEqual(self.sums(folder, {}, kit="other").of_crate("low"), before)
-        self.assertNotEqual(self.sums(folder, {}, script="other").of_crate("low"), before)
-        self.assertEqual(self.sums(folder, {}).of_crate("low"), before)
-
-    @in_folder
-    def test_neither_documents_nor_crates_above_nor_other_mutants(self, folder):
-        before = self.sums(folder, {}).of_crate("low")
-        files = {
-            "docs/PAGE.md": "Another page.\n",
-            "crates/high/src/lib.rt": "",
-            "crates/low/mutants.txt": "# None.\n",
-            "crates/low/CALLING.md": "",
-        }
-        self.assertEqual(self.sums(folder, files).of_crate("low"), before)
+    def test_edits(self, folder):
+        before = self.key(folder / "a")
+        for edit in self.CHANGES:
+            self.assertNotEqual(self.key(folder / "a", edit), before, edit)
+        for edit in self.NO_CHANGES:
+            self.assertEqual(self.key(folder / "a", edit), before, edit)
 
     @in_folder
     def test_mutants(self, folder):
-        sums = self.sums(folder, {})
-        pairs = [
-            [Pair("src/lib.rt", "1", "2")],
-            [Pair("src/lib.rt", "1", "3")],
-            [Pair("src/lib.rt", "1", "2", "a")],
-            [Pair("src/lib.rt", "1", "2")] * 2,
+        others = [
+            Mutant("m", [Pair("src/made.rt", "called(n)", "called(n) + 2")], self.MUTANT.functions),
+            Mutant("m", [Pair("src/made.rt", "called(n)", "called(n) + 1", "made")], self.MUTANT.functions),
+            Mutant("m", self.MUTANT.pairs * 2, self.MUTANT.functions),
+            Mutant("m", self.MUTANT.pairs, frozenset(["made::called"])),
         ]
-        found = {sums.of_mutant(Mutant("m", it)) for it in pairs}
-        self.assertEqual(len(found), 4)
-        self.assertNotIn(sums.of_mutant(Mutant("m", pairs[0]), "high"), found)
+        self.assertEqual(len({self.key(folder / "a", mutant=it) for it in [self.MUTANT, *others]}), 5)
 
     @in_folder
-    def test_the_crate_whose_tests_are_run(self, folder):
-        mutant = Mutant("m", [Pair("src/lib.rt", "1", "2")])
-        before = self.sums(folder, {}).of_mutant(mutant, "high")
-        self.assertNotEqual(self.sums(folder, {"crates/high/src/tests.rt": ""}).of_mutant(mutant, "high"), before)
+    def test_a_constant(self, folder):
+        mutant = Mutant("m", [Pair("src/lib.rt", "100", "101")])
+        before = self.key(folder / "a", None, mutant, "low")
+        for path, changes in [("crates/low/src/lib.rt", True), ("crates/middle/src/lib.rt", False)]:
+            after = self.key(folder / "a", (path, "Returns", "Gives"), mutant, "low")
+            self.assertEqual(after != before, changes, path)
 
     @in_folder
-    def test_the_kit(self, folder):
-        kit = {"KIT-ID": "a", "WHAT": "b", "bin/rt": "c", "rlibs/x.rlib/format": "d", "DOC.md": "e"}
-        toy_crates.write(folder, kit)
-        before = kit_sum(folder)
-        toy_crates.write(folder, {"DOC.md": "another"})
-        self.assertEqual(kit_sum(folder), before)
-        for path in ["KIT-ID", "WHAT", "bin/rt", "rlibs/x.rlib/format"]:
-            toy_crates.write(folder, {path: "longer"})
-            self.assertNotEqual(kit_sum(folder), before, path)
-            before = kit_sum(folder)
+    def test_kit_and_judges(self, folder):
+        before = self.key(folder / "a")
+        for name in ["kit", "judges_sum"]:
+            with unittest.mock.patch.object(mutant_keys, name, return_value="another"):
+                self.assertNotEqual(self.key(folder / "a"), before, name)
+        self.assertEqual(self.key(folder / "a"), before)
+
+
+class Records(unittest.TestCase):
+    """The record of refused mutants."""
+
+    @in_folder
+    def test_lines(self, folder):
+        record = Record(folder, "k 1")
+        record.put("n", "2", "returns of b")
+        record.put("m", "1", "returns f of a")
+        self.assertEqual((folder / "refused.txt").read_text(), "kit k 1\nm 1 returns f of a\nn 2 returns of b\n")
+        record = Record(folder, "k 1")
+        self.assertTrue(record.is_current("m", "1"))
+        self.assertFalse(record.is_current("m", "2") or record.is_current("o", "1"))
+        record.keep_only({"n"})
+        self.assertEqual((folder / "refused.txt").read_text(), "kit k 1\nn 2 returns of b\n")
+
+
+class Folders(unittest.TestCase):
+    """The folders in which crates are proved."""
+
+    def enter(self, folder, name="middle"):
+        """Enters the folder of a crate as a run does, and returns which it is."""
+        work = Work(Crates(folder / "tree"), folder / "kept", folder / "temporary")
+        os.close(work.enter(name))
+        return work.folders[name]
+
+    @in_folder
+    def test_sources(self, folder):
+        toy_crates.write(folder, {"kept/none": "", "temporary/none": ""})
+        toy_crates.write(folder / "tree", toy_crates.FILES)
+        place = self.enter(folder)
+        self.assertEqual((place / "crates.txt").read_text(), "low:\nmiddle: low\n")
+        self.assertFalse((place / "crates/high").exists())
+        toy_crates.write(place, {"crates/middle/src/more.rt": "", "crates/middle/out/kept": ""})
+        os.utime(place / "crates/low/src/lib.rt", (1, 1))
+        toy_crates.write(folder / "tree", {"crates/middle/src/lib.rt": "fn a() {}\n"})
+        self.assertEqual(self.enter(folder), place)
+        self.assertEqual((place / "crates/middle/src/lib.rt").read_text(), "fn a() {}\n")
+        self.assertFalse((place / "crates/middle/src/more.rt").exists())
+        self.assertTrue((place / "crates/middle/out/kept").exists())
+        self.assertEqual((place / "crates/low/src/lib.rt").stat().st_mtime, 1)
+
+    @in_folder
+    def test_a_folder_that_another_run_uses(self, folder):
+        toy_crates.write(folder, {"kept/none": "", "temporary/none": ""})
+        toy_crates.write(folder / "tree", toy_crates.FILES)
+        place = self.enter(folder)
+        other = os.open(place, os.O_RDONLY)
+        fcntl.flock(other, fcntl.LOCK_SH)
+        self.assertEqual(self.enter(folder), place)
+        toy_crates.write(folder / "tree", {"crates/middle/src/lib.rt": "fn a() {}\n"})
+        self.assertIn(folder / "temporary", self.enter(folder).parents)
+        self.assertEqual((place / "crates/middle/src/lib.rt").read_text(), toy_crates.FILES["crates/middle/src/lib.rt"])
+
+    @in_folder
+    def test_no_cache_folder(self, folder):
+        toy_crates.write(folder, {"file": "", "tree/crates.txt": "", "tree/HANDLES": ""})
+        for home, wanted in [(folder / "file", None), (folder / "home", folder / "home/fmtcanon/work")]:
+            with unittest.mock.patch.dict(os.environ, {"XDG_CACHE_HOME": str(home)}):
+                self.assertEqual(cache_folder(), wanted)
+                with open_work(Crates(folder / "tree")) as work:
+                    self.assertEqual(work.kept, wanted)
+                self.assertFalse(work.temporary.exists())
 
 
 class Scheduling(unittest.TestCase):
@@ -546,31 +446,18 @@ class Scheduling(unittest.TestCase):
             run_all([Task("a", fail)], 1)
 
 
-class Remembering(unittest.TestCase):
-    """These tests are remembered once they passed, and only then."""
+class SideBySide(unittest.TestCase):
+    """tests/both.sh, by which the gate runs two commands."""
 
-    def runs(self, folder, failures=(), words=(), kit="kit"):
-        """Returns how often the tests were run by `main`, and its status."""
-        ran = unittest.mock.Mock(result=unittest.mock.Mock(testsRun=3, failures=list(failures), errors=[]))
-        with contextlib.ExitStack() as stack:
-            for patch in [
-                unittest.mock.patch.object(unittest, "main", return_value=ran),
-                unittest.mock.patch.object(sys, "argv", ["mutants_test.py", *words]),
-                unittest.mock.patch.dict(os.environ, {"XDG_CACHE_HOME": str(folder)}),
-                unittest.mock.patch(f"{__name__}.kit_sum", return_value=kit),
-                contextlib.redirect_stdout(None),
-            ]:
-                stack.enter_context(patch)
-            status = main()
-            return unittest.main.call_count, status
-
-    @in_folder
-    def test_once_passed(self, folder):
-        self.assertEqual(self.runs(folder, ["a failure"]), (1, 1))
-        self.assertEqual(self.runs(folder), (1, 0))
-        self.assertEqual(self.runs(folder), (0, 0))
-        self.assertEqual(self.runs(folder, words=["--anew"]), (1, 0))
-        self.assertEqual(self.runs(folder, kit="another"), (1, 0))
+    def test_both(self):
+        for first, second, wanted in [
+            ("echo a; sleep 0.2", "echo b", (0, "a\nb\n")),
+            ("sleep 0.2; exit 4", "echo b; sleep 60", (4, "b\n")),
+            ("echo a; sleep 60", "sleep 0.2; echo b; exit 3", (3, "a\nb\n")),
+        ]:
+            command = [str(TOP / "tests/both.sh"), first, second]
+            done = subprocess.run(command, stdout=subprocess.PIPE, timeout=30, encoding="utf-8", check=False)
+            self.assertEqual((done.returncode, done.stdout), wanted)
 
 
 class Whole(unittest.TestCase):
@@ -581,110 +468,89 @@ class Whole(unittest.TestCase):
         self.addCleanup(shutil.rmtree, self.folder, ignore_errors=True)
         toy_crates.write(self.folder, toy_crates.FILES)
         (self.folder / "tests").mkdir()
-        for script in SCRIPTS:
+        for script in (TOP / "tests").glob("*.py"):
             shutil.copy(script, self.folder / "tests")
 
+    def has_mutants(self, names):
+        toy_crates.write(self.folder, {"crates/low/mutants.txt": toy_crates.mutants_text(names)})
+
     def run_script(self, *words):
-        """Returns the verdict that a run prints of each mutant, its last two lines, and its status."""
+        """Returns the verdict that a run prints of each mutant, its last line, and its status."""
         environment = {**os.environ, "XDG_CACHE_HOME": str(self.folder / "cache")}
-        command = [sys.executable, str(self.folder / "tests/mutants.py"), "--jobs", "2", *words]
+        command = [sys.executable, str(self.folder / "tests/mutants.py"), *words]
         done = subprocess.run(
             command, env=environment, stdout=subprocess.PIPE, stderr=subprocess.STDOUT, encoding="utf-8", check=False
         )
-        found, last = (
-            dict(re.findall(rf"^{it}low/([\w-]+): ([^:]+): ", done.stdout, re.MULTILINE))
-            for it in ["", "not refused: "]
-        )
-        self.assertEqual(last, {name: verdict for name, verdict in found.items() if not Verdict(verdict).is_good()})
-        verdicts = {name: Verdict(verdict) for name, verdict in found.items()}
-        return verdicts, done.stdout.splitlines()[-2:], done.returncode
-
-    def counts(self, tried, remembered, passed, failed):
-        """Returns the last two lines of a run with these counts."""
-        counted = (
-            f"mutants: {tried} tried in this run, {remembered} remembered from earlier runs on this machine, "
-            "0 refused by rt ci in this run"
-        )
-        return [counted, f"{passed} passed, {failed} failed"]
+        self.said = done.stdout
+        found = dict(re.findall(r"^low/([\w-]+): ([^:]+): ", done.stdout, re.MULTILINE))
+        return {name: Verdict(it) for name, it in found.items()}, done.stdout.splitlines()[-1], done.returncode
 
     def test_each_kind(self):
-        toy_crates.write(self.folder, {"crates/low/mutants.txt": toy_crates.mutants_text(toy_crates.MUTANTS)})
+        self.has_mutants(toy_crates.MUTANTS)
         wanted = {name: verdict for name, (_, verdict) in toy_crates.MUTANTS.items()}
-        bad = {name: verdict for name, verdict in wanted.items() if not verdict.is_good()}
+        bad = {name: verdict for name, verdict in wanted.items() if verdict is not Verdict.REFUSED}
         good = len(wanted) - len(bad)
-        self.assertEqual(self.run_script(), (wanted, self.counts(len(wanted), 0, good, len(bad)), 1))
-        # Only the good ones are remembered.
-        self.assertEqual(self.run_script(), (bad, self.counts(len(bad), good, good, len(bad)), 1))
+        self.assertEqual(self.run_script("--jobs", "2"), (wanted, f"{good} passed, {len(bad)} failed", 1))
+        # Only those that were refused are recorded.
+        self.assertEqual(self.run_script(), (bad, f"0 passed, {len(bad)} failed", 1))
 
-    def test_what_is_tried_again(self):
-        names = ["no-search", "renamed-and-wrong"]
-        toy_crates.write(self.folder, {"crates/low/mutants.txt": toy_crates.mutants_text(names)})
-        both = {name: toy_crates.MUTANTS[name][1] for name in names}
-        self.assertEqual(self.run_script(), (both, self.counts(2, 0, 2, 0), 0))
-        files = {
-            "docs/PAGE.md": "Another page.\n",
-            "crates/low/mutants.txt": f"# More.\n{toy_crates.mutants_text(names)}",
-        }
-        toy_crates.write(self.folder, files)
-        self.assertEqual(self.run_script(), ({}, self.counts(0, 2, 2, 0), 0))
-        # The one that a test shows depends on the crate whose test it is.
-        toy_crates.write(self.folder, {"crates/high/src/tests.rt": toy_crates.FILES["crates/high/src/tests.rt"] + "\n"})
-        self.assertEqual(self.run_script(), ({"renamed-and-wrong": Verdict.BY_A_TEST}, self.counts(1, 1, 2, 0), 0))
-        self.assertEqual(
-            self.run_script("--anew", "no-search"), ({"no-search": Verdict.REFUSED}, self.counts(1, 0, 1, 0), 0)
-        )
+    def test_the_record(self):
+        self.has_mutants(["no-search", "constant"])
+        self.assertEqual(self.run_script("--recorded"), ({}, "0 passed, 5 failed", 1))
+        self.assertIn("`python3 tests/mutants.py low no-search` tries it", self.said)
+        refused = {"no-search": Verdict.REFUSED, "constant": Verdict.REFUSED}
+        self.assertEqual(self.run_script("low"), (refused, "2 passed, 0 failed", 0))
+        for name in ["middle", "high"]:
+            toy_crates.write(self.folder, {f"crates/{name}/refused.txt": f"kit {mutant_keys.kit()}\n"})
+        self.assertEqual(self.run_script("--recorded"), ({}, "2 passed, 0 failed", 0))
+        self.assertEqual(self.run_script("--gate"), (self.sampled(), "1 passed, 0 failed", 0))
+        self.assertIn("built over fmtcanon_c", self.said)
+        self.forge()
 
-    def test_beside_ci(self):
-        files = {
-            "crates/low/must-fail/no-search.edit": f"{toy_crates.MUTANTS['no-search'][0]}\n",
-            "crates/low/mutants.txt": toy_crates.mutants_text(["no-answer"]),
-        }
-        toy_crates.write(self.folder, files)
-        refused = Verdict.REFUSED
-        self.assertEqual(self.run_script("--not-in-ci"), ({"no-answer": refused}, self.counts(1, 0, 1, 0), 0))
-        self.assertEqual(self.run_script(), ({"no-search": refused}, self.counts(1, 1, 2, 0), 0))
-        shutil.rmtree(self.folder / "cache")
-        (self.folder / "cache").write_text("", encoding="utf-8")
-        said = ["nothing can be kept, so no mutant is tried before `rt ci` has ended"]
-        self.assertEqual(self.run_script("--not-in-ci"), ({}, said, 0))
+    def sampled(self):
+        """Returns the verdicts of a sample in which all are refused."""
+        sample = re.search(r"^a sample of 1 mutants: low/(\S+)$", self.said, re.MULTILINE)
+        return {sample[1]: Verdict.REFUSED}
+
+    def forge(self):
+        """A line by hand passes where the records are compared, and not where all are tried."""
+        self.has_mutants(["same-meaning"])
+        [mutant], record = mutants_of(self.folder / "crates/low"), Record(self.folder / "crates/low", mutant_keys.kit())
+        record.put(mutant.name, Keys(Crates(self.folder)).key("low", mutant), "returns of same")
+        record.keep_only({mutant.name})
+        self.assertEqual(self.run_script("--recorded"), ({}, "1 passed, 0 failed", 0))
+        let_through = {"same-meaning": Verdict.LET_THROUGH}
+        self.assertEqual(self.run_script("--all"), (let_through, "0 passed, 1 failed", 1))
+        self.assertEqual(self.run_script("--gate"), (let_through, "0 passed, 1 failed", 1))
 
     def test_a_crate_that_is_not_proved(self):
         wrong = toy_crates.FILES["crates/low/src/lib.rt"].replace("LIMIT: u32 = 100", "LIMIT: u32 = 101")
-        files = {"crates/low/src/lib.rt": wrong, "crates/low/mutants.txt": toy_crates.mutants_text(["no-search"])}
-        toy_crates.write(self.folder, files)
-        verdicts, [counted, last], status = self.run_script()
-        self.assertEqual((verdicts, last, status), ({"no-search": Verdict.NOT_JUDGED}, "0 passed, 1 failed", 1))
+        toy_crates.write(self.folder, {"crates/low/src/lib.rt": wrong})
+        self.has_mutants(["no-search"])
+        self.assertEqual(self.run_script(), ({"no-search": Verdict.NOT_JUDGED}, "0 passed, 2 failed", 1))
 
-    def test_proofs(self):
-        environment = {**os.environ, "XDG_CACHE_HOME": str(self.folder / "cache")}
-        command = [sys.executable, str(self.folder / "tests/proofs.py"), "middle"]
-        for made, kept in [(2, 0), (0, 2)]:
-            done = subprocess.run(command, env=environment, stdout=subprocess.PIPE, encoding="utf-8", check=False)
-            wanted = [
-                f"proved in this run: {made}; kept from earlier runs on this machine: {kept}",
-                "2 passed, 0 failed",
-            ]
-            self.assertEqual((done.stdout.splitlines()[-2:], done.returncode), (wanted, 0))
-            self.assertTrue((self.folder / "crates/low/out/rlib/stamp").is_file())
-            shutil.rmtree(self.folder / "crates/low/out")
 
-    def test_nothing_to_try(self):
-        self.assertEqual(self.run_script()[1:], (self.counts(0, 0, 0, 0), 1))
+class Sampling(unittest.TestCase):
+    """The sample that the gate tries."""
+
+    @in_folder
+    def test_how_many(self, folder):
+        toy_crates.write(folder, {"crates.txt": "low:\n", "crates/low/src/lib.rt": "fn a() { 1 }\n"})
+        pairs = "file: src/lib.rt\nold: 1\nnew: 2\n"
+        for count, wanted in [(1, 1), (20, 1), (21, 2), (60, 3)]:
+            text = "".join(f"mutant: m{it}\n{pairs}" for it in range(count))
+            toy_crates.write(folder, {"crates/low/mutants.txt": text})
+            mutants = Mutants(Crates(folder))
+            samples = [[it.name for it in mutants.sample("low", seed)] for seed in "abcdefgh"]
+            self.assertEqual({len(it) for it in samples}, {wanted})
+            self.assertEqual(len({*map(tuple, samples)}) > 1, count > 1)
+            self.assertEqual([it.name for it in mutants.sample("low", "a")], samples[0])
 
 
 def main():
-    """Runs the tests, unless they passed before with the same kit and scripts. Prints how many passed and failed."""
-    files = [*SCRIPTS, Path(__file__), Path(toy_crates.__file__)]
-    cache = None if "--anew" in sys.argv[1:] else cache_folder()
-    key = checksum(kit_sum(kit_folder()), sys.version, [it.read_bytes() for it in files])
-    passed = cache and Kept(cache).verdicts("tests", key).get("passed")
-    if passed:
-        print(f"remembered from an earlier run on this machine\n{passed} passed, 0 failed")
-        return 0
+    """Runs the tests, and prints how many passed and failed."""
     ran = unittest.main(argv=sys.argv[:1], exit=False).result
     failed = len(ran.failures) + len(ran.errors)
-    if cache and ran.testsRun and not failed:
-        Kept(cache).keep_verdict("tests", key, "passed", str(ran.testsRun))
     print(f"{ran.testsRun - failed} passed, {failed} failed")
     return 1 if failed or not ran.testsRun else 0
 

@@ -20,7 +20,7 @@ sys.path.insert(0, str(Path(__file__).resolve().parent))
 import rattle_functions  # noqa: E402
 from harness import main  # noqa: E402
 from mutant_files import pairs_in, places_of  # noqa: E402
-from sources import TOP  # noqa: E402
+from crates import TOP  # noqa: E402
 
 # Public functions that have no mutant, each with the reason.
 EXCEPTIONS = {

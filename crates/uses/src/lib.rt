@@ -3,9 +3,6 @@
 #![tactic(auto)]
 
 pub mod argument_types;
-pub mod canonical_texts;
-pub mod directives;
-pub mod formats;
 pub mod meaning;
 #[cfg(test)]
 mod tests;

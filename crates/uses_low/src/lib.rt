@@ -1,0 +1,9 @@
+//! Uses of the libraries up to `pf_canon`, as a caller writes them. Each is proved from the contracts of the calls alone,
+//! with no proof file.
+#![tactic(auto)]
+
+pub mod canonical_texts;
+pub mod directives;
+pub mod formats;
+#[cfg(test)]
+mod tests;

@@ -1,0 +1,76 @@
+"""Makes the key of a mutant: a checksum of everything that decides whether the prover refuses it.
+
+A refusal says that the clauses of a function refuse a body. So the key has the mutant, the functions that it changes
+with their clauses, and what these mean: the definitions, types and constants that they reach. It also has the kit and
+the scripts that judge. It has neither proofs nor the clauses of callees: if those change, a body that breaks a clause
+still has no proof.
+"""
+
+import ast
+import hashlib
+import subprocess
+from functools import lru_cache
+from pathlib import Path
+
+import rattle_functions
+from crates import PARTS
+from definitions import Definitions, Unit, bare
+from mutant_files import homes_in
+
+# The files whose code makes the verdicts.
+JUDGES = ["mutant_files", "mutant_trials", "rattle_functions", "reports"]
+
+
+def checksum(*values):
+    """Returns a checksum of values that `repr` writes in full."""
+    return hashlib.sha256(repr(values).encode()).hexdigest()
+
+
+@lru_cache(maxsize=None)
+def kit():
+    """Returns the line by which the kit identifies itself."""
+    return subprocess.run(["rt", "version"], stdout=subprocess.PIPE, check=True, encoding="utf-8").stdout.strip()
+
+
+def judges_sum():
+    """Returns a checksum of what the scripts that judge do, whatever their comments say."""
+    texts = [(Path(__file__).parent / f"{it}.py").read_text(encoding="utf-8") for it in JUDGES]
+    return checksum([ast.dump(ast.parse(it)) for it in texts])
+
+
+class Keys:
+    """The keys of the mutants of some crates."""
+
+    def __init__(self, crates):
+        self.crates, self.definitions, self.judges = crates, Definitions(crates), judges_sum()
+
+    @lru_cache(maxsize=None)
+    def functions(self, crate):
+        """Returns the functions of a crate by their paths, each with its text and that of the trait that it is of."""
+        folder, found = self.crates.folder(crate), {}
+        homes = homes_in(folder)
+        for path in sorted((folder / "src").rglob("*.rt")):
+            file = str(path.relative_to(folder))
+            text = self.definitions.text(crate, file)
+            for it in rattle_functions.functions(text, file, homes):
+                unit = Unit(crate, file, it.path, bare(f"impl {it.block} {text[it.head : it.end]}"))
+                found.setdefault(it.path, []).append(unit)
+        return found
+
+    @lru_cache(maxsize=None)
+    def whole(self, crate):
+        """Returns the units of all sources of a crate: any of them may refuse a mutant that is in no function."""
+        folder = self.crates.folder(crate)
+        return [
+            Unit(crate, str(it.relative_to(folder)), "", it.read_text(encoding="utf-8"))
+            for part in PARTS[:2]
+            for it in sorted((folder / part).rglob("*.*t*"))
+        ]
+
+    def key(self, crate, mutant):
+        """Returns the key of a mutant of a crate."""
+        pairs = [(it.file, it.old, it.new, it.after) for it in mutant.pairs]
+        changed = [it for path in sorted(mutant.functions) for it in self.functions(crate).get(path, [])]
+        units = self.definitions.reached_from(changed or self.whole(crate))
+        texts = sorted((it.crate, it.file, it.name, it.text) for it in units)
+        return checksum(kit(), self.judges, pairs, texts)[:12]
