@@ -298,7 +298,7 @@ unnamed = 2
         ("crates/low/specs/Doubles.antt", "tripled n = n + n + n", "tripled n = n"),
         ("crates/low/proofs/twice/Answers.antt", "refl", "sym"),
         ("crates/low/src/lib.rt", "let kept = n;", "let other = n;"),
-        ("crates/high/src/lib.rt", "Returns twice", "Returns two times"),
+        ("crates/fmtcanon_c/src/lib.rt", "Returns twice", "Returns two times"),
     ]
 
     def key(self, folder, edit=None, mutant=MUTANT, crate="middle"):
@@ -378,7 +378,7 @@ class Folders(unittest.TestCase):
         toy_crates.write(folder / "tree", toy_crates.FILES)
         place = self.enter(folder)
         self.assertEqual((place / "crates.txt").read_text(), "low:\nmiddle: low\n")
-        self.assertFalse((place / "crates/high").exists())
+        self.assertFalse((place / "crates/fmtcanon_c").exists())
         toy_crates.write(place, {"crates/middle/src/more.rt": "", "crates/middle/out/kept": ""})
         os.utime(place / "crates/low/src/lib.rt", (1, 1))
         toy_crates.write(folder / "tree", {"crates/middle/src/lib.rt": "fn a() {}\n"})
@@ -500,7 +500,7 @@ class Whole(unittest.TestCase):
         self.assertIn("`python3 tests/mutants.py low no-search` tries it", self.said)
         refused = {"no-search": Verdict.REFUSED, "constant": Verdict.REFUSED}
         self.assertEqual(self.run_script("low"), (refused, "2 passed, 0 failed", 0))
-        for name in ["middle", "high"]:
+        for name in ["middle", "fmtcanon_c"]:
             toy_crates.write(self.folder, {f"crates/{name}/refused.txt": f"kit {mutant_keys.kit()}\n"})
         self.assertEqual(self.run_script("--recorded"), ({}, "2 passed, 0 failed", 0))
         self.assertEqual(self.run_script("--gate"), (self.sampled(), "1 passed, 0 failed", 0))

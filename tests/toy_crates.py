@@ -3,7 +3,7 @@
 from reports import Verdict
 
 FILES = {
-    "crates.txt": "low:\nmiddle: low\nhigh: low middle\n",
+    "crates.txt": "low:\nmiddle: low\nfmtcanon_c: low middle\n",
     "HANDLES": "Handles allowed: none.\n",
     "Makefile": "library:\n\t@echo built over $(notdir $(C_CRATE))\n",
     "crates/low/specs/Lib.antt": "pub mod Doubles\npub mod Signs\n",
@@ -109,7 +109,7 @@ pub fn by_two(n: u8) -> u32
     twice(n)
 }
 """,
-    "crates/high/src/lib.rt": """//! A crate above both.
+    "crates/fmtcanon_c/src/lib.rt": """//! A crate above both.
 #![tactic(auto)]
 
 use low::same;
