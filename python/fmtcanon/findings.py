@@ -10,7 +10,7 @@ from typing import Any, Callable, Dict, List, Mapping, Optional, TextIO, Tuple
 from urllib.parse import quote
 
 from . import Type, __version__
-from .output import put
+from .output import put as put
 
 # The names of types that all commands use.
 TYPE_NAMES = {
