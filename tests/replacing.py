@@ -149,7 +149,6 @@ DIFFERENCES = [
     (["--model", "both", "%zd", "%d"], "left: in LP64 the types differ at argument 0"),
     (["--model", "ilp32", "%zx", "%u"], "left: the two print different bytes for 4294967295"),
     (["--model", "lp64", "%zu", "%lu"], "replaced"),
-    (["--model", "ilp32", "%zd", "%d"], "replaced"),
     (
         ["%'i", "%d"],
         "left: the flag ' groups digits, except in the POSIX locale: --posix-locale says that it prints there",
@@ -198,7 +197,13 @@ WRONG = [
 ]
 # The seconds of the processor that a line of 400,000 bytes may take, and one literal of ten million.
 LONG_LINE, SECONDS = 400_000, 20
-WITHOUT_LIBCLANG = "fmtcanon-replace: libclang is missing: the package python3-clang has it\n"
+# The seconds in which the command ends after a signal.
+SOON = 2
+# What is said without libclang, with the Python that lacks it.
+WITHOUT_LIBCLANG = (
+    "fmtcanon-replace: libclang is missing: {python} has no module clang.cindex. The package python3-clang has it for "
+    "the system's Python; for this one: {python} -m pip install libclang\n"
+)
 
 
 class Tool:
@@ -479,17 +484,20 @@ def try_signals(tool, trials):
             cwd=tool.work,
             env=tool.environment,
             stdout=subprocess.DEVNULL,
-            stderr=subprocess.DEVNULL,
+            stderr=subprocess.PIPE,
             start_new_session=True,
         )
         for _ in range(100 * TIMEOUT):
             if (tool.work / "running").exists() or running.poll() is not None:
                 break
             time.sleep(0.01)
+        began = time.monotonic()
         os.killpg(running.pid, number)
-        status = running.wait(timeout=TIMEOUT)
+        said = running.communicate(timeout=TIMEOUT)[1].decode()
+        trials.expect(f"signal {number}: soon", time.monotonic() - began < SOON, True)
         left = [it for it in os.listdir(tool.work) if it.startswith(".fmtcanon-")]
-        trials.expect(f"signal {number}", (status, left, file.read_text()), (128 + number, [], PLAIN))
+        wanted = (128 + number, "fmtcanon-replace: interrupted; no file was changed\n", [], PLAIN)
+        trials.expect(f"signal {number}", (running.returncode, said, left, file.read_text()), wanted)
     (tool.work / "compile_commands.json").unlink()
 
 
@@ -652,7 +660,8 @@ def try_without_libclang(folder, trials):
         tool.put("modules/clang/__init__.py", "raise ImportError\n")
         try_usage(tool, trials)
         file = tool.put("a.c", PLAIN)
-        trials.expect("without libclang", tool.run([OLD, NEW, "a.c"]), (2, "", WITHOUT_LIBCLANG))
+        said = WITHOUT_LIBCLANG.format(python=sys.executable)
+        trials.expect("without libclang", tool.run([OLD, NEW, "a.c"]), (2, "", said))
         trials.expect("the file then", file.read_text(), PLAIN)
 
 
