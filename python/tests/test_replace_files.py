@@ -20,6 +20,21 @@ from fmtcanon.replace.stand_ins import StandIn, original
 
 # The seconds in which the command ends after a signal.
 SOON = 2
+# A user to whom root gives a file.
+ANOTHER = 1000
+
+
+def state_of(path):
+    found = os.stat(path)
+    return found.st_mode, found.st_uid, found.st_gid, found.st_mtime_ns
+
+
+def runs(process):
+    """Returns whether a process of this number is there, and not only waits to be noticed."""
+    try:
+        return Path(f"/proc/{process}/stat").read_text().rpartition(")")[2].split()[0] != "Z"
+    except FileNotFoundError:
+        return False
 
 
 class InFolder(unittest.TestCase):
@@ -48,6 +63,9 @@ class StandIns(InFolder):
         target = self.put("target", "precious")
         os.chmod(target, 0o600)
         path = self.put("a.c")
+        if os.geteuid() == 0:
+            os.chown(path, ANOTHER, ANOTHER)
+        before = state_of(target)
         for use in [StandIn.checked, StandIn.rename, lambda it: it.take_rights(original(path)), lambda it: None]:
             with StandIn(path) as stand_in:
                 os.symlink(target, self.work / "link")
@@ -57,7 +75,7 @@ class StandIns(InFolder):
                     self.assertRaises(Left, use, stand_in)
                 else:
                     use(stand_in)
-            self.assertEqual((Path(target).read_text(), os.stat(target).st_mode & 0o7777), ("precious", 0o600))
+            self.assertEqual((Path(target).read_text(), state_of(target)), ("precious", before))
             self.assertEqual(Path(path).read_text(), "old\n")
             self.assertTrue(os.path.islink(stand_in.path), "it isn't removed, since it is another's")
             os.unlink(stand_in.path)
@@ -80,6 +98,11 @@ class StandIns(InFolder):
             stand_in.rename()
         self.assertEqual(Path(path).read_text(), "another's")
         self.assertEqual((self.work / "moved/a.c").read_text(), "new\n")
+
+    def test_endings(self):
+        for name, wanted in [("a.c", ".c"), (".c", ".c"), ("a.b.cpp", ".cpp")]:
+            with StandIn(self.put(name)) as stand_in:
+                self.assertTrue(stand_in.name.endswith(wanted), name)
 
     def test_a_long_name(self):
         path = self.put("x" * 250 + ".c")
@@ -134,9 +157,14 @@ class Runs(unittest.TestCase):
 
     def test_time_limit(self):
         began = time.monotonic()
-        with self.assertRaisesRegex(Left, "its compiler took more than 0.2 seconds"):
-            running.run(["sh", "-c", "sleep 30 & sleep 30"], "/", {}, seconds=0.2)
-        self.assertLess(time.monotonic() - began, 10)
+        with tempfile.TemporaryDirectory() as work:
+            with self.assertRaisesRegex(Left, "its compiler took more than 2 seconds"):
+                running.run(["sh", "-c", "sleep 60 & echo $! > child; sleep 60"], work, {}, seconds=2)
+            child = (Path(work) / "child").read_text().strip()
+        self.assertLess(time.monotonic() - began, 30)
+        while runs(child):
+            self.assertLess(time.monotonic() - began, 30, "what the compiler started runs on")
+            time.sleep(0.01)
 
     def test_stop(self):
         """All that run end, with what they started, and no other runs."""
@@ -189,8 +217,14 @@ class Replacer:
     def reports(self, _, pool):
         if how == "hang":
             list(pool.map(self.hang, names))
-        finding = ("1", "replaced", "note", "replaced")
-        return [Report(it, [Finding(it, 1, 1, *finding[1:])], original(it), b"new\\n") for it in names]
+        found = [Report(it, [Finding(it, 1, 1, "replaced", "note", "replaced")], original(it), b"new\\n") for it in names]
+        if how == "edit":
+            with open(names[0], "a") as file:
+                file.write("more")
+        return found
+
+    def left(self, name, why):
+        return Report(name, [Finding(name, 0, None, "left", "warning", "left: " + why)], is_left=True)
 
     def hang(self, name):
         with StandIn(name) as stand_in:
@@ -228,6 +262,13 @@ class Ends(InFolder):
         output, errors = run.communicate(timeout=60)
         self.assertEqual((run.returncode, output.count(b"replaced"), errors), (0, 3, b""))
         self.assertEqual(self.texts(), ["new\n"] * 3)
+
+    def test_an_edit_meanwhile(self):
+        run = self.run_of("edit", stdout=subprocess.PIPE)
+        output = run.communicate(timeout=60)[0].decode()
+        self.assertEqual((run.returncode, output.count("replaced")), (1, 2))
+        self.assertIn(f"{self.files[0]}: left: it was changed meanwhile\n", output)
+        self.assertEqual(self.texts(), ["old\nmore", "new\n", "new\n"])
 
     def test_full_output(self):
         with open("/dev/full", "wb") as full:

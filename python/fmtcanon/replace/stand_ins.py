@@ -55,7 +55,8 @@ class StandIn:
         folder, self.own = os.path.split(path)
         with LOCK:
             check_stopping()
-            self.handle, self.path = tempfile.mkstemp(prefix=PREFIX, suffix=os.path.splitext(path)[1], dir=folder)
+            ending = "." + self.own.rpartition(".")[2]
+            self.handle, self.path = tempfile.mkstemp(prefix=PREFIX, suffix=ending, dir=folder)
             self.name = os.path.basename(self.path)
             self.folder = os.open(folder, os.O_RDONLY | os.O_DIRECTORY)
             self.existing.add(self)
