@@ -14,9 +14,7 @@ UNWRITABLE = [(">&-", "standard output is closed"), (">/dev/full", "standard out
 def shell(words: str, streams: str) -> "subprocess.CompletedProcess[str]":
     """A run of a command, with its streams as the shell makes them."""
     script = f'exec "$0" -B -m fmtcanon.{words} {streams}'
-    return subprocess.run(
-        ["sh", "-c", script, sys.executable], capture_output=True, text=True, check=False, timeout=60
-    )
+    return subprocess.run(["sh", "-c", script, sys.executable], capture_output=True, text=True, check=False, timeout=60)
 
 
 class Streams(unittest.TestCase):
@@ -25,7 +23,9 @@ class Streams(unittest.TestCase):
             for option in ["--help", "--version"]:
                 for streams, said in UNWRITABLE:
                     done = shell(f"{command} {option}", streams)
-                    self.assertEqual((done.returncode, done.stdout, done.stderr), (2, "", f"fmtcanon-{command}: {said}\n"))
+                    self.assertEqual(
+                        (done.returncode, done.stdout, done.stderr), (2, "", f"fmtcanon-{command}: {said}\n")
+                    )
 
     def test_a_list(self):
         for streams, said in UNWRITABLE:

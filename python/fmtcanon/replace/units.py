@@ -11,7 +11,7 @@ from .compile_commands import CompileCommand
 from .left import Left
 
 # The endings of what a compiler of C reads.
-OF_C = re.compile(r".*\.(?:c|cc|cp|cpp|cxx|c\+\+|C|CPP|m|mm|M|cu|S|sx|i|ii)", re.DOTALL)
+OF_C = re.compile(r".*\.(?:c|cc|cp|cpp|cxx|c\+\+|C|CPP|m|mm|M|S|sx|i|ii)", re.DOTALL)
 REGISTERS = re.compile(rb"\bregister_printf_(?:function|specifier|modifier|type)\b")
 
 
