@@ -5,7 +5,7 @@ import time
 import unittest
 
 from fmtcanon.replace import doubts
-from fmtcanon.replace.calls import as_utf8
+from fmtcanon.replace.calls import GNU_PRINTF, as_utf8
 from fmtcanon.replace.files import with_sources
 from fmtcanon.replace.known import GETTEXT, KNOWN
 from fmtcanon.replace.left import Left
@@ -127,6 +127,20 @@ class Preprocessed(unittest.TestCase):
         # A marker within a declaration is no place to cut.
         second = first + b'# 3 "a.c"\n_Static_assert (\n# 3 "b.h" 3 4\n1,\n# 3 "a.c"\n"x");'
         self.assertEqual(second[common_front(second, second + b" ") :][:12], b'\n# 3 "a.c"\n_')
+
+    def test_gnu_printf(self):
+        """In an attribute it is the standard language of formats, and elsewhere it is a name."""
+        for text, wanted in [
+            (b"__attribute__((format(gnu_printf, 1, 2)))", b"__attribute__((format(printf, 1, 2)))"),
+            (
+                b'((__format__ \n# 30 "u.h" 3\n (__gnu_printf__, \n# 30 "u.h"\n 1, 2)))',
+                b'((__format__ \n# 30 "u.h" 3\n (printf, \n# 30 "u.h"\n 1, 2)))',
+            ),
+            (b'gnu_printf("%i");', b'gnu_printf("%i");'),
+            (b"my_format(gnu_printf, 1);", b"my_format(gnu_printf, 1);"),
+            (b"f(gnu_printf); __gnu_printf__(1);", b"f(gnu_printf); __gnu_printf__(1);"),
+        ]:
+            self.assertEqual(GNU_PRINTF.sub(rb"\1printf", text), wanted)
 
     def test_utf8(self):
         self.assertEqual(as_utf8("é".encode()), "é".encode())

@@ -26,7 +26,11 @@ SHIMS = [
 ]
 FLAGS = ["-undef", "-nostdinc", "-w", "-ferror-limit=0", "-fdouble-square-bracket-attributes"]
 # In an attribute, gcc's name of the language of formats, which an older clang hasn't.
-GNU_PRINTF = re.compile(rb"(?<![\w$])((?:__)?format(?:__)?\s*\(\s*)(?:__)?gnu_printf(?:__)?(?=\s*,)")
+GNU_PRINTF = re.compile(
+    rb"(?<![\w$])((?:__)?format(?:__)?%(gap)b\(%(gap)b)(?:__)?gnu_printf(?:__)?(?=%(gap)b,)"
+    # White space, and line markers.
+    % {b"gap": rb"(?:\s|(?<=\n)# \d+ [^\n]*)*"}
+)
 # An attribute that has another function's code run under a name.
 ALIAS = re.compile(r"(?<![\w$])_*(alias|weakref|ifunc)(?![\w$])")
 FORMAT_ATTRIBUTE = re.compile(r"format\w*\s*\(\s*(?:__)?printf(?:__)?\s*,\s*(\d+)")
