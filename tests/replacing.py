@@ -8,11 +8,9 @@ import json
 import os
 import re
 import resource
-import signal
 import subprocess
 import sys
 import tempfile
-import time
 from pathlib import Path
 
 from harness import SONAME, TIMEOUT, TOP, examples
@@ -197,8 +195,6 @@ WRONG = [
 ]
 # The seconds of the processor that a line of 400,000 bytes may take, and one literal of ten million.
 LONG_LINE, SECONDS = 400_000, 20
-# The seconds in which the command ends after a signal.
-SOON = 2
 # What is said without libclang, with the Python that lacks it.
 WITHOUT_LIBCLANG = (
     "fmtcanon-replace: libclang is missing: {python} has no module clang.cindex. The package python3-clang has it for "
@@ -462,45 +458,6 @@ def try_files(tool, trials):
         trials.expect(f"a file with {source[:30]}", tool.run([OLD, NEW, "line.c"])[0], 0)
 
 
-# A compiler that tells when it runs and then takes long.
-SLOW = """#!/bin/sh
-case "$*" in *.fmtcanon-*) touch "{work}/running"; sleep 20;; esac
-exec cc "$@"
-"""
-
-
-def try_signals(tool, trials):
-    """No stand-in is left when the command is ended, and no file is changed."""
-    tool.put("slow", SLOW.format(work=tool.work)).chmod(0o755)
-    for number in [signal.SIGINT, signal.SIGTERM, signal.SIGHUP]:
-        file = tool.put("slow.c", PLAIN)
-        tool.put(
-            "compile_commands.json",
-            json.dumps([{"directory": str(tool.work), "file": "slow.c", "arguments": ["./slow", "-c", "slow.c"]}]),
-        )
-        (tool.work / "running").unlink(missing_ok=True)
-        running = subprocess.Popen(
-            [*tool.words, "-p", ".", OLD, NEW, "slow.c"],
-            cwd=tool.work,
-            env=tool.environment,
-            stdout=subprocess.DEVNULL,
-            stderr=subprocess.PIPE,
-            start_new_session=True,
-        )
-        for _ in range(100 * TIMEOUT):
-            if (tool.work / "running").exists() or running.poll() is not None:
-                break
-            time.sleep(0.01)
-        began = time.monotonic()
-        os.killpg(running.pid, number)
-        said = running.communicate(timeout=TIMEOUT)[1].decode()
-        trials.expect(f"signal {number}: soon", time.monotonic() - began < SOON, True)
-        left = [it for it in os.listdir(tool.work) if it.startswith(".fmtcanon-")]
-        wanted = (128 + number, "fmtcanon-replace: interrupted; no file was changed\n", [], PLAIN)
-        trials.expect(f"signal {number}", (running.returncode, said, left, file.read_text()), wanted)
-    (tool.work / "compile_commands.json").unlink()
-
-
 def try_sizes(tool, trials):
     """The time and the memory are linear in the length of a line and of a literal."""
     call = ' printf("%i" "\\n", 1 / 2) ;'
@@ -675,7 +632,6 @@ def try_replacing(folder, python, trials):
         try_commands,
         try_files,
         try_trees,
-        try_signals,
         try_sizes,
         try_document,
     ]:

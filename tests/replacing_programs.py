@@ -15,7 +15,10 @@ import time
 from typing import Dict, List, NamedTuple, Sequence
 
 from harness import TIMEOUT
-from replacing import NEW, OLD, PLAIN, SOON, Tool
+from replacing import NEW, OLD, PLAIN, Tool
+
+# The seconds in which the command ends after a signal.
+SOON = 2
 
 
 class Program(NamedTuple):
@@ -322,6 +325,45 @@ def try_streams(tool, trials):
         trials.expect(f"{streams}: the file", file.read_text(), PLAIN)
 
 
+# A compiler that tells when it runs and then takes long.
+SLOW = """#!/bin/sh
+case "$*" in *.fmtcanon-*) touch "{work}/running"; sleep 20;; esac
+exec cc "$@"
+"""
+
+
+def try_signals(tool, trials):
+    """No stand-in is left when the command is ended, and no file is changed."""
+    tool.put("slow", SLOW.format(work=tool.work)).chmod(0o755)
+    for number in [signal.SIGINT, signal.SIGTERM, signal.SIGHUP]:
+        file = tool.put("slow.c", PLAIN)
+        tool.put(
+            "compile_commands.json",
+            json.dumps([{"directory": str(tool.work), "file": "slow.c", "arguments": ["./slow", "-c", "slow.c"]}]),
+        )
+        (tool.work / "running").unlink(missing_ok=True)
+        running = subprocess.Popen(
+            [*tool.words, "-p", ".", OLD, NEW, "slow.c"],
+            cwd=tool.work,
+            env=tool.environment,
+            stdout=subprocess.DEVNULL,
+            stderr=subprocess.PIPE,
+            start_new_session=True,
+        )
+        for _ in range(100 * TIMEOUT):
+            if (tool.work / "running").exists() or running.poll() is not None:
+                break
+            time.sleep(0.01)
+        began = time.monotonic()
+        os.killpg(running.pid, number)
+        said = running.communicate(timeout=TIMEOUT)[1].decode()
+        trials.expect(f"signal {number}: soon", time.monotonic() - began < SOON, True)
+        left = [it for it in os.listdir(tool.work) if it.startswith(".fmtcanon-")]
+        wanted = (128 + number, "fmtcanon-replace: interrupted; no file was changed\n", [], PLAIN)
+        trials.expect(f"signal {number}", (running.returncode, said, left, file.read_text()), wanted)
+    (tool.work / "compile_commands.json").unlink()
+
+
 def run_until(tool, words, is_ready):
     """Starts the command, and waits until it is ready."""
     running = subprocess.Popen(
@@ -364,7 +406,7 @@ def try_programs(folder, python, trials):
             trials.expect(f"{program.compiler} is there: the package {program.compiler} has it", missing, False)
             if not missing:
                 try_program(folder, python, program, is_left, trials)
-    for part in [try_words, try_folders, try_streams, try_hanging]:
+    for part in [try_words, try_folders, try_streams, try_signals, try_hanging]:
         with tempfile.TemporaryDirectory() as work:
             tool = Tool(folder, os.path.realpath(work), python)
             part(tool, trials)

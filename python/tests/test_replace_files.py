@@ -205,7 +205,7 @@ class SignalsOfATest(unittest.TestCase):
 
 # A run of the command whose files are judged by what is put into it.
 SCRIPT = """
-import argparse, os, signal, sys
+import argparse, os, signal, sys, time
 from fmtcanon.findings import Finding
 from fmtcanon.replace import running, writing
 from fmtcanon.replace.replacer import Report
@@ -215,7 +215,7 @@ names, how = sys.argv[2:], sys.argv[1]
 
 class Replacer:
     def reports(self, _, pool):
-        if how == "hang":
+        if "hang" in how:
             list(pool.map(self.hang, names))
         found = [Report(it, [Finding(it, 1, 1, "replaced", "note", "replaced")], original(it), b"new\\n") for it in names]
         if how == "edit":
@@ -229,6 +229,9 @@ class Replacer:
     def hang(self, name):
         with StandIn(name) as stand_in:
             print("runs", flush=True)
+            if "parse" in how:
+                # As libclang, it can't be interrupted.
+                time.sleep(30)
             running.run(["sh", "-c", "sleep 30; exec cc"], "/", {})
 
 def put_in_place(*rest, real=writing.put_in_place):
@@ -286,8 +289,9 @@ class Ends(InFolder):
         self.assertEqual((run.returncode, errors, self.texts()), (128 + signal.SIGPIPE, b"", ["old\n"] * 3))
 
     def test_a_signal_while_compilers_run(self):
-        for number in [signal.SIGINT, signal.SIGTERM, signal.SIGHUP]:
-            run = self.run_of("hang", stdout=subprocess.PIPE)
+        hows = [("hang", signal.SIGINT), ("hang", signal.SIGHUP), ("hang and parse", signal.SIGTERM)]
+        for how, number in hows:
+            run = self.run_of(how, stdout=subprocess.PIPE)
             run.stdout.readline()
             began = time.monotonic()
             run.send_signal(number)
