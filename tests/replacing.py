@@ -429,8 +429,13 @@ def try_files(tool, trials):
     name = b"caf\xe9.c"
     with open(os.path.join(os.fsencode(tool.work), name), "w", encoding="ascii") as stream:
         stream.write(PLAIN)
-    found = tool.run([OLD, NEW, os.fsdecode(name)])
-    trials.expect("a name that isn't UTF-8", found, (0, os.fsdecode(name) + ":2: replaced\n", ""))
+    status, report, fault = tool.run(["--output", "json", OLD, NEW, os.fsdecode(name)])
+    found = json.loads(report or "{}")
+    trials.expect(
+        "a name that isn't UTF-8",
+        (status, found.get("file"), found.get("kind"), fault),
+        (0, os.fsdecode(name), "replaced", ""),
+    )
     tool.put("wrong.c", f"{PLAIN}int x = ;\n")
     status, report, _ = tool.run([OLD, NEW, "wrong.c"])
     trials.expect(
