@@ -194,13 +194,26 @@ class Runs(unittest.TestCase):
 class SignalsOfATest(unittest.TestCase):
     def test_held(self):
         done = []
-        with self.assertRaises(Interrupted) as raised, interruptible() as signals:
-            with signals.held():
-                os.kill(os.getpid(), signal.SIGTERM)
-                os.kill(os.getpid(), signal.SIGINT)
-                done.append("the block")
-            done.append("more")
+        with interruptible() as signals:
+            with self.assertRaises(Interrupted) as raised, signals.raised():
+                with signals.held():
+                    os.kill(os.getpid(), signal.SIGTERM)
+                    os.kill(os.getpid(), signal.SIGINT)
+                    done.append("the block")
+                done.append("more")
+            os.kill(os.getpid(), signal.SIGINT)
         self.assertEqual((done, raised.exception.number), (["the block"], signal.SIGTERM))
+
+    def test_before_and_after(self):
+        """A signal at the edges ends nothing in the middle of a line of code."""
+        with interruptible() as signals:
+            os.kill(os.getpid(), signal.SIGINT)
+            with self.assertRaises(Interrupted), signals.raised():
+                self.fail("the block began")
+        with interruptible() as signals:
+            with signals.raised():
+                pass
+            os.kill(os.getpid(), signal.SIGINT)
 
 
 # A run of the command whose files are judged by what is put into it.

@@ -17,11 +17,13 @@ class Interrupted(BaseException):
 
 
 class Signals:
-    """The first signal raises `Interrupted` in the main thread, or after the block that holds it. The next do nothing."""
+    """The first signal raises `Interrupted` in the main thread, within a block that may be interrupted or after the part
+    of it that holds signals. The next do nothing.
+    """
 
     def __init__(self) -> None:
         self.number: Optional[int] = None
-        self.is_held = False
+        self.is_held = True
 
     def take(self, number: int, _frame: Optional[FrameType]) -> None:
         if self.number is None:
@@ -31,6 +33,15 @@ class Signals:
     def check(self) -> None:
         if self.number is not None and not self.is_held:
             raise Interrupted(self.number)
+
+    @contextmanager
+    def raised(self) -> Iterator[None]:
+        try:
+            self.is_held = False
+            self.check()
+            yield
+        finally:
+            self.is_held = True
 
     @contextmanager
     def held(self) -> Iterator[None]:
@@ -44,7 +55,7 @@ class Signals:
 
 @contextmanager
 def interruptible() -> Iterator[Signals]:
-    """Gives what takes the signals during a block."""
+    """Gives what takes the signals during a block, and holds them at first."""
     signals = Signals()
     before = [signal.signal(number, signals.take) for number in NUMBERS]
     try:

@@ -26,12 +26,13 @@ def replace(options: Any, replacer: Replacer, names: Sequence[Name]) -> int:
     changed: List[str] = []
     with interruptible() as signals:
         try:
-            reports = [as_it_is(replacer, it) for it in replacer.reports(names, pool)]
-            print_reports(options, reports)
-            status = max([USAGE if it.error else int(it.is_left) for it in reports], default=0)
-            if options.dry_run or options.diff:
-                return status
-            return max(status, put_all_in_place(reports, signals, changed))
+            with signals.raised():
+                reports = [as_it_is(replacer, it) for it in replacer.reports(names, pool)]
+                print_reports(options, reports)
+                status = max([USAGE if it.error else int(it.is_left) for it in reports], default=0)
+                if options.dry_run or options.diff:
+                    return status
+                return max(status, put_all_in_place(reports, signals, changed))
         except Interrupted as interrupted:
             end(pool, interrupted.number, changed)
         finally:
