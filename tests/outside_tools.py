@@ -29,6 +29,7 @@ from models import try_models  # noqa: E402
 from opaque import argument_of  # noqa: E402
 from recipes import try_recipes  # noqa: E402
 from replacing import try_replacing  # noqa: E402
+from replacing_programs import try_programs  # noqa: E402
 from translations import try_msgfmt  # noqa: E402
 from typing_of_module import try_annotations  # noqa: E402
 
@@ -169,6 +170,7 @@ def try_libclang(folder, trials):
     trials.expect("libclang is there: the package python3-clang has it", python is not None, True)
     if python:
         try_replacing(folder, python, trials)
+        try_programs(folder, python, trials)
 
 
 def try_shells(tools, trials):

@@ -8,11 +8,9 @@ import json
 import os
 import re
 import resource
-import signal
 import subprocess
 import sys
 import tempfile
-import time
 from pathlib import Path
 
 from harness import SONAME, TIMEOUT, TOP, examples
@@ -149,7 +147,6 @@ DIFFERENCES = [
     (["--model", "both", "%zd", "%d"], "left: in LP64 the types differ at argument 0"),
     (["--model", "ilp32", "%zx", "%u"], "left: the two print different bytes for 4294967295"),
     (["--model", "lp64", "%zu", "%lu"], "replaced"),
-    (["--model", "ilp32", "%zd", "%d"], "replaced"),
     (
         ["%'i", "%d"],
         "left: the flag ' groups digits, except in the POSIX locale: --posix-locale says that it prints there",
@@ -198,7 +195,11 @@ WRONG = [
 ]
 # The seconds of the processor that a line of 400,000 bytes may take, and one literal of ten million.
 LONG_LINE, SECONDS = 400_000, 20
-WITHOUT_LIBCLANG = "fmtcanon-replace: libclang is missing: the package python3-clang has it\n"
+# What is said without libclang, with the Python that lacks it.
+WITHOUT_LIBCLANG = (
+    "fmtcanon-replace: libclang is missing: {python} has no module clang.cindex. The package python3-clang has it for "
+    "the system's Python; for this one: {python} -m pip install libclang\n"
+)
 
 
 class Tool:
@@ -428,8 +429,13 @@ def try_files(tool, trials):
     name = b"caf\xe9.c"
     with open(os.path.join(os.fsencode(tool.work), name), "w", encoding="ascii") as stream:
         stream.write(PLAIN)
-    found = tool.run([OLD, NEW, os.fsdecode(name)])
-    trials.expect("a name that isn't UTF-8", found, (0, os.fsdecode(name) + ":2: replaced\n", ""))
+    status, report, fault = tool.run(["--output", "json", OLD, NEW, os.fsdecode(name)])
+    found = json.loads(report or "{}")
+    trials.expect(
+        "a name that isn't UTF-8",
+        (status, found.get("file"), found.get("kind"), fault),
+        (0, os.fsdecode(name), "replaced", ""),
+    )
     tool.put("wrong.c", f"{PLAIN}int x = ;\n")
     status, report, _ = tool.run([OLD, NEW, "wrong.c"])
     trials.expect(
@@ -455,42 +461,6 @@ def try_files(tool, trials):
     ]:
         tool.put("line.c", source + PLAIN)
         trials.expect(f"a file with {source[:30]}", tool.run([OLD, NEW, "line.c"])[0], 0)
-
-
-# A compiler that tells when it runs and then takes long.
-SLOW = """#!/bin/sh
-case "$*" in *.fmtcanon-*) touch "{work}/running"; sleep 20;; esac
-exec cc "$@"
-"""
-
-
-def try_signals(tool, trials):
-    """No stand-in is left when the command is ended, and no file is changed."""
-    tool.put("slow", SLOW.format(work=tool.work)).chmod(0o755)
-    for number in [signal.SIGINT, signal.SIGTERM, signal.SIGHUP]:
-        file = tool.put("slow.c", PLAIN)
-        tool.put(
-            "compile_commands.json",
-            json.dumps([{"directory": str(tool.work), "file": "slow.c", "arguments": ["./slow", "-c", "slow.c"]}]),
-        )
-        (tool.work / "running").unlink(missing_ok=True)
-        running = subprocess.Popen(
-            [*tool.words, "-p", ".", OLD, NEW, "slow.c"],
-            cwd=tool.work,
-            env=tool.environment,
-            stdout=subprocess.DEVNULL,
-            stderr=subprocess.DEVNULL,
-            start_new_session=True,
-        )
-        for _ in range(100 * TIMEOUT):
-            if (tool.work / "running").exists() or running.poll() is not None:
-                break
-            time.sleep(0.01)
-        os.killpg(running.pid, number)
-        status = running.wait(timeout=TIMEOUT)
-        left = [it for it in os.listdir(tool.work) if it.startswith(".fmtcanon-")]
-        trials.expect(f"signal {number}", (status, left, file.read_text()), (128 + number, [], PLAIN))
-    (tool.work / "compile_commands.json").unlink()
 
 
 def try_sizes(tool, trials):
@@ -652,7 +622,8 @@ def try_without_libclang(folder, trials):
         tool.put("modules/clang/__init__.py", "raise ImportError\n")
         try_usage(tool, trials)
         file = tool.put("a.c", PLAIN)
-        trials.expect("without libclang", tool.run([OLD, NEW, "a.c"]), (2, "", WITHOUT_LIBCLANG))
+        said = WITHOUT_LIBCLANG.format(python=sys.executable)
+        trials.expect("without libclang", tool.run([OLD, NEW, "a.c"]), (2, "", said))
         trials.expect("the file then", file.read_text(), PLAIN)
 
 
@@ -666,7 +637,6 @@ def try_replacing(folder, python, trials):
         try_commands,
         try_files,
         try_trees,
-        try_signals,
         try_sizes,
         try_document,
     ]:

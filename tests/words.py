@@ -45,7 +45,7 @@ LIMITS = {
     "docs/CHEATSHEET.md": 400,
     "docs/USING.md": 2000,
     "docs/TRANSLATIONS.md": 1100,
-    "docs/REFACTORING.md": 1100,
+    "docs/REFACTORING.md": 1400,
     "docs/REFUSALS.md": 1500,
     "docs/C.md": 900,
     "docs/PYTHON.md": 900,
@@ -56,8 +56,8 @@ LIMITS = {
     "docs/internals/DECISIONS.md": 2200,
     "docs/internals/PROOF_NOTES.md": 3600,
     "docs/CONTRIBUTING.md": 1000,
-    "SECURITY.md": 120,
-    "CHANGELOG.md": 400,
+    "SECURITY.md": 150,
+    "CHANGELOG.md": 750,
     CALLING: 8500,
 }
 MARGIN = 10

@@ -3,13 +3,13 @@
 from __future__ import annotations
 
 import argparse
-import os
 import signal
 import sys
-from typing import Callable, Dict, List, NoReturn, Optional, Sequence, Tuple
+from typing import IO, Callable, Dict, List, NoReturn, Optional, Sequence, Tuple, Union
 
 from . import Model, __version__
 from .findings import OUTPUTS
+from .output import Unwritable, complain, drop, occupy, write
 
 MODELS: Dict[str, List[Model]] = {
     "lp64": [Model.LP64],
@@ -54,26 +54,41 @@ class Parser(argparse.ArgumentParser):
         """Returns the options and operands, and the arguments after `--`."""
         listed = list(sys.argv[1:] if words is None else words)
         at = listed.index("--") if "--" in listed else len(listed)
-        return self.parse_intermixed_args(listed[:at]), listed[at + 1 :]
+        try:
+            return self.parse_intermixed_args(listed[:at]), listed[at + 1 :]
+        except (BrokenPipeError, Unwritable) as error:
+            sys.exit(status_of_output(self.prog, error))
+
+    def _print_message(self, message: str, file: Optional[IO[str]] = None) -> None:
+        """Writes the help text or the version as every other line, so that a closed or full output is noticed."""
+        write(sys.stderr if file is sys.stderr else sys.stdout, message.encode())
 
     def error(self, message: str) -> NoReturn:
-        self.print_usage(sys.stderr)
-        self.exit(USAGE, f"{self.prog}: {message}\n")
+        complain(f"{self.format_usage()}{self.prog}: {message}")
+        sys.exit(USAGE)
 
 
 def status_of(name: str, run: Callable[[], int]) -> int:
-    """Runs a command. Returns its exit status, also if nobody reads, it is interrupted or the library is missing."""
+    """Runs a command. Returns its exit status, also if it can't write, is interrupted or the library is missing."""
+    occupy()
     try:
         return run()
-    except BrokenPipeError:
-        # Nobody reads what is still to be written, or that this fails.
-        os.dup2(os.open(os.devnull, os.O_WRONLY), sys.stdout.fileno())
-        return 128 + signal.SIGPIPE
+    except (BrokenPipeError, Unwritable) as error:
+        return status_of_output(name, error)
     except KeyboardInterrupt:
         return 128 + signal.SIGINT
     except ImportError as error:
-        print(f"{name}: {error}", file=sys.stderr)
+        complain(f"{name}: {error}")
         return USAGE
+
+
+def status_of_output(name: str, error: Union[BrokenPipeError, Unwritable]) -> int:
+    """Returns the exit status for output that can't be written, and says so unless nobody reads it any more."""
+    if isinstance(error, Unwritable):
+        complain(f"{name}: {error}")
+    drop(sys.stdout)
+    drop(sys.stderr)
+    return USAGE if isinstance(error, Unwritable) else 128 + signal.SIGPIPE
 
 
 def model_names(models: Sequence[Model]) -> Tuple[str, ...]:

@@ -10,6 +10,7 @@ from typing import Any, Callable, Dict, List, Mapping, Optional, TextIO, Tuple
 from urllib.parse import quote
 
 from . import Type, __version__
+from .output import put as put
 
 # The names of types that all commands use.
 TYPE_NAMES = {
@@ -133,12 +134,6 @@ def as_sarif(command: str, rules: Mapping[str, str], findings: List[Finding]) ->
 
 
 OUTPUTS = ("text", "json", "sarif", "github")
-
-
-def put(stream: TextIO, line: str) -> None:
-    """Writes a line in UTF-8, in which names of files may have any bytes."""
-    stream.buffer.write(line.encode("utf-8", "surrogateescape") + b"\n")
-    stream.flush()
 
 
 class Printer:

@@ -1,19 +1,19 @@
 """Tests of the parts of fmtcanon-replace that need no compiler: python3 -m unittest, in the folder above."""
 
-import os
 import tempfile
 import time
 import unittest
 
 from fmtcanon.replace import doubts
-from fmtcanon.replace.calls import as_utf8
-from fmtcanon.replace.compile_commands import SOURCES, CompileCommand
+from fmtcanon.replace.calls import GNU_PRINTF, as_utf8
 from fmtcanon.replace.files import with_sources
 from fmtcanon.replace.known import GETTEXT, KNOWN
 from fmtcanon.replace.left import Left
 from fmtcanon.replace.places import literals_of, places_in, respelled
+from fmtcanon.replace.targets import assertions_in
 from fmtcanon.replace.tokens import Tokens, common_front
 
+ASSERTIONS = (b"_Static_assert", b"static_assert")
 # A source, and the bytes of the literals in it.
 FOUND = [
     (b'f("%i", "a" "b")', [b"%i", b"ab"]),
@@ -91,21 +91,32 @@ class Preprocessed(unittest.TestCase):
     def test_tokens(self):
         text = b'# 1 "a.c"\nint x;\n\nf("a" L"b", 1.5e-3, \'"\');\n# 9 "b.h" 1\ny'
         wanted = [b"int", b"x", b";", b"f", b"(", b'"a"', b'L"b"', b",", b"1.5e-3", b",", b"'\"'", b")", b";", b"y"]
-        found = Tokens(text)
+        found = Tokens(text, ASSERTIONS)
         self.assertEqual(found.words, wanted)
         self.assertEqual(found.lines, [2] * 3 + [4] * 10 + [6])
 
     def test_both_ways(self):
         text = b'# 1 "a.c"\nint f(void) { return g(L"a\\"b", \'\\n\', 0x1p-3) + 1; }\n\n#pragma x\n static_assert(1, "x"); y\n'
-        slow = Tokens(text + b'R"(z)"')
-        self.assertEqual((slow.words[:-1], slow.lines[:-1]), (Tokens(text).words, Tokens(text).lines))
-        self.assertEqual(Tokens(b'R"x(a\nb)x"\nc').words, [b'R"x(a\nb)x"', b"c"])
-        self.assertEqual(Tokens(b'R"x(a\nb)x"\nc').lines, [1, 3])
+        slow = Tokens(text + b'R"(z)"', ASSERTIONS)
+        self.assertEqual(
+            (slow.words[:-1], slow.lines[:-1]), (Tokens(text, ASSERTIONS).words, Tokens(text, ASSERTIONS).lines)
+        )
+        self.assertEqual(Tokens(b'R"x(a\nb)x"\nc', ()).words, [b'R"x(a\nb)x"', b"c"])
+        self.assertEqual(Tokens(b'R"x(a\nb)x"\nc', ()).lines, [1, 3])
 
     def test_static_assertions(self):
-        self.assertEqual(
-            Tokens(b'a _Static_assert((1), "x(") ; static_assert(f(2)); b').words, [b"a", b";", b";", b"b"]
-        )
+        text = b'a _Static_assert((1), "x(") ; static_assert(f(2)); b'
+        self.assertEqual(Tokens(text, ASSERTIONS).words, [b"a", b";", b";", b"b"])
+
+    def test_names_like_static_assertions(self):
+        """In C17, `static_assert` is an ordinary name, and in C++ `_Static_assert` is."""
+        text = b'(printf("x"), c.static_assert = ("x"));'
+        for version in ["199901L", "201112L", "201710L"]:
+            self.assertIn(b"static_assert", Tokens(text, assertions_in({"__STDC_VERSION__": version})).words)
+            self.assertEqual(Tokens(b"_Static_assert(1);", assertions_in({"__STDC_VERSION__": version})).words, [b";"])
+        self.assertEqual(Tokens(b"static_assert(1);", assertions_in({"__STDC_VERSION__": "202311L"})).words, [b";"])
+        self.assertEqual(Tokens(b"static_assert(1);", assertions_in({"__cplusplus": "201703L"})).words, [b";"])
+        self.assertIn(b"_Static_assert", Tokens(b"_Static_assert(1);", assertions_in({"__cplusplus": "1"})).words)
 
     def test_common_front(self):
         first = b'# 1 "a.h"\nint x;\n# 2 "a.c"\nf("a");\n'
@@ -116,6 +127,20 @@ class Preprocessed(unittest.TestCase):
         # A marker within a declaration is no place to cut.
         second = first + b'# 3 "a.c"\n_Static_assert (\n# 3 "b.h" 3 4\n1,\n# 3 "a.c"\n"x");'
         self.assertEqual(second[common_front(second, second + b" ") :][:12], b'\n# 3 "a.c"\n_')
+
+    def test_gnu_printf(self):
+        """In an attribute it is the standard language of formats, and elsewhere it is a name."""
+        for text, wanted in [
+            (b"__attribute__((format(gnu_printf, 1, 2)))", b"__attribute__((format(printf, 1, 2)))"),
+            (
+                b'((__format__ \n# 30 "u.h" 3\n (__gnu_printf__, \n# 30 "u.h"\n 1, 2)))',
+                b'((__format__ \n# 30 "u.h" 3\n (printf, \n# 30 "u.h"\n 1, 2)))',
+            ),
+            (b'gnu_printf("%i");', b'gnu_printf("%i");'),
+            (b"my_format(gnu_printf, 1);", b"my_format(gnu_printf, 1);"),
+            (b"f(gnu_printf); __gnu_printf__(1);", b"f(gnu_printf); __gnu_printf__(1);"),
+        ]:
+            self.assertEqual(GNU_PRINTF.sub(rb"\1printf", text), wanted)
 
     def test_utf8(self):
         self.assertEqual(as_utf8("é".encode()), "é".encode())
@@ -132,11 +157,18 @@ class Doubts(unittest.TestCase):
         b'int x; asm("");',
         b'void f(void) {} asm ("");',
         b"int main() { register_printf_specifier(1, 0, 0); }",
+        b'void f(void) { __asm__(".incbin \\"a.c\\""); }',
+        b'void f(void) { __asm__(".inc" "lude \\"a.s\\""); }',
+        b'void f(void) { __asm__(".macro m a b\\n.set \\\\a\\\\b, mine\\n.endm\\nm prin tf"); }',
+        b'void f(void) { __asm__(".irp x, tf\\n.set prin\\\\x, mine\\n.endr"); }',
+        b'void f(void) { __asm__(".set %c0, mine" : : "i"(printf)); }',
     ]
     FINE = [
         b'void f(void) { asm volatile("nop" : : "r"(1)); }',
         b"void xprintf(const char *);",
         b'void f(void) { g("asm(printf)"); }',
+        b'void f(int err) { __asm__("nop" : "=r"(err)); }',
+        b'void f(void) { __asm__("movl %eax, .includes"); }',
     ]
 
     def test_words(self):
@@ -145,6 +177,12 @@ class Doubts(unittest.TestCase):
                 doubts.check_words(text)
         for text in self.FINE:
             doubts.check_words(text)
+
+    def test_columns(self):
+        for text in [b"int x = __builtin_COLUMN();", b"f(__builtin_source_location());"]:
+            with self.assertRaises(Left, msg=text):
+                doubts.check_columns(text)
+        doubts.check_columns(b"int x = __builtin_LINE(), my__builtin_COLUMN;")
 
     def test_time(self):
         began = time.process_time()
@@ -166,50 +204,6 @@ class Doubts(unittest.TestCase):
                 file.write(text)
                 file.flush()
                 self.assertEqual(doubts.has_line_directive(file.name, number), wanted, text)
-
-
-class Commands(unittest.TestCase):
-    def command(self, *words):
-        return CompileCommand("/", os.path.realpath("/a/b.c"), words)
-
-    def test_kept(self):
-        words, at = self.command(
-            "gcc", "-O2", "-DX", "-c", "-o", "b.o", "a/b.c", "-MD", "-MF", "b.d", "-Wp,-MD,x", "-save-temps=obj", "-dD"
-        ).preprocessing()
-        self.assertEqual((words, at), (["gcc", "-O2", "-DX", "a/b.c", "-E", "-w"], 3))
-
-    def test_unclear(self):
-        for word in [
-            "-Wl,--wrap=printf",
-            "-fexec-charset=latin1",
-            "-finput-charset=LATIN1",
-            "@more",
-            "-traditional-cpp",
-            "-fplugin=x.so",
-            "-specs=x",
-            "--specs=x",
-            "-B/x",
-            "-wrapper",
-        ]:
-            with self.assertRaises(Left, msg=word):
-                self.command("gcc", word, "-c", "a/b.c").preprocessing()
-        self.command("gcc", "-fexec-charset=UTF-8", "-c", "a/b.c").preprocessing()
-
-    def test_another_file(self):
-        with self.assertRaises(Left):
-            self.command("gcc", "-c", "a/c.c").preprocessing()
-
-    def test_sources(self):
-        for name, wanted in [
-            ("a.c", True),
-            ("a.cc", True),
-            ("a.C", True),
-            ("a.h", False),
-            ("a.inc", False),
-            ("a.c.in", False),
-            ("c", False),
-        ]:
-            self.assertEqual(bool(SOURCES.fullmatch(name)), wanted, name)
 
 
 class Functions(unittest.TestCase):

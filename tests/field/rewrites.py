@@ -24,9 +24,10 @@ sys.path[:0] = [str(TOP / "python"), str(TOP / "tests/field")]
 import fmtcanon  # noqa: E402
 from fmtcanon.replace.calls import Functions  # noqa: E402
 from fmtcanon.replace.compile_commands import SOURCES, commands_in  # noqa: E402
-from fmtcanon.replace.files import Change, File  # noqa: E402
+from fmtcanon.replace.files import Change, File, put_in_place  # noqa: E402
 from fmtcanon.replace.left import Left  # noqa: E402
 from fmtcanon.replace.places import places_in, respelled  # noqa: E402
+from fmtcanon.replace.stand_ins import original  # noqa: E402
 from sources import is_accepted  # noqa: E402
 
 # What a format may be instead: each pattern is tried in turn, once.
@@ -74,10 +75,9 @@ def assembler(command):
 
 def rewritten(path, commands):
     """Respells what it may of a file, and returns counts, and the units whose assembler differs."""
-    with open(path, "rb") as stream:
-        source = stream.read()
+    read = original(path)
     changes = []
-    for place in places_in(source):
+    for place in places_in(read.source):
         new = other_spelling(place.text)
         text = new and respelled(place, new)
         if text:
@@ -87,7 +87,7 @@ def rewritten(path, commands):
         return counts, []
     before = [assembler(command) for command in commands]
     try:
-        File(path, source, changes, Functions({}, True)).replace(commands, False)
+        put_in_place(read, File(read, changes, Functions({}, True)).result(commands))
     except Left as left:
         return counts + Counter({f"left: {left}": len(changes)}), []
     done = sum(not it.why_left for it in changes)

@@ -24,6 +24,7 @@ from fmtcanon.replace.compile_commands import SOURCES, commands_in  # noqa: E402
 from fmtcanon.replace.files import Change, File  # noqa: E402
 from fmtcanon.replace.left import Left  # noqa: E402
 from fmtcanon.replace.places import places_in  # noqa: E402
+from fmtcanon.replace.stand_ins import original  # noqa: E402
 
 TRANSLATORS = "it is a key for translators"
 # What a reason has for one place alone.
@@ -54,15 +55,14 @@ def is_accepted(text):
 
 def surveyed(path, commands):
     """Returns what it says of each place of a file, as counts."""
-    with open(path, "rb") as stream:
-        source = stream.read()
-    places = [it for it in places_in(source) if b"%" in it.text]
+    read = original(path)
+    places = [it for it in places_in(read.source) if b"%" in it.text]
     accepted = [it for it in places if is_accepted(it.text)]
     counts = Counter(files=1, places=len(places), accepted=len(accepted))
     changes = [Change(it, it.source) for it in accepted]
     try:
         if changes:
-            File(path, source, changes, Functions({}, True)).replace(commands, True)
+            File(read, changes, Functions({}, True)).result(commands)
     except Left as left:
         counts["files left"] += 1
         return counts + Counter({("left", f"the file: {plain(str(left))}"): len(accepted)})

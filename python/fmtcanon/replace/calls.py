@@ -21,13 +21,19 @@ SHIMS = [
     "-D_Float32x=double",
     "-D_Float32=float",
     "-D__malloc__(...)=__malloc__",
-    "-D__gnu_printf__=__printf__",
-    "-Dgnu_printf=printf",
     "-D__builtin_va_arg_pack()=0",
     "-D__builtin_va_arg_pack_len()=0",
 ]
 FLAGS = ["-undef", "-nostdinc", "-w", "-ferror-limit=0", "-fdouble-square-bracket-attributes"]
-FORMAT_ATTRIBUTE = re.compile(r"format\w*\s*\(\s*(?:__)?(?:gnu_)?printf(?:__)?\s*,\s*(\d+)")
+# In an attribute, gcc's name of the language of formats, which an older clang hasn't.
+GNU_PRINTF = re.compile(
+    rb"(?<![\w$])((?:__)?format(?:__)?%(gap)b\(%(gap)b)(?:__)?gnu_printf(?:__)?(?=%(gap)b,)"
+    # White space, and line markers.
+    % {b"gap": rb"(?:\s|(?<=\n)# \d+ [^\n]*)*"}
+)
+# An attribute that has another function's code run under a name.
+ALIAS = re.compile(r"(?<![\w$])_*(alias|weakref|ifunc)(?![\w$])")
+FORMAT_ATTRIBUTE = re.compile(r"format\w*\s*\(\s*(?:__)?printf(?:__)?\s*,\s*(\d+)")
 # The kinds of cursors and the answers of a visitor, as the C interface of libclang numbers them.
 FUNCTION_DECL, CALL_EXPR, VISIT_INSIDE = 8, 103, 2
 ERROR = 3
@@ -85,12 +91,14 @@ class Calls:
         self.files: Dict[str, str] = {}
         # Where a known name is declared outside of the C library's headers.
         self.declared: Dict[str, str] = {}
+        # Why a known name doesn't mean its function.
+        self.renamed: Dict[str, str] = {}
         # Functions that are known by the options, whoever declares them.
         self.chosen: Set[str] = set()
         self.reasons: Dict[Any, Optional[str]] = {}
         self.uses: Dict[int, List[str]] = {}
         self.why: Dict[int, str] = {}
-        self.text = as_utf8(text)
+        self.text = GNU_PRINTF.sub(rb"\1printf", as_utf8(text))
         self.unit = self.parsed()
         self.walk()
 
@@ -157,6 +165,16 @@ class Calls:
         scope = function.semantic_parent.kind.name if function.semantic_parent else ""
         if not (known and self.is_own_header(file, known.header)) and scope not in SCOPES:
             self.declared.setdefault(function.spelling, file)
+        for child in function.get_children():
+            if child.kind.name == "ASM_LABEL_ATTR":
+                self.renamed[function.spelling] = "has an asm label"
+            elif child.kind.name == "UNEXPOSED_ATTR":
+                alias = ALIAS.search(self.text_of(child))
+                if alias:
+                    self.renamed[function.spelling] = f"has the attribute {alias[1]}"
+
+    def text_of(self, cursor: Any) -> str:
+        return self.text[cursor.extent.start.offset : cursor.extent.end.offset].decode()
 
     def is_own_header(self, file: str, header: "re.Pattern[str]") -> bool:
         """Returns whether a file is the C library's header of this name."""
@@ -223,8 +241,7 @@ class Calls:
         """Returns the index of the format by the attribute `format(printf, ..)` of a function, or None."""
         for child in function.get_children():
             if child.kind.name == "UNEXPOSED_ATTR":
-                text = self.text[child.extent.start.offset : child.extent.end.offset].decode()
-                found = FORMAT_ATTRIBUTE.search(re.sub(r"(?m)^# \d+ .*", "", text))
+                found = FORMAT_ATTRIBUTE.search(re.sub(r"(?m)^# \d+ .*", "", self.text_of(child)))
                 if found:
                     return int(found[1]) - 1
         return None
@@ -243,4 +260,6 @@ class Calls:
         for name in names:
             if name in self.declared and name not in self.chosen:
                 return f"{name} is declared in {os.path.basename(self.declared[name])}, too"
+            if name in self.renamed and name not in self.chosen:
+                return f"{name} {self.renamed[name]}"
         return None

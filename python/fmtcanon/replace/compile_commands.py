@@ -2,27 +2,29 @@
 headers.
 """
 
+import functools
 import os
 import re
 import subprocess
-import threading
 from dataclasses import dataclass
-from typing import Any, Dict, List, Sequence, Tuple
+from typing import Dict, List, Optional, Sequence, Set, Tuple
 
+from . import compile_words
 from .left import Left
 from .libclang import cindex
+from .running import run
+from .stand_ins import StandIn, is_stand_in
 
-# Words that write something, or that would change what -E prints; the words of the second list take another word.
-DROPPED = ("-c", "-S", "-E", "-P", "--", "-pipe", "-fdirectives-only")
-DROPPED_WITH_WORD = ("-o", "-MF", "-MT", "-MQ", "-dumpbase", "-dumpdir")
-DROPPED_FRONTS = ("-o", "-M", "-Wp,-M", "-save-temps", "-d")
-# Words with which a file isn't what its preprocessed text says, or with which that text can't be had again.
-UNCLEAR = re.compile(
-    r".*--(?:wrap|defsym)\b|@|-traditional-cpp|-fplugin|-?-specs|-wrapper|-B|-f(?:exec|input|wide-exec)-charset=(?!utf-?8$)",
-    re.IGNORECASE,
-)
 CACHES = ("ccache", "sccache", "distcc")
-SOURCES = re.compile(r".*\.(?:c|cc|cp|cpp|cxx|c\+\+|C|CPP)")
+SOURCES = re.compile(r".*\.(?:c|cc|cp|cpp|cxx|c\+\+|C|CPP)", re.DOTALL)
+# The words that choose the machine, the standard and the compiler's own headers.
+OF_THE_MACHINE = re.compile(
+    r"-m|-std|--std|-ansi|-stdlib|-nostd|-nobuiltininc|-isysroot|--(?:sysroot|target|gcc-toolchain)|-target"
+)
+# So that __DATE__ and __TIME__ stay the same.
+FIXED_TIME = {"SOURCE_DATE_EPOCH": "0"}
+# A name in a rule of make.
+IN_RULE = re.compile(r"(?:\\[\s#]|[^\s])+")
 
 
 @dataclass(frozen=True)
@@ -33,95 +35,125 @@ class CompileCommand:
     file: str
     words: Tuple[str, ...]
 
-    def preprocessing(self) -> Tuple[List[str], int]:
-        """Returns the words that preprocess the file, and the index of its name. None of them writes a file."""
-        kept: List[str] = []
-        words, at = list(self.words), None
-        while words:
-            word = words.pop(0)
-            if word in DROPPED_WITH_WORD:
-                del words[:1]
-            elif word in DROPPED or (word.startswith(DROPPED_FRONTS) and not self.is_file(word)):
-                continue
-            elif UNCLEAR.match(word):
-                raise Left(f"its compile command has {word}")
-            else:
-                at = len(kept) if self.is_file(word) else at
-                kept.append(word)
+    def used(self) -> Tuple[List[str], int]:
+        """Returns the words that are used, and the index of the file's name. None of them writes a file."""
+        kept, at = [self.words[0]], None
+        for group in compile_words.without_effects(self.words[1:]):
+            if len(group) == 1 and not group[0].startswith("-"):
+                if not self.is_file(group[0]):
+                    raise Left(f"its compile command has {group[0]}")
+                at = len(kept)
+            kept += group
         if at is None:
             raise Left("its compile command doesn't name it")
-        return [*kept, "-E", "-w"], at
+        return kept, at
+
+    def preprocessing(self) -> Tuple[List[str], int]:
+        """Returns the words that preprocess the file, and the index of its name."""
+        words, at = self.used()
+        return [*words, "-E", "-w"], at
 
     def is_file(self, word: str) -> bool:
         """Returns whether a word names the file."""
-        return not word.startswith("-") and os.path.realpath(os.path.join(self.folder, word)) == self.file
+        return os.path.realpath(os.path.join(self.folder, word)) == self.file
 
-    def preprocessed(self, stand_in: str = "") -> bytes:
-        """Returns what the compiler's preprocessor makes of the file, or of a stand-in beside it, with the file's own
-        name in place of that one's.
+    def run(self, stand_in: Optional[StandIn], *more: str) -> "subprocess.CompletedProcess[bytes]":
+        """Runs the compiler with more words on the file, or on a stand-in beside it, whose name in the output becomes
+        the file's.
         """
-        words, at = self.preprocessing()
+        words, at = self.used()
         name, own = os.path.basename(words[at]), os.path.dirname(words[at])
-        if stand_in:
-            if not os.path.samefile(os.path.join(self.folder, own or "."), os.path.dirname(stand_in)):
-                raise Left("its compile command names it by a link in another folder")
-            words[at] = os.path.join(own, os.path.basename(stand_in))
-        # So that __DATE__ and __TIME__ stay the same.
-        environment = {**os.environ, "SOURCE_DATE_EPOCH": "0"}
-        try:
-            done = subprocess.run(
-                words, cwd=self.folder, env=environment, stdin=subprocess.DEVNULL, capture_output=True, check=False
-            )
-        except OSError as error:
-            raise Left(f"its compiler can't be run: {error}") from error
-        if done.returncode:
-            said = done.stderr.decode(errors="replace").strip().split("\n")[0]
-            raise Left(f"its compiler can't preprocess it: {said}")
-        return (
-            done.stdout.replace(os.fsencode(os.path.basename(stand_in)), os.fsencode(name)) if stand_in else done.stdout
+        if stand_in is None:
+            return run([*words, *more], self.folder, FIXED_TIME)
+        folder, other = os.path.split(stand_in.checked())
+        if not os.path.samefile(os.path.join(self.folder, own or "."), folder):
+            raise Left("its compile command names it by a link in another folder")
+        words[at] = os.path.join(own, other)
+        done = run([*words, *more], self.folder, FIXED_TIME)
+        done.stdout, done.stderr = (
+            it.replace(os.fsencode(other), os.fsencode(name)) for it in (done.stdout, done.stderr)
         )
+        return done
+
+    def preprocessed(self, stand_in: Optional[StandIn] = None) -> bytes:
+        """Returns what the compiler's preprocessor makes of the file, or of a stand-in."""
+        done = self.run(stand_in, "-E", "-w")
+        if done.returncode:
+            raise Left(f"its compiler can't preprocess it: {said(done.stderr)}")
+        return bytes(done.stdout)
+
+    def check_compiles(self, stand_in: StandIn) -> None:
+        """Raises Left if the compiler, with all its warnings, rejects a stand-in."""
+        done = self.run(stand_in, "-fsyntax-only")
+        if done.returncode:
+            raise Left(f"its compiler rejects the result: {said(done.stderr)}")
+
+    def included(self) -> Set[str]:
+        """Returns the paths, without links, of what the file includes. A header that isn't there includes nothing."""
+        done = self.run(None, "-M", "-MG", "-MT", "x", "-w")
+        if done.returncode:
+            raise Left(f"its compiler can't preprocess it: {said(done.stderr)}")
+        return {real_path(self.folder, it) for it in names_in_rule(os.fsdecode(done.stdout))} - {self.file}
+
+    def language(self) -> str:
+        """Returns the language that the file is compiled as: c or c++."""
+        chosen: List[str] = re.findall(r"(?:^|\0)-x\0?(c(?:\+\+)?)(?=\0|$)", "\0".join(self.words[1:]))
+        driver = re.sub(r"-[\d.]+$", "", os.path.basename(self.words[0]))
+        is_c = self.file.endswith(".c") and not driver.endswith("++")
+        return chosen[-1] if chosen else "c" if is_c else "c++"
 
     def is_cxx(self) -> bool:
-        """Returns whether the file is compiled as C++."""
-        return (
-            not self.file.endswith(".c")
-            or os.path.basename(self.words[0]).split("-")[0].endswith("++")
-            or "-xc++" in self.words
-            or "c++" in self.words
-        )
+        return self.language() == "c++"
+
+    def bare(self) -> Tuple[str, ...]:
+        """Returns the words of the compiler, its machine, its standard and its language."""
+        groups = compile_words.without_effects(self.words[1:])
+        kept = [word for group in groups if OF_THE_MACHINE.match(group[0]) for word in group]
+        return (self.words[0], *kept, "-x", self.language())
 
     def system_folders(self) -> Tuple[str, ...]:
         """Returns the folders of the compiler's own headers: not those that a command or the environment adds, nor
         those of local packages.
         """
-        kept = [
-            it
-            for it in self.words[1:]
-            if it.startswith(("--sysroot", "-m32", "-m64", "-mx32", "--target", "-nostd", "-stdlib"))
-        ]
-        return folders_of((self.words[0], *kept, "-x", "c++" if self.is_cxx() else "c"), self.folder)
+        return folders_of(self.bare(), self.folder)
+
+    def macros(self) -> Dict[str, str]:
+        """Returns the macros that the compiler defines by itself."""
+        return macros_of(self.bare(), self.folder)
 
 
-FOLDERS: Dict[Tuple[Tuple[str, ...], str], Tuple[str, ...]] = {}
-FOLDERS_LOCK = threading.Lock()
+def said(errors: bytes) -> str:
+    """Returns the line of a compiler's messages that says what is wrong."""
+    lines = errors.decode(errors="replace").strip().split("\n")
+    return next((it for it in lines if "error: " in it), lines[0])
 
 
+def names_in_rule(text: str) -> List[str]:
+    """Returns the names that a rule of make has after its target."""
+    names = IN_RULE.findall(text.replace("\\\n", " ").partition(": ")[2])
+    return [re.sub(r"\\([\s#])", r"\1", it).replace("$$", "$") for it in names]
+
+
+@functools.lru_cache(maxsize=None)
+def real_path(folder: str, name: str) -> str:
+    return os.path.realpath(os.path.join(folder, name))
+
+
+@functools.lru_cache(maxsize=None)
 def folders_of(words: Tuple[str, ...], folder: str) -> Tuple[str, ...]:
-    """Returns the folders that a compiler searches by itself, asked once."""
-    with FOLDERS_LOCK:
-        if (words, folder) not in FOLDERS:
-            environment = {
-                key: value for key, value in os.environ.items() if key != "CPATH" and not key.endswith("_INCLUDE_PATH")
-            }
-            how: Dict[str, Any] = {"cwd": folder, "env": {**environment, "LC_ALL": "C"}, "stdin": subprocess.DEVNULL}
-            try:
-                done = subprocess.run([*words, "-E", "-v", os.devnull], capture_output=True, check=False, **how)
-            except OSError as error:
-                raise Left(f"its compiler can't be run: {error}") from error
-            found = re.search(rb"<\.\.\.> search starts here:\n(.*?)End of search", done.stderr, re.DOTALL)
-            paths = [os.path.realpath(os.fsdecode(it.strip())) for it in found[1].splitlines()] if found else []
-            FOLDERS[words, folder] = tuple(it for it in paths if not it.startswith("/usr/local"))
-        return FOLDERS[words, folder]
+    """Returns the folders that a compiler searches by itself."""
+    without = {key: None for key in os.environ if key == "CPATH" or key.endswith("_INCLUDE_PATH")}
+    done = run([*words, "-E", "-v", os.devnull], folder, {**without, "LC_ALL": "C"})
+    found = re.search(rb"<\.\.\.> search starts here:\n(.*?)End of search", done.stderr, re.DOTALL)
+    paths = [os.path.realpath(os.fsdecode(it.strip())) for it in found[1].splitlines()] if found else []
+    return tuple(it for it in paths if not it.startswith("/usr/local"))
+
+
+@functools.lru_cache(maxsize=None)
+def macros_of(words: Tuple[str, ...], folder: str) -> Dict[str, str]:
+    """Returns the values of the macros that a compiler defines by itself."""
+    done = run([*words, "-E", "-dM", os.devnull], folder, {})
+    return dict(re.findall(r"^#define (\w+) (.*)$", done.stdout.decode(errors="replace"), re.MULTILINE))
 
 
 def default_command(file: str, flags: Sequence[str]) -> CompileCommand:
@@ -139,12 +171,14 @@ def commands_in(folder: str) -> Dict[str, List[CompileCommand]]:
         database = cindex.CompilationDatabase.fromDirectory(folder)
     except cindex.CompilationDatabaseError as error:
         raise OSError(f"{folder}: there is no compile_commands.json that can be read") from error
+    except cindex.LibclangError as error:
+        raise OSError(f"libclang can't be loaded: {error}") from error
     for command in database.getAllCompileCommands() or ():
         file = os.path.realpath(os.path.join(command.directory, command.filename))
         words = list(command.arguments)
         while words and os.path.basename(words[0]) in CACHES:
             words.pop(0)
         made = CompileCommand(command.directory, file, tuple(words))
-        if words and made not in found.setdefault(file, []):
+        if words and not is_stand_in(file) and made not in found.setdefault(file, []):
             found[file].append(made)
     return found

@@ -19,6 +19,9 @@ MARKER = re.compile(rb'# \d+ "((?:[^"\\]|\\.)*)"(.*)')
 SPACE = rb"(?:[ \t\f\v]|/\*(?:[^*\n]|\*(?!/))*\*/)*"
 LINE_DIRECTIVE = re.compile(rb"^" + SPACE + rb"(?:#|%:|\?\?=)" + SPACE + rb"(?:line\b|[0-9])", re.MULTILINE)
 ASM = (b"asm", b"__asm", b"__asm__")
+# Directives of an assembler that read a file or build names out of parts, and built-in functions that tell a column.
+OF_ASSEMBLER = re.compile(rb"\.(?:incbin|include|macro|altmacro|irpc?|rept)\b", re.IGNORECASE)
+COLUMN = re.compile(rb"\b__builtin_(?:COLUMN|source_location)\b")
 
 
 def marked_lines(text: bytes, folder: str) -> Iterator[Tuple[bytes, str, bool]]:
@@ -86,15 +89,17 @@ def check_words(text: bytes) -> None:
         if word in ASM:
             if before in (b";", b"}") and braces == 0:
                 raise Left("it has an asm at file scope")
-            check_asm(b"".join(strings_in_brackets(found)))
+            check_asm(b"".join(parts_in_brackets(found)))
         elif word.startswith(b"register_printf_"):
             raise Left(f"it names {word.decode()}")
         braces += (word == b"{") - (word == b"}")
         before = word
 
 
-def strings_in_brackets(tokens: Iterator["re.Match[bytes]"]) -> Iterator[bytes]:
-    """Yields the bytes of the string literals up to the bracket that closes the first one that opens."""
+def parts_in_brackets(tokens: Iterator["re.Match[bytes]"]) -> Iterator[bytes]:
+    """Yields the bytes of the string literals up to the bracket that closes the first one that opens, and of operands
+    the names that no variable has.
+    """
     depth = 0
     for token in tokens:
         word = token.group()
@@ -102,12 +107,21 @@ def strings_in_brackets(tokens: Iterator["re.Match[bytes]"]) -> Iterator[bytes]:
         if token["string"]:
             text = decoded(word)
             yield word if text is None else text
+        elif b"printf" in word or b"syslog" in word:
+            yield b" " + word + b" "
         if depth == 0 and word == b")":
             return
 
 
 def check_asm(text: bytes) -> None:
-    """Raises Left if the text of an asm names a known function."""
-    named = NAMES.search(text)
+    """Raises Left if an asm names a known function, reads a file, or could build a name out of parts."""
+    named = NAMES.search(text) or OF_ASSEMBLER.search(text)
     if named:
         raise Left(f"an asm names {named.group().decode()}")
+
+
+def check_columns(text: bytes) -> None:
+    """Raises Left if preprocessed text asks for a column, which a literal of another length would change."""
+    named = COLUMN.search(text)
+    if named:
+        raise Left(f"it names {named.group().decode()}, and a column would change")

@@ -1,23 +1,19 @@
 """One file: which of its places are replaced, and the check of the result."""
 
 import os
-import shutil
-import tempfile
-import threading
 from collections import Counter
-from contextlib import contextmanager
 from dataclasses import dataclass, field
-from typing import Iterator, List, NamedTuple, Sequence, Tuple, Union
+from typing import List, NamedTuple, Sequence, Tuple, Union
 
 from . import doubts
 from .calls import Calls, Functions, Marker
 from .compile_commands import CompileCommand
 from .left import Left
 from .places import Place, literals_of
+from .stand_ins import Original, StandIn
+from .targets import assertions_in
 from .tokens import Tokens, common_front
 
-# Set once the command is to end: no file is replaced any more.
-STOPPING = threading.Event()
 # A token, or the number of the place whose marker it is.
 Piece = Union[bytes, int]
 
@@ -35,12 +31,13 @@ class Change:
 
 class Seen(NamedTuple):
     """What a compile command makes of a file: the front that doesn't change, the tokens after it, and these with places
-    for their literals.
+    for their literals. And the keywords of static assertions.
     """
 
     front: bytes
     tokens: Tokens
     pieces: List[Piece]
+    assertions: Sequence[bytes]
 
 
 def with_sources(source: bytes, places: Sequence[Place], sources: Sequence[bytes]) -> bytes:
@@ -55,56 +52,46 @@ def with_sources(source: bytes, places: Sequence[Place], sources: Sequence[bytes
 class File:
     """The changes to one file, and how they are judged."""
 
-    def __init__(self, path: str, source: bytes, changes: List[Change], functions: Functions) -> None:
-        self.path, self.source, self.changes, self.functions = path, source, changes, functions
+    def __init__(self, original: Original, changes: List[Change], functions: Functions) -> None:
+        self.original, self.changes, self.functions = original, changes, functions
         self.places = [it.place for it in changes]
         self.old = [literals_of(it.place.source) for it in changes]
-        self.found = os.stat(path)
 
-    def replace(self, commands: Sequence[CompileCommand], is_dry: bool) -> None:
-        """Replaces what is right by all compile commands of the file, unless the run is dry; notes for each other place
-        why it is left.
+    def result(self, commands: Sequence[CompileCommand]) -> bytes:
+        """Returns the source with what is right by all compile commands replaced, and notes for each other place why it
+        is left.
         """
         self.check_rights()
-        with self.stand_in() as stand_in:
+        with StandIn(self.original.path) as stand_in:
             seen = [self.judge(command, stand_in) for command in commands]
             for change in self.changes:
                 if not change.is_compiled:
                     change.why_left = change.why_left or "it isn't compiled: it is in a comment, or left out by #if"
-            if all(it.why_left for it in self.changes):
-                return
-            self.write_stand_in(stand_in, [it.place.source if it.why_left else it.source for it in self.changes])
+            after = self.with_sources([it.place.source if it.why_left else it.source for it in self.changes])
+            if after == self.original.source:
+                return after
+            stand_in.write(after)
             for command, before in zip(commands, seen):
                 self.check_result(before, command.preprocessed(stand_in))
-            if not is_dry and not STOPPING.is_set():
-                self.put_in_place(stand_in)
+                command.check_compiles(stand_in)
+            return after
 
-    @contextmanager
-    def stand_in(self) -> Iterator[str]:
-        """Gives the path of an empty file beside this one, with an ending that compilers take alike; it is removed
-        unless it was renamed.
-        """
-        folder, name = os.path.split(self.path)
-        handle, stand_in = tempfile.mkstemp(prefix=".fmtcanon-", suffix="-" + name, dir=folder)
-        os.close(handle)
-        try:
-            yield stand_in
-        finally:
-            if os.path.exists(stand_in):
-                os.unlink(stand_in)
+    def with_sources(self, sources: Sequence[bytes]) -> bytes:
+        return with_sources(self.original.source, self.places, sources)
 
-    def write_stand_in(self, stand_in: str, sources: Sequence[bytes]) -> None:
-        if STOPPING.is_set():
-            raise Left("the command was interrupted")
-        with open(stand_in, "wb") as stream:
-            stream.write(with_sources(self.source, self.places, sources))
+    def changes_columns(self) -> bool:
+        """Returns whether a place may get another length."""
+        return any(not it.why_left and len(it.source) != len(it.place.source) for it in self.changes)
 
-    def judge(self, command: CompileCommand, stand_in: str) -> "Seen":
+    def judge(self, command: CompileCommand, stand_in: StandIn) -> "Seen":
         """Judges the places by one compile command. Returns what it makes of the file."""
         text, marker = command.preprocessed(), Marker()
         doubts.check(command, text)
+        if self.changes_columns():
+            doubts.check_columns(text)
+        assertions = assertions_in(command.macros())
         marked, front, pieces = self.marked(command, text, stand_in, marker)
-        before = Tokens(text[front:])
+        before = Tokens(text[front:], assertions)
         if rendered(pieces, self.old) != before.words:
             raise Left("its compiler reads it otherwise once literals are replaced")
         counts = Counter(it for it in pieces if isinstance(it, int))
@@ -113,10 +100,10 @@ class File:
             change = self.changes[number]
             change.is_compiled = True
             change.why_left = change.why_left or (calls and calls.why_left(number, count)) or ""
-        return Seen(text[:front], before, pieces)
+        return Seen(text[:front], before, pieces, assertions)
 
     def marked(
-        self, command: CompileCommand, before: bytes, stand_in: str, marker: Marker
+        self, command: CompileCommand, before: bytes, stand_in: StandIn, marker: Marker
     ) -> Tuple[bytes, int, List[Piece]]:
         """Returns what the preprocessor makes of the file with markers for places.
 
@@ -128,12 +115,12 @@ class File:
                 it.place.source if it.why_left else marker.literal(number) + b"\n" * it.place.source.count(b"\n")
                 for number, it in enumerate(self.changes)
             ]
-            self.write_stand_in(stand_in, sources)
+            stand_in.write(self.with_sources(sources))
             text = command.preprocessed(stand_in)
             front = common_front(before, text)
             pieces: List[Piece] = []
             is_torn = False
-            for word in Tokens(text[front:]).words:
+            for word in Tokens(text[front:], assertions_in(command.macros())).words:
                 numbers = marker.numbers(word)
                 is_whole = bool(numbers) and word == marker.literal(numbers[0])
                 pieces.append(numbers[0] if is_whole else word)
@@ -149,7 +136,7 @@ class File:
         new = [old if it.why_left else literals_of(it.source) for it, old in zip(self.changes, self.old)]
         if not text.startswith(before.front):
             raise Left("the check of the result failed: its compiler reads other headers")
-        after = Tokens(text[len(before.front) :])
+        after = Tokens(text[len(before.front) :], before.assertions)
         if rendered(before.pieces, new) != after.words:
             raise Left("the check of the result failed: its compiler reads other tokens")
         if before.tokens.lines != after.lines:
@@ -157,33 +144,24 @@ class File:
 
     def check_rights(self) -> None:
         """Raises Left for a file that can't be replaced as a whole."""
-        if self.found.st_nlink > 1:
+        if self.original.state.st_nlink > 1:
             raise Left("it has hard links, which would be torn apart")
-        if not self.found.st_mode & 0o222:
+        if not self.original.state.st_mode & 0o222:
             raise Left("it is read-only")
-        if not os.access(os.path.dirname(self.path), os.W_OK):
+        if not os.access(os.path.dirname(self.original.path), os.W_OK):
             raise Left("its folder can't be written to")
 
-    def put_in_place(self, stand_in: str) -> None:
-        """Renames the stand-in, which is what was checked, onto the file, with the file's owner and rights, unless the
-        file has changed.
-        """
-        now = os.stat(self.path)
-        with open(self.path, "rb") as stream:
-            is_same = stream.read() == self.source and (now.st_ino, now.st_mtime_ns) == (
-                self.found.st_ino,
-                self.found.st_mtime_ns,
-            )
-        if not is_same:
+
+def put_in_place(original: Original, after: bytes) -> None:
+    """Renames a stand-in with this text onto a file, with the file's owner and rights. Raises Left if the file has
+    changed.
+    """
+    with StandIn(original.path) as stand_in:
+        stand_in.write(after)
+        stand_in.take_rights(original)
+        if not original.is_as_read():
             raise Left("it was changed meanwhile")
-        try:
-            if (now.st_uid, now.st_gid) != (os.stat(stand_in).st_uid, os.stat(stand_in).st_gid):
-                os.chown(stand_in, now.st_uid, now.st_gid)
-            shutil.copystat(self.path, stand_in)
-            os.utime(stand_in)
-        except PermissionError as error:
-            raise Left("its owner can't be kept") from error
-        os.replace(stand_in, self.path)
+        stand_in.rename()
 
 
 def rendered(pieces: List[Piece], literals: Sequence[Sequence[bytes]]) -> List[bytes]:

@@ -22,17 +22,19 @@ OLD and NEW are formats as C has them between the quotes, so '%i\\n' ends in a n
 or more adjacent string literals that make up OLD. It is replaced if it is the format of a call
 of the C library's printf family, of a function given by --function, or, with --attribute, of one
 that is declared with the attribute format(printf, m, n). The file's own compiler preprocesses it, and
-libclang (the package python3-clang) finds the calls in that text. The result is preprocessed again:
-only the replaced literals may differ. Parts that OLD and NEW share keep their spelling.
+libclang (the package python3-clang) finds the calls in that text. The result is preprocessed again, and
+checked with the warnings of the compile command: only the replaced literals may differ. Parts that
+OLD and NEW share keep their spelling.
 
-FILE is a file or a folder, of which all C and C++ files are read. Without one, all files of the
-compile commands in -p are read."""
+FILE is a file or a folder, of which all C and C++ files are read; links out of it are not followed.
+Without one, all files of the compile commands in -p are read. All files are reported before the first
+is replaced."""
 EPILOG = """\
 Each place is reported: that it is replaced, or that it is left, and why. So is each place that means
 the same as OLD and is spelled in another way. One that is already NEW is not. Arguments count from 0.
 
 The exit status is 0 if no place was left, 1 if one was, 2 for a usage error, a format that is
-rejected, or a file that can't be read or written."""
+rejected, or a file or an output that can't be read or written."""
 # What isn't a pair of formats and files.
 MODES = ("pairs", "list", "list_functions")
 

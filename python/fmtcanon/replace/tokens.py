@@ -55,7 +55,6 @@ PREPROCESSED = re.compile(
 )
 # The same in one line, without raw strings.
 IN_LINE = re.compile(rb"(?:u8|[uUL])?" + STRING + rb"|" + CHARACTER + rb"|" + NUMBER + rb"|" + NAME + rb"|[^\s]")
-STATIC_ASSERTION = (b"_Static_assert", b"static_assert")
 
 
 def common_front(first: bytes, second: bytes) -> int:
@@ -80,19 +79,19 @@ def common_front(first: bytes, second: bytes) -> int:
 class Tokens:
     """The tokens of preprocessed text, with the line of the text that each is in.
 
-    Line markers are no tokens, and static assertions are left out: they have no effect but at compile time, and may
-    have the text of a literal in them.
+    Line markers are no tokens. Static assertions, which begin with one of these keywords, are left out: they may have
+    the text of a literal in them, and are evaluated when the result is compiled.
     """
 
-    def __init__(self, text: bytes) -> None:
+    def __init__(self, text: bytes, assertions: Sequence[bytes]) -> None:
         self.words: List[bytes] = []
         self.lines: List[int] = []
         if MAY_BE_RAW.search(text):
             self.read(text)
         else:
             self.read_by_lines(text)
-        if any(it in text for it in STATIC_ASSERTION):
-            self.leave_assertions()
+        if any(it in text for it in assertions):
+            self.leave_assertions(assertions)
 
     def read(self, text: bytes) -> None:
         """Reads a text whose tokens may go over several lines: raw strings do."""
@@ -112,12 +111,12 @@ class Tokens:
                 self.words += found
                 self.lines += [number] * len(found)
 
-    def leave_assertions(self) -> None:
+    def leave_assertions(self, assertions: Sequence[bytes]) -> None:
         """Takes static assertions out."""
         words, lines, self.words, self.lines = self.words, self.lines, [], []
         depth = -1
         for word, line in zip(words, lines):
-            if depth == -1 and word in STATIC_ASSERTION:
+            if depth == -1 and word in assertions:
                 depth = 0
             elif depth >= 0:
                 depth += (word == b"(") - (word == b")")

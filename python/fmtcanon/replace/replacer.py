@@ -1,0 +1,152 @@
+"""Judges the places of files, several files at a time. Nothing is replaced before all are judged."""
+
+import difflib
+import os
+from concurrent.futures import ThreadPoolExecutor
+from typing import Any, List, NamedTuple, Optional, Sequence, Union
+
+from ..command_line import MODELS, model_names
+from ..findings import NOTE, WARNING, Finding
+from .calls import Functions
+from .files import Change, File, with_sources
+from .left import Left
+from .pairs import Pairs
+from .places import Place, places_in, respelled
+from .sources import Files, Name
+from .stand_ins import Original, original
+from .targets import check_model
+from .units import Units, units_of
+
+REPLACED, LEFT = "replaced", "left"
+RULES = {REPLACED: "A format was replaced by another of the same meaning.", LEFT: "A format was left as it is."}
+
+
+class Report(NamedTuple):
+    """What is found in a file, the file and its new bytes, its unified diff, whether something was left, and whether
+    there was an error.
+    """
+
+    name: str
+    findings: Sequence[Finding] = ()
+    original: Optional[Original] = None
+    after: bytes = b""
+    diff: bytes = b""
+    is_left: bool = False
+    error: str = ""
+
+
+class Scanned(NamedTuple):
+    """A file that was read, with what is to be done with its places."""
+
+    name: str
+    original: Original
+    changes: List[Change]
+
+    def is_open(self) -> bool:
+        """Returns whether a place may be replaced."""
+        return any(not it.why_left for it in self.changes)
+
+
+class Replacer:
+    """Replaces formats by others in files."""
+
+    def __init__(self, options: Any, files: Files) -> None:
+        self.options, self.files = options, files
+        self.models = MODELS[options.model]
+        self.pairs = Pairs(options.formats, self.models, options.posix_locale, bool(options.pairs))
+        self.functions = Functions(dict(options.function), options.attribute)
+        self.units = Units([])
+
+    def reports(self, names: Sequence[Name], pool: ThreadPoolExecutor) -> List[Report]:
+        """Returns what is to be reported of each file, and done with it."""
+        scanned = list(pool.map(self.scanned, names))
+        if any(isinstance(it, Scanned) and it.is_open() for it in scanned):
+            commands = [it for found in self.files.database.values() for it in found]
+            self.units = units_of(commands, pool.map)
+        return list(pool.map(self.report_on, scanned))
+
+    def scanned(self, name: Name) -> Union[Scanned, Report]:
+        """Reads a file, and returns its places of which something is to be said."""
+        try:
+            read = original(name.path)
+        except OSError as error:
+            return Report(name.shown, error=f"{name.shown}: {error.strerror or error}")
+        changes = [it for it in map(self.change_of, places_in(read.source)) if it]
+        return Scanned(name.shown, read, changes) if changes else Report(name.shown)
+
+    def change_of(self, place: Place) -> Optional[Change]:
+        """Returns what is to be done with a place, or None if nothing is to be said of it."""
+        rule = self.pairs.rule(place.text)
+        if rule is None:
+            return None
+        if rule.why_left:
+            return Change(place, place.source, rule.why_left)
+        source = respelled(place, rule.new)
+        if source is None:
+            return Change(place, place.source, "a line break within its literals would be lost")
+        return Change(place, source)
+
+    def report_on(self, scanned: Union[Scanned, Report]) -> Report:
+        """Judges the places of a file."""
+        if isinstance(scanned, Report):
+            return scanned
+        name, read, changes = scanned
+        after = read.source
+        try:
+            if scanned.is_open():
+                after = self.judged(read, changes)
+        except Left as left:
+            return self.left(name, str(left))
+        except OSError as error:
+            return Report(name, error=f"{name}: {error.strerror or error}")
+        findings = [self.finding_of(name, read.source, it) for it in changes]
+        diff = unified_diff(name, read.source, after) if self.options.diff else b""
+        is_left = any(it.why_left for it in changes)
+        return Report(name, findings, read if after != read.source else None, after, diff, is_left)
+
+    def judged(self, read: Original, changes: List[Change]) -> bytes:
+        """Returns a file with what is right replaced. Raises Left if that is nothing."""
+        commands = self.files.commands(read.path)
+        self.units.check(read.path)
+        for command in commands:
+            check_model(command, self.models)
+        return File(read, changes, self.functions).result(commands)
+
+    def left(self, name: str, why: str) -> Report:
+        """Returns the report on a file that is left as a whole."""
+        finding = Finding(name, 0, None, LEFT, WARNING, f"left: {why}", models=model_names(self.models))
+        return Report(name, [finding], is_left=True)
+
+    def finding_of(self, file: str, source: bytes, change: Change) -> Finding:
+        place = change.place
+        formats = [place.text.decode(errors="backslashreplace")]
+        if not change.why_left:
+            formats.append(self.pairs.rules[place.text].new.decode(errors="backslashreplace"))
+        column = column_of(source, place.start)
+        end = (place.line + place.source.count(b"\n"), column_of(source, place.end))
+        message = f"left: {change.why_left}" if change.why_left else REPLACED
+        kind, level = (LEFT, WARNING) if change.why_left else (REPLACED, NOTE)
+        return Finding(
+            file,
+            place.line,
+            column,
+            kind,
+            level,
+            message,
+            end,
+            tuple(formats),
+            model_names(self.models),
+            dict(zip(("old", "new"), formats)),
+        )
+
+
+def column_of(source: bytes, offset: int) -> int:
+    """Returns the column of an offset, from 1, in characters, or in bytes where the line isn't UTF-8."""
+    return len(source[source.rfind(b"\n", 0, offset) + 1 : offset].decode(errors="surrogateescape")) + 1
+
+
+def unified_diff(file: str, before: bytes, after: bytes) -> bytes:
+    """Returns the changes of a file as a unified diff."""
+    name = os.fsencode(file)
+    lines = difflib.diff_bytes(difflib.unified_diff, before.splitlines(True), after.splitlines(True), name, name)
+    return b"".join(it if it.endswith(b"\n") else it + b"\n\\ No newline at end of file\n" for it in lines)

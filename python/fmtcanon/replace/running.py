@@ -1,0 +1,91 @@
+"""Runs compilers: each for a limited time, and none once the command is to end."""
+
+import os
+import signal
+import subprocess
+import threading
+from contextlib import contextmanager
+from typing import Dict, Iterator, Mapping, Optional, Sequence, Set
+
+from .left import Left
+
+# The seconds that a run of a compiler may take.
+SECONDS = 300
+INTERRUPTED = "the command was interrupted"
+# Set once the command is to end.
+STOPPING = threading.Event()
+LOCK = threading.Lock()
+RUNNING: Set["subprocess.Popen[bytes]"] = set()
+# Names in the environment that have a compiler write a file or change its options.
+WRITING = ("DEPENDENCIES_OUTPUT", "SUNPRO_DEPENDENCIES", "CC_PRINT_", "CC_LOG_", "CCC_")
+
+
+def run(
+    words: Sequence[str], folder: str, names: Mapping[str, Optional[str]], seconds: float = SECONDS
+) -> "subprocess.CompletedProcess[bytes]":
+    """Runs a compiler in a folder, with other values for these names of its environment, or without them. Raises Left
+    if it can't be run, takes too long, or the command is to end.
+    """
+    values: Dict[str, Optional[str]] = {it: os.environ[it] for it in os.environ if not it.startswith(WRITING)}
+    values.update(names)
+    environment = {name: value for name, value in values.items() if value is not None}
+    with started(words, folder, environment) as process:
+        try:
+            output, errors = process.communicate(timeout=seconds)
+        except subprocess.TimeoutExpired as error:
+            raise Left(f"its compiler took more than {seconds} seconds") from error
+    check_stopping()
+    return subprocess.CompletedProcess(words, process.returncode, output, errors)
+
+
+@contextmanager
+def started(words: Sequence[str], folder: str, environment: Mapping[str, str]) -> Iterator["subprocess.Popen[bytes]"]:
+    """Gives a process in a group of its own, which ends with the block."""
+    pipe = subprocess.PIPE
+    with LOCK:
+        check_stopping()
+        try:
+            process = subprocess.Popen(
+                words,
+                cwd=folder,
+                env=environment,
+                stdin=subprocess.DEVNULL,
+                stdout=pipe,
+                stderr=pipe,
+                start_new_session=True,
+            )
+        except (OSError, ValueError) as error:
+            raise Left(f"its compiler can't be run: {error}") from error
+        RUNNING.add(process)
+    try:
+        yield process
+    finally:
+        with LOCK:
+            kill(process)
+            RUNNING.discard(process)
+        process.wait()
+        for stream in (process.stdout, process.stderr):
+            if stream:
+                stream.close()
+
+
+def kill(process: "subprocess.Popen[bytes]") -> None:
+    """Ends a process that still runs, with those that it started."""
+    if process.poll() is None:
+        try:
+            os.killpg(process.pid, signal.SIGKILL)
+        except ProcessLookupError:
+            pass
+
+
+def check_stopping() -> None:
+    if STOPPING.is_set():
+        raise Left(INTERRUPTED)
+
+
+def stop() -> None:
+    """Ends all compilers, and lets none start."""
+    with LOCK:
+        STOPPING.set()
+        for process in RUNNING:
+            kill(process)

@@ -1,0 +1,65 @@
+"""The files to read, by the operands and the compile commands, and how each is compiled."""
+
+import os
+from typing import Any, Dict, Iterator, List, NamedTuple
+
+from ..diff.trees import Unreadable, files_below
+from .compile_commands import SOURCES, CompileCommand, commands_in, default_command
+from .left import Left
+from .stand_ins import is_stand_in
+
+
+class Name(NamedTuple):
+    """A file as the operands name it, and its path without links."""
+
+    shown: str
+    path: str
+
+
+class Files:
+    """The files that the operands and the compile commands name."""
+
+    def __init__(self, options: Any) -> None:
+        self.database: Dict[str, List[CompileCommand]] = commands_in(options.database) if options.database else {}
+        self.options = options
+
+    def names(self, with_headers: bool = False) -> Iterator[Name]:
+        """Yields the files to read, each once. Of a folder, they are those that are compiled, or with what they
+        include. A copy that a killed run left behind is not read.
+        """
+        seen = set()
+        for name in self.named(with_headers):
+            if name.path not in seen and not is_stand_in(name.path):
+                seen.add(name.path)
+                yield name
+
+    def named(self, with_headers: bool) -> Iterator[Name]:
+        if not self.options.files:
+            yield from (Name(it, it) for it in sorted(self.database) if SOURCES.fullmatch(it))
+        for operand in self.options.files:
+            if os.path.isdir(operand):
+                yield from names_below(operand, with_headers)
+            else:
+                yield Name(operand, os.path.realpath(operand))
+
+    def commands(self, path: str) -> List[CompileCommand]:
+        """Returns the compile commands of a file."""
+        if not SOURCES.fullmatch(path):
+            raise Left("a header, or a part of a file, isn't compiled by itself")
+        if not self.options.database:
+            return [default_command(path, self.options.flag)]
+        if path not in self.database:
+            raise Left("compile_commands.json has no command for it")
+        return self.database[path]
+
+
+def names_below(folder: str, with_headers: bool) -> Iterator[Name]:
+    """Yields the files below a folder. A link to a file outside of it is not followed."""
+    found, errors = files_below(folder)
+    if errors:
+        raise Unreadable(errors[0])
+    top = os.path.join(os.path.realpath(folder), "")
+    for name in sorted(found):
+        path = os.path.realpath(os.path.join(folder, name))
+        if path.startswith(top) and (with_headers or SOURCES.fullmatch(name)):
+            yield Name(os.path.join(folder, name), path)

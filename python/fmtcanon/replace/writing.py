@@ -1,0 +1,89 @@
+"""Reports what is found, and then replaces the files: so nothing is replaced that wasn't reported, and when the command
+is ended early it says what was.
+"""
+
+import os
+import sys
+from concurrent.futures import ThreadPoolExecutor
+from typing import Any, List, NoReturn, Sequence
+
+from ..command_line import USAGE
+from ..findings import Printer
+from ..output import Unwritable, complain, write
+from .files import put_in_place
+from .interrupting import Interrupted, Signals, interruptible
+from .left import Left
+from .options import NAME
+from .replacer import RULES, Replacer, Report
+from .running import stop
+from .sources import Name
+from .stand_ins import StandIn
+
+
+def replace(options: Any, replacer: Replacer, names: Sequence[Name]) -> int:
+    """Judges the files, reports each in its order, and replaces them. Returns the exit status."""
+    pool = ThreadPoolExecutor(max(options.jobs, 1))
+    changed: List[str] = []
+    with interruptible() as signals:
+        try:
+            with signals.raised():
+                reports = [as_it_is(replacer, it) for it in replacer.reports(names, pool)]
+                print_reports(options, reports)
+                status = max([USAGE if it.error else int(it.is_left) for it in reports], default=0)
+                if options.dry_run or options.diff:
+                    return status
+                return max(status, put_all_in_place(reports, signals, changed))
+        except Interrupted as interrupted:
+            end(pool, interrupted.number, changed)
+        finally:
+            pool.shutdown(wait=False)
+
+
+def as_it_is(replacer: Replacer, report: Report) -> Report:
+    """Returns the report on a file, or on one that has changed since it was read."""
+    try:
+        is_as_read = report.original is None or report.original.is_as_read()
+    except OSError:
+        is_as_read = False
+    return report if is_as_read else replacer.left(report.name, "it was changed meanwhile")
+
+
+def print_reports(options: Any, reports: Sequence[Report]) -> None:
+    """Prints the reports. Raises Unwritable before a file is replaced."""
+    printer = Printer(NAME, options.output, RULES, sys.stderr if options.diff else None)
+    try:
+        for report in reports:
+            if report.diff:
+                write(sys.stdout, report.diff)
+            for finding in report.findings:
+                printer.add(finding)
+            if report.error:
+                complain(report.error)
+        printer.end()
+    except Unwritable as error:
+        raise Unwritable(f"{error}; no file was changed") from error
+
+
+def put_all_in_place(reports: Sequence[Report], signals: Signals, changed: List[str]) -> int:
+    """Replaces the files, and notes their names. Returns the exit status."""
+    status = 0
+    for report in reports:
+        if report.original is not None:
+            with signals.held():
+                try:
+                    put_in_place(report.original, report.after)
+                    changed.append(report.name)
+                except (Left, OSError) as error:
+                    complain(f"{report.name}: it couldn't be replaced: {getattr(error, 'strerror', None) or error}")
+                    status = USAGE
+    return status
+
+
+def end(pool: ThreadPoolExecutor, number: int, changed: Sequence[str]) -> NoReturn:
+    """Ends the command early, without its copies of files, and says what was changed."""
+    pool.shutdown(wait=False)
+    stop()
+    StandIn.remove_all()
+    complain(f"{NAME}: interrupted; " + (f"changed: {', '.join(changed)}" if changed else "no file was changed"))
+    # libclang can't be interrupted, and Python would wait for it.
+    os._exit(128 + number)

@@ -1,0 +1,57 @@
+"""Tests of output that is closed or full: every command says so in one line, and ends with status 2."""
+
+import os
+import signal
+import subprocess
+import sys
+import unittest
+
+COMMANDS = ["diff", "po", "replace"]
+# What the shell does with the streams, and what is said of standard output.
+UNWRITABLE = [(">&-", "standard output is closed"), (">/dev/full", "standard output: No space left on device")]
+
+
+def shell(words: str, streams: str) -> "subprocess.CompletedProcess[str]":
+    """A run of a command, with its streams as the shell makes them."""
+    script = f'exec "$0" -B -m fmtcanon.{words} {streams}'
+    return subprocess.run(["sh", "-c", script, sys.executable], capture_output=True, text=True, check=False, timeout=60)
+
+
+class Streams(unittest.TestCase):
+    def test_help_and_version(self):
+        for command in COMMANDS:
+            for option in ["--help", "--version"]:
+                for streams, said in UNWRITABLE:
+                    done = shell(f"{command} {option}", streams)
+                    self.assertEqual(
+                        (done.returncode, done.stdout, done.stderr), (2, "", f"fmtcanon-{command}: {said}\n")
+                    )
+
+    def test_a_list(self):
+        for streams, said in UNWRITABLE:
+            done = shell("replace --list-functions", streams)
+            self.assertEqual((done.returncode, done.stderr), (2, f"fmtcanon-replace: {said}\n"))
+
+    def test_standard_error(self):
+        for command in COMMANDS:
+            for streams in ["2>&-", "2>/dev/full", ">&- 2>&-"]:
+                done = shell(f"{command} --nonsense", streams)
+                self.assertEqual((done.returncode, done.stdout), (2, ""), (command, streams))
+
+    def test_nobody_reads(self):
+        for words in ["--list-functions", "--help"]:
+            reading, writing = os.pipe()
+            os.close(reading)
+            words = [sys.executable, "-B", "-m", "fmtcanon.replace", words]
+            done = subprocess.run(words, stdout=writing, stderr=subprocess.PIPE, check=False, timeout=60)
+            os.close(writing)
+            self.assertEqual((done.returncode, done.stderr), (128 + signal.SIGPIPE, b""))
+
+    def test_numbers_of_streams(self):
+        """No file takes the number of a stream that is closed."""
+        script = (
+            "import os, sys; from fmtcanon.output import occupy; occupy(); "
+            "sys.exit(min(os.open(os.devnull, os.O_RDONLY), 3))"
+        )
+        words = ["sh", "-c", 'exec "$0" -B -c "$1" <&- >&- 2>&-', sys.executable, script]
+        self.assertEqual(subprocess.run(words, check=False, timeout=60).returncode, 3)

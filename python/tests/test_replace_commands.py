@@ -1,0 +1,274 @@
+"""Tests of what fmtcanon-replace does with compile commands, with the system's compiler and without libclang."""
+
+import os
+import subprocess
+import tempfile
+import unittest
+import unittest.mock
+from pathlib import Path
+
+from fmtcanon import Model
+from fmtcanon.replace.compile_commands import SOURCES, CompileCommand, names_in_rule, said
+from fmtcanon.replace.left import Left
+from fmtcanon.replace.stand_ins import StandIn
+from fmtcanon.replace.targets import check_model, model_in
+from fmtcanon.replace.units import Answer, Units, asked, units_of
+
+SOURCE = "int f(void);\nint f(void) { return 1; }\n"
+# Words that make a compiler write the file `keep`, or one with a name of its own, and what becomes of them.
+WRITING = [
+    (["-Wp,-DX,-MD,keep"], ["-Wp,-DX"]),
+    (["--output=keep"], []),
+    (["--output", "keep"], []),
+    (["--serialize-diagnostics", "keep"], []),
+    (["-time=keep"], []),
+    (["--write-dependencies"], []),
+    (["-ftime-trace"], []),
+    (["-save-stats"], []),
+    (["-o", "keep"], []),
+    (["-okeep"], []),
+    (["-MD", "-MF", "keep"], []),
+    (["-MMD", "-MFkeep", "-MTx", "-MQ", "y"], []),
+    (["-MJ", "keep"], []),
+    (["-aux-info", "keep"], []),
+    (["-dumpbase", "keep", "-dumpdir", "keep", "-da"], []),
+    (["-save-temps=obj"], []),
+    (["--save-temps"], []),
+    (["-fdump-tree-all=keep", "-fdump-final-insns=keep"], []),
+    (["-fopt-info-all=keep"], []),
+    (["-fcallgraph-info", "-fstack-usage", "-ftest-coverage", "--coverage", "-gsplit-dwarf"], []),
+    (["-fsave-optimization-record", "-fproc-stat-report=keep"], []),
+]
+# Words that stay, as they are.
+USED = [
+    ["-DX", "-D", "Y=a b", "-UZ", "-I.", "-I", "in", "-isystem", "in", "-iquotein", "-include", "x.h"],
+    ["-std=gnu11", "-O2", "-m32", "-march=native", "-mcmodel=small", "-Wall", "-Werror", "-Werror=format=2", "-Wno-x"],
+    ["-fPIC", "-fno-builtin", "-fno-builtin-printf", "-fsanitize=address,undefined", "-fshort-enums", "-fno-rtti"],
+    ["-fstack-protector-strong", "-fcf-protection=full", "-fmacro-prefix-map=/a=b", "-fexec-charset=UTF-8"],
+    ["-x", "c", "-pthread", "--sysroot=/", "-nostdinc", "-Wp,-D_FORTIFY_SOURCE=2"],
+]
+# Words without an effect on what the preprocessor makes of a file.
+UNUSED = [
+    ["-c", "-pipe", "-g3", "-ggdb", "-fno-omit-frame-pointer", "-ftree-vectorize", "-fdata-sections", "-flto=auto"],
+    ["-Xclang", "-disable-O0-optnone"],
+    ["-Wl,-z,relro", "-Wl,--as-needed", "-Wl,-rpath,/x", "-lm", "-L", "/x", "-Wa,--noexecstack", "-shared", "-pg"],
+    ["-fdebug-prefix-map=/a=.", "-fdiagnostics-color=always", "-fmessage-length=0", "--param", "x=1", "-mllvm", "-x"],
+]
+# Words with which it isn't known what the file means, or what would be written.
+UNCLEAR = [
+    ["-Wl,--wrap=printf"],
+    ["-Wl,-wrap=printf"],
+    ["-Wl,-z,relro,--wrap,printf"],
+    ["-Wl,--defsym,printf=mine"],
+    ["-Xlinker", "--wrap=printf"],
+    ["-Wa,--defsym,printf=1"],
+    ["-fexec-charset=latin1"],
+    ["-finput-charset=LATIN1"],
+    ["@more"],
+    ["-traditional-cpp"],
+    ["-fplugin=x.so"],
+    ["-fpass-plugin=x.so"],
+    ["-fmodules"],
+    ["-fmodule-mapper=|x"],
+    ["-fpreprocessed"],
+    ["-specs=x"],
+    ["--specs=x"],
+    ["-B/x"],
+    ["-wrapper", "x"],
+    ["-Xclang", "-load"],
+    ["-Xclang", "-add-plugin"],
+    ["-Xpreprocessor", "-MD"],
+    ["-Wp,-MD"],
+    ["-Wp,-P"],
+    ["-index-store-path", "x"],
+    ["-fno-such-option-of-this-year"],
+    ["-x", "c++-header"],
+    ["-xassembler"],
+    ["other.c"],
+    ["other.o"],
+    ["-"],
+]
+
+
+class Words(unittest.TestCase):
+    def used(self, *words):
+        words, at = CompileCommand("/", os.path.realpath("/a/b.c"), ("gcc", *words, "-c", "a/b.c")).used()
+        self.assertEqual((words[0], words.pop(at)), ("gcc", "a/b.c"))
+        return words[1:]
+
+    def test_used(self):
+        for words in USED:
+            self.assertEqual(self.used(*words), words)
+
+    def test_unused(self):
+        for words in UNUSED:
+            self.assertEqual(self.used(*words), [], words)
+
+    def test_unclear(self):
+        for words in UNCLEAR:
+            with self.assertRaises(Left, msg=words) as raised:
+                self.used(*words)
+            self.assertIn(words[0], str(raised.exception))
+
+    def test_the_file(self):
+        with self.assertRaises(Left):
+            CompileCommand("/", os.path.realpath("/a/b.c"), ("gcc", "-c", "a/c.c")).used()
+        words = CompileCommand("/", os.path.realpath("/a/b.c"), ("gcc", "-c", "--", "a/b.c")).preprocessing()
+        self.assertEqual(words, (["gcc", "a/b.c", "-E", "-w"], 1))
+
+    def test_nothing_is_written(self):
+        """A compiler that is run with such a word leaves all files as they are."""
+        for words, used in WRITING:
+            self.assertEqual(self.used(*words), used, words)
+            with tempfile.TemporaryDirectory() as work:
+                keep, file = Path(work) / "keep", Path(work) / "a.c"
+                keep.write_text("precious")
+                file.write_text(SOURCE)
+                command = CompileCommand(work, os.path.realpath(file), ("gcc", *words, "-c", "a.c"))
+                self.assertIn(b"return 1", command.preprocessed())
+                with StandIn(command.file) as stand_in:
+                    stand_in.write(SOURCE.encode())
+                    command.check_compiles(stand_in)
+                command.included()
+                self.assertEqual((sorted(os.listdir(work)), keep.read_text()), (["a.c", "keep"], "precious"), words)
+
+    def test_nothing_is_written_by_the_environment(self):
+        with tempfile.TemporaryDirectory() as work:
+            file = Path(work) / "a.c"
+            file.write_text(SOURCE)
+            command = CompileCommand(work, os.path.realpath(file), ("gcc", "-c", "a.c"))
+            with unittest.mock.patch.dict(os.environ, {"DEPENDENCIES_OUTPUT": f"{work}/rule"}):
+                command.preprocessed()
+            self.assertEqual(os.listdir(work), ["a.c"])
+
+    def test_language(self):
+        for words, name, wanted in [
+            (("gcc",), "b.c", "c"),
+            (("gcc",), "b.cc", "c++"),
+            (("x86_64-linux-gnu-g++-12",), "b.c", "c++"),
+            (("gcc", "-x", "c++"), "b.c", "c++"),
+            (("g++", "-xc"), "b.cc", "c"),
+            (("gcc", "-Dc++"), "b.c", "c"),
+        ]:
+            self.assertEqual(CompileCommand("/", f"/a/{name}", (*words, "-c", name)).language(), wanted, words)
+
+    def test_sources(self):
+        for name, wanted in [
+            ("a.c", True),
+            ("a.cc", True),
+            ("a.C", True),
+            ("a\nb.c", True),
+            ("a.h", False),
+            ("a.inc", False),
+            ("a.c.in", False),
+            ("c", False),
+        ]:
+            self.assertEqual(bool(SOURCES.fullmatch(name)), wanted, name)
+
+
+class Results(unittest.TestCase):
+    """The check of a result by its own compile command."""
+
+    def check(self, source, *words):
+        with tempfile.TemporaryDirectory() as work:
+            file = Path(work) / "a.c"
+            file.write_text("int x;\n")
+            command = CompileCommand(work, os.path.realpath(file), ("gcc", *words, "-c", "a.c"))
+            with StandIn(command.file) as stand_in:
+                stand_in.write(source)
+                command.check_compiles(stand_in)
+
+    def test_results(self):
+        self.check(b"int x = 1;")
+        assertion = b'_Static_assert(sizeof("%s") <= 4, "it is short");'
+        self.check(assertion % rb"%i\n")
+        with self.assertRaisesRegex(Left, "its compiler rejects the result: a.c:1.*it is short"):
+            self.check(assertion % rb"%.1d\n")
+        call = b'int printf(const char *, ...);\nvoid f(void) { printf("%s\\n", 1u); }'
+        self.check(call % b"%u", "-Wall", "-Werror")
+        with self.assertRaisesRegex(Left, "its compiler rejects the result: a.c:2"):
+            self.check(call % b"%+u", "-Wall", "-Werror")
+
+    def test_what_is_said(self):
+        self.assertEqual(said(b"a.c: In function f:\na.c:1:2: error: no\n  1 | x\n"), "a.c:1:2: error: no")
+        self.assertEqual(said(b"gcc: what\n"), "gcc: what")
+
+
+class Targets(unittest.TestCase):
+    def macros(self, *sizes):
+        return dict(zip([f"__SIZEOF_{it}__" for it in ["INT", "LONG", "LONG_LONG", "POINTER", "SIZE_T"]], sizes))
+
+    def test_models(self):
+        self.assertEqual(model_in(self.macros("4", "8", "8", "8", "8")), Model.LP64)
+        self.assertEqual(model_in(self.macros("4", "4", "8", "4", "4")), Model.ILP32)
+        self.assertEqual(model_in(self.macros("4", "4", "8", "8", "8")), Model.LLP64)
+        self.assertIsNone(model_in(self.macros("2", "4", "8", "2", "2")))
+        self.assertIsNone(model_in({}))
+
+    def test_commands(self):
+        """The model is that of the compiler with the words of the command, which `sizeof` confirms."""
+        with tempfile.TemporaryDirectory() as work:
+            for name, words in [("a.c", ["gcc"]), ("b.cc", ["gcc"]), ("c.c", ["gcc", "-m32"])]:
+                file = Path(work) / name
+                file.write_text("typedef char sizes[sizeof(long) == 8 && sizeof(void *) == 8 ? 1 : -1];\n")
+                command = CompileCommand(work, os.path.realpath(file), (*words, "-c", name))
+                is_lp64 = subprocess.run([*words, "-fsyntax-only", name], cwd=work, capture_output=True).returncode == 0
+                self.assertEqual(model_in(command.macros()) is Model.LP64, is_lp64, words)
+                if is_lp64:
+                    check_model(command, [Model.LP64])
+                with self.assertRaises(Left):
+                    check_model(command, [Model.ILP32] if is_lp64 else [Model.LP64])
+
+
+class Program(unittest.TestCase):
+    """What the units of a program include."""
+
+    FILES = {
+        "part.c": "void part(void) { }\n",
+        "all.c": '#include "in der.h"\n',
+        "in der.h": '#include "part.c"\n',
+        "alone.c": "int alone;\n",
+        "hidden.c": '#define FILE "part.c"\n#include FILE\n',
+        "generated.c": '#include "not-there-yet.h"\nint x;\n',
+        "broken.c": '#error "no"\n',
+        "registers.c": "int x = register_printf_specifier('i', 0, 0);\n",
+    }
+
+    def units(self, work, names):
+        for name, text in self.FILES.items():
+            (Path(work) / name).write_text(text)
+        commands = [CompileCommand(work, os.path.realpath(f"{work}/{it}"), ("gcc", "-c", it)) for it in names]
+        return units_of(commands, map)
+
+    def why(self, names, name="part.c"):
+        with tempfile.TemporaryDirectory() as work:
+            try:
+                self.units(work, names).check(os.path.realpath(f"{work}/{name}"))
+            except Left as left:
+                return str(left).replace(os.path.relpath(os.path.realpath(work)) + "/", "")
+        return None
+
+    def test_included_by_another(self):
+        self.assertEqual(self.why(["part.c", "all.c"]), "all.c includes it, too")
+        self.assertEqual(self.why(["part.c", "hidden.c"]), "hidden.c includes it, too")
+        self.assertIsNone(self.why(["part.c", "alone.c", "gone.c", "generated.c"]))
+        self.assertIsNone(self.why(["part.c", "all.c"], "alone.c"))
+
+    def test_not_known(self):
+        self.assertIn("broken.c may include it: its compiler can't preprocess it", self.why(["part.c", "broken.c"]))
+
+    def test_registered(self):
+        wanted = "registers.c names register_printf_specifier"
+        self.assertEqual(self.why(["part.c", "registers.c"]), wanted)
+
+    def test_other_languages(self):
+        self.assertIsNone(asked(CompileCommand("/", __file__, ("python3", __file__))))
+        Units([None, Answer("/a.c", {"/b.h"})]).check("/c.c")
+
+    def test_rules(self):
+        rule = "x: a.c in\\ der.h \\\n  b\\#.h \\\n c$$d.h\n"
+        self.assertEqual(names_in_rule(rule), ["a.c", "in der.h", "b#.h", "c$d.h"])
+
+
+if __name__ == "__main__":
+    unittest.main()

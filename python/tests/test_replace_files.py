@@ -1,0 +1,341 @@
+"""Tests of how fmtcanon-replace reads, writes and renames files, and how it ends, without libclang."""
+
+import argparse
+import os
+import signal
+import subprocess
+import sys
+import tempfile
+import threading
+import time
+import unittest
+from pathlib import Path
+
+from fmtcanon.replace import running
+from fmtcanon.replace.files import put_in_place
+from fmtcanon.replace.interrupting import Interrupted, interruptible
+from fmtcanon.replace.left import Left
+from fmtcanon.replace.sources import Files
+from fmtcanon.replace.stand_ins import StandIn, original
+
+# The seconds in which the command ends after a signal.
+SOON = 2
+# A user to whom root gives a file.
+ANOTHER = 1000
+
+
+def state_of(path):
+    found = os.stat(path)
+    return found.st_mode, found.st_uid, found.st_gid, found.st_mtime_ns
+
+
+def runs(process):
+    """Returns whether a process of this number is there, and not only waits to be noticed."""
+    try:
+        return Path(f"/proc/{process}/stat").read_text().rpartition(")")[2].split()[0] != "Z"
+    except FileNotFoundError:
+        return False
+
+
+class InFolder(unittest.TestCase):
+    def setUp(self):
+        folder = tempfile.TemporaryDirectory()
+        self.addCleanup(folder.cleanup)
+        self.work = Path(os.path.realpath(folder.name))
+
+    def put(self, name, text="old\n"):
+        file = self.work / name
+        file.parent.mkdir(exist_ok=True)
+        file.write_text(text)
+        return str(file)
+
+
+class StandIns(InFolder):
+    def test_a_file(self):
+        path = self.put("a.c")
+        os.chmod(path, 0o640)
+        put_in_place(original(path), b"new\n")
+        self.assertEqual((Path(path).read_text(), os.stat(path).st_mode & 0o7777), ("new\n", 0o640))
+        self.assertEqual(os.listdir(self.work), ["a.c"])
+
+    def test_a_link_in_its_place(self):
+        """Somebody who may write to the folder puts a link where the stand-in is: nothing happens to what it names."""
+        target = self.put("target", "precious")
+        os.chmod(target, 0o600)
+        path = self.put("a.c")
+        if os.geteuid() == 0:
+            os.chown(path, ANOTHER, ANOTHER)
+        before = state_of(target)
+        for use in [StandIn.checked, StandIn.rename, lambda it: it.take_rights(original(path)), lambda it: None]:
+            with StandIn(path) as stand_in:
+                os.symlink(target, self.work / "link")
+                os.rename(self.work / "link", stand_in.path)
+                stand_in.write(b"chosen by another")
+                if use in (StandIn.checked, StandIn.rename):
+                    self.assertRaises(Left, use, stand_in)
+                else:
+                    use(stand_in)
+            self.assertEqual((Path(target).read_text(), state_of(target)), ("precious", before))
+            self.assertEqual(Path(path).read_text(), "old\n")
+            self.assertTrue(os.path.islink(stand_in.path), "it isn't removed, since it is another's")
+            os.unlink(stand_in.path)
+
+    def test_another_file_in_its_place(self):
+        path = self.put("a.c")
+        with StandIn(path) as stand_in:
+            stand_in.write(b"new\n")
+            os.rename(self.put("other", "another's"), stand_in.path)
+            self.assertRaises(Left, stand_in.rename)
+        self.assertEqual(Path(path).read_text(), "old\n")
+
+    def test_another_folder_in_place_of_its_own(self):
+        path = self.put("in/a.c")
+        with StandIn(path) as stand_in:
+            stand_in.write(b"new\n")
+            os.rename(self.work / "in", self.work / "moved")
+            self.put("in/a.c", "another's")
+            Path(stand_in.path).write_text("chosen by another")
+            stand_in.rename()
+        self.assertEqual(Path(path).read_text(), "another's")
+        self.assertEqual((self.work / "moved/a.c").read_text(), "new\n")
+
+    def test_endings(self):
+        for name, wanted in [("a.c", ".c"), (".c", ".c"), ("a.b.cpp", ".cpp")]:
+            with StandIn(self.put(name)) as stand_in:
+                self.assertTrue(stand_in.name.endswith(wanted), name)
+
+    def test_a_long_name(self):
+        path = self.put("x" * 250 + ".c")
+        put_in_place(original(path), b"new\n")
+        self.assertEqual(Path(path).read_text(), "new\n")
+
+    def test_a_change_meanwhile(self):
+        path = self.put("a.c")
+        read = original(path)
+        self.put("a.c", "else")
+        self.assertRaises(Left, put_in_place, read, b"new\n")
+        self.assertEqual((Path(path).read_text(), os.listdir(self.work)), ("else", ["a.c"]))
+
+    def test_no_regular_file(self):
+        os.mkfifo(self.work / "fifo.c")
+        os.symlink(self.put("a.c"), self.work / "link.c")
+        for name in ["fifo.c", "link.c"]:
+            self.assertRaises(OSError, original, str(self.work / name))
+
+
+class Names(InFolder):
+    def names(self, *operands):
+        options = argparse.Namespace(database=None, files=[str(self.work / it) for it in operands], flag=[])
+        return [os.path.relpath(it.shown, self.work) for it in Files(options).names()]
+
+    def test_links_out_of_a_folder(self):
+        self.put("outside/a.c")
+        self.put("tree/b.c")
+        os.symlink("../outside/a.c", self.work / "tree/l.c")
+        os.symlink("../outside", self.work / "tree/folder")
+        self.assertEqual(self.names("tree"), ["tree/b.c"])
+        self.assertEqual(self.names("tree/l.c"), ["tree/l.c"])
+
+    def test_each_once(self):
+        self.put("tree/b.c")
+        os.symlink("b.c", self.work / "tree/c.c")
+        self.assertEqual(self.names("tree/b.c", "tree", "tree/b.c"), ["tree/b.c"])
+
+    def test_what_a_killed_run_left(self):
+        for name in ["tree/.fmtcanon-abc.c", "tree/.fmtcanon-abc-a.c", "tree/b.c"]:
+            self.put(name)
+        self.assertEqual(self.names("tree", "tree/.fmtcanon-abc.c"), ["tree/b.c"])
+
+    def test_a_line_break(self):
+        self.put("tree/a\nb.c")
+        self.assertEqual(self.names("tree"), ["tree/a\nb.c"])
+
+
+class Runs(unittest.TestCase):
+    def tearDown(self):
+        running.STOPPING.clear()
+
+    def test_time_limit(self):
+        began = time.monotonic()
+        with tempfile.TemporaryDirectory() as work:
+            with self.assertRaisesRegex(Left, "its compiler took more than 2 seconds"):
+                running.run(["sh", "-c", "sleep 60 & echo $! > child; sleep 60"], work, {}, seconds=2)
+            child = (Path(work) / "child").read_text().strip()
+        self.assertLess(time.monotonic() - began, 30)
+        while runs(child):
+            self.assertLess(time.monotonic() - began, 30, "what the compiler started runs on")
+            time.sleep(0.01)
+
+    def test_stop(self):
+        """All that run end, with what they started, and no other runs."""
+        found = []
+
+        def run():
+            try:
+                running.run(["sh", "-c", "sleep 30; echo"], "/", {})
+            except Left as left:
+                found.append(str(left))
+
+        threads = [threading.Thread(target=run) for _ in range(3)]
+        for thread in threads:
+            thread.start()
+        while len(running.RUNNING) < len(threads):
+            time.sleep(0.01)
+        began = time.monotonic()
+        running.stop()
+        for thread in threads:
+            thread.join()
+        self.assertLess(time.monotonic() - began, SOON)
+        self.assertEqual(found, [running.INTERRUPTED] * 3)
+        self.assertRaises(Left, running.run, ["true"], "/", {})
+        self.assertEqual(running.RUNNING, set())
+
+
+class SignalsOfATest(unittest.TestCase):
+    def test_held(self):
+        done = []
+        with interruptible() as signals:
+            with self.assertRaises(Interrupted) as raised, signals.raised():
+                with signals.held():
+                    os.kill(os.getpid(), signal.SIGTERM)
+                    os.kill(os.getpid(), signal.SIGINT)
+                    done.append("the block")
+                done.append("more")
+            os.kill(os.getpid(), signal.SIGINT)
+        self.assertEqual((done, raised.exception.number), (["the block"], signal.SIGTERM))
+
+    def test_before_and_after(self):
+        """A signal at the edges ends nothing in the middle of a line of code."""
+        with interruptible() as signals:
+            os.kill(os.getpid(), signal.SIGINT)
+            with self.assertRaises(Interrupted), signals.raised():
+                self.fail("the block began")
+        with interruptible() as signals:
+            with signals.raised():
+                pass
+            os.kill(os.getpid(), signal.SIGINT)
+
+
+# A run of the command whose files are judged by what is put into it.
+SCRIPT = """
+import argparse, os, signal, sys, time
+from fmtcanon.findings import Finding
+from fmtcanon.replace import running, writing
+from fmtcanon.replace.replacer import Report
+from fmtcanon.replace.stand_ins import StandIn, original
+
+names, how = sys.argv[2:], sys.argv[1]
+
+class Replacer:
+    def reports(self, _, pool):
+        if "hang" in how:
+            list(pool.map(self.hang, names))
+        found = [Report(it, [Finding(it, 1, 1, "replaced", "note", "replaced")], original(it), b"new\\n") for it in names]
+        if how == "edit":
+            with open(names[0], "a") as file:
+                file.write("more")
+        return found
+
+    def left(self, name, why):
+        return Report(name, [Finding(name, 0, None, "left", "warning", "left: " + why)], is_left=True)
+
+    def hang(self, name):
+        with StandIn(name) as stand_in:
+            print("runs", flush=True)
+            if "parse" in how:
+                # As libclang, it can't be interrupted.
+                time.sleep(30)
+            running.run(["sh", "-c", "sleep 30; exec cc"], "/", {})
+
+def put_in_place(*rest, real=writing.put_in_place):
+    real(*rest)
+    if how == "signal":
+        os.kill(os.getpid(), signal.SIGTERM)
+
+writing.put_in_place = put_in_place
+options = argparse.Namespace(jobs=2, output="text", diff=False, dry_run=False)
+from fmtcanon.command_line import status_of
+sys.exit(status_of("fmtcanon-replace", lambda: writing.replace(options, Replacer(), names)))
+"""
+
+
+class Ends(InFolder):
+    """How a run ends, and that it says what it changed."""
+
+    def setUp(self):
+        super().setUp()
+        self.files = [self.put(it) for it in ["a.c", "b.c", "c.c"]]
+
+    def run_of(self, how, **streams):
+        words = [sys.executable, "-B", "-c", SCRIPT, how, *self.files]
+        return subprocess.Popen(words, stderr=subprocess.PIPE, **streams)
+
+    def texts(self):
+        return [Path(it).read_text() for it in self.files]
+
+    def test_all(self):
+        run = self.run_of("", stdout=subprocess.PIPE)
+        output, errors = run.communicate(timeout=60)
+        self.assertEqual((run.returncode, output.count(b"replaced"), errors), (0, 3, b""))
+        self.assertEqual(self.texts(), ["new\n"] * 3)
+
+    def test_an_edit_meanwhile(self):
+        run = self.run_of("edit", stdout=subprocess.PIPE)
+        output = run.communicate(timeout=60)[0].decode()
+        self.assertEqual((run.returncode, output.count("replaced")), (1, 2))
+        self.assertIn(f"{self.files[0]}: left: it was changed meanwhile\n", output)
+        self.assertEqual(self.texts(), ["old\nmore", "new\n", "new\n"])
+
+    def test_full_output(self):
+        with open("/dev/full", "wb") as full:
+            run = self.run_of("", stdout=full)
+            errors = run.communicate(timeout=60)[1].decode()
+        said = "fmtcanon-replace: standard output: No space left on device; no file was changed\n"
+        self.assertEqual((run.returncode, errors, self.texts()), (2, said, ["old\n"] * 3))
+
+    def test_nobody_reads(self):
+        reading, writing = os.pipe()
+        os.close(reading)
+        run = self.run_of("", stdout=writing)
+        errors = run.communicate(timeout=60)[1]
+        os.close(writing)
+        self.assertEqual((run.returncode, errors, self.texts()), (128 + signal.SIGPIPE, b"", ["old\n"] * 3))
+
+    def test_a_signal_while_compilers_run(self):
+        hows = [("hang", signal.SIGINT), ("hang", signal.SIGHUP), ("hang and parse", signal.SIGTERM)]
+        for how, number in hows:
+            run = self.run_of(how, stdout=subprocess.PIPE)
+            run.stdout.readline()
+            began = time.monotonic()
+            run.send_signal(number)
+            run.send_signal(number)
+            errors = run.communicate(timeout=60)[1].decode()
+            self.assertLess(time.monotonic() - began, SOON)
+            said = "fmtcanon-replace: interrupted; no file was changed\n"
+            self.assertEqual((run.returncode, errors, self.texts()), (128 + number, said, ["old\n"] * 3))
+            self.assertEqual(sorted(os.listdir(self.work)), ["a.c", "b.c", "c.c"])
+
+    def test_a_signal_between_files(self):
+        run = self.run_of("signal", stdout=subprocess.DEVNULL)
+        errors = run.communicate(timeout=60)[1].decode()
+        said = f"fmtcanon-replace: interrupted; changed: {self.files[0]}\n"
+        self.assertEqual((run.returncode, errors), (128 + signal.SIGTERM, said))
+        self.assertEqual((self.texts(), len(os.listdir(self.work))), (["new\n", "old\n", "old\n"], 3))
+
+    def test_a_signal_while_nobody_reads_on(self):
+        """A reader that takes nothing more doesn't keep the command from ending."""
+        self.files = [self.put(f"{number}.c") for number in range(3000)]
+        run = self.run_of("", stdout=subprocess.PIPE)
+        run.stdout.read(1)
+        time.sleep(1)
+        began = time.monotonic()
+        run.send_signal(signal.SIGTERM)
+        self.assertEqual(run.wait(timeout=60), 128 + signal.SIGTERM)
+        self.assertLess(time.monotonic() - began, SOON)
+        self.assertEqual((set(self.texts()), b"no file was changed" in run.stderr.read()), ({"old\n"}, True))
+        run.stdout.close()
+        run.stderr.close()
+
+
+if __name__ == "__main__":
+    unittest.main()
