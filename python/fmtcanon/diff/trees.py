@@ -180,7 +180,7 @@ class Git:
     def entries(self, trees: Sequence[str], paths: Sequence[str], is_cached: bool) -> Iterator[Entry]:
         """Yields what changed between two trees, or between one and the work tree or the index."""
         command = ["diff-index", *(["--cached"] if is_cached else [])] if len(trees) == 1 else ["diff-tree", "-r"]
-        # A limit of 0 is none: each file that was renamed is found.
+        # 0 means no limit: each file that was renamed is found.
         options = ["--raw", "-z", "-M", "-l0", "--no-abbrev", "--ignore-submodules"]
         fields = self.run([*command, *options, *trees, "--", *paths]).split(b"\0")[:-1]
         while fields:
