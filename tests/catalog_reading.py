@@ -76,7 +76,7 @@ def try_comments(folder, work, trials):
             (work / "a.po").write_bytes(text.encode().replace(b"BAD", bad))
             status, report, *_ = checked(folder, ["a.po"], work)
             found = (status, fault_lines(report), "1 message judged" in report)
-            trials.expect(f"{comment % bad} in {charset}: {report}", found, (1, [FIRST + 5], True))
+            trials.expect(f"{comment % bad} in {charset}: {report}", found, (1, [FIRST + 4], True))
 
 
 def try_bytes(folder, work, trials):
@@ -87,7 +87,7 @@ def try_bytes(folder, work, trials):
             (work / "a.po").write_bytes(text.encode().replace(b"BAD", bad))
             status, report, *_ = checked(folder, ["a.po"], work)
             lines = [
-                f"a.po:{FIRST + 5 + line}: '{name}' has a byte that is not of the charset {charset}: 0x{shown} ["
+                f"a.po:{FIRST + 4 + line}: '{name}' has a byte that is not of the charset {charset}: 0x{shown} ["
                 for name, line in names
             ]
             found = [it for it in report.splitlines() if "charset" in it]
@@ -98,7 +98,7 @@ def try_bytes(folder, work, trials):
     text = (header("UTF-8") + WRONG).replace("Plural", 'X-Name: BAD\\n"\n"Plural')
     (work / "a.po").write_bytes(text.encode().replace(b"BAD", b"\xe9"))
     status, report, *_ = checked(folder, ["a.po"], work)
-    trials.expect(f"a byte in the header: {report}", (status, fault_lines(report)), (1, [2, FIRST + 4]))
+    trials.expect(f"a byte in the header: {report}", (status, fault_lines(report)), (1, [2, FIRST + 3]))
     rows = [(b"", header("UTF-8").encode().split(b'"')[5] + b"\n"), (b"%d a", b"\xe9 %d"), (b"%d b", b"%s")]
     (work / "a.mo").write_bytes(binary([(b"", b"Content-Type: text/plain; charset=UTF-8\n"), *rows[1:]], "<"))
     status, report, *_ = checked(folder, ["--c-format", "a.mo"], work)

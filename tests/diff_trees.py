@@ -91,7 +91,7 @@ def try_revisions(tool, trials):
     tool.git("checkout", "-q", "--orphan", "alone")
     tool.git("commit", "-qm", "alone")
     status, _, fault = tool.run("--git", "side...alone")
-    trials.expect(f"no merge base: {fault}", (status, "there is no merge base" in fault), (2, True))
+    trials.expect(f"no merge base: {fault}", (status, "side and alone have no merge base" in fault), (2, True))
     tool.git("clone", "-q", "--bare", ".", "bare")
     for revisions in [["side~1", "side"], ["side~1..side"]]:
         found = tool.run("--git", *revisions, where="bare")

@@ -272,7 +272,7 @@ def try_lines(tool, trials):
         "::error file=new/src/a.c,line=3,col=12,endColumn=25::types differ at argument 1: unsigned long and int, in "
     )
     trials.expect("a command of GitHub", (status, f"\n{wanted}" in output), (1, True))
-    wanted = "::notice file=new/src/a.c,line=5,col=12,endColumn=24::the words differ: "
+    wanted = "::notice file=new/src/a.c,line=5,col=12,endColumn=29::the words differ: "
     trials.expect("a notice of GitHub", f"\n{wanted}" in output, True)
 
 

@@ -396,7 +396,7 @@ def options_of(name):
         capture_output=True,
         encoding="utf-8",
     )
-    return re.findall(r"^  (?:-h, )?(--?[\w-]+(?: [A-Z:]+)?)(?:  +|$)", done.stdout, flags=re.MULTILINE)
+    return re.findall(r"^  (?:-h, )?(--?[\w-]+(?: [A-Z:,.]+)?)(?:  +|$)", done.stdout, flags=re.MULTILINE)
 
 
 def try_command_pages(trials):

@@ -56,8 +56,8 @@ LIMITS = {
     "docs/internals/DECISIONS.md": 2200,
     "docs/internals/PROOF_NOTES.md": 3600,
     "docs/CONTRIBUTING.md": 1000,
-    "SECURITY.md": 120,
-    "CHANGELOG.md": 400,
+    "SECURITY.md": 150,
+    "CHANGELOG.md": 700,
     CALLING: 8500,
 }
 MARGIN = 10

@@ -73,11 +73,11 @@ def read(text, by_tokens):
 
 
 def answer(text, model=Model.LP64):
-    """What the library says of a text of a message: its types, or why it is rejected."""
+    """The types that the library finds in a text of a message, or None if it is rejected."""
     try:
         return Format(text).codes(model)
-    except fmtcanon.Refused as refusal:
-        return refusal.kind
+    except fmtcanon.Refused:
+        return None
 
 
 class Reading(unittest.TestCase):
@@ -103,7 +103,7 @@ class Shapes(unittest.TestCase):
                 wanted = answer(text)
                 self.assertEqual(answer(shape), wanted, text)
                 shaped += 1
-                accepted += isinstance(wanted, bytes) and b"%" in text
+                accepted += wanted is not None and b"%" in text
         self.assertGreater(min(shaped, accepted), TEXTS // 50)
 
     def test_shapes_by_hand(self):

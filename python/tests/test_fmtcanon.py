@@ -88,7 +88,7 @@ class Calls(unittest.TestCase):
 
     def test_printed_of_compared(self):
         """What two formats print for the arguments that tell them apart differs."""
-        for first, second in [("%f%05d", "%f%.5d"), ("x %f %05d", "x %f %.5d"), ("%p%5c", "%p%6c"), ("%d", "%x")]:
+        for first, second in [("%f%05d", "%f%.5d"), ("x %f %05d", "x %f %.5d"), ("%p%5c", "%p%6c"), ("%u", "%x")]:
             arguments = fmtcanon.compare(first, second, whole=True).arguments
             self.assertNotEqual(*(fmtcanon.printed(it, arguments) for it in (first, second)))
 
@@ -104,7 +104,7 @@ class Calls(unittest.TestCase):
             with self.assertRaises(ValueError):
                 fmtcanon.printed(text, arguments)
         for text in ["%y", "%1$d", "a\0"]:
-            self.refused(fmtcanon.printed, text, [None])
+            self.assertRaises(Refused, fmtcanon.printed, text, [None])
         with self.assertRaises(UnicodeDecodeError):
             fmtcanon.printed("%s", [b"\xe9"])
         with self.assertRaises(TypeError):

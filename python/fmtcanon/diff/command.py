@@ -133,9 +133,8 @@ def summary(counts: Dict[str, int]) -> str:
     return f"{changed} {word} changed: {judged}; {counts['came']} literals came, {counts['went']} went"
 
 
-def run(changes: Iterable[Report], printer: Printer, is_verbose: bool) -> int:
-    """Prints the reports, and returns the exit status."""
-    counts: Dict[str, int] = collections.Counter()
+def run(changes: Iterable[Report], printer: Printer, counts: Dict[str, int], is_verbose: bool) -> int:
+    """Prints the reports, counts what they have, and returns the exit status."""
     status = 0
     for report in changes:
         for finding in report.findings:
@@ -149,8 +148,6 @@ def run(changes: Iterable[Report], printer: Printer, is_verbose: bool) -> int:
         if report.error:
             complain(f"{NAME}: {visible(report.error)}")
             status = USAGE
-    if sum(counts.values()):
-        complain(summary(counts))
     return status
 
 
@@ -171,12 +168,15 @@ def main(words: Optional[Sequence[str]] = None) -> int:
 def diff(options: Any, paths: Sequence[str]) -> int:
     """Compares what the operands name, and returns the exit status."""
     printer = Printer(NAME, options.output, RULES)
+    counts: Dict[str, int] = collections.Counter()
     try:
         work = functools.partial(report_on, models=MODELS[options.model], fail_on=options.fail_on)
         found = in_order(work, changes_for(options, paths), options.jobs)
-        status = run(found, printer, options.verbose)
+        status = run(found, printer, counts, options.verbose)
     except Unreadable as error:
         complain(f"{NAME}: {visible(str(error))}")
         status = USAGE
     printer.end()
+    if sum(counts.values()):
+        complain(summary(counts))
     return status

@@ -164,17 +164,20 @@ class Git:
             why = "the repository has no commits" if revision == "HEAD" else f"there is no revision {revision}"
             raise Unreadable(f"git: {why}") from error
 
+    def merge_base(self, first: str, second: str) -> str:
+        commits = [self.object(it, "commit") for it in (first, second)]
+        try:
+            return self.run(["merge-base", *commits]).decode().strip()
+        except Unreadable as error:
+            raise Unreadable(f"git: {first} and {second} have no merge base") from error
+
     def trees(self, revisions: Sequence[str]) -> List[str]:
         """Returns the trees of one or two revisions, also of `A..B`, and of `A...B`, which begins at their merge base."""
         if len(revisions) == 1 and ".." in revisions[0]:
             dots = "..." if "..." in revisions[0] else ".."
             revisions = [it or "HEAD" for it in revisions[0].split(dots, 1)]
             if dots == "...":
-                try:
-                    base = self.run(["merge-base", *(self.object(it, "commit") for it in revisions)])
-                except Unreadable as error:
-                    raise Unreadable(f"{error}, so there is no merge base") from error
-                revisions = [base.decode().strip(), revisions[1]]
+                revisions = [self.merge_base(*revisions), revisions[1]]
         return [self.object(it, "tree") for it in revisions]
 
     def entries(self, trees: Sequence[str], paths: Sequence[str], is_cached: bool) -> Iterator[Entry]:

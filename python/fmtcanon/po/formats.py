@@ -31,10 +31,7 @@ KINDS = {
 }
 NUMBER, CHARACTER, SHORT, SIGNED_CHAR, WIDTH, UNSIGNED_SHORT, UNSIGNED_CHAR = KINDS
 # A specification that ends as one does, or a percent sign with anything else.
-ITEM = re.compile(
-    rb"%(?:[1-9][0-9]*\$)?[-+ #0']*(?:\*(?:[1-9][0-9]*\$)?|[1-9][0-9]*)?(?:\.(?:\*(?:[1-9][0-9]*\$)?|[0-9]*))?"
-    rb"(?:hh?|ll?|[jztL])?(?:[A-Za-z%]|" + MACRO + rb")|%"
-)
+ITEM = re.compile(re.sub(rb"\(\?P<\w+>", b"(?:", SPECIFICATION.pattern[:-1]) + b"|%")
 # What of a specification has another type in another data model (C11 7.21.6.1p7).
 DEPENDENT = re.compile(rb"[jzt]")
 # The shape of a longer text isn't looked for.

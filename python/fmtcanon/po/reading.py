@@ -14,7 +14,7 @@ MACHINE_REVISION, MACHINE_STRINGS = 1, 36
 # Flags are separated by commas and white space. A range is one flag.
 FLAG = re.compile(r"range:[\s,]+[^\s,]*|[^\s,]+")
 SAID = {"c-format": True, "possible-c-format": True, "no-c-format": False, "impossible-c-format": False}
-OTHER_FORMAT = re.compile(r"(?!no-|impossible-|(?:possible-)?c-)[a-z0-9-]+-format")
+OTHER_FORMAT = re.compile(r"(?!no-|impossible-|(?:possible-)?c-)[a-z0-9+-]+-format")
 FORM_DIGITS = 6
 
 
