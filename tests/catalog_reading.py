@@ -4,6 +4,8 @@ it counts.
 `tests/python_commands.py` runs it.
 """
 
+import os
+import resource
 import subprocess
 import sys
 import tempfile
@@ -60,8 +62,9 @@ EMPTY = [
     (["%d", "%d"], ""),
 ]
 COUNT = 20
-# The seconds that each of the files below may take on a busy machine.
+# The seconds that each of the files below may take on a busy machine, and how many times what msgfmt takes.
 SECONDS = 4
+TIMES = 5
 
 
 def header(charset):
@@ -201,6 +204,29 @@ def try_outputs(folder, work, trials):
             said = done.stderr.decode().splitlines()
             right = len(said) == 1 and said[0].startswith("fmtcanon-po: standard output")
             trials.expect(f"{form} {redirection}: {said}", (done.returncode, right), (2, True))
+    # As text, what is found goes to standard error.
+    for redirection in ["2>&-", "2> /dev/full"]:
+        words = ["sh", "-c", f'exec "$@" {redirection}', "sh", sys.executable, "-m", "fmtcanon.po", "a.po"]
+        done = subprocess.run(words, cwd=work, env=environment, check=False, timeout=TIMEOUT)
+        trials.expect(f"text {redirection}", done.returncode, 2)
+
+
+def try_speed(folder, trials):
+    """Many messages take at most some times the time of msgfmt."""
+    texts = ["%d files", "%s: %lu of %zu bytes", "100%% of %s", "no format", "%-5.*f|%c"]
+    messages = [
+        message("#, c-format", f"{text} {number}", f"{number} {text}") for number in range(8_000) for text in texts
+    ]
+    with tempfile.TemporaryDirectory() as work:
+        (Path(work) / "a.po").write_text(catalog(messages)[0])
+        status, report, seconds, _ = checked(folder, ["a.po"], work)
+        trials.expect("many messages", (status, f"{len(messages)} messages judged" in report), (0, True))
+        before = resource.getrusage(resource.RUSAGE_CHILDREN)
+        subprocess.run(["msgfmt", "-c", "-o", os.devnull, "a.po"], cwd=work, check=True, stderr=subprocess.DEVNULL)
+        after = resource.getrusage(resource.RUSAGE_CHILDREN)
+        theirs = after.ru_utime + after.ru_stime - before.ru_utime - before.ru_stime
+        print(f"{len(messages)} messages: fmtcanon-po {seconds:.2f} s, msgfmt -c {theirs:.2f} s")
+        trials.expect(f"{seconds:.2f} seconds, and {TIMES} times {theirs:.2f}", seconds <= TIMES * theirs, True)
 
 
 def try_reading(folder, trials):

@@ -45,7 +45,7 @@ LIMITS = {
     "docs/CHEATSHEET.md": 400,
     "docs/USING.md": 2000,
     "docs/TRANSLATIONS.md": 1100,
-    "docs/REFACTORING.md": 1250,
+    "docs/REFACTORING.md": 1400,
     "docs/REFUSALS.md": 1500,
     "docs/C.md": 960,
     "docs/PYTHON.md": 900,
@@ -57,7 +57,7 @@ LIMITS = {
     "docs/internals/PROOF_NOTES.md": 3600,
     "docs/CONTRIBUTING.md": 1000,
     "SECURITY.md": 150,
-    "CHANGELOG.md": 700,
+    "CHANGELOG.md": 750,
     CALLING: 8500,
 }
 MARGIN = 10

@@ -238,6 +238,7 @@ class Judged(unittest.TestCase):
             (b'sscanf(a, "%d")', b'sscanf(a, "%i")', False),
             (b'fscanf(f, "%s")', b'fscanf(f, "%d")', False),
             (b'std::strftime(a, 9, "%d", t)', b'std::strftime(a, 9, "%i", t)', False),
+            (b'wscanf(L"%d")', b'wscanf(L"%i")', False),
             (b'my_scanf("%d")', b'my_scanf("%i")', True),
             (b'__asm__ volatile ("%0" : )', b'__asm__ volatile ("%1" : )', False),
             (b"f(PRIu64)", b"f(PRId64)", False),

@@ -56,6 +56,7 @@ KEYWORDS = frozenset(
 NOT_FORMATS = frozenset(
     b"puts fputs puts_unlocked fputs_unlocked _Pragma".split()
     + b"scanf fscanf sscanf vscanf vfscanf vsscanf scanf_s fscanf_s sscanf_s vscanf_s vfscanf_s vsscanf_s".split()
+    + b"wscanf fwscanf swscanf vwscanf vfwscanf vswscanf".split()
     + b"strftime strftime_l wcsftime strptime strptime_l strfmon strfmon_l put_time get_time".split()
     + b"asm __asm __asm__ volatile __volatile __volatile__ goto inline".split()
 )

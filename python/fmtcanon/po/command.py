@@ -81,11 +81,11 @@ class Checked(NamedTuple):
     others: Dict[str, int]
 
 
-# A catalog: its name, and its bytes or why they can't be read, if the name alone doesn't tell.
-Catalog = Tuple[str, Union[bytes, str, None]]
+# The name of a catalog. Of standard input also its bytes, or why they can't be read.
+Given = Tuple[str, Union[bytes, str, None]]
 
 
-def catalogs(files: Sequence[str]) -> Iterator[Catalog]:
+def catalogs(files: Sequence[str]) -> Iterator[Given]:
     """Yields the catalogs. Standard input is read here, since other processes don't have it."""
     for file in files:
         yield file, standard_input() if file == "-" else None
@@ -109,7 +109,7 @@ def read_file(file: str) -> Union[bytes, str]:
         return str(error.strerror)
 
 
-def check_catalog(catalog: Catalog, models: Sequence[Model], is_all: bool) -> Checked:
+def check_catalog(catalog: Given, models: Sequence[Model], is_all: bool) -> Checked:
     file, given = catalog
     findings: List[Finding] = []
     checker = Checker(findings.append, models, is_all, remembered(tuple(models)))
