@@ -1,9 +1,10 @@
 """Tries fmtcanon-diff on what git and folders have: what is staged, renamed, hidden or ignored; on names that can't be
-seen; and on an output that can't be written.
+seen; on an output that can't be written; and its exit statuses.
 
 `tests/python_commands.py` runs it.
 """
 
+import json
 import os
 import shutil
 import subprocess
@@ -14,6 +15,31 @@ from harness import TIMEOUT
 
 OLD, RIGHT, WRONG = (f'printf("{it}\\n", n);\n' for it in ["%05d", "%0005d", "%s"])
 TYPES = '{}:1:8: types differ at argument 0: int and string, in "%05d\\n" and "%s\\n"\n'
+# The old and the new argument of a call, the options, and the exit status.
+STATUSES = [
+    ("%05d", "%.5d", [], 1),
+    ("%05d", "%.5d", ["--fail-on", "types"], 0),
+    ("%05d", "%.5d", ["--fail-on=types,different"], 1),
+    ("%05d", "%.5d", ["--fail-on", ""], 0),
+    ("%d files", "%d file names", [], 0),
+    ("%d files", "%d file names", ["--fail-on", "words"], 1),
+    ("%d", "%s", [], 1),
+    ("%d", "%s", ["--fail-on", "words,directives,different,rejected,unjudged,same"], 0),
+    ("%f", "%e", [], 1),
+    ("%f", "%e", ["--fail-on", "directives"], 1),
+    ("%f", "%e", ["--fail-on", "types,different,rejected"], 0),
+    ("%d", "%y", [], 1),
+    ("%d", "%y", ["--fail-on", "rejected"], 1),
+    ("%d", "%y", ["--fail-on", "unjudged,types"], 0),
+    ("%y", "%d", [], 0),
+    ("%y", "%d", ["--fail-on", "unjudged"], 1),
+    ("%d", "%i", [], 0),
+    ("%d", "%i", ["--fail-on", "same"], 1),
+    # The words differ, and in two data models the types.
+    ("%ld items", "%td pieces", [], 1),
+    ("%ld items", "%td pieces", ["--model", "lp64"], 0),
+    ("%ld items", "%td pieces", ["--fail-on", "different"], 0),
+]
 # A file that git finds again under another name, though its format changed.
 BODY = "".join(f"int name_{number};\n" for number in range(20))
 # How many files are renamed, and how many git would look at by its configuration.
@@ -180,6 +206,19 @@ def try_names(tool, trials):
     trials.expect("a name with escapes", (status, output), (2, TYPES.format(r"new/a\x1b[31m\x9b.c")))
 
 
+def try_statuses(tool, trials):
+    """The kinds of findings for which the status is 1, whose level is error."""
+    for old, new, words, wanted in STATUSES:
+        tool.put("old.c", f'printf("{old}", x);')
+        tool.put("new.c", f'printf("{new}", x);')
+        status, output, _ = tool.run("--output", "json", *words, "old.c", "new.c")
+        levels = [json.loads(line)["level"] == "error" for line in output.splitlines()]
+        trials.expect(
+            f"the status of {old} and {new} with {words}", (status, levels), (wanted, [bool(wanted)] * len(levels))
+        )
+        trials.expect(f"lines of {old} and {new} with {words}", len(levels), int(wanted or (old, new) != ("%d", "%i")))
+
+
 def try_outputs(tool, trials):
     """Output that can't be written is said in one line, with the status 2."""
     tool.put("a.c", OLD)
@@ -214,6 +253,6 @@ def try_trees(program, folder, trials):
     if not shutil.which("git"):
         print(f"not run, since there is no git here: {', '.join(it.__name__ for it in with_git)}")
         with_git = []
-    for part in [try_left_out, try_names, try_outputs, *with_git]:
+    for part in [try_statuses, try_left_out, try_names, try_outputs, *with_git]:
         with tempfile.TemporaryDirectory() as work:
             part(Tool(program, folder, os.path.realpath(work)), trials)

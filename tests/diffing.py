@@ -80,31 +80,6 @@ WHOLE = [
 ]
 WHOLE_SUMMARY = "5 places changed: 1 same, 0 with other words, 1 different, 0 with other types, 3 with other directives, 0 rejected now, 0 not judged; 0 literals came, 0 went\n"
 UNSIGNED = 'types differ at argument 0: int and unsigned int, in "%d" and "%u"'
-# The old and the new argument of a call, the options, and the exit status.
-STATUSES = [
-    ("%05d", "%.5d", [], 1),
-    ("%05d", "%.5d", ["--fail-on", "types"], 0),
-    ("%05d", "%.5d", ["--fail-on=types,different"], 1),
-    ("%05d", "%.5d", ["--fail-on", ""], 0),
-    ("%d files", "%d file names", [], 0),
-    ("%d files", "%d file names", ["--fail-on", "words"], 1),
-    ("%d", "%s", [], 1),
-    ("%d", "%s", ["--fail-on", "words,directives,different,rejected,unjudged,same"], 0),
-    ("%f", "%e", [], 1),
-    ("%f", "%e", ["--fail-on", "directives"], 1),
-    ("%f", "%e", ["--fail-on", "types,different,rejected"], 0),
-    ("%d", "%y", [], 1),
-    ("%d", "%y", ["--fail-on", "rejected"], 1),
-    ("%d", "%y", ["--fail-on", "unjudged,types"], 0),
-    ("%y", "%d", [], 0),
-    ("%y", "%d", ["--fail-on", "unjudged"], 1),
-    ("%d", "%i", [], 0),
-    ("%d", "%i", ["--fail-on", "same"], 1),
-    # The words differ, and in two data models the types.
-    ("%ld items", "%td pieces", [], 1),
-    ("%ld items", "%td pieces", ["--model", "lp64"], 0),
-    ("%ld items", "%td pieces", ["--fail-on", "different"], 0),
-]
 USAGE = [
     ([], "give OLD and NEW, or --git"),
     (["a.c"], "give OLD and NEW, or --git"),
@@ -274,19 +249,6 @@ def try_lines(tool, trials):
     trials.expect("a command of GitHub", (status, f"\n{wanted}" in output), (1, True))
     wanted = "::notice file=new/src/a.c,line=5,col=12,endColumn=29::the words differ: "
     trials.expect("a notice of GitHub", f"\n{wanted}" in output, True)
-
-
-def try_statuses(tool, trials):
-    """The kinds of findings for which the status is 1, whose level is error."""
-    for old, new, words, wanted in STATUSES:
-        tool.put("old.c", f'printf("{old}", x);')
-        tool.put("new.c", f'printf("{new}", x);')
-        status, output, _ = tool.run("--output", "json", *words, "old.c", "new.c")
-        levels = [json.loads(line)["level"] == "error" for line in output.splitlines()]
-        trials.expect(
-            f"the status of {old} and {new} with {words}", (status, levels), (wanted, [bool(wanted)] * len(levels))
-        )
-        trials.expect(f"lines of {old} and {new} with {words}", len(levels), int(wanted or (old, new) != ("%d", "%i")))
 
 
 def try_whole(tool, trials):
@@ -516,7 +478,7 @@ def try_diffing(program, folder, trials):
     if not shutil.which("git"):
         print(f"not run, since there is no git here: {', '.join(it.__name__ for it in with_git)}")
         with_git = []
-    for part in [try_changes, try_lines, try_statuses, try_whole, *with_git, try_faults, try_document]:
+    for part in [try_changes, try_lines, try_whole, *with_git, try_faults, try_document]:
         with tempfile.TemporaryDirectory() as work:
             part(Tool(program, folder, os.path.realpath(work)), trials)
 
@@ -560,6 +522,8 @@ def try_pairs(program, folder, argument_of, trials):
         found = [json.loads(line) for line in output.splitlines()]
         for number, (first, second, _, wanted) in enumerate(pairs):
             kinds = [one["kind"] for one in found if one["file"] == f"new/{number:03}.c"]
+            # Of some pairs only the words differ.
+            kinds = ["different" if it == "words" else it for it in kinds]
             trials.expect(f"fmtcanon-diff of {first!r} and {second!r}", kinds, [] if first == second else wanted)
         library, given, count = Library(), [], 0
         for first, second, kinds in unlike:
