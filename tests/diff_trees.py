@@ -45,7 +45,7 @@ BODY = "".join(f"int name_{number};\n" for number in range(20))
 # How many files are renamed, and how many git would look at by its configuration.
 RENAMED, LIMIT = 4, 1
 # A program that git runs by its configuration, and the file that it leaves.
-WATCHER = '#!/bin/sh\necho run > "{}"\n'
+WATCHER = '#!/bin/sh\necho run > "{}"\nprintf "token\\0"\n'
 FORGED = "\n::stop-commands::abc\n.c"
 
 
