@@ -4,6 +4,7 @@ above.
 
 import itertools
 import random
+import time
 import unittest
 from unittest import mock
 
@@ -37,6 +38,19 @@ MSGSTRS = [
     'msgid_plural "g"\nmsgstr[0] "h"\n# a\nmsgstr[01] ""\n',
 ]
 FAULTY = ['msgid_plural "g"\nmsgstr[0] "h"\nmsgstr[0] ""\n', 'msgstr "\\q"\n', "msgstr", '"n"', "x", "\u00e9"]
+# What comes first in a long text, and what it repeats.
+FRONTS = [
+    "",
+    'msgid "',
+    'msgid "x"\nmsgstr "',
+    "msgid ",
+    'msgid "a" msgid_plural "b" msgstr[0] ',
+    'msgid "a" msgstr "b" ',
+]
+UNITS = [
+    *['"a"', '"a" ', '"a"\n', '"\\n" ', '"\\\\" ', "#a\n", "# ", " ", "\n", "\\n", "#,", "#, fuzzy\n", '# "\n"x"\n'],
+    *['msgid "a" ', 'msgctxt "a" ', 'msgid "a" msgstr "b" ', 'msgid "a"\n#\nmsgstr "\\1"\n#c\n', 'msgstr[0] "a"\n'],
+]
 TEXTS, CATALOGS = 20_000, 10_000
 
 
@@ -90,6 +104,13 @@ class Reading(unittest.TestCase):
             self.assertEqual(found, read(text, True), text)
             entries += isinstance(found, list) and len(found)
         self.assertGreater(entries, CATALOGS)
+
+    def test_time(self):
+        """Texts that a pattern could match in many ways take linear time."""
+        began = time.process_time()
+        for front, unit in itertools.product(FRONTS, UNITS):
+            read((front + unit * (30_000 // len(unit))).encode(), False)
+        self.assertLess(time.process_time() - began, 30)
 
 
 class Shapes(unittest.TestCase):

@@ -85,7 +85,7 @@ class PoReader:
 
     def __init__(self, charset: Optional[Charset]) -> None:
         self.charset = charset
-        self.messages: List[Message] = []
+        self.scanner = Scanner(b"")
         self.flags: List[str] = []
         self.is_fuzzy = False
         # The last keyword, with its form and the text of the strings after it, if there are any.
@@ -100,26 +100,25 @@ class PoReader:
     def read(self, text: bytes) -> Iterator[Message]:
         """Yields each message as soon as the next one begins."""
         self.scanner = Scanner(text)
-        token: Optional[Token] = None
         while True:
             message = self.entry()
             if message is not None:
                 yield message
                 continue
-            while not self.is_complete(token):
-                token = self.scanner.token()
-                if token is None:
-                    break
+            token = self.scanner.token()
+            while token is not None:
                 yield from self.take(token)
+                if self.is_complete(token):
+                    break
+                token = self.scanner.token()
             self.finish_keyword()
             yield from self.finish_message()
             if token is None:
                 return
-            token = None
 
-    def is_complete(self, token: Optional[Token]) -> bool:
+    def is_complete(self, token: Token) -> bool:
         """Returns whether the message ends with its last token."""
-        if token is None or token.kind != "string" or self.keyword != b"msgstr":
+        if token.kind != "string" or self.keyword != b"msgstr":
             return False
         return BOUNDARY.match(self.scanner.text, self.scanner.at) is not None
 
