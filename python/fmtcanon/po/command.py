@@ -10,7 +10,7 @@ from typing import Any, Dict, Iterator, List, NamedTuple, Optional, Sequence, Tu
 from ..command_line import MODELS, Parser, status_of
 from ..findings import WARNING, Finding, Printer
 from ..models import Model
-from ..output import complain
+from ..output import Unwritable, complain
 from ..processes import in_order
 from ..visible import visible
 from .checking import RULES, Checker, Right
@@ -141,6 +141,8 @@ def counted(count: int, word: str) -> str:
 
 def check(options: Any, files: Sequence[str]) -> int:
     """Checks the catalogs, and returns the exit status."""
+    if options.output == "text" and sys.stderr is None:
+        raise Unwritable("standard error is closed")
     printer = Printer(NAME, options.output, RULES, sys.stderr if options.output == "text" else None, as_msgfmt)
     work = functools.partial(check_catalog, models=MODELS[options.model], is_all=options.c_format)
     judged = unjudged = faults = 0
