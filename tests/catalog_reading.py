@@ -114,7 +114,7 @@ def try_long(folder, work, trials):
     ranged = "".join(
         f'#, c-format, range: 2000..3000\nmsgid "%d {at}"\nmsgid_plural "%d {at}s"\n'
         + "".join(f'msgstr[{form}] "%d"\n' for form in range(6))
-        for at in range(40)
+        for at in range(200)
     )
     lines = "".join(f'#, c-format\nmsgid "%d {at}"\nmsgstr "%s {at}"\n' for at in range(3)).replace("\n#", "\n\n#")
     runs = [
