@@ -12,8 +12,8 @@ _fmtcanon_commands() {
     local word=${COMP_WORDS[COMP_CWORD]} before=${COMP_WORDS[COMP_CWORD - 1]} options='-h --help --version --model --output' at
     COMPREPLY=()
     case ${1##*/} in
-        fmtcanon-diff) options+=' --git --verbose --jobs' ;;
-        fmtcanon-po) options+=' --c-format --strict' ;;
+        fmtcanon-diff) options+=' --git --cached --exclude --verbose --fail-on --jobs' ;;
+        fmtcanon-po) options+=' --c-format --strict --jobs' ;;
         fmtcanon-replace)
             options+=' -p --flag --attribute --function --posix-locale --dry-run --diff --pairs --list --list-functions --jobs'
             ;;

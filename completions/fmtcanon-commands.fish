@@ -6,10 +6,13 @@ for command in fmtcanon-diff fmtcanon-po fmtcanon-replace
     complete -c $command -l model -x -a 'lp64 ilp32 llp64 both all' -d 'the data models'
     complete -c $command -l output -x -a 'text json sarif github' -d 'how findings are printed'
 end
-for command in fmtcanon-diff fmtcanon-replace
+for command in fmtcanon-diff fmtcanon-po fmtcanon-replace
     complete -c $command -l jobs -x -d 'how many files are read at a time'
 end
 complete -c fmtcanon-diff -l git -d 'compare what git has'
+complete -c fmtcanon-diff -l cached -d 'with --git, compare what is staged with a revision or HEAD'
+complete -c fmtcanon-diff -l exclude -x -d 'leave out files and folders whose name or path matches'
+complete -c fmtcanon-diff -l fail-on -x -a 'types different directives rejected words unjudged same' -d 'the kinds of findings for which the status is 1'
 complete -c fmtcanon-diff -l verbose -d 'report also what is the same'
 complete -c fmtcanon-po -l c-format -d 'check every message that has a %, except those with the flag no-c-format'
 complete -c fmtcanon-po -l strict -d 'exit with status 1 also if something could not be judged'

@@ -68,7 +68,7 @@ install: places built
 	install -m 644 LICENSE README.md CHANGELOG.md SECURITY.md $(DESTDIR)$(DOCDIR)
 	install -m 644 docs/*.md $(DESTDIR)$(DOCDIR)/docs
 	install -m 644 docs/internals/*.md $(DESTDIR)$(DOCDIR)/docs/internals
-	install -m 644 examples/canon.c $(DESTDIR)$(DOCDIR)/examples
+	install -m 644 examples/*.c $(DESTDIR)$(DOCDIR)/examples
 	install -m 644 examples/ci/* $(DESTDIR)$(DOCDIR)/examples/ci
 
 # Removes the files that an installation would make, and then the folders that it made, if they are empty. An

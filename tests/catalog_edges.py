@@ -350,8 +350,12 @@ def try_charsets(folder, work, trials):
         status, report, *_ = checked(folder, ["a.po"], work)
         trials.expect(
             f"bytes that are not UTF-8: {bad!r}",
-            (status, report.startswith("a.po:8: it can't be read: 'utf"), "Traceback" in report),
-            (1, True, False),
+            (
+                status,
+                report.startswith("a.po:8: 'msgstr' has a byte that is not of the charset UTF-8: 0x"),
+                fault_lines(report),
+            ),
+            (1, True, [8]),
         )
     file.write_bytes(
         (HEADER % ("ISO-8859-1", "n != 1")).encode()

@@ -25,7 +25,7 @@ static ptrdiff_t gap = 2;
 """
 
 SAME, DIFFERENT, WORDS, TYPES, UNJUDGED = ["same"], ["different"], ["words"], ["types"], ["unjudged"]
-DIRECTIVES = ["directives"]
+DIRECTIVES, REJECTED = ["directives"], ["rejected"]
 CHANGES = [
     # Respelled.
     ("%i for %d", 'printf("%i\\n", n);', 'printf("%d\\n", n);', SAME),
@@ -181,8 +181,50 @@ CHANGES = [
     ("other words", 'printf("%d files\\n", count);', 'printf("%d file names\\n", count);', WORDS),
     ("%% that went", 'printf("%d%%\\n", count);', 'printf("%d\\n", count);', WORDS),
     ("% for %%", 'printf("%d%% of\\n", count);', 'printf("%d% of\\n", count);', TYPES),
-    ("% for %% at the end", 'printf("%d%%", count);', 'printf("%d%", count);', UNJUDGED),
+    ("% for %% at the end", 'printf("%d%%", count);', 'printf("%d%", count);', REJECTED),
     ("a word without a specification", 'printf("files\\n");', 'printf("names\\n");', []),
+    # A format that becomes none.
+    ("a conversion that there isn't", 'printf("%d\\n", n);', 'printf("%y\\n", n);', REJECTED),
+    ("one percent sign for two", 'log_it("100%%\\n");', 'log_it("100%\\n");', REJECTED),
+    ("a percent sign that came, in printf", 'printf("half\\n");', 'printf("50%\\n");', REJECTED),
+    ("a percent sign that came, in a text", 'label("half");', 'label("50%");', UNJUDGED),
+    ("a format that isn't one any longer, in one that never was", 'printf("%y");', 'printf("%w");', UNJUDGED),
+    # Functions whose formats have another meaning.
+    ("%i for %d in sscanf", 'sscanf("010", "%d", &n);', 'sscanf("010", "%i", &n);', []),
+    ("%s for %d in scanf", 'scanf("%d", &n);', 'scanf("%s", text);', []),
+    ("%i for %d in strftime", 'strftime(text, 9, "%d", now);', 'strftime(text, 9, "%i", now);', []),
+    # Formats that change places.
+    (
+        "formats swapped between two functions of a line",
+        b'void f(int v) { printf("%d", v); }\nvoid g(long v) { printf("%ld", v); }\n',
+        b'void f(int v) { printf("%ld", v); }\nvoid g(long v) { printf("%d", v); }\n',
+        TYPES * 2,
+    ),
+    (
+        "formats swapped between two functions",
+        b'void f(int v)\n{\n  printf("%d", v);\n}\n\nvoid g(long v)\n{\n  printf("%ld", v);\n}\n',
+        b'void f(int v)\n{\n  printf("%ld", v);\n}\n\nvoid g(long v)\n{\n  printf("%d", v);\n}\n',
+        TYPES * 2,
+    ),
+    (
+        "formats swapped, and a line that came",
+        b'void f(int v) { printf("%d", v); }\nvoid g(long v) { printf("%ld", v); }\n',
+        b'void f(int v) { printf("%ld", v); }\nint more;\nvoid g(long v) { printf("%d", v); }\n',
+        TYPES * 2,
+    ),
+    (
+        "two functions that change places",
+        b'void f(int v)\n{\n  printf("%d", v);\n}\n\nvoid g(long v)\n{\n  printf("%ld", v);\n}\n',
+        b'void g(long v)\n{\n  printf("%ld", v);\n}\n\nvoid f(int v)\n{\n  printf("%d", v);\n}\n',
+        [],
+    ),
+    # More digits than Python makes a number of.
+    (
+        "a width of many digits",
+        'printf("%0' + "0" * 4301 + 'd\\n", n);',
+        'printf("%0' + "0" * 4301 + '5d\\n", n);',
+        DIFFERENT,
+    ),
     # Files of other kinds.
     ("a raw string", 'printf(R"(%d\n)", n);', 'printf(R"(%4d\n)", n);', DIFFERENT),
     ("a wide string", 'wprintf(L"%d", n);', 'wprintf(L"%u", n);', UNJUDGED),

@@ -55,13 +55,13 @@ void f(long n, int x) {
 """
 LINES = """\
 FILE:2:12: different: "%05d\\n" and "%.5d\\n" print "-0001\\n" and "-00001\\n" for -1
-FILE:3:12: types differ at argument 1: unsigned long and int
+FILE:3:12: types differ at argument 1: unsigned long and int, in "%s has %lu\\n" and "%s has %d\\n"
 FILE:4:12: same in lp64 only: "%td\\n" and "%ld\\n"
 FILE:5:12: the words differ: "%d files\\n" and "%d file names\\n"
 FILE:6:12: same: "%d %d\\n" and "%i %d\\n"
-FILE:8:12: not judged: refused 3 Unexpected at byte 3 of "%d%!\\n"
+FILE:8:12: rejected now: refused 3 Unexpected at byte 3 of "%d%!\\n"
 """
-SUMMARY = "6 places changed: 1 same, 2 different, 2 with other types, 0 with other directives, 1 not judged; 2 literals came, 1 went\n"
+SUMMARY = "6 places changed: 1 same, 1 with other words, 1 different, 2 with other types, 0 with other directives, 1 rejected now, 0 not judged; 2 literals came, 1 went\n"
 # The same of the whole language: the old and the new part of each line, and what is said of it.
 WHOLE = [
     ('printf("%d: %f\\n", n, d);', 'printf("%d: %e\\n", n, d);', 'directives differ at argument 1: "%f" and "%e"'),
@@ -78,7 +78,8 @@ WHOLE = [
     ('printf("%i %.6f\\n", n, d);', 'printf("%d %f\\n", n, d);', 'same: "%i %.6f\\n" and "%d %f\\n"'),
     ('printf("%*d\\n", 5, n);', 'printf("%d%d\\n", 5, n);', 'directives differ at argument 0: "%*d" and "%d"'),
 ]
-WHOLE_SUMMARY = "5 places changed: 1 same, 1 different, 0 with other types, 3 with other directives, 0 not judged; 0 literals came, 0 went\n"
+WHOLE_SUMMARY = "5 places changed: 1 same, 0 with other words, 1 different, 0 with other types, 3 with other directives, 0 rejected now, 0 not judged; 0 literals came, 0 went\n"
+UNSIGNED = 'types differ at argument 0: int and unsigned int, in "%d" and "%u"'
 USAGE = [
     ([], "give OLD and NEW, or --git"),
     (["a.c"], "give OLD and NEW, or --git"),
@@ -88,6 +89,7 @@ USAGE = [
     (["--output=xml", "a.c", "b.c"], "argument --output: invalid choice: 'xml'"),
     (["--what", "a.c", "b.c"], "--what"),
     (["--jobs", "many", "a.c", "b.c"], "argument --jobs: invalid int value: 'many'"),
+    (["--fail-on", "types,word", "a.c", "b.c"], "argument --fail-on: 'word' is not a kind: use same, words, "),
 ]
 # The seconds that a tree of a million lines with a thousand changed files, and a line of ten million bytes, may take.
 TREE_SECONDS, LINE_SECONDS = 60, 10
@@ -176,7 +178,7 @@ def try_changes(tool, trials):
         [],
     )
     for number, (name, old, new, wanted) in enumerate(changes.CHANGES):
-        kinds = ["words" if one.get("words") else one["kind"] for one in found if one["file"] == f"new/{number:02}.c"]
+        kinds = [one["kind"] for one in found if one["file"] == f"new/{number:02}.c"]
         trials.expect(f"{name}: {old!r} and {new!r}", kinds, wanted)
         if wanted in (changes.DIFFERENT, changes.WORDS) and isinstance(old, str):
             outputs = [printed(tool.work, program_of(one)) for one in (old, new)]
@@ -217,9 +219,14 @@ def try_lines(tool, trials):
     trials.expect("what is the same", tool.run("c.c", "d.c")[:2], (0, ""))
     tool.put("d.c", 'printf("%d %y\\n", x);')
     trials.expect(
-        "what isn't judged",
+        "what is rejected now",
         tool.run("c.c", "d.c")[:2],
-        (0, 'd.c:1:8: not judged: refused 3 Unexpected at byte 4 of "%d %y\\n"\n'),
+        (1, 'd.c:1:8: rejected now: refused 3 Unexpected at byte 4 of "%d %y\\n"\n'),
+    )
+    trials.expect(
+        "what isn't judged",
+        tool.run("d.c", "c.c")[:2],
+        (0, 'c.c:1:8: not judged: refused 3 Unexpected at byte 4 of "%d %y\\n"\n'),
     )
     status, output, _ = tool.run("--output", "sarif", "--verbose", "old", "new")
     log = json.loads(output)
@@ -227,7 +234,7 @@ def try_lines(tool, trials):
     trials.expect(
         "the log of SARIF",
         (status, log["version"], [one["ruleId"] for one in results]),
-        (1, "2.1.0", ["different", "types", "types", "different", "same", "unjudged"]),
+        (1, "2.1.0", ["different", "types", "types", "words", "same", "rejected"]),
     )
     region = {"startLine": 6, "startColumn": 12, "endLine": 7, "endColumn": 18}
     trials.expect(
@@ -236,8 +243,12 @@ def try_lines(tool, trials):
         {"artifactLocation": {"uri": "new/src/a.c"}, "region": region},
     )
     status, output, _ = tool.run("--output", "github", "old", "new")
-    wanted = "::error file=new/src/a.c,line=3,col=12,endColumn=25::types differ at argument 1: unsigned long and int"
-    trials.expect("a command of GitHub", (status, wanted in output.splitlines()), (1, True))
+    wanted = (
+        "::error file=new/src/a.c,line=3,col=12,endColumn=25::types differ at argument 1: unsigned long and int, in "
+    )
+    trials.expect("a command of GitHub", (status, f"\n{wanted}" in output), (1, True))
+    wanted = "::notice file=new/src/a.c,line=5,col=12,endColumn=29::the words differ: "
+    trials.expect("a notice of GitHub", f"\n{wanted}" in output, True)
 
 
 def try_whole(tool, trials):
@@ -328,10 +339,10 @@ def try_git(tool, trials):
     tool.git("commit", "-qam", "third")
     renamed = (
         1,
-        "c.c:9:8: types differ at argument 0: int and unsigned int\n",
+        'c.c:9:8: types differ at argument 0: int and unsigned int, in "%d\\n" and "%u\\n"\n',
         SUMMARY.replace("6 places", "1 place")
-        .replace("1 same, 2 different, 2", "0 same, 0 different, 1")
-        .replace("1 not", "0 not")
+        .replace("1 same, 1 with other words, 1 different, 2", "0 same, 0 with other words, 0 different, 1")
+        .replace("1 rejected", "0 rejected")
         .replace("2 literals came, 1", "0 literals came, 0"),
     )
     for words in [
@@ -350,7 +361,7 @@ def try_git(tool, trials):
     for number in range(30):
         tool.put(f"many/{number:02}.c", 'f("%u");')
     status, output, _ = tool.run("--git", "--", "many")
-    wanted = [f"many/{number:02}.c:1:3: types differ at argument 0: int and unsigned int" for number in range(30)]
+    wanted = [f"many/{number:02}.c:1:3: {UNSIGNED}" for number in range(30)]
     trials.expect("many files", (status, output.splitlines()), (1, wanted))
     tool.git("checkout", "-q", "many")
     (tool.work / "c.c").unlink()
@@ -360,7 +371,7 @@ def try_git(tool, trials):
         (
             0,
             "",
-            "0 places changed: 0 same, 0 different, 0 with other types, 0 with other directives, 0 not judged; 0 literals came, 9 went\n",
+            "0 places changed: 0 same, 0 with other words, 0 different, 0 with other types, 0 with other directives, 0 rejected now, 0 not judged; 0 literals came, 9 went\n",
         ),
     )
     for words, said in [
@@ -412,7 +423,7 @@ def try_faults(tool, trials):
         (2, "", True),
     )
     found = tool.run("a.c", "folder/a.c", FMTCANON_PROGRAM="nowhere")
-    trials.expect("no program", found[:2], (1, "folder/a.c:1:8: types differ at argument 0: int and unsigned int\n"))
+    trials.expect("no program", found[:2], (1, f"folder/a.c:1:8: {UNSIGNED}\n"))
     # One file that can't be read doesn't hide what is found in another.
     tool.put("old/a.c", 'printf("%d", x);')
     tool.put("old/b.c", "x")
@@ -424,7 +435,7 @@ def try_faults(tool, trials):
         (status, output, fault.splitlines()[0]),
         (
             2,
-            "new/a.c:1:8: types differ at argument 0: int and unsigned int\n",
+            f"new/a.c:1:8: {UNSIGNED}\n",
             "fmtcanon-diff: new/b.c: it is a binary file",
         ),
     )
@@ -511,6 +522,8 @@ def try_pairs(program, folder, argument_of, trials):
         found = [json.loads(line) for line in output.splitlines()]
         for number, (first, second, _, wanted) in enumerate(pairs):
             kinds = [one["kind"] for one in found if one["file"] == f"new/{number:03}.c"]
+            # Of some pairs only the words differ.
+            kinds = ["different" if it == "words" else it for it in kinds]
             trials.expect(f"fmtcanon-diff of {first!r} and {second!r}", kinds, [] if first == second else wanted)
         library, given, count = Library(), [], 0
         for first, second, kinds in unlike:

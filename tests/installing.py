@@ -41,6 +41,8 @@ INSTALLED = {
     "share/doc/fmtcanon/SECURITY.md",
     "share/doc/fmtcanon/folders",
     "share/doc/fmtcanon/examples/canon.c",
+    "share/doc/fmtcanon/examples/compare.c",
+    "share/doc/fmtcanon/examples/directives.c",
     "share/fish/vendor_completions.d/fmtcanon.fish",
     *(f"share/fish/vendor_completions.d/fmtcanon-{name}.fish" for name in COMMANDS),
     "share/man/man1/fmtcanon.1",
@@ -394,7 +396,7 @@ def options_of(name):
         capture_output=True,
         encoding="utf-8",
     )
-    return re.findall(r"^  (?:-h, )?(--?[\w-]+(?: [A-Z:]+)?)(?:  +|$)", done.stdout, flags=re.MULTILINE)
+    return re.findall(r"^  (?:-h, )?(--?[\w-]+(?: [A-Z:,.]+)?)(?:  +|$)", done.stdout, flags=re.MULTILINE)
 
 
 def try_command_pages(trials):

@@ -402,7 +402,8 @@ def try_program(program, module, trials):
 
 def try_documents(prefix, work, trials):
     """Each command of DOCUMENTS prints what the page shows below it, with the library installed."""
-    (work / "canon.c").write_bytes((TOP / "examples/canon.c").read_bytes())
+    for example in (TOP / "examples").glob("*.c"):
+        (work / example.name).write_bytes(example.read_bytes())
     environment = {
         **os.environ,
         "LC_ALL": "C.UTF-8",

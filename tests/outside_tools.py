@@ -20,6 +20,7 @@ sys.path.insert(0, str(Path(__file__).resolve().parent))
 import packages  # noqa: E402
 from catalog_edges import try_msgfmt_edges  # noqa: E402
 from catalog_plurals import try_plurals  # noqa: E402
+from catalog_reading import try_speed  # noqa: E402
 from diffing import try_pairs, try_times  # noqa: E402
 from harness import SONAME, main  # noqa: E402
 from library import TOP, compile_with, lines_of, load_module, python_lines, shapes, try_compiler  # noqa: E402
@@ -126,6 +127,7 @@ def try_gettext(folder, tools, module, trials):
     if tools.has("msgfmt", "gettext"):
         try_msgfmt(folder, trials)
         try_msgfmt_edges(trials)
+        try_speed(folder, trials)
         try_plurals(module, trials)
 
 

@@ -1,5 +1,5 @@
 #!/usr/bin/env python3
-"""Tries fmtcanon-diff (diffing.py), fmtcanon-replace (replacing.py), fmtcanon-po (translations.py, catalog_edges.py),
+"""Tries fmtcanon-diff (diffing.py, diff_trees.py), fmtcanon-replace (replacing.py), fmtcanon-po (translations.py, catalog_edges.py, catalog_reading.py),
 and the manual page and the completions against the program's help.
 
 Usage: tests/python_commands.py PROGRAM FOLDER
@@ -18,6 +18,8 @@ sys.path.insert(0, str(Path(__file__).resolve().parent))
 
 import installing  # noqa: E402
 from catalog_edges import try_edges  # noqa: E402
+from catalog_reading import try_reading  # noqa: E402
+from diff_trees import try_trees  # noqa: E402
 from diffing import try_diffing  # noqa: E402
 from harness import TIMEOUT, TOP, main, run  # noqa: E402
 from replacing import try_without_libclang  # noqa: E402
@@ -212,8 +214,10 @@ def try_completions(program, trials):
 def try_all(program, folder, trials):
     try_without_libclang(folder, trials)
     try_diffing(program, folder, trials)
+    try_trees(program, folder, trials)
     try_catalogs(folder, trials)
     try_edges(folder, trials)
+    try_reading(folder, trials)
     try_page(program, trials)
     try_completions(program, trials)
     try_command_completions(trials)

@@ -61,6 +61,18 @@ def try_hook(tool, trials):
             (passes, not passes),
         )
     trials.expect("without the hook", shell(tool, ["git", "commit", "-qnm", "changed"])[0], 0)
+    # What counts is what is staged, and not the work tree.
+    for staged, left, passes in [
+        (OLD, CHANGED, False),
+        (CHANGED.replace("%.5d", "%+.0i"), CHANGED, False),
+        (CHANGED, OLD, True),
+    ]:
+        tool.put("src.c", staged)
+        tool.git("add", "src.c")
+        tool.put("src.c", left)
+        status, output = shell(tool, ["git", "commit", "-qm", "staged", "--allow-empty"])
+        trials.expect(f"the hook of git with {staged!r} staged and {left!r} left: {output}", status == 0, passes)
+    tool.git("reset", "-q", "--hard")
 
 
 def entries(file):
@@ -81,6 +93,28 @@ def try_entries(tool, trials):
     )
     status, output = shell(tool, f"{found['fmtcanon-po']} po/de.po", shell=True)
     trials.expect("the hook fmtcanon-po", (status, output), (0, "1 message judged, 0 not judged\n"))
+    # In CI nothing is left to be committed, and pre-commit names the revisions.
+    tool.git("commit", "-qnam", "back")
+    trials.expect("the hook fmtcanon-diff after a commit", shell(tool, found["fmtcanon-diff"], shell=True), (0, ""))
+    tool.environment.update(PRE_COMMIT_FROM_REF="HEAD~1", PRE_COMMIT_TO_REF="HEAD")
+    status, output = shell(tool, f"{found['fmtcanon-diff']} --model lp64", shell=True)
+    trials.expect(
+        f"the hook fmtcanon-diff in CI: {output}", (status, 'src.c:3:12: different: "%.5d\\n"' in output), (1, True)
+    )
+    for name in ["PRE_COMMIT_FROM_REF", "PRE_COMMIT_TO_REF"]:
+        del tool.environment[name]
+
+
+def try_files(trials):
+    """The hook fmtcanon-diff is run for the files that the command reads."""
+    from fmtcanon.diff.trees import SOURCES
+
+    text = (TOP / ".pre-commit-hooks.yaml").read_text(encoding="utf-8")
+    [pattern] = re.findall(r"id: fmtcanon-diff\n(?:  .*\n)*?  files: (.*)$", text, flags=re.MULTILINE)
+    names = ["c", "h", "y", "l", "m", "mm", "pc", "ec", "cpp", "c++", "h++", "inc", "C", "H", "def"]
+    for name in [*(f"src/a.{it}" for it in names), "a.po", "a.c.txt", "c", "a.cs", "Makefile", "a.h.in"]:
+        trials.expect(f"the hook for {name}", bool(re.search(pattern, name)), bool(SOURCES.fullmatch(name)))
+    trials.expect("the endings of the hook", pattern, SOURCES.pattern.replace(r".*\.(?:", r"\.(") + "$")
 
 
 def try_workflow(tool, trials):
@@ -88,10 +122,23 @@ def try_workflow(tool, trials):
     [command] = re.findall(
         r"^ *- run: (fmtcanon-.*)$", (CI / "workflow.yml").read_text(encoding="utf-8"), flags=re.MULTILINE
     )
-    tool.git("branch", "origin/main", "HEAD~1")
+    # A pull request is checked out as its merge with a branch, which then goes on.
+    tool.put("other.c", OLD)
+    tool.git("add", "other.c")
+    tool.git("commit", "-qnm", "other")
+    tool.git("branch", "origin/main")
+    tool.git("checkout", "-qb", "request")
+    tool.put("src.c", CHANGED)
+    tool.git("commit", "-qnam", "request")
+    tool.git("checkout", "-qb", "merge", "origin/main")
+    tool.git("merge", "-q", "--no-edit", "--no-ff", "request")
+    tool.git("checkout", "-q", "origin/main")
+    tool.put("other.c", CHANGED)
+    tool.git("commit", "-qnam", "other")
+    tool.git("checkout", "-q", "merge")
     tool.environment["GITHUB_BASE_REF"] = "main"
     status, output = shell(tool, command, shell=True)
-    trials.expect(f"the workflow: {output}", (status, COMMAND in output), (1, True))
+    trials.expect(f"the workflow: {output}", (status, COMMAND in output, "other.c" in output), (1, True, False))
 
 
 def try_build(tool, name, tools, steps, trials):
@@ -129,6 +176,7 @@ def try_recipes(program, folder, tools, trials):
             shutil.copy(CI / name, tool.work)
         try_hook(tool, trials)
         try_entries(tool, trials)
+        try_files(trials)
         try_workflow(tool, trials)
         try_build(
             tool,

@@ -108,6 +108,15 @@ found 1 fatal error
 """,
     ),
     (
+        "bytes.po",
+        1,
+        """\
+bytes.po:7: 'msgstr' has a byte that is not of the charset UTF-8: 0xff ["%d"]
+0 messages judged, 0 not judged
+found 1 fatal error
+""",
+    ),
+    (
         "escape.po",
         1,
         """\
@@ -149,7 +158,7 @@ found 3 fatal errors
     ),
 ]
 # They can't be read, with the line where it is known.
-UNREADABLE = [("torn.po", 1), ("bytes.po", 7), ("rule.po", 0), ("nothing.po", 0), ('msgid "a"', 0), (".", 0)]
+UNREADABLE = [("torn.po", 1), ("rule.po", 0), ("nothing.po", 0), ('msgid "a"', 0), (".", 0)]
 # Texts that are no catalog, with the line.
 NO_CATALOGS = [
     ('msgid "a"\n"b"\nmsgid "c"\nmsgstr "d"\n', 1),

@@ -30,6 +30,7 @@ apart: Optional[int] = fmtcanon.compare("%f", b"%e", whole=True).directives_diff
 whole: bytes = fmtcanon.canonical(b"%f", whole=fmtcanon.same("%f", "%e", whole=True))
 anywhere: List[fmtcanon.Model] = fmtcanon.same_in("%f", "%e", whole=True)
 printed: bytes = fmtcanon.format("%d%s", 1, "a")
+told: bytes = fmtcanon.printed("%f%d", found.arguments or (None, 1), model="ilp32") + fmtcanon.printed(b"%s", ["a"])
 pieces = fmtcanon.show("%d")
 offset: Optional[int] = fmtcanon.source_offset('"%d"', 1)
 literal: str = fmtcanon.encode_literal("a")
@@ -49,6 +50,8 @@ FAULTS = [
     'fmtcanon.Session("canon", model=1.5)',
     'x: int = fmtcanon.canonical("%d")',
     'fmtcanon.format("%f", 1.5)',
+    'fmtcanon.printed("%f", [1.5])',
+    'fmtcanon.printed("%d", 1)',
     'fmtcanon.Session("canon", whole="yes")',
     'fmtcanon.Session("canon", False, True)',
     'y: str = fmtcanon.decode_literal("a")',

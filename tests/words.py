@@ -47,7 +47,7 @@ LIMITS = {
     "docs/TRANSLATIONS.md": 1100,
     "docs/REFACTORING.md": 1400,
     "docs/REFUSALS.md": 1500,
-    "docs/C.md": 900,
+    "docs/C.md": 960,
     "docs/PYTHON.md": 900,
     "docs/VERIFICATION.md": 2200,
     "docs/DEFINITIONS.md": 4500,

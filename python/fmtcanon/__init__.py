@@ -40,6 +40,8 @@ installation puts it, otherwise `libfmtcanon.so.1`, where the system looks for l
     '%d: %-8f'
     >>> fmtcanon.compare("%f%05d", "%f%.5d", whole=True).arguments
     (None, -1)
+    >>> fmtcanon.printed("%.6f%05d", (None, -1)), fmtcanon.printed("%f%.5d", (None, -1))
+    (b'%f-0001', b'%f-00001')
     >>> [model.name for model in fmtcanon.same_in("%zu", "%lu")]
     ['LP64']
     >>> fmtcanon.format("%-4s|%+05d", "ab", 42)
@@ -66,11 +68,11 @@ import operator
 import os
 import re
 from pathlib import Path
-from typing import Any, Callable, List, NamedTuple, NoReturn, Optional, Tuple, TypeVar, Union
+from typing import Any, Callable, List, NamedTuple, NoReturn, Optional, Sequence, Tuple, TypeVar, Union
 
 from .kinds import Kind, LiteralKind, Type, Verdict
 from .models import DataModel, Model, model_of
-from .printing import REFUSED, UNFIT, Directive, Failed, Percent, Shown, Text, printed, shown
+from .printing import REFUSED, UNFIT, Directive, Failed, Percent, Shown, Text, run_format, run_show
 from .sessions import Reply, Session
 
 __all__ = [
@@ -100,6 +102,7 @@ __all__ = [
     "fits_in",
     "format",
     "is_canonical",
+    "printed",
     "same",
     "same_in",
     "show",
@@ -112,6 +115,8 @@ __all__ = [
 __version__ = "1.0.0"
 
 Format = Union[str, bytes, bytearray, memoryview]
+# An argument that a format prints.
+_Argument = Union[int, str, bytes]
 _Text = TypeVar("_Text", str, bytes)
 
 # The library must have the same major and minor version; only the patch may be another.
@@ -431,7 +436,7 @@ def same_in(first: Format, second: Format, *, whole: bool = False) -> List[Model
     return _models(found)
 
 
-def _argument(word: bytes) -> Union[int, bytes, None]:
+def _told(word: bytes) -> Union[int, bytes, None]:
     if word == b"any":
         return None
     return int(word[2:]) if word.startswith(b"n:") else word[2:]
@@ -453,7 +458,7 @@ def compare(first: Format, second: Format, *, model: DataModel = Model.LP64, who
     if verdict is Verdict.DIRECTIVES:
         return Comparison(verdict, directives_differ_at=answer.number)
     if verdict is Verdict.DIFFERENT:
-        return Comparison(verdict, arguments=tuple(map(_argument, words.split(b"\0")[:-1])))
+        return Comparison(verdict, arguments=tuple(map(_told, words.split(b"\0")[:-1])))
     return Comparison(verdict)
 
 
@@ -505,7 +510,7 @@ def _raise(fault: Failed) -> NoReturn:
     raise OSError(fault.line or f"the program ended with status {fault.status}") from None
 
 
-def format(format: Format, *arguments: Union[int, str, bytes], model: DataModel = Model.LP64) -> bytes:
+def format(format: Format, *arguments: _Argument, model: DataModel = Model.LP64) -> bytes:
     """Returns the bytes that `printf` prints for the format and these arguments, in the POSIX locale.
 
     Pass an `int` for each integer argument, and a `str` or bytes for a string. Raises `ValueError` if the
@@ -513,12 +518,69 @@ def format(format: Format, *arguments: Union[int, str, bytes], model: DataModel 
     program accepts only UTF-8 as its arguments, so other bytes raise `UnicodeDecodeError`. Raises `OSError`
     if the program can't be run, or if the arguments are longer than the system allows.
     """
-    number = model_of(model)
-    check(format)
+    return _output(_bytes(format), arguments, model_of(model))
+
+
+def _output(text: bytes, arguments: Sequence[_Argument], model: Model) -> bytes:
+    check(text)
     try:
-        return printed(number.name.lower(), _bytes(format), arguments)
+        return run_format(model.name.lower(), text, arguments)
     except Failed as fault:
         _raise(fault)
+
+
+def _is_in_profile(specification: bytes) -> bool:
+    try:
+        check(specification)
+    except Refused:
+        return False
+    return True
+
+
+def printed(format: Format, arguments: Sequence[Optional[_Argument]], *, model: DataModel = Model.LP64) -> bytes:
+    """Returns what `printf` prints for a format of the whole language, with placeholders.
+
+    A directive that only the whole language has prints its normal spelling, as `%f`. So does one whose argument is
+    None. The arguments are those that `compare` returns with `whole=True`, or others of the types that `arguments`
+    returns. It runs the program, and raises what `format` raises.
+    """
+    text, number = _bytes(format), model_of(model)
+    canonical(text, model=number, whole=True)
+    count = len(_argument_codes(text, number))
+    if len(arguments) != count:
+        raise ValueError(f"the format takes {count} arguments, and not {len(arguments)}")
+    words, known, given = _parts_of(text, arguments, number)
+    plain = _alternated(words, known)
+    try:
+        plain.decode()
+    except UnicodeDecodeError:
+        # The program accepts only UTF-8, but words print themselves.
+        words = [it.replace(b"%%", b"%") for it in words]
+        return _alternated(words, [_output(one, [it], number) for one, it in zip(known, given)])
+    return _output(plain, given, number)
+
+
+def _parts_of(
+    text: bytes, arguments: Sequence[Optional[_Argument]], model: Model
+) -> Tuple[List[bytes], List[bytes], List[_Argument]]:
+    """Returns the words of a format, the directives between them, with `%s` for each placeholder, and what they take."""
+    words: List[bytes] = []
+    known: List[bytes] = []
+    given: List[_Argument] = []
+    done = 0
+    for one in directives(text, model=model):
+        spelling, argument = text[one.start : one.end], arguments[one.argument]
+        if argument is None or not _is_in_profile(spelling):
+            spelling, argument = b"%s", canonical(spelling, model=model, whole=True)
+        words.append(text[done : one.start])
+        known.append(spelling)
+        given.append(argument)
+        done = one.end
+    return [*words, text[done:]], known, given
+
+
+def _alternated(words: List[bytes], others: List[bytes]) -> bytes:
+    return b"".join(it for pair in zip(words, [*others, b""]) for it in pair)
 
 
 def show(format: Format, *, model: DataModel = Model.LP64) -> List[Shown]:
@@ -529,7 +591,7 @@ def show(format: Format, *, model: DataModel = Model.LP64) -> List[Shown]:
     number = model_of(model)
     check(format)
     try:
-        return shown(number.name.lower(), _bytes(format))
+        return run_show(number.name.lower(), _bytes(format))
     except Failed as fault:
         _raise(fault)
 

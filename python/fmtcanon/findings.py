@@ -11,6 +11,7 @@ from urllib.parse import quote
 
 from . import Type, __version__
 from .output import put as put
+from .visible import visible
 
 # The names of types that all commands use.
 TYPE_NAMES = {
@@ -66,7 +67,7 @@ class Finding:
 
 
 def as_text(finding: Finding) -> str:
-    return f"{finding.place} {finding.message}"
+    return visible(f"{finding.place} {finding.message}")
 
 
 def as_json(finding: Finding) -> str:

@@ -11,7 +11,7 @@ import os
 import re
 import subprocess
 from pathlib import Path
-from typing import Any, List, NamedTuple, Tuple, Union
+from typing import Any, List, NamedTuple, Sequence, Union
 
 # The exit status of the program for a rejected format, and for arguments that don't fit.
 REFUSED, UNFIT = 2, 3
@@ -97,7 +97,7 @@ def _failed(done: "subprocess.CompletedProcess[bytes]") -> Exception:
     return MemoryError(line) if line == OUT_OF_MEMORY else Failed(done.returncode, line)
 
 
-def printed(model: str, format: bytes, arguments: Tuple[Any, ...]) -> bytes:
+def run_format(model: str, format: bytes, arguments: Sequence[Any]) -> bytes:
     """Returns the bytes that the format prints for the arguments."""
     done = _run([b"format", b"--model", model.encode(), b"--", _word(format), *map(_argument, arguments)])
     if done.returncode != 0:
@@ -105,7 +105,7 @@ def printed(model: str, format: bytes, arguments: Tuple[Any, ...]) -> bytes:
     return done.stdout
 
 
-def shown(model: str, format: bytes) -> List[Shown]:
+def run_show(model: str, format: bytes) -> List[Shown]:
     """Returns the pieces of the format. It is sent as a record, so it may have any length and any bytes."""
     done = _run([b"show", b"--model", model.encode(), b"--null"], format + b"\0")
     reply = _REPLY.fullmatch(done.stdout)

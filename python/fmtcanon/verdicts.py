@@ -11,15 +11,17 @@ from typing import Any, AnyStr, List, NamedTuple, Optional, Sequence, Tuple, Uni
 import fmtcanon
 from fmtcanon import Model
 
+from .visible import visible
+
 # A specification of the whole language, `%%` among them.
 SPECIFICATION = re.compile(
     rb"%(?P<number>\d+\$)?(?P<flags>[-+ #0']*)(?P<width>\*(?:\d+\$)?|\d+)?(?P<precision>\.(?:\*(?:\d+\$)?|\d+)?)?"
     rb"(?P<length>hh|h|ll|l|j|z|t|L)?(?P<last>[a-zA-Z%])"
 )
-# Conversions that only the whole language has.
-OPAQUE = b"fFeEgGaApnCS"
 # What a specification has before its last byte. So after every other byte a piece of a format ends.
 INNER = b"%0123456789$-+ #'*.hljztL"
+# A number of a format. One with more digits is no width or precision that is accepted.
+NUMBER = re.compile(rb"(?<!\d)0*(\d{1,6})(?!\d)")
 # Strings up to the first length are not shortened, and up to the second they are shown; how many arguments are shown.
 SHORT, LONGEST, ARGUMENTS = 8, 20, 8
 
@@ -28,9 +30,11 @@ class Kind(enum.Enum):
     """How two formats compare."""
 
     SAME = "same"
+    WORDS = "words"
     DIFFERENT = "different"
     TYPES = "types"
     DIRECTIVES = "directives"
+    REJECTED = "rejected"
     UNJUDGED = "unjudged"
 
 
@@ -42,7 +46,7 @@ class Verdict(NamedTuple):
     """How two formats compare.
 
     `at` is the index of the first argument at which the types or the directives differ. The two print `arguments`
-    differently. `reason` says why there is no verdict.
+    differently. `reason` says why there is no verdict, or why the second format is rejected and the first isn't.
     """
 
     kind: Kind
@@ -116,7 +120,8 @@ class Library:
             if fmtcanon.fits(old, new, model=model):
                 return unjudged
         except fmtcanon.Refused as other:
-            return Verdict(Kind.UNJUDGED, reason=f"{other} of {shown([old, new][other.side])}")
+            kind = Kind.REJECTED if other.side else Kind.UNJUDGED
+            return Verdict(kind, reason=f"{other} of {shown([old, new][other.side])}")
         return Verdict(Kind.TYPES, at=shared_front(self.types(old, model), self.types(new, model)))
 
     def types(self, text: bytes, model: Model) -> bytes:
@@ -124,15 +129,9 @@ class Library:
         return fmtcanon._argument_codes(text, model)
 
     def printed(self, text: bytes, arguments: Sequence[Argument], model: Model) -> Optional[bytes]:
-        """Returns what a format prints, or None if it can't be had.
-
-        A directive out of the profile prints its normal spelling, so that it prints the same however it is spelled.
-        """
-        plain, given = profile(text, arguments, model)
+        """Returns what a format prints, with placeholders, or None if it can't be had."""
         try:
-            # The program takes UTF-8. All other bytes of a format print themselves.
-            words: List[Union[int, str]] = [it if isinstance(it, int) else it.decode("latin-1") for it in given]
-            return fmtcanon.format(plain.decode("latin-1"), *words, model=model).decode().encode("latin-1")
+            return fmtcanon.printed(text, arguments, model=model)
         except (OSError, ValueError, MemoryError):
             return None
 
@@ -144,39 +143,43 @@ class Library:
         return None
 
 
-def is_opaque(specification: bytes) -> bool:
-    """Returns whether a specification of the whole language is not in the profile."""
-    return b"*" in specification or specification[-1:] in OPAQUE or specification[-2:] in (b"lc", b"ls")
-
-
-def profile(text: bytes, arguments: Sequence[Argument], model: Model) -> Tuple[bytes, List[Union[int, bytes]]]:
-    """Returns a format in which `%s` replaces each directive that isn't in the profile, and its arguments.
-
-    The argument of such a `%s` is the normal spelling of the directive.
-    """
-    parts: List[bytes] = []
-    given: List[Union[int, bytes]] = []
-    done = 0
-    for one in fmtcanon.directives(text, model=model):
-        spelling, argument = text[one.start : one.end], arguments[one.argument]
-        is_plain = argument is not None and not is_opaque(spelling)
-        parts += [text[done : one.start], spelling if is_plain else b"%s"]
-        given.append(
-            argument if is_plain and argument is not None else fmtcanon.canonical(spelling, model=model, whole=True)
-        )
-        done = one.end
-    return b"".join([*parts, text[done:]]), given
-
-
 def specifications(text: bytes) -> bytes:
     """Returns the specifications of a format without the words between them."""
     return b"".join(it.group() for it in SPECIFICATION.finditer(text) if it["last"] != b"%")
+
+
+def without_specifications(text: bytes) -> bytes:
+    """Returns the words of a format, with each specification as `%`."""
+    return SPECIFICATION.sub(b"%", text)
 
 
 def only_words_differ(library: Any, old: bytes, new: bytes, model: Model) -> bool:
     """Returns whether two formats that differ have the same directives."""
     found: Verdict = library.verdict(specifications(old), specifications(new), model)
     return found.kind is Kind.SAME
+
+
+def telling_arguments(
+    library: Any, old: bytes, new: bytes, arguments: Tuple[Argument, ...], model: Model
+) -> Tuple[Argument, ...]:
+    """Returns short arguments that two formats print differently.
+
+    If the words differ, too, they are arguments that the specifications print differently, if there are such.
+    """
+    if without_specifications(old) != without_specifications(new):
+        inner = specifications(old), specifications(new)
+        verdict: Verdict = library.verdict(*inner, model)
+        if verdict.kind is Kind.DIFFERENT:
+            found = shortened(library, *inner, verdict.arguments, model)
+            if is_told_apart(library, old, new, found, model):
+                return found
+    return shortened(library, old, new, arguments, model)
+
+
+def is_told_apart(library: Any, old: bytes, new: bytes, arguments: Sequence[Argument], model: Model) -> bool:
+    """Returns whether it is known that two formats print these arguments differently."""
+    first, second = (library.printed(it, arguments, model) for it in (old, new))
+    return first is not None and second is not None and first != second
 
 
 def shortened(
@@ -187,7 +190,7 @@ def shortened(
     A width or a precision makes a difference at its own number or at the next.
     """
     numbers = sorted(
-        {int(it) + more for it in re.findall(rb"\d+", specifications(old + new)) for more in (0, 1)} | {0, 1}
+        {int(it) + more for it in NUMBER.findall(specifications(old) + specifications(new)) for more in (0, 1)} | {0, 1}
     )
     found = list(arguments)
     for at, argument in enumerate(arguments):
@@ -197,8 +200,7 @@ def shortened(
             if length >= len(argument):
                 break
             tried = [*found[:at], argument[:length], *found[at + 1 :]]
-            one, other = (library.printed(it, tried, model) for it in (old, new))
-            if one is not None and other is not None and one != other:
+            if is_told_apart(library, old, new, tried, model):
                 found = tried
                 break
     return tuple(found)
@@ -220,7 +222,4 @@ def shown_arguments(arguments: Sequence[Argument]) -> str:
 
 def shown(text: bytes) -> str:
     """Returns a text as a string literal. What can't be seen, as a space that doesn't break, is an escape."""
-    literal = fmtcanon.encode_literal(text).decode(errors="backslashreplace")
-    if literal.isprintable():
-        return literal
-    return "".join(it if it.isprintable() else it.encode("unicode_escape").decode() for it in literal)
+    return visible(fmtcanon.encode_literal(text).decode(errors="backslashreplace"))

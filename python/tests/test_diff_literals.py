@@ -217,6 +217,8 @@ class Reading(unittest.TestCase):
             for text in [unit * (40_000 // len(unit)), b"#define " + unit * (40_000 // len(unit))]:
                 Source(text).read()
                 paired(Source(text), Source(text + b"x"))
+        # Each has a delimiter of its own, with which nothing ends.
+        Source(b"".join(b'R"a%d(x ' % number for number in range(50_000))).read()
         self.assertLess(time.process_time() - began, 20)
 
 
@@ -233,6 +235,11 @@ class Judged(unittest.TestCase):
             (b'f(L"%d")', b'f("x")', True),
             (b'puts("%d")', b'puts("%u")', False),
             (b'fputs(_("%d"), f)', b'fputs(_("%u"), f)', False),
+            (b'sscanf(a, "%d")', b'sscanf(a, "%i")', False),
+            (b'fscanf(f, "%s")', b'fscanf(f, "%d")', False),
+            (b'std::strftime(a, 9, "%d", t)', b'std::strftime(a, 9, "%i", t)', False),
+            (b'wscanf(L"%d")', b'wscanf(L"%i")', False),
+            (b'my_scanf("%d")', b'my_scanf("%i")', True),
             (b'__asm__ volatile ("%0" : )', b'__asm__ volatile ("%1" : )', False),
             (b"f(PRIu64)", b"f(PRId64)", False),
         ]:
@@ -254,6 +261,12 @@ class Pairing(unittest.TestCase):
             joined = "".join(first[a : a + size] for a, _, size in found)
             self.assertEqual(joined, "".join(second[b : b + size] for _, b, size in found))
             self.assertEqual(len(joined), sum(size for _, _, size in wanted), (first, second, found))
+
+    def test_weights(self):
+        """Of blocks that exclude each other, that with more items is found; some items count twice."""
+        for twice, wanted in [("a", "ad"), ("b", "bc"), ("bc", "bc"), ("ad", "ad"), ("d", "ad"), ("c", "bc")]:
+            found = matching("adbc", "bcad", frozenset(twice))
+            self.assertEqual("".join("adbc"[a : a + size] for a, _, size in found), wanted, twice)
 
     def test_pairs(self):
         for name, old, new, wanted, (came, went) in PAIRED:

@@ -69,6 +69,49 @@ class Calls(unittest.TestCase):
         many = fmtcanon.compare("%d" * 3000 + "a", "%d" * 3000 + "b")
         self.assertEqual(many.arguments, (0,) * 3000)
 
+    def test_printed(self):
+        for text, arguments, wanted in [
+            ("%d%%", [5], b"5%"),
+            ("%5.1s|%c", ["ab", 65], b"    a|A"),
+            (b"%.6f%05d", (None, -1), b"%f-0001"),
+            ("%-08.3lf %ls %i", [None, None, 7], b"%-8.3f %ls 7"),
+            ("%*d %s", [None, None, "a"], b"%*d a"),
+            ("%*d %s", [3, 4, b"a"], b"%*d a"),
+            ("%d %s", [None, None], b"%d %s"),
+            ("%n%p", [None, None], b"%n%p"),
+            ("\u00e9 %.2s", ["\u00e9"], "\u00e9 \u00e9".encode()),
+            (b"\xe9%% %d%s %f", [-5, "\u00e9", None], b"\xe9% -5\xc3\xa9 %f"),
+            ("", [], b""),
+        ]:
+            self.assertEqual(fmtcanon.printed(text, arguments), wanted, text)
+        self.assertEqual(fmtcanon.printed("%zd %hhd%zn", [-1, 300, None], model="ilp32"), b"-1 44%n")
+
+    def test_printed_of_compared(self):
+        """What two formats print for the arguments that tell them apart differs."""
+        for first, second in [("%f%05d", "%f%.5d"), ("x %f %05d", "x %f %.5d"), ("%p%5c", "%p%6c"), ("%u", "%x")]:
+            arguments = fmtcanon.compare(first, second, whole=True).arguments
+            self.assertNotEqual(*(fmtcanon.printed(it, arguments) for it in (first, second)))
+
+    def test_printed_faults(self):
+        for text, arguments in [
+            ("%d", []),
+            ("%d", [1, 2]),
+            ("%*f", [1]),
+            ("%d", ["a"]),
+            ("%s", [1]),
+            ("%d", [2**31]),
+        ]:
+            with self.assertRaises(ValueError):
+                fmtcanon.printed(text, arguments)
+        for text in ["%y", "%1$d", "a\0"]:
+            self.assertRaises(Refused, fmtcanon.printed, text, [None])
+        with self.assertRaises(UnicodeDecodeError):
+            fmtcanon.printed("%s", [b"\xe9"])
+        with self.assertRaises(TypeError):
+            fmtcanon.printed("%d", [1.5])
+        with self.assertRaises(ValueError):
+            fmtcanon.printed("%d", [1], model="lp65")
+
     def test_whole_language(self):
         self.assertEqual(fmtcanon.canonical("%i: %-08.6lf (%5c)", whole=True), "%d: %-8f (    %c)")
         self.assertEqual(fmtcanon.canonical(b"\xff%C%i", whole=True), b"\xff%lc%d")

@@ -7,6 +7,7 @@ Each OLD and NEW are folders with two releases of one package. With --list it pr
 module fmtcanon with its library, and the program.
 """
 
+import functools
 import os
 import sys
 import time
@@ -17,11 +18,24 @@ TOP = Path(__file__).resolve().parent.parent.parent
 sys.path.insert(0, str(TOP / "python"))
 
 from fmtcanon import Model  # noqa: E402
-from fmtcanon.diff.command import reports  # noqa: E402
+from fmtcanon.diff.command import report_on  # noqa: E402
 from fmtcanon.diff.trees import changes_of  # noqa: E402
 from fmtcanon.findings import as_text  # noqa: E402
+from fmtcanon.processes import in_order  # noqa: E402
 
-COLUMNS = ["places", "judged", "same", "words", "different", "types", "directives", "unjudged", "came", "went"]
+COLUMNS = [
+    "places",
+    "judged",
+    "same",
+    "words",
+    "different",
+    "types",
+    "directives",
+    "rejected",
+    "unjudged",
+    "came",
+    "went",
+]
 HEADS = [
     "Releases",
     "Places changed",
@@ -31,6 +45,7 @@ HEADS = [
     "Different",
     "Other types",
     "Other directives",
+    "Rejected now",
     "Not judged",
     "Came",
     "Went",
@@ -41,10 +56,11 @@ HEADS = [
 def surveyed(old, new, is_listed):
     """Returns the numbers of places of each kind."""
     counts = Counter()
-    for report in reports(changes_of(old, new), list(Model), os.cpu_count() or 1):
+    work = functools.partial(report_on, models=list(Model))
+    for report in in_order(work, changes_of(old, new), os.cpu_count() or 1):
         counts.update(came=report.came, went=report.went, places=len(report.findings))
         for finding in report.findings:
-            counts["words" if finding.details.get("words") else finding.kind] += 1
+            counts[finding.kind] += 1
             counts["judged"] += finding.kind != "unjudged"
             if is_listed:
                 print(as_text(finding))

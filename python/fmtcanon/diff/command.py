@@ -1,17 +1,20 @@
 """Says what a change of C source does to its printf formats."""
 
+import argparse
 import collections
-import itertools
+import functools
 import os
 import sys
-from concurrent.futures import Future, ProcessPoolExecutor
-from typing import Any, Deque, Dict, Iterable, Iterator, NamedTuple, Optional, Sequence
+from typing import Any, Dict, Iterable, Iterator, NamedTuple, Optional, Sequence, Tuple
 
 from ..command_line import MODELS, USAGE, Parser, status_of
-from ..findings import Finding, Printer, put
+from ..findings import ERROR, Finding, Printer
 from ..models import Model
+from ..output import complain
+from ..processes import in_order
 from ..verdicts import Kind, Library
-from .judging import RULES, is_judged, judge
+from ..visible import visible
+from .judging import FAULTS, RULES, is_judged, judge
 from .literals import Source
 from .pairing import paired
 from .trees import Change, Git, Unreadable, changes_of
@@ -22,16 +25,27 @@ Finds the string literals of C source that changed, and says of each that has a 
 specification whether the new format takes the same arguments and prints the same bytes as the old.
 
 OLD and NEW are two files or two folders. With --git it compares two revisions, a revision and the
-work tree, or HEAD and the work tree. PATHs are those of git."""
-EPILOG = """\
+work tree, or HEAD and the work tree; with --cached, what is staged instead of the work tree. PATHs
+are those of git. In folders, hidden files and folders and files that git ignores are left out."""
+EPILOG = f"""\
 A place is one or more adjacent string literals, with macros of <inttypes.h> and those that the
-file defines as literals. Other macros and wide literals are not judged. Arguments of puts, fputs and
-asm are not formats. Arguments count from 0. Places that came or went are counted.
+file defines as literals. Other macros and wide literals are not judged. Arguments of puts, fputs,
+asm, and of functions such as scanf and strftime are not formats. Arguments count from 0. Places that
+came or went are counted. Files are compared one by one.
 
-The exit status is 0 if nothing that was judged differs, 1 if something does, and 2 for a usage error
-or if a file or git can't be read."""
-# Up to how many files are read by one process, and how many wait for each of several.
-FEW, WAITING = 8, 4
+The kinds of findings are {', '.join(RULES)}.
+
+The exit status is 0 if no finding has a kind that --fail-on names, 1 if one does, and 2 for a usage
+error or if a file or git can't be read."""
+
+
+def kinds_of(text: str) -> Tuple[str, ...]:
+    """Returns the kinds that a list names. Raises an error of the command line for others."""
+    found = tuple(filter(None, text.split(",")))
+    for kind in found:
+        if kind not in RULES:
+            raise argparse.ArgumentTypeError(f"{kind!r} is not a kind: use {', '.join(RULES)}")
+    return found
 
 
 def parser() -> Parser:
@@ -39,7 +53,24 @@ def parser() -> Parser:
     usage = "fmtcanon-diff [OPTION]... OLD NEW\n       fmtcanon-diff [OPTION]... --git [REV [REV]] [-- PATH...]"
     made = Parser(NAME, usage, DESCRIPTION, EPILOG)
     made.add_argument("--git", action="store_true", help="compare what git has")
+    made.add_argument(
+        "--cached", action="store_true", help="with --git, compare what is staged with a revision or HEAD"
+    )
+    made.add_argument(
+        "--exclude",
+        action="append",
+        default=[],
+        metavar="GLOB",
+        help="leave out files and folders whose name or path matches; may be given more than once",
+    )
     made.add_argument("--verbose", action="store_true", help="also report what is the same")
+    made.add_argument(
+        "--fail-on",
+        type=kinds_of,
+        default=FAULTS,
+        metavar="KIND,..",
+        help=f"the kinds of findings for which the status is 1; by default {','.join(FAULTS)}",
+    )
     made.add_model(
         "the data models in which the formats are compared: "
         "lp64, ilp32, llp64, both for the first two, or all, the default"
@@ -63,7 +94,7 @@ class Report(NamedTuple):
     error: str = ""
 
 
-def report_on(change: Change, models: Sequence[Model]) -> Report:
+def report_on(change: Change, models: Sequence[Model], fail_on: Sequence[str] = FAULTS) -> Report:
     """Judges the places of a file that changed."""
     if change.error:
         return Report(error=change.error)
@@ -71,41 +102,16 @@ def report_on(change: Change, models: Sequence[Model]) -> Report:
     if change.old is None or change.new is None:
         return Report(came=len(new.read().places), went=len(old.read().places))
     pairs, library = paired(old, new), Library()
-    findings = [judge(library, change.name, it, models) for it in pairs.changed if is_judged(*it)]
+    findings = [judge(library, change.name, it, models, fail_on) for it in pairs.changed if is_judged(*it)]
     return Report(findings, pairs.came, pairs.went)
-
-
-def pool_of(jobs: int) -> Optional[ProcessPoolExecutor]:
-    """Returns processes, or None where the system has no means for them."""
-    try:
-        return ProcessPoolExecutor(jobs)
-    except (ImportError, NotImplementedError, OSError):
-        return None
-
-
-def reports(changes: Iterator[Change], models: Sequence[Model], jobs: int) -> Iterator[Report]:
-    """Yields the report on each file, in order. Many files are read by several processes."""
-    first = list(itertools.islice(changes, FEW))
-    processes = pool_of(jobs) if len(first) == FEW and jobs > 1 else None
-    if processes is None:
-        for change in itertools.chain(first, changes):
-            yield report_on(change, models)
-        return
-    waiting: Deque["Future[Report]"] = collections.deque()
-    with processes as pool:
-        for change in itertools.chain(first, changes):
-            waiting.append(pool.submit(report_on, change, models))
-            if len(waiting) > WAITING * jobs:
-                yield waiting.popleft().result()
-        while waiting:
-            yield waiting.popleft().result()
 
 
 def changes_for(options: Any, paths: Sequence[str]) -> Iterator[Change]:
     """Returns what the operands say is to be compared."""
     if options.git:
-        return Git().changes(options.operands or ["HEAD"], paths)
-    return changes_of(*options.operands)
+        return Git().changes(options.operands or ["HEAD"], paths, options.exclude, options.cached)
+    old, new = options.operands
+    return changes_of(old, new, options.exclude)
 
 
 def summary(counts: Dict[str, int]) -> str:
@@ -114,9 +120,11 @@ def summary(counts: Dict[str, int]) -> str:
         f"{counts[it.value]} {text}"
         for it, text in [
             (Kind.SAME, "same"),
+            (Kind.WORDS, "with other words"),
             (Kind.DIFFERENT, "different"),
             (Kind.TYPES, "with other types"),
             (Kind.DIRECTIVES, "with other directives"),
+            (Kind.REJECTED, "rejected now"),
             (Kind.UNJUDGED, "not judged"),
         ]
     )
@@ -125,24 +133,21 @@ def summary(counts: Dict[str, int]) -> str:
     return f"{changed} {word} changed: {judged}; {counts['came']} literals came, {counts['went']} went"
 
 
-def run(changes: Iterable[Report], printer: Printer, is_verbose: bool) -> int:
-    """Prints the reports, and returns the exit status."""
-    counts: Dict[str, int] = collections.Counter()
+def run(changes: Iterable[Report], printer: Printer, counts: Dict[str, int], is_verbose: bool) -> int:
+    """Prints the reports, counts what they have, and returns the exit status."""
     status = 0
     for report in changes:
         for finding in report.findings:
             counts[finding.kind] += 1
-            if is_verbose or finding.kind != Kind.SAME.value:
+            if is_verbose or finding.kind != Kind.SAME.value or finding.level == ERROR:
                 printer.add(finding)
-            if finding.kind not in (Kind.SAME.value, Kind.UNJUDGED.value):
+            if finding.level == ERROR:
                 status = max(status, 1)
         counts["came"] += report.came
         counts["went"] += report.went
         if report.error:
-            put(sys.stderr, f"{NAME}: {report.error}")
+            complain(f"{NAME}: {visible(report.error)}")
             status = USAGE
-    if sum(counts.values()):
-        put(sys.stderr, summary(counts))
     return status
 
 
@@ -153,6 +158,8 @@ def main(words: Optional[Sequence[str]] = None) -> int:
         options.operands, more = [*options.operands, *more], []
     if options.git and len(options.operands) > 2:
         made.error("--git takes at most two revisions; give paths after --")
+    if options.cached and (not options.git or len(options.operands) > 1):
+        made.error("--cached needs --git, and takes at most one revision")
     if not options.git and len(options.operands) != 2:
         made.error("give OLD and NEW, or --git")
     return status_of(NAME, lambda: diff(options, more))
@@ -161,11 +168,15 @@ def main(words: Optional[Sequence[str]] = None) -> int:
 def diff(options: Any, paths: Sequence[str]) -> int:
     """Compares what the operands name, and returns the exit status."""
     printer = Printer(NAME, options.output, RULES)
+    counts: Dict[str, int] = collections.Counter()
     try:
-        found = reports(changes_for(options, paths), MODELS[options.model], options.jobs)
-        status = run(found, printer, options.verbose)
+        work = functools.partial(report_on, models=MODELS[options.model], fail_on=options.fail_on)
+        found = in_order(work, changes_for(options, paths), options.jobs)
+        status = run(found, printer, counts, options.verbose)
     except Unreadable as error:
-        put(sys.stderr, f"{NAME}: {error}")
+        complain(f"{NAME}: {visible(str(error))}")
         status = USAGE
     printer.end()
+    if sum(counts.values()):
+        complain(summary(counts))
     return status

@@ -1,23 +1,38 @@
 """Judges a pair of places, and says in words what it found."""
 
-from typing import Any, Dict, List, NamedTuple, Optional, Sequence
+from typing import Any, Dict, Iterable, List, NamedTuple, Optional, Sequence
 
 from .. import Refused, Type
 from ..command_line import model_names
 from ..findings import ERROR, NOTE, TYPE_NAMES, WARNING, Finding
 from ..models import Model
-from ..verdicts import Kind, Verdict, narrowed, only_words_differ, shared_front, shortened, shown, shown_arguments
+from ..replace.known import KNOWN
+from ..verdicts import (
+    Kind,
+    Verdict,
+    narrowed,
+    only_words_differ,
+    shared_front,
+    shown,
+    shown_arguments,
+    telling_arguments,
+)
 from .literals import NOT_FORMATS, Place
 from .pairing import Pair
 
-LEVELS = {Kind.SAME: NOTE, Kind.DIFFERENT: ERROR, Kind.TYPES: ERROR, Kind.DIRECTIVES: ERROR, Kind.UNJUDGED: WARNING}
 RULES = {
     Kind.SAME.value: "The old and the new format take the same arguments and print the same bytes.",
+    Kind.WORDS.value: "Only the text between the specifications of the old and the new format differs.",
     Kind.DIFFERENT.value: "The old and the new format take the same arguments and print other bytes.",
     Kind.TYPES.value: "The old and the new format take arguments of different types.",
     Kind.DIRECTIVES.value: "The old and the new format have different directives, by their normal spelling.",
+    Kind.REJECTED.value: "The old literal is a format, and the new one is not.",
     Kind.UNJUDGED.value: "The old or the new literal is not a format that can be judged.",
 }
+# The kinds for which the status is 1, unless --fail-on names others.
+FAULTS = (Kind.TYPES.value, Kind.DIFFERENT.value, Kind.DIRECTIVES.value, Kind.REJECTED.value)
+# What is a note; of several data models it is reported only if no other has more.
+NOTES = (Kind.SAME, Kind.WORDS)
 # A longer format is compared without what it shares with the other.
 LONG = 10_000
 # How much of a text is shown, and how much of that comes before the first difference.
@@ -48,56 +63,77 @@ def verdict_in(library: Any, old: Place, new: Place, model: Model) -> Judged:
     if first is None or second is None:
         return Judged(Verdict(Kind.UNJUDGED, reason=why or why_second), first, second)
     if max(len(first), len(second)) > LONG and b"$" not in first + second:
-        return long_verdict(library, first, second, model)
-    return Judged(library.verdict(first, second, model), first, second)
+        judged = long_verdict(library, first, second, model)
+    else:
+        judged = Judged(library.verdict(first, second, model), first, second)
+    kind, texts = judged.verdict.kind, (judged.old or b"", judged.new or b"")
+    if kind is Kind.DIFFERENT and only_words_differ(library, *texts, model):
+        kind = Kind.WORDS
+    if kind is Kind.REJECTED and b"%" not in first and printable(new.call.function) not in KNOWN:
+        # Nothing says that it is a format.
+        kind = Kind.UNJUDGED
+    return judged._replace(verdict=judged.verdict._replace(kind=kind))
 
 
 def long_verdict(library: Any, old: bytes, new: bytes, model: Model) -> Judged:
     """Returns the verdict on long formats, of which only what they don't share is compared."""
     front, back = narrowed(old, new)
     texts = [it[front : len(it) - back] for it in (old, new)]
-    try:
-        types, before = [library.types(it, model) for it in (old, new)], len(library.types(old[:front], model))
-    except Refused as refusal:
-        unjudged = Verdict(Kind.UNJUDGED, reason=f"{refusal} of a long format")
-        return Judged(unjudged, texts[0], texts[1])
+    types: List[bytes] = []
+    for text in (old, new):
+        try:
+            types.append(library.types(text, model))
+        except Refused as refusal:
+            kind = Kind.REJECTED if types else Kind.UNJUDGED
+            return Judged(Verdict(kind, reason=f"{refusal} of a long format"), texts[0], texts[1])
+    before = len(library.types(old[:front], model))
     verdict = library.verdict(*texts, model)
     at = shared_front(*types) if verdict.kind is Kind.TYPES else before + verdict.at
     return Judged(verdict._replace(at=at), texts[0], texts[1], before)
 
 
-def judge(library: Any, file: str, pair: Pair, models: Sequence[Model]) -> Finding:
-    """Returns the finding on a pair: that of the first data model in which the two are not the same."""
+def judge(library: Any, file: str, pair: Pair, models: Sequence[Model], fail_on: Sequence[str] = FAULTS) -> Finding:
+    """Returns the finding on a pair: that of the first data model in which more than words differ, if there is one."""
     old, new = pair
     found = {model: verdict_in(library, old, new, model) for model in models}
-    others = [model for model in models if found[model].verdict.kind is not Kind.SAME]
+    kinds = {model: it.verdict.kind for model, it in found.items()}
+    others = [it for it in models if kinds[it] not in NOTES] or [it for it in models if kinds[it] is not Kind.SAME]
     model = others[0] if others else models[0]
-    judged = found[model]
-    same = [it for it in models if it not in others]
+    kind = kinds[model]
     details = details_of(old, new, model)
-    details["verdicts"] = {name: found[it].verdict.kind.value for name, it in zip(model_names(models), models)}
-    wording = Wording(library, pair, judged, model)
-    message = wording.message()
-    if wording.is_of_words:
-        details["words"] = True
-    if others and same and judged.verdict.kind is not Kind.UNJUDGED:
-        message = f"same in {' and '.join(model_names(same))} only: {wording.both()}"
-    else:
-        message += elsewhere({it: found[it].verdict.kind for it in models}, judged.verdict.kind)
+    details["verdicts"] = {name: kinds[it].value for name, it in zip(model_names(models), models)}
+    wording = Wording(library, pair, found[model], model)
     details.update(wording.specification())
     start, end = new.span()
     return Finding(
         file,
         start.line,
         start.column,
-        judged.verdict.kind.value,
-        LEVELS[judged.verdict.kind],
-        message,
+        kind.value,
+        level_of(kind, details["verdicts"].values(), fail_on),
+        message_of(wording, kinds, others),
         (end.line, end.column),
         (details["old"], details["new"]),
         model_names(others or models),
         details,
     )
+
+
+def level_of(kind: Kind, kinds: Iterable[str], fail_on: Sequence[str]) -> str:
+    """Returns the level of a finding: an error if any data model has a kind that sets the status."""
+    if any(it in fail_on for it in kinds):
+        return ERROR
+    return NOTE if kind in NOTES else WARNING
+
+
+def message_of(wording: "Wording", kinds: Dict[Model, Kind], others: Sequence[Model]) -> str:
+    """Returns what is said of a pair: by the verdict of one data model, and how it differs from the others."""
+    kind = wording.judged.verdict.kind
+    rest = [it for it in kinds if it not in others]
+    if others and rest and kind not in (Kind.UNJUDGED, Kind.REJECTED):
+        words = ", with other words" if any(kinds[it] is Kind.WORDS for it in rest) else ""
+        return f"same in {' and '.join(model_names(rest))} only{words}: {wording.both()}"
+    return wording.message() + elsewhere(kinds, kind)
 
 
 def details_of(old: Place, new: Place, model: Model) -> Dict[str, Any]:
@@ -119,7 +155,6 @@ class Wording:
     def __init__(self, library: Any, pair: Pair, judged: Judged, model: Model) -> None:
         self.library, self.judged, self.model = library, judged, model
         self.old, self.new = pair
-        self.is_of_words = False
 
     def both(self) -> str:
         """Returns the two formats, each as its literals or, with macros in it, as its source."""
@@ -133,19 +168,18 @@ class Wording:
         verdict, old, new = self.judged.verdict, self.judged.old, self.judged.new
         if verdict.kind is Kind.UNJUDGED or old is None or new is None:
             return f"not judged: {verdict.reason}"
+        if verdict.kind is Kind.REJECTED:
+            return f"rejected now: {verdict.reason}"
         if verdict.kind is Kind.SAME:
             return f"same: {self.both()}"
         if verdict.kind is Kind.TYPES:
             names = [type_at(self.library, text, verdict.at - self.judged.before, self.model) for text in (old, new)]
-            return f"types differ at argument {verdict.at}: {names[0]} and {names[1]}"
+            return f"types differ at argument {verdict.at}: {names[0]} and {names[1]}, in {self.both()}"
         if verdict.kind is Kind.DIRECTIVES:
             return f"directives differ at argument {verdict.at}: {self.directives(old, new)}"
-        self.is_of_words = only_words_differ(self.library, old, new, self.model)
-        return (
-            f"the words differ: {self.both()}"
-            if self.is_of_words
-            else f"different: {self.both()}{self.example(old, new)}"
-        )
+        if verdict.kind is Kind.WORDS:
+            return f"the words differ: {self.both()}"
+        return f"different: {self.both()}{self.example(old, new)}"
 
     def specification(self) -> Dict[str, Any]:
         """Returns where the specification is that takes the argument at which the types or the directives differ."""
@@ -170,7 +204,7 @@ class Wording:
 
     def example(self, old: bytes, new: bytes) -> str:
         """Returns what the two print for arguments that tell them apart."""
-        arguments = shortened(self.library, old, new, self.judged.verdict.arguments, self.model)
+        arguments = telling_arguments(self.library, old, new, self.judged.verdict.arguments, self.model)
         first, second = (self.library.printed(it, arguments, self.model) for it in (old, new))
         listed = f"for {shown_arguments(arguments)}"
         if first is None or second is None or first == second:

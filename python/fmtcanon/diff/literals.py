@@ -10,12 +10,13 @@ from .. import BadLiteral, decode_literal, source_offset
 from ..models import Model
 from ..replace.known import GETTEXT
 from ..replace.tokens import CHARACTER, COMMENT, NAME, NUMBER, SPLICE, STRING
-from ..verdicts import SPECIFICATION
+from ..verdicts import without_specifications
 from .macros import Part, definitions, expansion
 
 # A comment that isn't closed goes to the end.
 ANY_COMMENT = COMMENT + rb"|/\*[\s\S]*"
 RAW_START = rb"(?P<prefix>u8|[uUL])?R\"(?P<delimiter>[^()\\\s\"]{0,16})\("
+RAW_END = re.compile(rb"\)([^()\\\s\"]{0,16})\"")
 # What is of no interest. Each part goes as far as it can, so that a text matches in one way only. Their number has a
 # bound, since a pattern takes memory for each.
 MARKLESS = rb"[^\w\"'/(),;{}#$\x80-\xff]"
@@ -51,9 +52,12 @@ KEYWORDS = frozenset(
     b"if else while for do switch case default return sizeof typeof _Alignof defined extern".split()
     + b"and or not xor throw operator co_return co_yield".split()
 )
-# What is given to them isn't a format. A word of an asm comes directly before the bracket.
+# What is given to them isn't a format of printf. A word of an asm comes directly before the bracket.
 NOT_FORMATS = frozenset(
     b"puts fputs puts_unlocked fputs_unlocked _Pragma".split()
+    + b"scanf fscanf sscanf vscanf vfscanf vsscanf scanf_s fscanf_s sscanf_s vscanf_s vfscanf_s vsscanf_s".split()
+    + b"wscanf fwscanf swscanf vwscanf vfwscanf vswscanf".split()
+    + b"strftime strftime_l wcsftime strptime strptime_l strfmon strfmon_l put_time get_time".split()
     + b"asm __asm __asm__ volatile __volatile __volatile__ goto inline".split()
 )
 # The group that a token begins with, if that isn't the last one.
@@ -110,7 +114,7 @@ class Place:
         text = self.text(Model.LP64)[0]
         if text is not None and len(text) > LONG:
             return text[:LONG]
-        return self.key if text is None else SPECIFICATION.sub(b"%", text)
+        return self.key if text is None else without_specifications(text)
 
     @property
     def rest(self) -> bytes:
@@ -283,7 +287,8 @@ class Reader:
             for name, parts in source.macros.items()
             if b"%" in (joined(parts, source.macros, Model.LP64)[0] or b"")
         }
-        self.unclosed: Set[bytes] = set()
+        # Where a raw string of each delimiter may end for the last time, once it is needed.
+        self.raw_ends: Optional[Dict[bytes, int]] = None
 
     def places(self) -> List[Place]:
         done: Optional[int] = self.source.begin
@@ -378,10 +383,11 @@ class Reader:
         """Returns the part of a place that a token of a kind is, or None, and its end."""
         if kind not in ("wide", "string", "name"):
             delimiter = token["delimiter"]
-            end = -1 if delimiter in self.unclosed else self.text.find(b")" + delimiter + b'"', token.end())
-            if end < 0:
-                self.unclosed.add(delimiter)
+            if self.raw_ends is None:
+                self.raw_ends = {it[1]: it.start() for it in RAW_END.finditer(self.text)}
+            if self.raw_ends.get(delimiter, -1) < token.end():
                 return None, token.end()
+            end = self.text.index(b")" + delimiter + b'"', token.end())
             is_wide = token["prefix"] in (b"u", b"U", b"L")
             return Part("wide" if is_wide else "raw", self.source.raw(token.end(), end)), end + len(delimiter) + 2
         if kind == "name" and token["name"] in KEYWORDS:

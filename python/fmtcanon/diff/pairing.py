@@ -1,7 +1,8 @@
 """Pairs the places of an old source with those of a new one.
 
-Lines that are equal are paired first. Between them, places of the same call are paired by their text and by what
-follows, and then by how much they are alike. What is left of the whole file is paired once more, since code moves.
+Lines that are equal are paired first, and between them lines that are equal except for their literals. Then places of
+the same call are paired by their text and by what follows, and then by how much they are alike. What is left of the
+whole file is paired once more, since code moves.
 """
 
 import bisect
@@ -9,7 +10,7 @@ import collections
 import difflib
 import itertools
 import re
-from typing import Callable, Dict, Hashable, Iterator, List, NamedTuple, Optional, Sequence, Tuple
+from typing import AbstractSet, Callable, Dict, Hashable, Iterator, List, NamedTuple, Optional, Sequence, Tuple
 
 from ..models import Model
 from ..verdicts import shared_back, shared_front
@@ -17,6 +18,8 @@ from .literals import UNUSUAL, Place, Source, statement_ends
 
 # A line that has no name but `else`, and no literal, says nothing of where it is from.
 WORDS = re.compile(rb"(?!else\b)\b[A-Za-z_]\w")
+# What follows a place tells nothing without a name.
+ARGUMENT = re.compile(rb"[A-Za-z_]")
 # Words that tell which place it is, even in another call.
 TELLING = re.compile(rb"[A-Za-z]{3}")
 # How many comparisons difflib may make of two sequences, how many pairs of places are tried, and the longest texts.
@@ -53,8 +56,10 @@ def common(first: Sequence[Hashable], second: Sequence[Hashable], span: Range) -
     return a0, a1, b0, b1
 
 
-def anchors(first: Sequence[Hashable], second: Sequence[Hashable], span: Range) -> List[Tuple[int, int]]:
-    """Returns the longest list, in order, of items that occur once in each of two ranges."""
+def anchors(
+    first: Sequence[Hashable], second: Sequence[Hashable], span: Range, twice: AbstractSet[Hashable] = frozenset()
+) -> List[Tuple[int, int]]:
+    """Returns the longest list, in order, of items that occur once in each of two ranges. Some items count twice."""
     a0, a1, b0, b1 = span
     counts = [collections.Counter(first[a0:a1]), collections.Counter(second[b0:b1])]
     once = {key for key, count in counts[0].items() if count == 1 and counts[1].get(key) == 1}
@@ -62,23 +67,27 @@ def anchors(first: Sequence[Hashable], second: Sequence[Hashable], span: Range) 
         return []
     places = {second[at]: at for at in range(b0, b1) if second[at] in once}
     pairs = [(at, places[first[at]]) for at in range(a0, a1) if first[at] in once]
+    # An item that counts twice is two items side by side.
+    listed = [(index, 2 * b + half) for index, (a, b) in enumerate(pairs) for half in range(1 + (first[a] in twice))]
     # The longest increasing list: the last item of the best list of each length, and what comes before each item.
     ends: List[int] = []
     last: List[int] = []
     before: List[int] = []
-    for index, (_, at) in enumerate(pairs):
+    for number, (_, at) in enumerate(listed):
         length = bisect.bisect_left(ends, at)
         before.append(last[length - 1] if length else -1)
-        ends[length : length + 1], last[length : length + 1] = [at], [index]
-    found = []
-    index = last[-1]
-    while index >= 0:
-        found.append(pairs[index])
-        index = before[index]
-    return found[::-1]
+        ends[length : length + 1], last[length : length + 1] = [at], [number]
+    found = set()
+    number = last[-1]
+    while number >= 0:
+        found.add(listed[number][0])
+        number = before[number]
+    return [pairs[it] for it in sorted(found)]
 
 
-def matching(first: Sequence[Hashable], second: Sequence[Hashable]) -> List[Block]:
+def matching(
+    first: Sequence[Hashable], second: Sequence[Hashable], twice: AbstractSet[Hashable] = frozenset()
+) -> List[Block]:
     """Returns blocks of equal items in order, as `difflib` does, in less time if most items are equal or occur once."""
     found: List[Block] = []
     spans = [(0, len(first), 0, len(second))]
@@ -90,7 +99,7 @@ def matching(first: Sequence[Hashable], second: Sequence[Hashable]) -> List[Bloc
         a0, a1, b0, b1 = inner
         if a0 == a1 or b0 == b1:
             continue
-        pairs = anchors(first, second, inner)
+        pairs = anchors(first, second, inner, twice)
         if pairs:
             ends = [*pairs, (a1, b1)]
             found += [(a, b, 1) for a, b in pairs]
@@ -146,9 +155,11 @@ class Rows:
     def __init__(self, source: Source) -> None:
         whole = source.plain[source.begin : source.end].split(b"\n")
         lines = [it.strip() for it in whole]
+        self.source = source
         self.places: Dict[int, List[Place]] = {}
+        self.starts: List[int] = []
         if source.places:
-            starts = list(itertools.accumulate((len(it) + 1 for it in whole), initial=source.begin))
+            self.starts = starts = list(itertools.accumulate((len(it) + 1 for it in whole), initial=source.begin))
             for place in source.places:
                 first = bisect.bisect_right(starts, place.start) - 1
                 self.places.setdefault(first, []).append(place)
@@ -162,6 +173,18 @@ class Rows:
         """Returns the lines of a range that say something of where they are from."""
         return [at for at in range(start, end) if at in self.places or WORDS.search(self.lines[at])]
 
+    def frame(self, line: int) -> bytes:
+        """Returns a line without its places and without white space."""
+        if line not in self.places:
+            return self.lines[line]
+        pieces, done = [], self.starts[line]
+        for place in self.places[line]:
+            pieces.append(self.source.plain[done : place.start])
+            done = place.end
+        end = self.source.plain.find(b"\n", done, self.source.end)
+        pieces.append(self.source.plain[done : self.source.end if end < 0 else end])
+        return b"".join(b'"'.join(pieces).split())
+
     def places_in(self, lines: Sequence[int]) -> List[Place]:
         return [place for at in lines for place in self.places.get(at, ())]
 
@@ -174,12 +197,15 @@ def paired(old: Source, new: Source) -> Pairs:
     a0, a1, b0, b1 = common(first.lines, second.lines, whole)
     kept = [first.telling(a0, a1), second.telling(b0, b1)]
     keys = [[first.lines[at] for at in kept[0]], [second.lines[at] for at in kept[1]]]
-    blocks = matching(*keys)
+    # Code stays where it is more often than a literal does.
+    code = {rows.lines[at] for rows, lines in zip((first, second), kept) for at in lines if at not in rows.places}
+    blocks = matching(keys[0], keys[1], code)
     pairs: List[Pair] = []
     left: Tuple[List[Place], List[Place]] = ([], [])
     for a, b, c, d in gaps(blocks, len(keys[0]), len(keys[1])):
         before, after = first.places_in(kept[0][a:b]), second.places_in(kept[1][c:d])
-        found = aligned(before, after)
+        found = in_frames(first, second, kept[0][a:b], kept[1][c:d])
+        found += aligned(*without(found, before, after))
         pairs += found
         for side, rest in zip(left, without(found, before, after)):
             side += rest
@@ -199,6 +225,24 @@ def depends(old: Place, new: Place) -> bool:
     """Returns whether the text of a place changed since a macro did. Of a macro alone, its definition tells."""
     kinds = {it.kind for it in new.parts}
     return "name" in kinds and len(kinds) > 1 and any(old.text(it) != new.text(it) for it in Model)
+
+
+def in_frames(first: Rows, second: Rows, old: Sequence[int], new: Sequence[int]) -> List[Pair]:
+    """Pairs the places of lines that are equal except for their literals, if arguments follow.
+
+    Of as many old lines as new ones, each is compared with its own. Otherwise such a line must occur once.
+    """
+    frames = [[rows.frame(it) for it in lines] for rows, lines in ((first, old), (second, new))]
+    if len(old) == len(new):
+        equal = [(at, at) for at in range(len(old)) if frames[0][at] == frames[1][at]]
+    else:
+        equal = anchors(frames[0], frames[1], (0, len(old), 0, len(new)))
+    pairs: List[Pair] = []
+    for one, other in equal:
+        places = first.places.get(old[one], []), second.places.get(new[other], [])
+        if len(places[0]) == len(places[1]):
+            pairs += [it for it in zip(*places) if ARGUMENT.search(it[1].rest) and is_in_place(it[0].rest, it[1].rest)]
+    return pairs
 
 
 def aligned(old: List[Place], new: List[Place]) -> List[Pair]:

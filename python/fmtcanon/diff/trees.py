@@ -1,5 +1,6 @@
 """The files of two folders, or of two revisions of a git repository, that are to be compared."""
 
+import fnmatch
 import os
 import re
 import subprocess
@@ -8,9 +9,11 @@ from typing import Any, Iterator, List, NamedTuple, Optional, Sequence, Set, Tup
 
 # The endings of C and C++, of what they include, and of what is made into them.
 SOURCES = re.compile(r".*\.(?:[chyl]|cc|cpp|cxx|c\+\+|hh|hpp|hxx|h\+\+|inc|inl|ipp|tcc|def|C|H|m|mm|pc|ec)", re.DOTALL)
-# The modes of a file, and how many bytes of one tell that it isn't text.
+# The modes of a file.
 FILES = ("100644", "100755")
-NOTHING = "0" * 40
+# git, without the program that a repository may name to watch its files. It leaves the index alone.
+GIT = ["git", "-c", "core.fsmonitor=false"]
+ENVIRONMENT = {"GIT_OPTIONAL_LOCKS": "0"}
 
 
 class Unreadable(Exception):
@@ -26,19 +29,20 @@ class Change(NamedTuple):
     error: str = ""
 
 
-def read(path: str) -> bytes:
-    """Returns the bytes of a file of text."""
+def read(path: str, name: str = "") -> bytes:
+    """Returns the bytes of a file of text, which may have another name in what is said of it."""
+    name = name or path
     try:
         with open(path, "rb") as stream:
             data = stream.read()
     except OSError as error:
-        raise Unreadable(f"{path}: {error.strerror or error}") from error
-    return as_text(path, data)
+        raise Unreadable(f"{name}: {error.strerror or error}") from error
+    return as_text(name, data)
 
 
-def as_text(path: str, data: bytes) -> bytes:
+def as_text(name: str, data: bytes) -> bytes:
     if b"\0" in data:
-        raise Unreadable(f"{path}: it is a binary file")
+        raise Unreadable(f"{name}: it is a binary file")
     return data
 
 
@@ -54,7 +58,38 @@ def files_below(top: str) -> Tuple[Set[str], List[str]]:
     return found, [f"{it.filename}: {it.strerror}" for it in errors]
 
 
-def changes_of(old: str, new: str) -> Iterator[Change]:
+def is_excluded(name: str, globs: Sequence[str]) -> bool:
+    """Returns whether a glob matches the path of a file or of a folder that it is in, or a name in the path."""
+    names = name.split(os.sep)
+    paths = [os.sep.join(names[: at + 1]) for at in range(len(names))]
+    return any(fnmatch.fnmatchcase(it, glob) for glob in globs for it in {*names, *paths})
+
+
+def compared_below(top: str, globs: Sequence[str]) -> Tuple[Set[str], List[str]]:
+    """Returns the same without hidden files and folders, those that globs exclude, and those that git ignores."""
+    found, errors = files_below(top)
+    found = {it for it in found if not is_excluded(it, [".*", *globs])}
+    return found - ignored(top, found), errors
+
+
+def ignored(top: str, names: Set[str]) -> Set[str]:
+    """Returns which names below a folder git ignores: none where git can't tell, or if it ignores the folder itself."""
+    listed = checked_by_git(top, {os.curdir, *names})
+    return set() if os.curdir in listed else listed
+
+
+def checked_by_git(top: str, names: Set[str]) -> Set[str]:
+    given = b"".join(os.fsencode(it) + b"\0" for it in sorted(names))
+    try:
+        done = subprocess.run(
+            [*GIT, "-C", top, "check-ignore", "-z", "--stdin"], input=given, capture_output=True, check=False
+        )
+    except OSError:
+        return set()
+    return set(map(os.fsdecode, done.stdout.split(b"\0")[:-1])) if done.returncode == 0 else set()
+
+
+def changes_of(old: str, new: str, globs: Sequence[str] = ()) -> Iterator[Change]:
     """Yields what changed between two files or two folders."""
     kinds = [os.path.isdir(it) for it in (old, new)]
     for path in (old, new):
@@ -65,7 +100,7 @@ def changes_of(old: str, new: str) -> Iterator[Change]:
     if not kinds[0]:
         yield from compared(new, old, new)
         return
-    (first_names, first_errors), (second_names, second_errors) = (files_below(it) for it in (old, new))
+    (first_names, first_errors), (second_names, second_errors) = (compared_below(it, globs) for it in (old, new))
     yield from (Change("", None, None, it) for it in first_errors + second_errors)
     names = [first_names, second_names]
     for name in sorted(names[0] | names[1]):
@@ -96,14 +131,20 @@ class Git:
     """A git repository, asked by its plumbing."""
 
     def __init__(self) -> None:
-        self.top = os.fsdecode(self.run(["rev-parse", "--show-toplevel"]).rstrip(b"\n"))
+        is_in_work_tree = self.run(["rev-parse", "--is-inside-work-tree"]) == b"true\n"
+        # Without a work tree, names are those below the top of the repository.
+        top = self.run(["rev-parse", "--show-toplevel"]).rstrip(b"\n") if is_in_work_tree else os.getcwdb()
+        self.top = os.fsdecode(top)
 
     @staticmethod
     def run(words: Sequence[Any]) -> bytes:
-        environment = {**os.environ, "GIT_OPTIONAL_LOCKS": "0"}
         try:
             done = subprocess.run(
-                ["git", *words], stdin=subprocess.DEVNULL, capture_output=True, check=False, env=environment
+                [*GIT, *words],
+                stdin=subprocess.DEVNULL,
+                capture_output=True,
+                check=False,
+                env={**os.environ, **ENVIRONMENT},
             )
         except OSError as error:
             raise Unreadable(f"git can't be run: {error.strerror or error}") from error
@@ -114,76 +155,99 @@ class Git:
             )
         return done.stdout
 
-    def tree(self, revision: str) -> str:
-        """Returns the object of a revision. Raises `Unreadable` for one that isn't there."""
-        words = ["rev-parse", "--verify", "--quiet", f"{revision}^{{tree}}"]
+    def object(self, revision: str, kind: str) -> str:
+        """Returns the tree or the commit of a revision. Raises `Unreadable` for one that isn't there."""
+        words = ["rev-parse", "--verify", "--quiet", f"{revision}^{{{kind}}}"]
         try:
             return self.run(words).decode().strip()
         except Unreadable as error:
             why = "the repository has no commits" if revision == "HEAD" else f"there is no revision {revision}"
             raise Unreadable(f"git: {why}") from error
 
-    def entries(self, revisions: Sequence[str], paths: Sequence[str]) -> Iterator[Entry]:
-        """Yields what changed between two revisions, or between one and the work tree."""
-        if len(revisions) == 1 and ".." in revisions[0] and "..." not in revisions[0]:
-            revisions = [it or "HEAD" for it in revisions[0].split("..")]
-        trees = [self.tree(it) for it in revisions]
-        command = ["diff-index"] if len(trees) == 1 else ["diff-tree", "-r"]
-        listed = self.run([*command, "--raw", "-z", "-M", "--no-abbrev", "--ignore-submodules", *trees, "--", *paths])
-        fields = listed.split(b"\0")[:-1]
+    def merge_base(self, first: str, second: str) -> str:
+        commits = [self.object(it, "commit") for it in (first, second)]
+        try:
+            return self.run(["merge-base", *commits]).decode().strip()
+        except Unreadable as error:
+            raise Unreadable(f"git: {first} and {second} have no merge base") from error
+
+    def trees(self, revisions: Sequence[str]) -> List[str]:
+        """Returns the trees of one or two revisions, also of `A..B`, and of `A...B`, which begins at their merge base."""
+        if len(revisions) == 1 and ".." in revisions[0]:
+            dots = "..." if "..." in revisions[0] else ".."
+            revisions = [it or "HEAD" for it in revisions[0].split(dots, 1)]
+            if dots == "...":
+                revisions = [self.merge_base(*revisions), revisions[1]]
+        return [self.object(it, "tree") for it in revisions]
+
+    def entries(self, trees: Sequence[str], paths: Sequence[str], is_cached: bool) -> Iterator[Entry]:
+        """Yields what changed between two trees, or between one and the work tree or the index."""
+        command = ["diff-index", *(["--cached"] if is_cached else [])] if len(trees) == 1 else ["diff-tree", "-r"]
+        # 0 means no limit: each file that was renamed is found.
+        options = ["--raw", "-z", "-M", "-l0", "--no-abbrev", "--ignore-submodules"]
+        fields = self.run([*command, *options, *trees, "--", *paths]).split(b"\0")[:-1]
         while fields:
             old_mode, new_mode, old, new, status = fields.pop(0).decode().lstrip(":").split()
             count = 2 if status[0] in "RC" else 1
             yield Entry((old_mode, new_mode), (old, new), fields[:count])
             del fields[:count]
 
-    def changes(self, revisions: Sequence[str], paths: Sequence[str]) -> Iterator[Change]:
+    def changes(
+        self, revisions: Sequence[str], paths: Sequence[str], globs: Sequence[str] = (), is_cached: bool = False
+    ) -> Iterator[Change]:
         """Yields what changed in the sources among the files of these paths, or of all."""
         given = {os.path.realpath(it) for it in paths}
+        trees = self.trees(revisions)
+        is_of_work_tree = len(trees) == 1 and not is_cached
         with objects() as blob:
-            for entry in self.entries(revisions, paths):
-                path = os.path.join(self.top, os.fsdecode(entry.names[-1]))
-                if not SOURCES.fullmatch(path) and path not in given:
+            for entry in self.entries(trees, paths, is_cached):
+                below = os.fsdecode(entry.names[-1])
+                path = os.path.join(self.top, below)
+                if is_excluded(below, globs) or (not SOURCES.fullmatch(path) and path not in given):
                     continue
                 name = os.path.relpath(path)
                 try:
-                    texts = [self.text(name, path, mode, it, blob) for mode, it in zip(entry.modes, entry.objects)]
+                    old = self.text(name, entry, 0, blob)
+                    new = self.text(name, entry, 1, blob, path if is_of_work_tree else None)
                 except Unreadable as error:
                     yield Change(name, None, None, str(error))
                     continue
-                if texts[0] != texts[1]:
-                    yield Change(name, texts[0], texts[1])
+                if old != new:
+                    yield Change(name, old, new)
 
     @staticmethod
-    def text(name: str, path: str, mode: str, found: str, blob: Any) -> Optional[bytes]:
-        """Returns the bytes of a file: of git's object or, without one, of the work tree. None for what is no file."""
-        if mode not in FILES:
+    def text(name: str, entry: Entry, side: int, blob: Any, path: Optional[str] = None) -> Optional[bytes]:
+        """Returns the bytes of a file: of git's object or, without one, of a path. None for what is no file."""
+        found = entry.objects[side]
+        if entry.modes[side] not in FILES:
             return None
-        if found.strip("0"):
-            return as_text(name, blob(found))
-        try:
-            with open(path, "rb") as stream:
-                return as_text(name, stream.read())
-        except OSError as error:
-            raise Unreadable(f"{name}: {error.strerror or error}") from error
+        data = blob(found) if found.strip("0") else None
+        # Of a renamed file with changes that aren't staged, git prints the hash of an object that it doesn't have.
+        if data is None and path is not None:
+            return read(path, name)
+        if data is None:
+            raise Unreadable(f"git: the object {found} is missing")
+        return as_text(name, data)
 
 
 @contextmanager
 def objects() -> Iterator[Any]:
-    """Gives a function that returns the bytes of an object of git."""
-    running = subprocess.Popen(["git", "cat-file", "--batch"], stdin=subprocess.PIPE, stdout=subprocess.PIPE)
+    """Gives a function that returns the bytes of an object of git, or None if it is missing."""
+    running = subprocess.Popen([*GIT, "cat-file", "--batch"], stdin=subprocess.PIPE, stdout=subprocess.PIPE)
     assert running.stdin and running.stdout
     given, taken = running.stdin, running.stdout
 
-    def blob(name: str) -> bytes:
+    def blob(name: str) -> Optional[bytes]:
         try:
             given.write(name.encode() + b"\n")
             given.flush()
         except BrokenPipeError as error:
             raise Unreadable("git: cat-file ended") from error
         header = taken.readline().split()
+        if not header:
+            raise Unreadable("git: cat-file ended")
         if len(header) != 3:
-            raise Unreadable(f"git: the object {name} is missing")
+            return None
         data = taken.read(int(header[2]))
         taken.read(1)
         return data

@@ -1,13 +1,14 @@
 """Checks that the translations of a catalog take the arguments of their messages."""
 
+import collections
 import json
-from typing import Callable, Iterator, NamedTuple, Optional, Sequence, Tuple
+from typing import Callable, Dict, Iterator, NamedTuple, Optional, Sequence, Set, Tuple
 
 import fmtcanon
 
 from ..command_line import model_names
 from ..findings import ERROR, WARNING, Finding
-from .formats import Format, shown_kinds, shown_type
+from .formats import DEPENDENT, Format, shape_of, shown_kinds, shown_type
 from .plurals import PluralRule, rule_of
 from .reading import Catalog, Message, read_catalog
 from .tokens import Unreadable
@@ -17,12 +18,14 @@ INTEGERS = {fmtcanon.Type.INT, fmtcanon.Type.UINT}
 # How much of a message a report shows.
 SHOWN = 60
 # The kinds of findings.
-TYPES, NUMBER, FORMAT, NEWLINE, USE, UNJUDGED, UNREADABLE = (
+TYPES, NUMBER, FORMAT, NEWLINE, CHARSET, USE, EMPTY, UNJUDGED, UNREADABLE = (
     "types",
     "number",
     "format",
     "newline",
+    "charset",
     "use",
+    "empty",
     "unjudged",
     "unreadable",
 )
@@ -31,10 +34,16 @@ RULES = {
     NUMBER: "A translation takes another number of arguments than its message.",
     FORMAT: "A translation is not a C format, and its message is one.",
     NEWLINE: "A translation begins or ends with a newline, and its message doesn't, or the reverse.",
+    CHARSET: "A text has a byte that is not of the catalog's charset.",
     USE: "A translation prints an int as something else.",
+    EMPTY: "Some plural forms of a translation are empty, and others are not.",
     UNJUDGED: "A message is not a C format, so its translation can't be judged.",
     UNREADABLE: "A catalog can't be read.",
 }
+
+
+# The shapes of pairs of texts of which nothing is reported, with what else decides that.
+Right = Set[Tuple[Optional[bytes], Optional[bytes], bool, bool]]
 
 
 class Text(NamedTuple):
@@ -89,6 +98,9 @@ def changed_kind(wanted: Format, found: Format) -> Optional[Reason]:
 
 def newline_faults(message: Message) -> Iterator[str]:
     """Yields where a message and a translation don't begin or end with newlines alike, which msgfmt demands."""
+    given = [message.msgid, *message.forms.values(), *([] if message.plural is None else [message.plural])]
+    if len({(it[:1] == b"\n", it[-1:] == b"\n") for it in given}) == 1:
+        return
     texts = [Text(f"msgstr[{form}]", text) for form, text in sorted(message.forms.items())]
     if message.plural is None:
         texts = [Text("msgstr", message.forms[0])]
@@ -103,15 +115,26 @@ def newline_faults(message: Message) -> Iterator[str]:
 class Checker:
     """Checks one catalog after another, hands each finding on, and counts messages and faults."""
 
-    def __init__(self, add: Callable[[Finding], None], models: Sequence[fmtcanon.Model], is_all: bool = False) -> None:
+    def __init__(
+        self,
+        add: Callable[[Finding], None],
+        models: Sequence[fmtcanon.Model],
+        is_all: bool = False,
+        right: Optional[Right] = None,
+    ) -> None:
         self.add = add
+        self.right: Right = set() if right is None else right
         self.models = models
         self.is_all = is_all
         self.faults = 0
         self.judged = 0
         self.unjudged = 0
+        # How many findings there are of messages.
+        self.reports = 0
         self.is_whole = True
         self.is_certain = True
+        # How many messages with formats of other languages weren't judged, by their flags.
+        self.others: Dict[str, int] = collections.Counter()
 
     def report(self, file: str, line: int, text: str) -> None:
         """Reports that a catalog can't be read."""
@@ -147,6 +170,7 @@ class Checker:
         formats = tuple(it.text.decode(errors="backslashreplace") for it in texts)
         details = {"msgid": message.msgid.decode(errors="backslashreplace"), "formats": list(formats)}
         names = model_names(models or self.models)
+        self.reports += 1
         text = f"{reason.text} [{shown(message.msgid)}]"
         self.add(Finding(file, message.line, message.column, reason.kind, level, text, None, formats, names, details))
 
@@ -173,8 +197,25 @@ class Checker:
             text = f"{catalog.hidden} strings depend on the machine, and aren't checked"
             self.add(Finding(file, 0, None, UNJUDGED, WARNING, text))
         for message in catalog.messages:
-            if message.is_translated and not message.is_fuzzy:
-                self.check_message(file, message, rule, catalog.has_flags)
+            if message.bad_bytes:
+                self.report_bytes(file, message, catalog.charset)
+            elif not message.is_fuzzy:
+                self.check_forms(file, message)
+                if message.is_translated:
+                    self.check_message(file, message, rule, catalog.has_flags)
+
+    def report_bytes(self, file: str, message: Message, charset: str) -> None:
+        """Reports bytes that aren't of the charset. Such a message isn't judged further."""
+        for line, column, name, byte in message.bad_bytes:
+            self.faults += 1
+            text = f"'{name}' has a byte that is not of the charset {charset}: 0x{byte:02x} [{shown(message.msgid)}]"
+            self.add(Finding(file, line, column, CHARSET, ERROR, text))
+
+    def check_forms(self, file: str, message: Message) -> None:
+        """Warns of a message with some forms empty. If the first one is, no form is ever shown."""
+        if len(message.forms) > 1 and any(message.forms.values()) and not all(message.forms.values()):
+            names = ", ".join(f"msgstr[{form}]" for form, text in sorted(message.forms.items()) if not text)
+            self.found(file, message, WARNING, Reason(EMPTY, f"{names}: empty, unlike other forms"))
 
     def check_message(self, file: str, message: Message, rule: Optional[PluralRule], has_flags: bool) -> None:
         self.is_certain = True
@@ -189,6 +230,8 @@ class Checker:
             self.check_formats(file, message, rule)
             self.judged += self.is_whole
             self.unjudged += not self.is_whole
+        elif message.other_format:
+            self.others[message.other_format] += 1
 
     def check_formats(self, file: str, message: Message, rule: Optional[PluralRule]) -> None:
         if message.plural is None:
@@ -203,14 +246,27 @@ class Checker:
 
     def check_pair(self, file: str, message: Message, first: Text, second: Text, may_be_fewer: bool) -> bool:
         """Checks the second text against the first, and says whether the first is accepted."""
+        shapes = shape_of(first.text), shape_of(second.text)
+        pair = (*shapes, second.name == "msgid", may_be_fewer)
+        if pair in self.right:
+            return True
+        count = self.reports
+        is_accepted = self.check_texts(file, message, first, second, may_be_fewer)
+        if self.reports == count and None not in shapes:
+            self.right.add(pair)
+        return is_accepted
+
+    def check_texts(self, file: str, message: Message, first: Text, second: Text, may_be_fewer: bool) -> bool:
         wanted, found = Format(first.text), Format(second.text, second.name != "msgid")
-        rejection = rejection_of(wanted, self.models)
+        # Without these bytes, all data models have the same types.
+        models = self.models if DEPENDENT.search(first.text + second.text) else self.models[:1]
+        rejection = rejection_of(wanted, models)
         if rejection is not None:
             self.leave(file, message, f"'{second.name}' isn't checked, since '{first.name}' is {rejection.reason}")
             return False
-        rejection = rejection_of(found, self.models)
+        rejection = rejection_of(found, models)
         if rejection is None:
-            self.check_types(file, message, (first, second), (wanted, found), may_be_fewer)
+            self.check_types(file, message, (first, second), (wanted, found), may_be_fewer, models)
         elif second.name == "msgid" and rejection.kind is fmtcanon.Kind.MISSING_ARGUMENT:
             # The message for one may leave out arguments that no list of arguments may.
             self.leave(file, message, f"'msgid' isn't checked: {rejection.reason}")
@@ -222,17 +278,29 @@ class Checker:
         return True
 
     def check_types(
-        self, file: str, message: Message, texts: Tuple[Text, Text], formats: Tuple[Format, Format], may_be_fewer: bool
+        self,
+        file: str,
+        message: Message,
+        texts: Tuple[Text, Text],
+        formats: Tuple[Format, Format],
+        may_be_fewer: bool,
+        models: Sequence[fmtcanon.Model],
     ) -> None:
         wanted, found = formats
         names = [it.name for it in texts]
-        reasons = [difference(wanted, found, may_be_fewer, model) for model in self.models]
-        for model, reason in zip(self.models, reasons):
+        reasons = [difference(wanted, found, may_be_fewer, model) for model in models]
+        for model, reason in zip(models, reasons):
             if reason:
                 # The data model is named if the formats don't differ in each.
                 where = "" if all(reasons) else f", in {model.name}"
                 reason = reason._replace(text=reason.text.format(*names) + where)
-                self.report_of(file, message, reason, texts, [it for it, one in zip(self.models, reasons) if one])
+                self.report_of(
+                    file,
+                    message,
+                    reason,
+                    texts,
+                    () if all(reasons) else [it for it, one in zip(models, reasons) if one],
+                )
                 return
         change = changed_kind(wanted, found)
         if change:

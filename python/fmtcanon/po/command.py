@@ -1,15 +1,23 @@
 """Checks the C formats of message catalogs: a translation must take the arguments of its message."""
 
+import collections
 import errno
+import functools
 import os
 import sys
-from typing import Any, Optional, Sequence
+from typing import Any, Dict, Iterator, List, NamedTuple, Optional, Sequence, Tuple, Union
 
 from ..command_line import MODELS, Parser, status_of
 from ..findings import WARNING, Finding, Printer
-from .checking import RULES, Checker
+from ..models import Model
+from ..output import Unwritable, complain
+from ..processes import in_order
+from ..visible import visible
+from .checking import RULES, Checker, Right
 
 NAME = "fmtcanon-po"
+# Up to fewer catalogs than these are read by one process.
+FEW = 8
 DESCRIPTION = """\
 Checks the C formats of message catalogs.
 
@@ -29,7 +37,8 @@ EPILOG = """\
 A fault is reported on standard error, as by `msgfmt -c`: the file, the line, the reason and the
 message. Arguments are counted from 0. If only the message is not a C format, its translation can't be
 judged, which is a warning. It is a warning, too, if a translation prints an int as something else, as
-%c for %d. The last lines count the messages that were judged and that were not, and the faults.
+%c for %d, or if some of its plural forms are empty. The last lines count the messages that were judged
+and that were not, the faults, and the messages with formats of other languages, which are not judged.
 
 The exit status is 0 if there is no fault, 1 if there is one or a file can't be read, and 2 for a usage
 error."""
@@ -49,32 +58,73 @@ def parser() -> Parser:
     )
     made.add_argument("--strict", action="store_true", help="exit with status 1 also if something could not be judged")
     made.add_output()
+    made.add_argument(
+        "--jobs", type=int, default=os.cpu_count() or 1, metavar="N", help="how many catalogs are read at a time"
+    )
     made.add_argument("files", metavar="FILE", nargs="*", help="a catalog, or - for standard input")
     return made
 
 
 def as_msgfmt(finding: Finding) -> str:
     """Returns a finding as msgfmt prints it, with no column."""
-    return f"{finding.file}:{finding.line}: {'warning: ' if finding.level == WARNING else ''}{finding.message}"
+    level = "warning: " if finding.level == WARNING else ""
+    return visible(f"{finding.file}:{finding.line}: {level}{finding.message}")
 
 
-def read_bytes(file: str) -> bytes:
-    if file == "-":
+class Checked(NamedTuple):
+    """What was found in a catalog, and how many messages were judged, not judged, faulty, or of another language."""
+
+    findings: Sequence[Finding]
+    judged: int
+    unjudged: int
+    faults: int
+    others: Dict[str, int]
+
+
+# The name of a catalog. Of standard input also its bytes, or why they can't be read.
+Given = Tuple[str, Union[bytes, str, None]]
+
+
+def catalogs(files: Sequence[str]) -> Iterator[Given]:
+    """Yields the catalogs. Standard input is read here, since other processes don't have it."""
+    for file in files:
+        yield file, standard_input() if file == "-" else None
+
+
+def standard_input() -> Union[bytes, str]:
+    try:
         if sys.stdin is None:
             raise OSError(errno.EBADF, os.strerror(errno.EBADF))
         return sys.stdin.buffer.read()
-    with open(file, "rb") as stream:
-        return stream.read()
+    except OSError as error:
+        return str(error.strerror)
 
 
-def check_files(checker: Checker, files: Sequence[str]) -> None:
-    for file in files:
-        try:
-            data = read_bytes(file)
-        except OSError as error:
-            checker.report(file, 0, f"it can't be read: {error.strerror}")
-        else:
-            checker.check_data(file, data)
+def read_file(file: str) -> Union[bytes, str]:
+    """Returns the bytes of a file, or why it can't be read."""
+    try:
+        with open(file, "rb") as stream:
+            return stream.read()
+    except OSError as error:
+        return str(error.strerror)
+
+
+def check_catalog(catalog: Given, models: Sequence[Model], is_all: bool) -> Checked:
+    file, given = catalog
+    findings: List[Finding] = []
+    checker = Checker(findings.append, models, is_all, remembered(tuple(models)))
+    data = read_file(file) if given is None else given
+    if isinstance(data, str):
+        checker.report(file, 0, f"it can't be read: {data}")
+    else:
+        checker.check_data(file, data)
+    return Checked(findings, checker.judged, checker.unjudged, checker.faults, checker.others)
+
+
+@functools.lru_cache(maxsize=1)
+def remembered(models: Tuple[Model, ...]) -> Right:
+    """Returns what this process has found right in these data models, for its next catalogs."""
+    return set()
 
 
 def main(words: Optional[Sequence[str]] = None) -> int:
@@ -85,15 +135,29 @@ def main(words: Optional[Sequence[str]] = None) -> int:
     return status_of(NAME, lambda: check(options, [*options.files, *more]))
 
 
+def counted(count: int, word: str) -> str:
+    return f"{count} {word}" if count == 1 else f"{count} {word}s"
+
+
 def check(options: Any, files: Sequence[str]) -> int:
     """Checks the catalogs, and returns the exit status."""
+    if options.output == "text" and sys.stderr is None:
+        raise Unwritable("standard error is closed")
     printer = Printer(NAME, options.output, RULES, sys.stderr if options.output == "text" else None, as_msgfmt)
-    checker = Checker(printer.add, MODELS[options.model], options.c_format)
-    check_files(checker, files)
+    work = functools.partial(check_catalog, models=MODELS[options.model], is_all=options.c_format)
+    judged = unjudged = faults = 0
+    others: Dict[str, int] = collections.Counter()
+    for one in in_order(work, catalogs(files), options.jobs, FEW):
+        for finding in one.findings:
+            printer.add(finding)
+        judged, unjudged, faults = judged + one.judged, unjudged + one.unjudged, faults + one.faults
+        for flag, count in one.others.items():
+            others[flag] += count
     printer.end()
-    word = "message" if checker.judged == 1 else "messages"
-    print(f"{checker.judged} {word} judged, {checker.unjudged} not judged", file=sys.stderr)
-    if checker.faults:
-        word = "error" if checker.faults == 1 else "errors"
-        print(f"found {checker.faults} fatal {word}", file=sys.stderr)
-    return 1 if checker.faults or (options.strict and checker.unjudged) else 0
+    complain(f"{counted(judged, 'message')} judged, {unjudged} not judged")
+    if faults:
+        complain(f"found {counted(faults, 'fatal error')}")
+    if others:
+        listed = ", ".join(f"{count} {flag}" for flag, count in sorted(others.items()))
+        complain(f"{counted(sum(others.values()), 'message')} of other formats not judged: {listed}")
+    return 1 if faults or (options.strict and unjudged) else 0

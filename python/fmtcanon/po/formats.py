@@ -30,6 +30,12 @@ KINDS = {
     64: "a number of type unsigned char",
 }
 NUMBER, CHARACTER, SHORT, SIGNED_CHAR, WIDTH, UNSIGNED_SHORT, UNSIGNED_CHAR = KINDS
+# A specification that ends as one does, or a percent sign with anything else.
+ITEM = re.compile(re.sub(rb"\(\?P<\w+>", b"(?:", SPECIFICATION.pattern[:-1]) + b"|%")
+# What of a specification has another type in another data model (C11 7.21.6.1p7).
+DEPENDENT = re.compile(rb"[jzt]")
+# The shape of a longer text isn't looked for.
+LONG = 1_000
 # Without one of these bytes an int is only used as a number.
 OTHER_KINDS = re.compile(rb"[ch*]")
 
@@ -126,6 +132,17 @@ class Format:
 
 def specifications(text: bytes) -> Iterator["re.Match[bytes]"]:
     return SPECIFICATION.finditer(text)
+
+
+def shape_of(text: bytes) -> Optional[bytes]:
+    """Returns the specifications of a text side by side, which decide what is said of it; None if that isn't certain.
+
+    The library reads a specification by its own bytes alone, and rejects a NUL.
+    """
+    if len(text) > LONG or b"\0" in text:
+        return None
+    items = ITEM.findall(text)
+    return None if b"%" in items else b"".join(items)
 
 
 def replacement(match: "re.Match[bytes]", is_translation: bool) -> Optional[bytes]:

@@ -1,7 +1,8 @@
 """Evaluates the expression of Plural-Forms, which says which form is for a number."""
 
+import collections
 import re
-from typing import Dict, Iterable, List, NamedTuple, Optional
+from typing import Dict, Iterable, List, NamedTuple, Optional, Union
 
 # As in msgfmt: a form for at most 4 of the numbers up to 1000 is for few numbers, and may leave arguments out.
 FEW_NUMBERS = 4
@@ -12,6 +13,8 @@ INT_MAX = (1 << 31) - 1
 # The form is computed for a thousand numbers, so this bounds the time. Brackets are not steps.
 MOST_STEPS = 1000
 MOST_LENGTH = 100_000
+# How many numbers' forms are kept.
+MOST_KEPT = 10_000
 SPACE = " \t"
 TOKEN = re.compile(r"[ \t]*([0-9]+|n|\|\||&&|[=!<>]=|[-+*/%<>?:()!])")
 RANGE = re.compile(r"range:[\s,]+([0-9]+)\.\.([0-9]+)")
@@ -139,17 +142,20 @@ class PluralRule:
     """An expression, and the form that it gives for each number."""
 
     def __init__(self, text: str) -> None:
-        self.steps = postfix(text)
-        self.form_of = [self.form(number) for number in NUMBERS]
+        self.steps: List[Union[int, str]] = [number_of(it) if it[0].isdigit() else it for it in postfix(text)]
+        self.form_of: Dict[int, int] = {}
+        for number in NUMBERS:
+            self.form_of[number] = self.form(number)
+        self.counts = collections.Counter(self.form_of.values())
 
     def form(self, number: int) -> int:
         """Returns the form for a number."""
         values: List[Value] = []
         for step in self.steps:
-            if step == "n":
+            if isinstance(step, int):
+                values.append(step)
+            elif step == "n":
                 values.append(number)
-            elif step[0].isdigit():
-                values.append(number_of(step))
             elif step == "!":
                 top = values.pop()
                 values.append(None if top is None else int(not top))
@@ -165,7 +171,7 @@ class PluralRule:
 
     def is_few(self, form: int, flags: Iterable[str]) -> bool:
         """Says whether a form is for few numbers, or for at most one of the range of its message."""
-        if self.form_of.count(form) <= FEW_NUMBERS:
+        if self.counts[form] <= FEW_NUMBERS:
             return True
         span = range_of(flags)
         if span is None:
@@ -175,7 +181,12 @@ class PluralRule:
         return sum(self.known_form(number) == form for number in numbers) <= 1
 
     def known_form(self, number: int) -> int:
-        return self.form_of[number] if number < len(self.form_of) else self.form(number)
+        """Returns the form for a number, and keeps some of them: a message asks about the same ones for each form."""
+        if number not in self.form_of:
+            if len(self.form_of) > MOST_KEPT:
+                self.form_of = {it: self.form_of[it] for it in NUMBERS}
+            self.form_of[number] = self.form(number)
+        return self.form_of[number]
 
 
 class Span(NamedTuple):

@@ -2,17 +2,29 @@
 
 import re
 import struct
-from typing import Dict, Iterator, List, Optional, Tuple
+from typing import Dict, Iterator, List, NamedTuple, Optional, Tuple
 
-from .charsets import Charset, Unknown, charset_named, checked
-from .tokens import Token, Unreadable, tokens_of, unquoted
+from .charsets import Charset, Unknown, charset_named
+from .entries import BOUNDARY, ENTRY, FORM, MARKS, text_of
+from .tokens import Scanner, Token, Unreadable, unquoted
 
 MAGIC = {b"\xde\x12\x04\x95": "<", b"\x95\x04\x12\xde": ">"}
 # Such a file has strings that depend on the machine, with the number of them here.
 MACHINE_REVISION, MACHINE_STRINGS = 1, 36
 # Flags are separated by commas and white space. A range is one flag.
 FLAG = re.compile(r"range:[\s,]+[^\s,]*|[^\s,]+")
+SAID = {"c-format": True, "possible-c-format": True, "no-c-format": False, "impossible-c-format": False}
+OTHER_FORMAT = re.compile(r"(?!no-|impossible-|(?:possible-)?c-)[a-z0-9+-]+-format")
 FORM_DIGITS = 6
+
+
+class BadByte(NamedTuple):
+    """A byte that isn't of the charset: the line and the column of the text that has it, and the name of the text."""
+
+    line: int
+    column: Optional[int]
+    name: str
+    byte: int
 
 
 class Message:
@@ -31,6 +43,7 @@ class Message:
         self.msgid = b""
         self.plural: Optional[bytes] = None
         self.forms: Dict[int, bytes] = {}
+        self.bad_bytes: List[BadByte] = []
 
     @property
     def is_header(self) -> bool:
@@ -43,15 +56,22 @@ class Message:
     @property
     def is_c_format(self) -> Optional[bool]:
         """Whether the flags say that it is a C format, or None if they don't."""
-        said = {"c-format": True, "possible-c-format": True, "no-c-format": False, "impossible-c-format": False}
-        return next((said[flag] for flag in reversed(self.flags) if flag in said), None)
+        return next((SAID[flag] for flag in reversed(self.flags) if flag in SAID), None)
+
+    @property
+    def other_format(self) -> Optional[str]:
+        """The flag of a format of another language, if there is one."""
+        return next((flag for flag in self.flags if OTHER_FORMAT.fullmatch(flag)), None)
 
 
 class Catalog:
     """The messages of a file, and the text of its header."""
 
-    def __init__(self, messages: List[Message], has_flags: bool = True, hidden: int = 0) -> None:
-        self.messages = [one for one in messages if not one.is_header]
+    def __init__(
+        self, messages: List[Message], has_flags: bool = True, hidden: int = 0, charset: str = "UTF-8"
+    ) -> None:
+        self.charset = charset
+        self.messages = [one for one in messages if not one.is_header or one.bad_bytes]
         header = next((one.forms.get(0, b"") for one in messages if one.is_header), b"")
         self.header = header.decode(errors="replace")
         # Whether it says which messages are C formats.
@@ -61,11 +81,11 @@ class Catalog:
 
 
 class PoReader:
-    """Builds messages from the tokens of a .po file."""
+    """Builds messages from a .po file: from entries of the common shape, and from the tokens of all others."""
 
     def __init__(self, charset: Optional[Charset]) -> None:
         self.charset = charset
-        self.messages: List[Message] = []
+        self.scanner = Scanner(b"")
         self.flags: List[str] = []
         self.is_fuzzy = False
         # The last keyword, with its form and the text of the strings after it, if there are any.
@@ -74,25 +94,80 @@ class PoReader:
         self.text: Optional[bytearray] = None
         self.has_context = False
         self.message: Optional[Message] = None
+        self.bad_bytes: List[BadByte] = []
         self.line = self.column = 0
 
     def read(self, text: bytes) -> Iterator[Message]:
         """Yields each message as soon as the next one begins."""
-        for token in tokens_of(text):
-            if token.kind == "comment":
-                self.comment(token.text)
-            elif token.kind == "string":
-                if self.keyword is None:
-                    raise Unreadable(token.line, "a string comes after no keyword")
-                self.text = bytearray() if self.text is None else self.text
-                self.text += unquoted(token.text, self.charset, token.line)
-            elif token.kind == "form":
-                self.begin_form(token)
-            else:
-                self.finish_keyword()
-                yield from self.begin_keyword(token)
-        self.finish_keyword()
-        yield from self.finish_message()
+        self.scanner = Scanner(text)
+        while True:
+            message = self.entry()
+            if message is not None:
+                yield message
+                continue
+            token = self.scanner.token()
+            while token is not None:
+                yield from self.take(token)
+                if self.is_complete(token):
+                    break
+                token = self.scanner.token()
+            self.finish_keyword()
+            yield from self.finish_message()
+            if token is None:
+                return
+
+    def is_complete(self, token: Token) -> bool:
+        """Returns whether the message ends with its last token."""
+        if token.kind != "string" or self.keyword != b"msgstr":
+            return False
+        return BOUNDARY.match(self.scanner.text, self.scanner.at) is not None
+
+    def entry(self) -> Optional[Message]:
+        """Returns the next message if it is of the common shape, and None for any other, which its tokens tell."""
+        scanner = self.scanner
+        found = ENTRY.match(scanner.text, scanner.at)
+        if found is None or not self.is_plain(found["texts"]):
+            return None
+        given = FORM.findall(found["forms"]) if found["forms"] else [(b"0", found["msgstr"])]
+        forms = {int(number): text_of(strings) for number, strings in given}
+        msgid, *others = [text_of(found[it]) for it in ("msgid", "plural", "msgctxt") if found[it] is not None]
+        texts = {number: text for number, text in forms.items() if text is not None}
+        if msgid is None or None in others or len(texts) < len(given):
+            return None
+        for comment in MARKS.findall(found["comments"]):
+            self.comment(comment)
+        scanner.move(found.start("forms" if found["forms"] else "one"))
+        message = self.begun(scanner.line, found["msgctxt"] is not None)
+        message.column = scanner.column
+        message.msgid, message.plural, message.forms = msgid, others[0] if found["forms"] else None, texts
+        scanner.move(found.end())
+        return message
+
+    def begun(self, line: int, has_context: bool) -> Message:
+        """Returns a new message, with the flags of the comments before it."""
+        message = Message(line, self.flags, has_context)
+        message.is_fuzzy = self.is_fuzzy
+        self.flags, self.is_fuzzy = [], False
+        return message
+
+    def is_plain(self, text: bytes) -> bool:
+        """Returns whether all bytes of a text are of the charset."""
+        return text.isascii() or self.charset is None or self.charset.bad_byte(text) is None
+
+    def take(self, token: Token) -> Iterator[Message]:
+        """Takes the next token, and yields the message that ends before it, if one does."""
+        if token.kind == "comment":
+            self.comment(token.text)
+        elif token.kind == "string":
+            if self.keyword is None:
+                raise Unreadable(token.line, "a string comes after no keyword")
+            self.text = bytearray() if self.text is None else self.text
+            self.text += unquoted(token.text, self.charset, token.line)
+        elif token.kind == "form":
+            self.begin_form(token)
+        else:
+            self.finish_keyword()
+            yield from self.begin_keyword(token)
 
     def comment(self, text: bytes) -> None:
         # A message that is commented out takes its flags with it.
@@ -122,9 +197,7 @@ class PoReader:
         elif self.message is None:
             raise Unreadable(line, f"{keyword.decode()} comes before msgid")
         if keyword == b"msgid":
-            self.message = Message(line, self.flags, self.has_context)
-            self.message.is_fuzzy = self.is_fuzzy
-            self.flags, self.is_fuzzy = [], False
+            self.message = self.begun(line, self.has_context)
         self.has_context = keyword == b"msgctxt"
 
     def finish_keyword(self) -> None:
@@ -134,11 +207,10 @@ class PoReader:
         if self.text is None:
             raise Unreadable(self.line, f"{keyword.decode()} has no string")
         text, self.text = bytes(self.text), None
-        if self.charset is not None:
-            try:
-                checked(text)
-            except UnicodeDecodeError as error:
-                raise Unreadable(self.line, str(error)) from error
+        bad = None if self.charset is None or text.isascii() else self.charset.bad_byte(text)
+        if bad is not None:
+            name = keyword.decode() if self.form is None else f"{keyword.decode()}[{self.form}]"
+            self.bad_bytes.append(BadByte(self.line, self.column, name, bad))
         if self.message is not None and keyword not in (b"domain", b"msgctxt"):
             self.put(self.message, keyword, text)
 
@@ -159,6 +231,7 @@ class PoReader:
         if message is not None:
             if not message.forms:
                 raise Unreadable(message.line, "the message has no msgstr")
+            message.bad_bytes, self.bad_bytes = self.bad_bytes, []
             yield message
 
 
@@ -184,21 +257,19 @@ def header_of(text: bytes) -> bytes:
     return b""
 
 
-def in_utf_8(data: bytes, charset: Charset) -> bytes:
-    try:
-        return charset.decode(data)
-    except UnicodeDecodeError as error:
-        line = data.count(b"\n", 0, error.start) + 1 if error.object == data else 0
-        raise Unreadable(line, str(error)) from error
-    except UnicodeError as error:
-        raise Unreadable(0, str(error)) from error
-
-
 def read_po(data: bytes) -> Catalog:
     if data.startswith(b"\xef\xbb\xbf"):
         data = data[3:]
     charset = charset_of(header_of(data))
-    return Catalog(list(PoReader(charset).read(in_utf_8(data, charset))))
+    return Catalog(list(PoReader(charset).read(in_utf_8(data, charset))), charset=charset.name)
+
+
+def in_utf_8(data: bytes, charset: Charset) -> bytes:
+    """Returns a text in UTF-8, except for the bytes that aren't of the charset."""
+    try:
+        return charset.decode(data)
+    except UnicodeError as error:
+        raise Unreadable(0, str(error)) from error
 
 
 def mo_strings(data: bytes, order: str, count: int, table: int) -> Iterator[bytes]:
@@ -224,16 +295,21 @@ def read_mo(data: bytes, order: str) -> Catalog:
     except struct.error as error:
         raise Unreadable(0, f"it ends too early: {error}") from error
     charset = charset_of(next((text for original, text in pairs if not original), b""))
-    return Catalog([mo_message(number, pair, charset) for number, pair in enumerate(pairs)], False, hidden)
+    messages = [mo_message(number, pair, charset) for number, pair in enumerate(pairs)]
+    return Catalog(messages, False, hidden, charset.name)
 
 
 def mo_message(number: int, pair: Tuple[bytes, bytes], charset: Charset) -> Message:
-    original, translation = (in_utf_8(one, charset) for one in pair)
+    original, translation = texts = [in_utf_8(one, charset) for one in pair]
     context, separator, rest = original.partition(b"\4")
     message = Message(number, [], bool(separator))
     message.msgid, *plural = (rest if separator else context).split(b"\0")
     message.plural = plural[0] if plural else None
     message.forms = dict(enumerate(translation.split(b"\0")))
+    bad = [None if it.isascii() else charset.bad_byte(it) for it in texts]
+    message.bad_bytes = [
+        BadByte(number, None, name, byte) for name, byte in zip(("msgid", "msgstr"), bad) if byte is not None
+    ]
     return message
 
 

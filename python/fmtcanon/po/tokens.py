@@ -1,14 +1,17 @@
-"""The tokens of a .po file in UTF-8, and the bytes of its strings."""
+"""The tokens of a .po file in UTF-8, and the bytes of its strings.
+
+In the text, a byte that isn't of the file's charset is a byte that isn't UTF-8.
+"""
 
 import re
-from typing import Dict, Iterator, NamedTuple, Optional
+from typing import Dict, NamedTuple, Optional
 
 from .charsets import Charset
 
 # A comment goes to the end of its line. A string is found by the pattern for its parts.
+SPACE = re.compile(rb"\s*")
 TOKEN = re.compile(
-    rb"(?P<space>\s+)"
-    rb"|(?P<comment>#[^\n]*)"
+    rb"(?P<comment>#[^\n]*)"
     rb'|(?P<string>")'
     rb"|(?P<keyword>domain|msgctxt|msgid_plural|msgid|msgstr)\b"
     rb"|(?P<form>\[\s*[0-9]+\s*\])"
@@ -39,23 +42,43 @@ class Token(NamedTuple):
     column: int
 
 
-def tokens_of(text: bytes) -> Iterator[Token]:
-    """Yields the tokens of a file without its white space."""
-    at, line = 0, 1
-    while at < len(text):
-        match = TOKEN.match(text, at)
-        kind = match.lastgroup if match else None
-        if match is None or kind is None:
-            raise Unreadable(line, "it is not a keyword, string or comment")
-        at = match.end()
+class Scanner:
+    """Goes over the text of a file, and knows the line that it has come to."""
+
+    def __init__(self, text: bytes) -> None:
+        self.text = text
+        self.at = 0
+        self.line = 1
+        # Where the line begins.
+        self.begin = 0
+
+    @property
+    def column(self) -> int:
+        return self.at - self.begin + 1
+
+    def move(self, at: int) -> None:
+        """Goes on to an offset."""
+        lines = self.text.count(b"\n", self.at, at)
+        if lines:
+            self.line += lines
+            self.begin = self.text.rfind(b"\n", self.at, at) + 1
+        self.at = at
+
+    def token(self) -> Optional[Token]:
+        """Returns the next token, after white space, or None at the end of the text."""
+        self.move(SPACE.match(self.text, self.at).end())  # type: ignore[union-attr]
+        if self.at == len(self.text):
+            return None
+        match = TOKEN.match(self.text, self.at)
+        if match is None:
+            raise Unreadable(self.line, "it is not a keyword, string or comment")
+        kind, end = str(match.lastgroup), match.end()
         if kind == "string":
-            end = end_of_string(text, at, line)
-            yield Token(kind, text[at:end], line, match.start() - text.rfind(b"\n", 0, match.start()))
-            at = end + 1
-            continue
-        if kind != "space":
-            yield Token(kind, match.group(), line, match.start() - text.rfind(b"\n", 0, match.start()))
-        line += match.group().count(b"\n")
+            end = end_of_string(self.text, end, self.line) + 1
+        text = self.text[match.end() : end - 1] if kind == "string" else match.group()
+        found = Token(kind, text, self.line, self.column)
+        self.move(end)
+        return found
 
 
 def end_of_string(text: bytes, at: int, line: int) -> int:
@@ -73,7 +96,7 @@ def end_of_string(text: bytes, at: int, line: int) -> int:
 def unquoted(string: bytes, charset: Optional[Charset], line: int) -> bytes:
     """Returns the bytes that a string stands for, in UTF-8.
 
-    An escape by number is a byte in the charset of the file.
+    An escape by number is a byte in the charset of the file. What isn't of the charset is not UTF-8.
     """
     if b"\\" not in string:
         return string
@@ -81,16 +104,13 @@ def unquoted(string: bytes, charset: Optional[Charset], line: int) -> bytes:
     is_mixed = charset is not None and not charset.is_utf_8 and HIGH.search(string) is not None
     encode = charset.encode if charset is not None and is_mixed else bytes
     out, done = bytearray(), 0
-    try:
-        # Joining a list takes some eighty bytes for each escape.
-        for match in ESCAPE.finditer(string):
-            out += encode(string[done : match.start()])
-            out += value_of(match, line)
-            done = match.end()
-        out += encode(string[done:])
-        return charset.decode(bytes(out)) if charset is not None and is_mixed else bytes(out)
-    except UnicodeError as error:
-        raise Unreadable(line, str(error)) from error
+    # Joining a list takes some eighty bytes for each escape.
+    for match in ESCAPE.finditer(string):
+        out += encode(string[done : match.start()])
+        out += value_of(match, line)
+        done = match.end()
+    out += encode(string[done:])
+    return charset.decode(bytes(out)) if charset is not None and is_mixed else bytes(out)
 
 
 def value_of(match: "re.Match[bytes]", line: int) -> bytes:

@@ -1,0 +1,157 @@
+"""Tests of how fmtcanon-po reads catalogs, and of what it needn't ask the library: python3 -m unittest, in the folder
+above.
+"""
+
+import itertools
+import random
+import time
+import unittest
+from unittest import mock
+
+import fmtcanon
+from fmtcanon import Model
+from fmtcanon.po.charsets import charset_named
+from fmtcanon.po.formats import DEPENDENT, Format, shape_of
+from fmtcanon.po.reading import PoReader
+from fmtcanon.po.tokens import Unreadable
+
+LENGTHS = ["", "hh", "h", "l", "ll", "j", "z", "t", "L"]
+CONVERSIONS = "diouxXbfFeEgGaAcspnCS"
+# What a random text and a random catalog are made of.
+LETTERS = ["%"] * 6 + list("$*.019-+ #'Ihljztdsxcfnpm%a!<") + ["<PRIu64>", "1$", "2$", "*1$", "\n"]
+COMMENTS = ["# l\n", "#. #, fuzzy\n", "#, fuzzy\n", "#, c-format\n", '#~ msgid "m"\n', "  #! fuzzy\n", "\n", " \t"]
+CONTEXTS = ['msgctxt "j"\n', 'msgctxt "\\q"\n', 'domain "k"\n']
+MSGIDS = [
+    'msgid "a"\n',
+    'msgid "%d"',
+    'msgid ""\n"b"\n',
+    'msgid "\\\\n\\n\\"\\t"\n',
+    'msgid "\u00e9"\n',
+    'msgid "\\x41\\101"',
+]
+MSGSTRS = [
+    'msgstr "c"\n',
+    'msgstr ""\n"%s"\n"d"\n',
+    'msgstr "e" "f"',
+    'msgstr "\\1" "2"\n',
+    'msgid_plural "g"\nmsgstr[0] "h"\nmsgstr[1] "i"\n',
+    'msgid_plural "g"\nmsgstr[0] "h"\n# a\nmsgstr[01] ""\n',
+]
+FAULTY = ['msgid_plural "g"\nmsgstr[0] "h"\nmsgstr[0] ""\n', 'msgstr "\\q"\n', "msgstr", '"n"', "x", "\u00e9"]
+# What comes first in a long text, and what it repeats.
+FRONTS = [
+    "",
+    'msgid "',
+    'msgid "x"\nmsgstr "',
+    "msgid ",
+    'msgid "a" msgid_plural "b" msgstr[0] ',
+    'msgid "a" msgstr "b" ',
+]
+UNITS = [
+    *['"a"', '"a" ', '"a"\n', '"\\n" ', '"\\\\" ', "#a\n", "# ", " ", "\n", "\\n", "#,", "#, fuzzy\n", '# "\n"x"\n'],
+    *['msgid "a" ', 'msgctxt "a" ', 'msgid "a" msgstr "b" ', 'msgid "a"\n#\nmsgstr "\\1"\n#c\n', 'msgstr[0] "a"\n'],
+]
+TEXTS, CATALOGS = 20_000, 10_000
+
+
+def some(chosen, texts, chance):
+    return chosen.choice(texts) if chosen.random() < chance else ""
+
+
+def catalog(chosen):
+    """A random catalog, most of whose entries are right."""
+    text = ""
+    for _ in range(chosen.randrange(1, 6)):
+        text += some(chosen, COMMENTS, 0.7) + some(chosen, COMMENTS, 0.5) + some(chosen, CONTEXTS, 0.1)
+        text += (
+            chosen.choice(MSGIDS) + some(chosen, COMMENTS, 0.1) + some(chosen, FAULTY, 0.03) + chosen.choice(MSGSTRS)
+        )
+    return (text + some(chosen, COMMENTS, 0.3)).encode()
+
+
+def read(text, by_tokens):
+    """The messages of a catalog as tuples, or the line of its fault."""
+    reader = PoReader(charset_named("UTF-8"))
+    try:
+        if by_tokens:
+            with mock.patch.object(PoReader, "entry", return_value=None):
+                found = list(reader.read(text))
+        else:
+            found = list(reader.read(text))
+    except Unreadable as fault:
+        return fault.line, str(fault)
+    return [
+        (it.line, it.column, it.flags, it.has_context, it.is_fuzzy, it.msgid, it.plural, it.forms, it.bad_bytes)
+        for it in found
+    ]
+
+
+def answer(text, model=Model.LP64):
+    """The types that the library finds in a text of a message, or None if it is rejected."""
+    try:
+        return Format(text).codes(model)
+    except fmtcanon.Refused:
+        return None
+
+
+class Reading(unittest.TestCase):
+    def test_entries(self):
+        """Entries of the common shape are read as their tokens are."""
+        chosen, entries = random.Random(73), 0
+        for _ in range(CATALOGS):
+            text = catalog(chosen)
+            found = read(text, False)
+            self.assertEqual(found, read(text, True), text)
+            entries += isinstance(found, list) and len(found)
+        self.assertGreater(entries, CATALOGS)
+
+    def test_time(self):
+        """Texts that a pattern could match in many ways take linear time."""
+        began = time.process_time()
+        for front, unit in itertools.product(FRONTS, UNITS):
+            read((front + unit * (30_000 // len(unit))).encode(), False)
+        self.assertLess(time.process_time() - began, 30)
+
+
+class Shapes(unittest.TestCase):
+    def test_shapes(self):
+        """The shape of a text takes the same arguments, and is rejected if the text is."""
+        chosen, shaped, accepted = random.Random(73), 0, 0
+        for _ in range(TEXTS):
+            text = "".join(chosen.choices(LETTERS, k=chosen.randrange(1, 12))).encode()
+            shape = shape_of(text)
+            if shape is not None:
+                wanted = answer(text)
+                self.assertEqual(answer(shape), wanted, text)
+                shaped += 1
+                accepted += wanted is not None and b"%" in text
+        self.assertGreater(min(shaped, accepted), TEXTS // 50)
+
+    def test_shapes_by_hand(self):
+        for text, wanted in [
+            (b"", b""),
+            (b"words", b""),
+            (b"%d of %s", b"%d%s"),
+            (b"100%% %d", b"%%%d"),
+            (b"%-5.*lu!", b"%-5.*lu"),
+            (b"%<PRIu64>|%2$*1$d", b"%<PRIu64>%2$*1$d"),
+            (b"%!", None),
+            (b"%d%", None),
+            (b"%d\0", None),
+        ]:
+            self.assertEqual(shape_of(text), wanted, text)
+
+    def test_models(self):
+        """What has no j, z or t has one answer in all data models."""
+        singles = [f"%{length}{it}" for length, it in itertools.product(LENGTHS, CONVERSIONS)]
+        plain = [it for it in singles if not DEPENDENT.search(it.encode())]
+        pairs = [f"%1$*2${one[1:]}%1${other[1:]}" for one, other in itertools.product(plain, plain)]
+        for text in [*plain, *(f"%1${it[1:]}" for it in plain), *pairs]:
+            answers = {answer(text.encode(), model) for model in Model}
+            self.assertEqual(len(answers), 1, text)
+        others = [it for it in singles if it not in plain]
+        self.assertTrue(any(len({answer(it.encode(), model) for model in Model}) > 1 for it in others))
+
+
+if __name__ == "__main__":
+    unittest.main()
