@@ -71,9 +71,9 @@ class Mutants:
         if there != record.text():
             yield f"{record.file.relative_to(TOP)} is not as the script writes it"
 
-    def put(self, name, mutant, goal):
+    def put(self, name, mutant, goals):
         """Records that a mutant was refused."""
-        self.records[name].put(mutant.name, self.key(name, mutant), goal)
+        self.records[name].put(mutant.name, self.key(name, mutant), goals)
 
     def sample(self, name, seed):
         """Returns the mutants of a crate that the gate tries."""
@@ -98,7 +98,7 @@ def try_all(wanted, needed, jobs, refused, ended=lambda work: 0):
     """
     with open_work(Crates()) as work:
         trials = [
-            Trial(name, mutants, work, lambda mutant, goal, it=name: refused(it, mutant, goal))
+            Trial(name, mutants, work, lambda mutant, goals, it=name: refused(it, mutant, goals))
             for name, mutants in wanted.items()
         ]
         tasks = [*work.tasks(needed), *(task for trial in trials for task in trial.tasks(jobs))]
