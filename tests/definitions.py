@@ -1,14 +1,15 @@
 """Finds what a text of a crate means by the names in it: definitions of `specs/`, and types and constants of `src/`.
 
 A definition is found by the `use` lines of the file that names it, as the prover finds it. A type, a trait or a
-constant is found by its name alone, in the crate and in those below, and comes with its `impl Model`.
+constant is found by its name alone, in the crate and in those below. With a type come its `impl` blocks that give ghost
+members a meaning, without the bodies of their functions.
 """
 
 import re
 from dataclasses import dataclass
 from functools import lru_cache
 
-from rattle_functions import blanked, group_end, plain_name, split_parameters
+from rattle_functions import blanked, functions, group_end, plain_name, split_parameters
 
 COMMENT = re.compile(r"--.*")
 IMPORT = re.compile(r"\buse Rattle\.([\w.]+?)(?:\.\{([^}]*)\}| as (\w+))")
@@ -19,9 +20,10 @@ INNER = re.compile(r"^ +(?:abbrev |unfoldable )*pub (?:record |data )?([^\s:(){}
 WORD = re.compile(r"[^\s(){}\[\].,;:|=λ→×∀]+")
 ITEM = re.compile(
     r"^ *(?:pub(?:\([\w: ]*\))? )?(?:(?P<kind>struct|enum|trait|const|static|type)\s+(?P<name>\w+)"
-    r"|impl\b(?P<model>[^;{]*\bModel for [^{]*)(?=\{))",
+    r"|impl\b(?P<head>[^;{]*)(?=\{))",
     re.MULTILINE,
 )
+GHOST = re.compile(r"\bghost \w+ =")
 
 
 @dataclass(frozen=True)
@@ -72,14 +74,21 @@ def definitions_in(crate, file, text):
 
 
 def items_in(crate, file, text):
-    """Yields the types, traits and constants of a source file, and what is a model of a type, each with its name."""
+    """Yields the types, traits and constants of a source file, and the blocks with ghost members of a type, each with
+    its name and without bodies of functions.
+    """
+    for it in functions(text, file, {}):
+        text = text[: it.start + 1] + re.sub(r"[^\n]", " ", text[it.start + 1 : it.end - 1]) + text[it.end - 1 :]
     code = blanked(text)
     for item in ITEM.finditer(code):
         opens, ends = code.find("{", item.end()), code.find(";", item.end())
         is_short = item["kind"] in ("const", "static", "type") or (ends != -1 and (opens == -1 or ends < opens))
         end = ends + 1 if is_short else group_end(code, opens)
-        name = item["name"] or plain_name(split_parameters(item["model"].strip())[1].partition(" for ")[2])
-        yield Unit(crate, file, name, bare(text[item.start() : end]))
+        if item["name"]:
+            yield Unit(crate, file, item["name"], bare(text[item.start() : end]))
+        elif GHOST.search(code, item.start(), end):
+            _, head = split_parameters(item["head"].strip())
+            yield Unit(crate, file, plain_name(head.rpartition(" for ")[2]), bare(text[item.start() : end]))
 
 
 def bare(text):

@@ -276,7 +276,20 @@ abbrev pub unnamed : ℕ
 unnamed = 2
 """,
         "crates/low/specs/Parts.antt": "abbrev pub part : ℕ\npart = 3\n",
-        "crates/low/src/sizes.rt": "pub struct Size { size: u32 }\n\nimpl Model for Size {\n    ghost Value = { ℕ };\n}\n",
+        "crates/low/src/sizes.rt": """pub struct Size { size: u32 }
+
+impl<'a> From<&'a u32> for Size {
+    ghost from_gives = { λ n size. size ≡ n };
+
+    fn from(n: &u32) -> Size {
+        Size { size: *n }
+    }
+}
+
+impl Model for Size {
+    ghost Value = { ℕ };
+}
+""",
         "crates/middle/src/made.rt": MIDDLE,
     }
     MUTANT = Mutant("m", [Pair("src/made.rt", "called(n)", "called(n) + 1")], frozenset(["made::made"]))
@@ -290,6 +303,7 @@ unnamed = 2
         ("crates/low/specs/Parts.antt", "part = 3", "part = 4"),
         ("crates/low/src/sizes.rt", "size: u32", "size: u64"),
         ("crates/low/src/sizes.rt", "{ ℕ }", "{ ℤ }"),
+        ("crates/low/src/sizes.rt", "size ≡ n", "n ≡ n"),
     ]
     NO_CHANGES = [
         ("crates/middle/src/made.rt", "Returns something", "Returns nothing"),
@@ -298,6 +312,7 @@ unnamed = 2
         ("crates/low/specs/Doubles.antt", "tripled n = n + n + n", "tripled n = n"),
         ("crates/low/proofs/twice/Answers.antt", "refl", "sym"),
         ("crates/low/src/lib.rt", "let kept = n;", "let other = n;"),
+        ("crates/low/src/sizes.rt", "size: *n", "size: 1"),
         ("crates/fmtcanon_c/src/lib.rt", "Returns twice", "Returns two times"),
     ]
 
