@@ -9,7 +9,7 @@ import re
 from dataclasses import dataclass
 from functools import lru_cache
 
-from rattle_functions import blanked, functions, group_end, plain_name, split_parameters
+from rattle_functions import blanked, functions, plain_name, split_parameters
 
 COMMENT = re.compile(r"--.*")
 IMPORT = re.compile(r"\buse Rattle\.([\w.]+?)(?:\.\{([^}]*)\}| as (\w+))")
@@ -81,14 +81,26 @@ def items_in(crate, file, text):
         text = text[: it.start + 1] + re.sub(r"[^\n]", " ", text[it.start + 1 : it.end - 1]) + text[it.end - 1 :]
     code = blanked(text)
     for item in ITEM.finditer(code):
-        opens, ends = code.find("{", item.end()), code.find(";", item.end())
-        is_short = item["kind"] in ("const", "static", "type") or (ends != -1 and (opens == -1 or ends < opens))
-        end = ends + 1 if is_short else group_end(code, opens)
+        end = item_end(code, item.end())
         if item["name"]:
             yield Unit(crate, file, item["name"], bare(text[item.start() : end]))
         elif GHOST.search(code, item.start(), end):
             _, head = split_parameters(item["head"].strip())
             yield Unit(crate, file, plain_name(head.rpartition(" for ")[2]), bare(text[item.start() : end]))
+
+
+def item_end(code, start):
+    """Returns the offset after the item whose name ends at start: after its braces, or after a semicolon or braces of a
+    value, outside of brackets.
+    """
+    depth, has_value = 0, False
+    for at in range(start, len(code)):
+        letter = code[at]
+        depth += {"(": 1, "[": 1, "{": 1, ")": -1, "]": -1, "}": -1}.get(letter, 0)
+        has_value = has_value or (depth == 0 and letter == "=")
+        if depth == 0 and (letter == ";" or (letter == "}" and not has_value)):
+            return at + 1
+    return len(code)
 
 
 def bare(text):

@@ -255,7 +255,7 @@ ghost use Rattle.low.specs.Names as names;
 pub fn made(n: Size) -> u32
     ensures { result ≡ doubled n ⊕ names.named }
 {
-    called(n)
+    called(n) + SIZES[0]
 }
 
 fn called(n: Size) -> u32
@@ -278,6 +278,8 @@ unnamed = 2
         "crates/low/specs/Parts.antt": "abbrev pub part : ℕ\npart = 3\n",
         "crates/low/src/sizes.rt": """pub struct Size { size: u32 }
 
+pub const SIZES: [Size; 2] = [Size { size: 1 }, Size { size: 2 }];
+
 impl<'a> From<&'a u32> for Size {
     ghost from_gives = { λ n size. size ≡ n };
 
@@ -296,7 +298,7 @@ impl Model for Size {
     # Edits of one file each that change the key, and that don't.
     CHANGES = [
         ("crates/middle/src/made.rt", "doubled n ⊕", "doubled n + n ⊕"),
-        ("crates/middle/src/made.rt", "    called(n)", "    called(n) + 0"),
+        ("crates/middle/src/made.rt", "    called(n)", "    called(n) + 0 + 0"),
         ("crates/low/specs/Doubles.antt", "doubled n = n + n", "doubled n = n"),
         ("crates/low/specs/Signs.antt", "n ⊕ m = n + m", "n ⊕ m = n"),
         ("crates/low/specs/Names.antt", "unnamed = 2", "unnamed = 4"),
@@ -304,6 +306,7 @@ impl Model for Size {
         ("crates/low/src/sizes.rt", "size: u32", "size: u64"),
         ("crates/low/src/sizes.rt", "{ ℕ }", "{ ℤ }"),
         ("crates/low/src/sizes.rt", "size ≡ n", "n ≡ n"),
+        ("crates/low/src/sizes.rt", "size: 2", "size: 3"),
     ]
     NO_CHANGES = [
         ("crates/middle/src/made.rt", "Returns something", "Returns nothing"),
