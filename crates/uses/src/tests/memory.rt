@@ -1,5 +1,5 @@
 //! What the calls return when every allocation is refused.
-use exhaustion::{Exhausted, is_all_refused};
+use exhaustion::{Exhausted, is_all_refused, is_stack_deep};
 use growths::{Call, each_is_refused};
 use pf_canon::{
     CanonBytes, canonical_len, canonical_stream, canonical_with_room, is_canonical, same_stream,
@@ -309,6 +309,7 @@ fn is_right(alloc: Global, part: u8) -> Result<bool, AllocError> {
 // `blocks.rt` need a heap from which nothing was freed.
 #[test]
 fn memory_that_is_used_up(rt: HostRuntime) -> Result<(), AllocError> {
+    assert!(rt; is_stack_deep(usize::from(PARTS)));
     for part in 0..PARTS {
         let is_right = is_right(rt.alloc(), part)?;
         assert!(rt; is_right, "part {part}");

@@ -7,6 +7,9 @@ const BLOCKS: usize = 524_288;
 // The bytes of stack that calls may need: the stack can't grow once memory is used up.
 const STACK: usize = 262_144;
 
+// More bytes of stack, for callers of different depths.
+const DEPTH: usize = 65_536;
+
 // Above this size the C library keeps no freed block for requests of the same size only.
 const LARGEST_KEPT: usize = 1_040;
 
@@ -45,6 +48,16 @@ fn is_stack_grown(seed: usize) -> bool {
     let at = seed % STACK;
     block[at] = 1;
     block[STACK - 1 - at] < 2
+}
+
+/// Has the stack grow further than `Exhausted::new` does. Memory that was used up before may lie below it, so that it can't
+/// grow once more.
+#[inline(never)]
+pub(super) fn is_stack_deep(seed: usize) -> bool {
+    let mut block = [0u8; DEPTH];
+    let at = seed % DEPTH;
+    block[at] = 1;
+    is_stack_grown(seed) && block[DEPTH - 1 - at] < 2
 }
 
 // Takes blocks of this size until one is refused.
