@@ -4,7 +4,8 @@
 Usage: tests/clauses.py [CRATE ..]
 
 A clause is broken by a mutant if the goals that refused it (`crates/NAME/refused.txt`) have the clause's name, or, of a
-clause without one, if they are of the function. tests/unedited.py says which functions are public.
+clause without one, if they are of the function. Such a goal may be true, and only no longer be proved by the search.
+tests/unedited.py says which functions are public.
 
 Its last line is 'N passed, M failed', and it exits with 1 where M isn't 0.
 """

@@ -1,4 +1,4 @@
-"""Makes the key of a mutant: a checksum of everything that decides whether the prover refuses it.
+"""Makes the key of a mutant: a checksum of the mutant, the functions that it changes, and what their clauses mean.
 
 A refusal says that the clauses of a function refuse a body. So the key has the mutant, the functions that it changes
 with their clauses, and what these mean: the definitions, types and constants that they reach. It also has the kit and

@@ -13,8 +13,8 @@ A mutant is refused if a goal that has no answer is open in a function whose bod
 changes a constant, a table or a file of specs/. The crate without it is proved, so that goal is open because of the
 mutant. An answer that no longer proves its goal shows nothing, since it may only not fit the wording.
 
-Each refusal is a line of the record `crates/NAME/refused.txt`, with a key of everything that decides it
-(tests/mutant_keys.py). Mutants with a current line are not tried again, unless --all is given.
+Each refusal is a line of the record `crates/NAME/refused.txt`, with a key of the mutant and of what its
+functions promise (tests/mutant_keys.py). Mutants with a current line are not tried again, unless --all is given.
 
 --recorded tries nothing: it fails if a mutant has no current line. --gate proves each crate, tries a sample of its
 mutants that depends on the commit, and writes no record.
