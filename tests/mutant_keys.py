@@ -8,6 +8,7 @@ still has no proof.
 
 import ast
 import hashlib
+import re
 import subprocess
 from functools import lru_cache
 from pathlib import Path
@@ -28,8 +29,16 @@ def checksum(*values):
 
 @lru_cache(maxsize=None)
 def kit():
-    """Returns the line by which the kit identifies itself."""
-    return subprocess.run(["rt", "version"], stdout=subprocess.PIPE, check=True, encoding="utf-8").stdout.strip()
+    """Returns what identifies the kit: the checksum of its archive, and the number of its logic. Its letter is a name."""
+    page, version = (said_by_rt(it) for it in ("doc", "version"))
+    archive = re.search(r"^archive (\w+)$", (Path(page).parent / "WHAT").read_text(encoding="utf-8"), re.MULTILINE)
+    logic = re.search(r" logic (\w+)$", version)
+    return f"archive {archive[1]} logic {logic[1]}"
+
+
+def said_by_rt(word):
+    """Returns the one line that a command of rt prints."""
+    return subprocess.run(["rt", word], stdout=subprocess.PIPE, check=True, encoding="utf-8").stdout.strip()
 
 
 def judges_sum():

@@ -364,6 +364,16 @@ impl Model for Size {
                 self.assertNotEqual(self.key(folder / "a"), before, name)
         self.assertEqual(self.key(folder / "a"), before)
 
+    @in_folder
+    def test_identity_of_the_kit(self, folder):
+        (folder / "WHAT").write_text("archive a1\ncompiler c1\n")
+        identities = []
+        for version in ["kit-1b logic f0", "kit-1f logic f0", "kit-1b logic f1"]:
+            says = {"doc": str(folder / "START-HERE.md"), "version": version}
+            with unittest.mock.patch.object(mutant_keys, "said_by_rt", says.get):
+                identities.append(mutant_keys.kit.__wrapped__())
+        self.assertEqual(identities, ["archive a1 logic f0", "archive a1 logic f0", "archive a1 logic f1"])
+
 
 class Records(unittest.TestCase):
     """The record of refused mutants."""
