@@ -44,7 +44,7 @@ FOREIGN_NAMES = set(
     cents errno intmax_t ptrdiff_t strerror uintmax_t I64
     xargs git sort msgfmt pipefail SOURCE_DATE_EPOCH fix plant PKG_CONFIG_PATH PYTHONPATH ldconfig pkg config cflags libs pkgconfig sudo iconv
     axiom axioms
-    AllocFailed WHAT logic dac8208d650f15bf ed8637e01fc3206ec782c5daf8d913b1fcd4ddf4efb850537416d13256281534 the_type write_all
+    AllocFailed WHAT dac8208d650f15bf ed8637e01fc3206ec782c5daf8d913b1fcd4ddf4efb850537416d13256281534 the_type write_all
     NAME PATH allow holes lemma is_left_justified expect assert_eq tidy XDG_CACHE_HOME
 """.split()
 )
