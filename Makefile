@@ -6,7 +6,7 @@
 #                        completions
 # make mutants           tries the mutants that the records don't have as refused, and writes them there
 # make install PREFIX=   installs what `make` built: the program, the C library, the Python module
-#                        with its three commands, manual pages, completions and documents; below
+#                        with its five commands, manual pages, completions and documents; below
 #                        DESTDIR=, where that is given. It builds nothing
 # make uninstall PREFIX= takes all of that away again
 # make dist              an archive of what `make` built, which installs without the kit
@@ -102,6 +102,7 @@ gate: tools
 beside-gate: tools c-tools
 	python3 tests/mutants.py --gate --jobs $(BESIDE)
 	python3 tests/mutants_test.py
+	python3 tests/statements.py
 
 trials: program library
 	$(MAKE) tried
@@ -116,6 +117,8 @@ define TRIALS
 	python3 tests/records.py $(PROGRAM)
 	python3 tests/memory.py $(PROGRAM)
 	python3 tests/sizes.py $(PROGRAM) $(C)
+	python3 tests/header.py $(C)
+	python3 tests/bounds_peers.py $(PROGRAM) $(C)
 	python3 tests/library.py $(PROGRAM) $(C)
 	python3 tests/literals.py $(PROGRAM) $(C)
 	python3 tests/whole_types.py $(PROGRAM) $(C)

@@ -13,6 +13,8 @@ enum { MOST = 1 << 20 };
 
 static char texts[4 * MOST], other[MOST], out[MOST];
 static int types[MOST];
+/* The lengths of the formats without their last directives, and the number of the format of this call. */
+static size_t fronts[MOST], now;
 static fmtcanon_error error;
 
 /* A byte that begins no directive and is another than this one. */
@@ -47,6 +49,33 @@ static int64_t canonical(const char *text, size_t len)
 
 static int64_t length(const char *text, size_t len) { return fmtcanon_canonical_length(FMTCANON_LP64, text, len, &error); }
 static int64_t fits(const char *text, size_t len) { return fmtcanon_fits(FMTCANON_LP64, text, len, other, len, &error); }
+static int64_t fits_fewer(const char *text, size_t len)
+{
+    return fmtcanon_fits_fewer(FMTCANON_LP64, text, len, other, len, &error);
+}
+
+/* Where the last directive begins, or where the text ends. */
+static size_t front_of(const char *text, size_t len)
+{
+    size_t front = len, at = 0;
+    while (at < len) {
+        if (text[at] == '%' && text[at + 1] != '%') front = at;
+        at += text[at] == '%' ? 2 : 1;
+    }
+    return front;
+}
+
+static int64_t fits_front(const char *text, size_t len)
+{
+    return fmtcanon_fits_fewer(FMTCANON_LP64, text, len, other, fronts[now++], &error);
+}
+
+static int64_t bounds(const char *text, size_t len)
+{
+    struct fmtcanon_bounds found;
+    return fmtcanon_bounds(FMTCANON_LP64, text, len, &found, &error) + (int64_t)found.least;
+}
+
 static int64_t same_itself(const char *text, size_t len) { return same(text, len, len); }
 static int64_t first_changed(const char *text, size_t len) { return other[0] = another(other[0]), same(text, len, len); }
 
@@ -70,6 +99,9 @@ static const struct {
     {"canonical", canonical},
     {"canonical_length", length},
     {"fits, itself", fits},
+    {"fits_fewer, itself", fits_fewer},
+    {"fits_fewer, the last directive left out", fits_front},
+    {"bounds", bounds},
     {"same, itself", same_itself},
     {"same, first byte changed", first_changed},
     {"same, last byte changed", last_changed},
@@ -85,8 +117,10 @@ int main(int count, char **words)
     if (size == 0 || size == sizeof texts || texts[size - 1] != 0) return 2;
     while (strcmp(CALLS[which].name, words[1]))
         if (++which == sizeof CALLS / sizeof *CALLS) return 2;
+    for (const char *text = texts; text < texts + size; text += strlen(text) + 1) fronts[now++] = front_of(text, strlen(text));
     for (round = 0; round < atoi(words[2]); round++) {
         const char *text = texts;
+        now = 0;
         while (text < texts + size) {
             size_t len = strlen(text);
             memcpy(other, text, len + 1);

@@ -20,8 +20,8 @@ from formats import records, shapes
 
 BENCH = Path(__file__).resolve().parent
 HEADERS = BENCH.parent / "include"
-ONE = ["check", "types", "arguments", "is_canonical", "canonical", "canonical_length"]
-TWO = ["fits, itself", "same, itself", "same, first byte changed", "same, a byte appended", "same, last byte changed"]
+ONE = ["check", "types", "bounds", "arguments", "is_canonical", "canonical", "canonical_length"]
+TWO = ["fits, itself", "fits_fewer, itself", "fits_fewer, the last directive left out", "same, itself", "same, first byte changed", "same, a byte appended", "same, last byte changed"]
 PLAIN = re.compile(rb"(?:[^%]|%(?:%|#?(?:hh?|ll?)?[duoxXbcs]))*")
 
 

@@ -1,4 +1,4 @@
-# Completion of fmtcanon-diff, fmtcanon-po and fmtcanon-replace for bash.
+# Completion of fmtcanon-check, fmtcanon-diff, fmtcanon-explain, fmtcanon-po and fmtcanon-replace for bash.
 
 # The values of an option that has a list of them.
 _fmtcanon_values() {
@@ -12,7 +12,9 @@ _fmtcanon_commands() {
     local word=${COMP_WORDS[COMP_CWORD]} before=${COMP_WORDS[COMP_CWORD - 1]} options='-h --help --version --model --output' at
     COMPREPLY=()
     case ${1##*/} in
-        fmtcanon-diff) options+=' --git --cached --exclude --verbose --fail-on --jobs' ;;
+        fmtcanon-check) options+=' -p --flag --function --type --rank --sign --composed --fix --diff --jobs' ;;
+        fmtcanon-diff) options+=' -p --git --cached --exclude --verbose --fail-on --jobs' ;;
+        fmtcanon-explain) options+=' --literal --kind --color' ;;
         fmtcanon-po) options+=' --c-format --strict --jobs' ;;
         fmtcanon-replace)
             options+=' -p --flag --attribute --function --posix-locale --dry-run --diff --pairs --list --list-functions --jobs'
@@ -39,4 +41,4 @@ _fmtcanon_commands() {
     esac
 }
 
-complete -o default -F _fmtcanon_commands fmtcanon-diff fmtcanon-po fmtcanon-replace
+complete -o default -F _fmtcanon_commands fmtcanon-check fmtcanon-diff fmtcanon-explain fmtcanon-po fmtcanon-replace

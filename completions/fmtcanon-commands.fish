@@ -1,19 +1,36 @@
-# Completion of fmtcanon-diff, fmtcanon-po and fmtcanon-replace for fish.
+# Completion of fmtcanon-check, fmtcanon-diff, fmtcanon-explain, fmtcanon-po and fmtcanon-replace for fish.
 
-for command in fmtcanon-diff fmtcanon-po fmtcanon-replace
+for command in fmtcanon-check fmtcanon-diff fmtcanon-po fmtcanon-replace
     complete -c $command -s h -l help -d 'print a help text'
     complete -c $command -l version -d 'print the version'
     complete -c $command -l model -x -a 'lp64 ilp32 llp64 both all' -d 'the data models'
     complete -c $command -l output -x -a 'text json sarif github' -d 'how findings are printed'
 end
-for command in fmtcanon-diff fmtcanon-po fmtcanon-replace
+for command in fmtcanon-check fmtcanon-diff fmtcanon-po fmtcanon-replace
     complete -c $command -l jobs -x -d 'how many files are read at a time'
 end
+complete -c fmtcanon-check -s p -x -a '(__fish_complete_directories)' -d 'the folder of compile_commands.json'
+complete -c fmtcanon-check -l flag -x -d 'a flag of the compile command'
+complete -c fmtcanon-check -l function -x -d 'a function, the index of its format and that of the first argument'
+complete -c fmtcanon-check -l type -x -d 'a typedef and the type that it is'
+complete -c fmtcanon-check -l rank -d 'also report arguments of the right size and another type'
+complete -c fmtcanon-check -l sign -d 'also report arguments of another sign'
+complete -c fmtcanon-check -l composed -d 'also report directives of several literals'
+complete -c fmtcanon-check -l fix -d 'write what is proposed where only a length modifier changes'
+complete -c fmtcanon-check -l diff -d 'print what --fix would write as a unified diff'
+complete -c fmtcanon-diff -s p -x -a '(__fish_complete_directories)' -d 'the folder of compile_commands.json'
 complete -c fmtcanon-diff -l git -d 'compare what git has'
 complete -c fmtcanon-diff -l cached -d 'with --git, compare what is staged with a revision or HEAD'
 complete -c fmtcanon-diff -l exclude -x -d 'leave out files and folders whose name or path matches'
 complete -c fmtcanon-diff -l fail-on -x -a 'types different directives rejected words unjudged same' -d 'the kinds of findings for which the status is 1'
 complete -c fmtcanon-diff -l verbose -d 'report also what is the same'
+complete -c fmtcanon-explain -s h -l help -d 'print a help text'
+complete -c fmtcanon-explain -l version -d 'print the version'
+complete -c fmtcanon-explain -l model -x -a 'lp64 ilp32 llp64' -d 'the data model'
+complete -c fmtcanon-explain -l literal -d 'formats are string literals of C'
+complete -c fmtcanon-explain -l kind -x -d 'explain a kind of rejection'
+complete -c fmtcanon-explain -l color -x -a 'auto always never' -d 'when to use colour'
+complete -c fmtcanon-explain -l output -x -a 'text json' -d 'how it is printed'
 complete -c fmtcanon-po -l c-format -d 'check every message that has a %, except those with the flag no-c-format'
 complete -c fmtcanon-po -l strict -d 'exit with status 1 also if something could not be judged'
 complete -c fmtcanon-replace -s p -x -a '(__fish_complete_directories)' -d 'the folder of compile_commands.json'

@@ -11,11 +11,11 @@ _fmtcanon() {
     local word=${COMP_WORDS[COMP_CWORD]} before=${COMP_WORDS[COMP_CWORD - 1]} command=${COMP_WORDS[1]} at
     COMPREPLY=()
     if ((COMP_CWORD == 1)); then
-        mapfile -t COMPREPLY < <(compgen -W 'types canon show format same fits stream -h --help -V --version' -- "$word")
+        mapfile -t COMPREPLY < <(compgen -W 'types canon show format bounds same fits stream -h --help -V --version' -- "$word")
         return
     fi
     case $command in
-        types | canon | show | format | same | fits | stream) ;;
+        types | canon | show | format | bounds | same | fits | stream) ;;
         *) return ;;
     esac
     # What stands after -- is a format or an argument, and nothing of it is known.
@@ -32,6 +32,7 @@ _fmtcanon() {
     elif [[ $word == -* ]]; then
         local more=' --literal -z --null'
         [[ $command == types || $command == canon || $command == same ]] && more=' --literal -z --null --whole'
+        [[ $command == fits ]] && more=' --literal -z --null --fewer'
         [[ $command == format ]] && more=' --literal'
         [[ $command == stream ]] && more=''
         mapfile -t COMPREPLY < <(compgen -W "--model$more -h --help" -- "$word")

@@ -1,13 +1,13 @@
 /* fmtcanon: canonical texts of printf formats, and whether two are interchangeable.
  *
  * A format is `len` bytes at `text`. No byte after them is read, so it needs no NUL at its end, and a
- * NUL inside it is rejected. Each call is proved to return what its comment says; docs/C.md explains
- * that, and has examples.
+ * NUL inside it is rejected. What a call returns and writes, as its comment says, is proved; when it
+ * allocates is tested. docs/C.md explains that, and has examples.
  *
- * The profile and the whole language. The calls from fmtcanon_arguments() to fmtcanon_directives()
- * accept the whole language of POSIX `fprintf`: numbered arguments, `*`, floating and wide conversions,
- * `%p` and `%n`. The others accept the profile: the conversions `d i u o x X b c s`. In both, widths and
- * precisions are at most 4095.
+ * The profile and the whole language. fmtcanon_arguments(), fmtcanon_directives(), and the calls whose
+ * names begin with fmtcanon_fits or fmtcanon_whole accept the whole language of POSIX `fprintf`: numbered
+ * arguments, `*`, floating and wide conversions, `%p` and `%n`. The others accept the profile: the
+ * conversions `d i u o x X b c s`. In both, widths and precisions are at most 4095.
  *
  * The data model. The meaning of a format depends on it: `%zu` is `%lu` in LP64, `%u` in ILP32 and
  * `%llu` in LLP64. `model` is an enum fmtcanon_model, for the machine on which the format is used,
@@ -23,11 +23,11 @@
  * it was, and so is every byte after an answer. The result is the same either way, so a call with `cap`
  * 0 asks for the size.
  *
- * Preconditions. `error` may be NULL; then only the result shows a rejection. `comparison` must not be
- * NULL. Both are aligned. `text` and `out` may be NULL if their length is 0; otherwise they must point
- * to at least `len` (`cap`) bytes, fewer than 2^63. `out`, `comparison` and `error` must not overlap
- * anything else that is passed. No other thread may write the texts during the call, nor access what is
- * written.
+ * Preconditions. `error` may be NULL; then only the result shows a rejection. `comparison` and `bounds`
+ * must not be NULL. All three are aligned. `text` and `out` may be NULL if their length is 0; otherwise
+ * they must point to at least `len` (`cap`) bytes, fewer than 2^63. `out`, `comparison`, `bounds` and
+ * `error` must not overlap anything else that is passed. No other thread may write the texts during the
+ * call, nor access what is written.
  *
  * Threads and memory. Calls have no state, keep no pointer, print nothing and never end the process, so
  * any number of threads may make them. A call that allocates says so; it uses `malloc`, `realloc` and
@@ -36,8 +36,10 @@
 #ifndef FMTCANON_H
 #define FMTCANON_H
 
+#include <limits.h>
 #include <stddef.h>
 #include <stdint.h>
+#include <string.h>
 
 #ifdef __cplusplus
 extern "C" {
@@ -63,6 +65,19 @@ enum fmtcanon_model {
     FMTCANON_ILP32 = 1, /* `long` has 32 bits; `z` and `t` mean no modifier, `j` means `ll` */
     FMTCANON_LLP64 = 2 /* `long` has 32 bits; `z`, `t` and `j` mean `ll`: 64-bit Windows */
 };
+
+/* FMTCANON_NATIVE is the data model of the program that includes this header, by the sizes of its types.
+ * It is an enum fmtcanon_model, which `#if` can't compare. It isn't defined if the sizes are those of no
+ * data model: then only what uses it doesn't compile, and `#ifdef FMTCANON_NATIVE` asks. */
+#if INT_MAX == INT32_MAX && INTMAX_MAX == INT64_MAX
+#if LONG_MAX == INT64_MAX && SIZE_MAX == UINT64_MAX && PTRDIFF_MAX == INT64_MAX
+#define FMTCANON_NATIVE FMTCANON_LP64
+#elif LONG_MAX == INT32_MAX && SIZE_MAX == UINT32_MAX && PTRDIFF_MAX == INT32_MAX
+#define FMTCANON_NATIVE FMTCANON_ILP32
+#elif LONG_MAX == INT32_MAX && SIZE_MAX == UINT64_MAX && PTRDIFF_MAX == INT64_MAX
+#define FMTCANON_NATIVE FMTCANON_LLP64
+#endif
+#endif
 
 /* A set of data models: the sum of their bits. */
 enum fmtcanon_models {
@@ -96,7 +111,7 @@ enum fmtcanon_kind {
     FMTCANON_PRECISION_UNDEFINED = 16, /* a precision with `c`, `C`, `lc`, `p` or `n` */
     FMTCANON_LENGTH_UNDEFINED = 17,    /* a length modifier that the conversion doesn't take */
     FMTCANON_TOO_LONG = 18,            /* more than 2^62 bytes */
-    FMTCANON_COUNT_UNDEFINED = 19,     /* `%n` with another flag, or with a width */
+    FMTCANON_COUNT_UNDEFINED = 19,     /* `%n` with `-`, `+`, a space or a width */
     FMTCANON_MIXED = 20,               /* numbered arguments and others in one format */
     FMTCANON_MISSING_ARGUMENT = 21,    /* a numbered argument isn't used, and a later one is */
     FMTCANON_TWO_TYPES = 22            /* one argument with two types */
@@ -147,6 +162,15 @@ typedef struct fmtcanon_directive {
     uint64_t kind;               /* the type of the argument that it converts, an enum fmtcanon_type */
 } fmtcanon_directive;
 
+/* In place of the largest number of bytes that a format prints, if there is no largest. */
+#define FMTCANON_UNBOUNDED UINT64_MAX
+
+/* How many bytes a format prints. A number above UINT64_MAX - 1 is given as UINT64_MAX - 1. */
+struct fmtcanon_bounds {
+    uint64_t least;    /* the smallest number */
+    uint64_t greatest; /* the largest number, or FMTCANON_UNBOUNDED */
+};
+
 /* How two formats compare. */
 enum fmtcanon_verdict {
     FMTCANON_SAME = 1,     /* equal types, and equal bytes for all arguments */
@@ -195,6 +219,13 @@ int64_t fmtcanon_canonical(int model, const char *text, size_t len, char *out, s
 int64_t fmtcanon_types(int model, const char *text, size_t len, unsigned char *out, size_t cap,
                        fmtcanon_error *error);
 
+/* Returns 0, and writes the smallest and the largest number of bytes that the format prints, over all
+ * arguments of its types, into `*bounds`. Some arguments reach each of them. There is no largest if a `%s`
+ * has no precision. A buffer for `sprintf` needs one byte more than the largest, for a NUL. If the call
+ * fails, `*bounds` is left as it was. Allocates nothing. */
+int64_t fmtcanon_bounds(int model, const char *text, size_t len, struct fmtcanon_bounds *bounds,
+                        fmtcanon_error *error);
+
 /* Returns 1 if both formats take arguments of the same types and print the same bytes for all of them, 0
  * otherwise. They have the same canonical text exactly if it is 1. Allocates nothing. */
 int64_t fmtcanon_same(int model, const char *first, size_t first_len, const char *second,
@@ -229,6 +260,19 @@ int64_t fmtcanon_fits(int model, const char *first, size_t first_len, const char
  * is rejected in one of them, the result is the error in the first such data model. Allocates nothing. */
 int64_t fmtcanon_fits_models(const char *first, size_t first_len, const char *second,
                              size_t second_len, fmtcanon_error *error);
+
+/* Returns 1 if the types of the second of two formats of the whole language are those of the first, or a
+ * beginning of them, 0 otherwise. Then the second may be used with the arguments of the first: `printf`
+ * ignores arguments that are left over (C11 7.21.6.1p2). Ask this of a format from outside. Allocates
+ * nothing. */
+int64_t fmtcanon_fits_fewer(int model, const char *first, size_t first_len, const char *second,
+                            size_t second_len, fmtcanon_error *error);
+
+/* Returns the set of data models in which fmtcanon_fits_fewer() is 1, a sum of enum fmtcanon_models. If a
+ * format is rejected in one of them, the result is the error in the first such data model. Allocates
+ * nothing. */
+int64_t fmtcanon_fits_fewer_models(const char *first, size_t first_len, const char *second,
+                                   size_t second_len, fmtcanon_error *error);
 
 /* Returns the length of the canonical text of a format of the whole language without numbered arguments:
  * `$` is rejected. Each part before, between and after the directives that fmtcanon_canonical() rejects is
@@ -296,6 +340,28 @@ uint64_t fmtcanon_kind_name(uint32_t kind, char *out, size_t cap);
 /* Returns the version of the library: 65536 times the major one, 256 times the minor one, plus the
  * patch. */
 uint32_t fmtcanon_version(void);
+
+/* Returns `suspect`, a format from outside of the program, if it may be used with the arguments of
+ * `fallback`: if it isn't NULL, and fmtcanon_fits_fewer() is 1. Otherwise it returns `fallback`, which must
+ * not be NULL. The compiler checks arguments against `fallback`:
+ *
+ *     printf(fmtcanon_fmtcheck(suspect, "%d of %s\n"), number, name);
+ *
+ * It is the call `fmtcheck` of BSD for the whole language. Only types are compared. So `suspect` may print
+ * more, and `snprintf` should print it into a buffer; and it may read strings up to their NUL where
+ * `fallback` has a precision. Allocates nothing. C89 doesn't have it. */
+#if defined(FMTCANON_NATIVE) && (defined(__STDC_VERSION__) || defined(__cplusplus))
+#ifdef __GNUC__
+__attribute__((__format_arg__(2)))
+#endif
+static inline const char *fmtcanon_fmtcheck(const char *suspect, const char *fallback)
+{
+    if (suspect != NULL
+        && fmtcanon_fits_fewer(FMTCANON_NATIVE, fallback, strlen(fallback), suspect, strlen(suspect), NULL) == 1)
+        return suspect;
+    return fallback;
+}
+#endif
 
 #ifdef __cplusplus
 }

@@ -37,6 +37,11 @@ WITH_OPTIONAL_ERROR(fmtcanon_types,
                      fmtcanon_error *error),
                     (model, text, len, out, cap, error))
 
+WITH_OPTIONAL_ERROR(fmtcanon_bounds,
+                    (int model, const char *text, size_t len, struct fmtcanon_bounds *bounds,
+                     fmtcanon_error *error),
+                    (model, text, len, bounds, error))
+
 WITH_OPTIONAL_ERROR(fmtcanon_same,
                     (int model, const char *first, size_t first_len, const char *second,
                      size_t second_len, fmtcanon_error *error),
@@ -58,6 +63,16 @@ WITH_OPTIONAL_ERROR(fmtcanon_fits,
                     (model, first, first_len, second, second_len, error))
 
 WITH_OPTIONAL_ERROR(fmtcanon_fits_models,
+                    (const char *first, size_t first_len, const char *second, size_t second_len,
+                     fmtcanon_error *error),
+                    (first, first_len, second, second_len, error))
+
+WITH_OPTIONAL_ERROR(fmtcanon_fits_fewer,
+                    (int model, const char *first, size_t first_len, const char *second,
+                     size_t second_len, fmtcanon_error *error),
+                    (model, first, first_len, second, second_len, error))
+
+WITH_OPTIONAL_ERROR(fmtcanon_fits_fewer_models,
                     (const char *first, size_t first_len, const char *second, size_t second_len,
                      fmtcanon_error *error),
                     (first, first_len, second, second_len, error))

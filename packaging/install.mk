@@ -26,15 +26,17 @@ MADE = $(DOCDIR)/folders
 PKGCONFIG = 'prefix=$(PREFIX)' 'libdir=$(LIBDIR)' 'includedir=$(INCLUDEDIR)' '' \
     'Name: fmtcanon' 'Description: Canonical texts of printf formats' 'Version: $(VERSION)' \
     'Libs: -L$${libdir} -lfmtcanon' 'Cflags: -I$${includedir}'
+# The package of a command: `check` is a function of the module.
+MODULE_OF_NAME = $$(echo $$name | sed 's/^check$$/checker/')
 # What a command that is written in Python begins with, with the folder of the module.
 COMMAND = '\#!$(PYTHON)' 'import sys' '' \
     '\# Python puts the folder of this file before the standard library, unless it is told not to.' \
     'if not (sys.flags.isolated or getattr(sys.flags, "safe_path", False)):' '    del sys.path[0]' \
-    'sys.path.append("$(PYTHONDIR)")' '' "from fmtcanon.$$name.command import main" '' 'sys.exit(main())'
-CALLS = sed -n 's/^[a-z0-9_]* \(fmtcanon_[a-z_]*\)(.*/\1/p' include/fmtcanon.h
-MODULES = fmtcanon fmtcanon/diff fmtcanon/po fmtcanon/replace
+    'sys.path.append("$(PYTHONDIR)")' '' "from fmtcanon.$(MODULE_OF_NAME).command import main" '' 'sys.exit(main())'
+CALLS = sed -n 's/^[a-z0-9_][a-z0-9_ ]* \**\(fmtcanon_[a-z_]*\)(.*/\1/p' include/fmtcanon.h
+MODULES = fmtcanon fmtcanon/checker fmtcanon/compiling fmtcanon/diff fmtcanon/explain fmtcanon/po fmtcanon/replace
 # The commands that are written in Python.
-COMMANDS = diff po replace
+COMMANDS = check diff explain po replace
 
 install: places built
 	python3 packaging/folders.py make "$(DESTDIR)" $(MADE) $(BINDIR) $(INCLUDEDIR) $(LIBDIR)/pkgconfig $(PYTHONDIR) \

@@ -73,8 +73,9 @@ Description: canonical texts of printf formats
  spelling, and decides whether two are interchangeable: the same arguments,
  and the same bytes printed. The package contains the program, a C library
  and a Python module. fmtcanon-po checks message catalogs, fmtcanon-diff says
- what a change of C source does to its formats, and fmtcanon-replace replaces
- formats in C source.
+ what a change of C source does to its formats, fmtcanon-check whether they
+ fit their calls on every platform, fmtcanon-explain what a format does, and
+ fmtcanon-replace replaces formats.
 CONTROL
 echo "libfmtcanon ${release%%.*} fmtcanon (>= $release)" > "$stage/DEBIAN/shlibs"
 # Python's compiled modules come and go with the package.

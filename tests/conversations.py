@@ -105,6 +105,21 @@ CONVERSATIONS = [
         2,
     ),
     (
+        ["fits", "-z", "--fewer"],
+        [
+            (b"%d files in %s\0one file\0", b"0 fits\0"),
+            (b"%d\0%d%s\0", b"1 types differ at argument 1\0"),
+            (b"%y\0%d\0", b"2 first: refused 3 Unexpected at byte 1\0"),
+        ],
+        2,
+    ),
+    (
+        ["bounds", "-z"],
+        [(b"%d|%.3s\0", b"0 2 15\0"), (b"id=%s\0", b"0 3 unbounded\0"), (b"%y\0", UNEXPECTED)],
+        2,
+    ),
+    (["bounds", "-z", "--literal"], [(b'"\\x25" "d"\0', b"0 1 11\0"), (b'"\\q"\0', NO_ESCAPE)], 2),
+    (
         ["fits", "-z", "--literal"],
         [(b'"%d"\0"\\x25" "i"\0', b"0 fits\0"), (b'"\\q"\0"%d"\0', b"2 first: literal 3 BadEscape at byte 1\0")],
         2,

@@ -17,8 +17,10 @@ sys.dont_write_bytecode = True
 sys.path.insert(0, str(Path(__file__).resolve().parent))
 
 import whole_types  # noqa: E402
+import bounds_peers  # noqa: E402
 import changes  # noqa: E402
 import definition_names  # noqa: E402
+import fewer_peers  # noqa: E402
 import library  # noqa: E402
 import linear  # noqa: E402
 import literals  # noqa: E402
@@ -44,7 +46,7 @@ FOREIGN_NAMES = set(
     cents errno intmax_t ptrdiff_t strerror uintmax_t I64
     xargs git sort msgfmt pipefail SOURCE_DATE_EPOCH fix plant PKG_CONFIG_PATH PYTHONPATH ldconfig pkg config cflags libs pkgconfig sudo iconv
     axiom axioms
-    AllocFailed WHAT dac8208d650f15bf ed8637e01fc3206ec782c5daf8d913b1fcd4ddf4efb850537416d13256281534 the_type write_all
+    AllocFailed WHAT strsim dac8208d650f15bf ed8637e01fc3206ec782c5daf8d913b1fcd4ddf4efb850537416d13256281534 the_type write_all
     NAME PATH allow holes lemma is_left_justified expect assert_eq tidy XDG_CACHE_HOME
 """.split()
 )
@@ -151,6 +153,9 @@ def tested_counts():
         opaque.UNLIKE,
     ]
     yield r"a regular expression \| (\d+) formats", [whole_types.RANDOM]
+    numbers = [sum(1 for _ in bounds_peers.directives()), bounds_peers.WHOLE, sum(1 for _ in bounds_peers.asked())]
+    yield r"(\d+) directives, (\d+) formats, and (\d+) directives", numbers
+    yield r"`fmtcheck` of libbsd \| (\d+) pairs", [sum(1 for _ in fewer_peers.pairs())]
     yield from limits()
     given = data_rows("records.jsonl")
     yield r"rows, (\d+) of them of a model; conversations; .* (\d+) rows", [len(given) - HAND_RECORDS, len(given)]
@@ -454,7 +459,15 @@ def try_callers(trials):
                 trials.expect(f"{document}: the code has this: {item[:60]}", found, True)
 
 
+def try_remarks(trials):
+    """A remark after a command begins with `#`, so that the line can be copied."""
+    command = re.compile(r"^    (?=(?:sudo|pip|python3|rt|make|cd|cc|bench/run)\b)\S[^\n]*\S {2,}(?!#)\S.*$", re.MULTILINE)
+    found = [line.strip() for _, text in documents() for line in command.findall(text)]
+    trials.expect("remarks after commands, without a #", found, [])
+
+
 def try_all(trials):
+    try_remarks(trials)
     try_names(trials)
     try_links(trials)
     try_contracts(trials)

@@ -14,6 +14,8 @@ TIMEOUT = 60
 VERSION = (TOP / "VERSION").read_text(encoding="utf-8").strip()
 # The name by which programs ask for the C library.
 SONAME = f"libfmtcanon.so.{VERSION.split('.')[0]}"
+# The packages of the commands that have another name: `check` is a function of the module.
+PACKAGES = {"check": "checker"}
 
 
 class Trials:
@@ -100,9 +102,9 @@ def page_examples(page):
     """
     text = page.read_text(encoding="utf-8")
     block = re.search(r"^\.SH EXAMPLES\n\.EX\n(.*?)^\.EE$", text, flags=re.DOTALL | re.MULTILINE).group(1)
-    for example in re.split(
-        r"^\$ ", block.replace("\\(aq", "'").replace("\\-", "-").replace("\\e", "\\"), flags=re.MULTILINE
-    )[1:]:
+    for escape, character in {"\\(aq": "'", "\\(ga": "`", "\\-": "-", "\\e": "\\"}.items():
+        block = block.replace(escape, character)
+    for example in re.split(r"^\$ ", block, flags=re.MULTILINE)[1:]:
         command, _, output = example.partition("\n")
         yield command, output.splitlines()
 

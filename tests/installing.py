@@ -12,16 +12,18 @@ import sys
 import tarfile
 from pathlib import Path
 
-from harness import SONAME, TIMEOUT, TOP, VERSION
+from harness import PACKAGES, SONAME, TIMEOUT, TOP, VERSION
 
 HEADER = TOP / "include/fmtcanon.h"
 MODULE = "lib/python3/dist-packages/fmtcanon"
 # The commands that are written in Python.
-COMMANDS = ["diff", "po", "replace"]
+COMMANDS = ["check", "diff", "explain", "po", "replace"]
 # Without the files whose names a test takes from the header, from docs/ and from the module.
 INSTALLED = {
     "bin/fmtcanon",
+    "bin/fmtcanon-check",
     "bin/fmtcanon-diff",
+    "bin/fmtcanon-explain",
     "bin/fmtcanon-po",
     "bin/fmtcanon-replace",
     "include/fmtcanon.h",
@@ -40,13 +42,17 @@ INSTALLED = {
     "share/doc/fmtcanon/README.md",
     "share/doc/fmtcanon/SECURITY.md",
     "share/doc/fmtcanon/folders",
+    "share/doc/fmtcanon/examples/buffer.c",
     "share/doc/fmtcanon/examples/canon.c",
     "share/doc/fmtcanon/examples/compare.c",
     "share/doc/fmtcanon/examples/directives.c",
+    "share/doc/fmtcanon/examples/outside.c",
     "share/fish/vendor_completions.d/fmtcanon.fish",
     *(f"share/fish/vendor_completions.d/fmtcanon-{name}.fish" for name in COMMANDS),
     "share/man/man1/fmtcanon.1",
+    "share/man/man1/fmtcanon-check.1",
     "share/man/man1/fmtcanon-diff.1",
+    "share/man/man1/fmtcanon-explain.1",
     "share/man/man1/fmtcanon-po.1",
     "share/man/man1/fmtcanon-replace.1",
     "share/man/man3/fmtcanon.3",
@@ -96,9 +102,10 @@ BUILT = ["crates/fmtcanon/out/fmtcanon", "out/c/libfmtcanon.a", f"out/c/libfmtca
 
 
 def prototypes(text):
-    """The functions that a text declares, each in one line."""
+    """The functions that a text declares or has inline, each in one line."""
     plain = re.sub(r"/\*.*?\*/", "", text, flags=re.DOTALL)
-    return [" ".join(one.split()) for one in re.findall(r"^\w+ fmtcanon_\w+\([^)]*\);", plain, flags=re.MULTILINE)]
+    plain = re.sub(r"^static inline (.*\))$", r"\1;", plain, flags=re.MULTILINE)
+    return [" ".join(one.split()) for one in re.findall(r"^\w[\w *]* \**fmtcanon_\w+\([^)]*\);", plain, flags=re.MULTILINE)]
 
 
 def calls():
@@ -389,14 +396,14 @@ def options_of(name):
     """Returns the options that the help of a command lists, each with its argument."""
     environment = {**os.environ, "PYTHONPATH": str(TOP / "python"), "PYTHONDONTWRITEBYTECODE": "1"}
     done = subprocess.run(
-        [sys.executable, "-m", f"fmtcanon.{name}", "--help"],
+        [sys.executable, "-m", f"fmtcanon.{PACKAGES.get(name, name)}", "--help"],
         env=environment,
         check=False,
         timeout=TIMEOUT,
         capture_output=True,
         encoding="utf-8",
     )
-    return re.findall(r"^  (?:-h, )?(--?[\w-]+(?: [A-Z:,.]+)?)(?:  +|$)", done.stdout, flags=re.MULTILINE)
+    return re.findall(r"^  (?:-h, )?(--?[\w-]+(?: [A-Z:,.=]+)?)(?:  +|$)", done.stdout, flags=re.MULTILINE)
 
 
 def try_command_pages(trials):

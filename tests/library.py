@@ -29,9 +29,9 @@ SOURCES = TOP / "crates/fmtcanon_c/src"
 LAWS = TOP / "crates/fmtcanon_c/specs/Header.antt"
 STRICT = ["-Wall", "-Wextra", "-pedantic", "-Werror", f"-I{HEADER.parent}"]
 # The documents, or their parts below a heading, whose examples need the library, the module or the commands installed.
-DOCUMENTS = [("docs/C.md", None), ("docs/PYTHON.md", None), ("docs/TRANSLATIONS.md", "Check a catalog")]
+DOCUMENTS = [("docs/C.md", None), ("docs/PYTHON.md", None), ("docs/EXPLAINING.md", None), ("docs/TRANSLATIONS.md", "Check a catalog")]
 # The manual pages whose examples need no libclang.
-PAGES = ["fmtcanon.1", "fmtcanon-po.1", "fmtcanon-diff.1"]
+PAGES = ["fmtcanon.1", "fmtcanon-explain.1", "fmtcanon-po.1", "fmtcanon-diff.1"]
 WRAPPED = ["-pthread", "-Wl,--wrap=malloc,--wrap=realloc,--wrap=free"]
 # What a parameter of Rattle is in C.
 PARAMETERS = {
@@ -40,6 +40,7 @@ PARAMETERS = {
     "&mut [CDirective]": ["fmtcanon_directive *", "size_t"],
     "&mut CError": ["fmtcanon_error *"],
     "&mut CComparison": ["fmtcanon_comparison *"],
+    "&mut CBounds": ["struct fmtcanon_bounds *"],
     "u32": ["uint32_t"],
     "u64": ["uint64_t"],
     "i32": ["int"],
@@ -49,7 +50,15 @@ NUMBERS = {"i64": "int64_t", "u64": "uint64_t", "u32": "uint32_t"}
 # The types as the program writes them, and the numbers of the library.
 TYPES = ["int", "unsigned int", "long", "unsigned long", "long long", "unsigned long long", "string"]
 # What outcomes.c has: calls, pairs of texts, data models with an invalid one, and sizes of room.
-OUTCOMES = (21, 24, 4, 6)
+OUTCOMES = (24, 24, 4, 6)
+# The programs of tests/library, with what each is linked with, and the line that it prints if it finds nothing wrong.
+PROGRAMS = [
+    ("edges", WRAPPED, "the edges are as the header says"),
+    ("bounds", WRAPPED, "the numbers of bytes are as the header says"),
+    ("fewer", WRAPPED, "formats from outside are as the header says"),
+    ("outcomes", WRAPPED, "calls {}, pairs of texts {}, data models {}, rooms {}".format(*OUTCOMES)),
+    ("whole", ["-pthread"], "the whole language is as the header says"),
+]
 # Of so many formats, one is given to the program, too.
 STEP = 16
 
@@ -126,9 +135,10 @@ def try_header(trials):
         ("fmtcanon_error", "interface", "CError"),
         ("fmtcanon_comparison", "comparison", "CComparison"),
         ("fmtcanon_directive", "directives", "CDirective"),
+        ("fmtcanon_bounds", "byte_counts", "CBounds"),
     ]
     for name, source, struct in structs:
-        fields = re.search(rf"typedef struct {name} \{{(.*?)\}}", header_text(), flags=re.DOTALL).group(1)
+        fields = re.search(rf"^(?:typedef )?struct {name} \{{(.*?)\}}", header_text(), re.DOTALL | re.MULTILINE).group(1)
         text = (SOURCES / f"{source}.rt").read_text(encoding="utf-8")
         code = re.search(rf"#\[repr\(C\)\][^{{]*struct {struct} \{{(.*?)\n\}}", text, flags=re.DOTALL).group(1)
         wanted = [(NUMBERS[kind], field) for field, kind in re.findall(r"pub (\w+): (\w+),", code)]
@@ -140,6 +150,10 @@ def try_header(trials):
         declared,
         {"NOMEMORY": code["MEMORY"], "MODEL": code["MODEL"], "NOPLACE": code["PLACE"]},
     )
+    numbers = re.findall(r"const (\w+): u64 = ([\d_]+);", (SOURCES / "byte_counts.rt").read_text(encoding="utf-8"))
+    limits = {name: int(number) for name, number in numbers}
+    has_none = "#define FMTCANON_UNBOUNDED UINT64_MAX\n" in header_text()
+    trials.expect("FMTCANON_UNBOUNDED", (has_none, limits), (True, {"UNBOUNDED": 2**64 - 1, "MOST": 2**64 - 2}))
     try_header_laws(declared, trials)
 
 
@@ -189,25 +203,13 @@ def compile_with(compiler, source, program, *more):
 def try_compiler(compiler, folder, trials, work, tools=()):
     """The programs of tests/library compile without a warning, against the archive, and find nothing wrong."""
     name = " ".join(compiler)
-    edges, answers, outcomes, whole = work / "edges", work / "answers", work / "outcomes", work / "whole"
-    archive = folder / "libfmtcanon.a"
-    source = TOP / "tests/library"
-    trials.expect(f"{name}: edges.c", compile_with(compiler, source / "edges.c", edges, archive, *WRAPPED), (0, ""))
+    archive, source, answers = folder / "libfmtcanon.a", TOP / "tests/library", work / "answers"
+    for program, options, line in PROGRAMS:
+        words = compile_with(compiler, source / f"{program}.c", work / program, archive, *options)
+        trials.expect(f"{name}: {program}.c", words, (0, ""))
+        if not tools:
+            trials.expect(f"{name}: {program}", lines_of([work / program]), (0, f"{line}\n"))
     trials.expect(f"{name}: answers.c", compile_with(compiler, source / "answers.c", answers, archive), (0, ""))
-    trials.expect(
-        f"{name}: outcomes.c", compile_with(compiler, source / "outcomes.c", outcomes, archive, *WRAPPED), (0, "")
-    )
-    trials.expect(f"{name}: whole.c", compile_with(compiler, source / "whole.c", whole, archive, "-pthread"), (0, ""))
-    if not tools:
-        trials.expect(
-            f"{name}: the whole language", lines_of([whole]), (0, "the whole language is as the header says\n")
-        )
-        trials.expect(f"{name}: the edges", lines_of([edges]), (0, "the edges are as the header says\n"))
-        trials.expect(
-            f"{name}: the outcomes",
-            lines_of([outcomes]),
-            (0, "calls {}, pairs of texts {}, data models {}, rooms {}\n".format(*OUTCOMES)),
-        )
     status, lines = lines_of([*tools, answers, SHAPES])
     trials.expect(f"{name}: answers", status, 0)
     return lines.splitlines()

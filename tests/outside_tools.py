@@ -17,11 +17,15 @@ from pathlib import Path
 sys.dont_write_bytecode = True
 sys.path.insert(0, str(Path(__file__).resolve().parent))
 
+import header  # noqa: E402
 import packages  # noqa: E402
+from bounds_peers import try_printed  # noqa: E402
 from catalog_edges import try_msgfmt_edges  # noqa: E402
 from catalog_plurals import try_plurals  # noqa: E402
 from catalog_reading import try_speed  # noqa: E402
+from checking import try_checking  # noqa: E402
 from diffing import try_pairs, try_times  # noqa: E402
+from fewer_peers import try_fmtcheck  # noqa: E402
 from harness import SONAME, main  # noqa: E402
 from library import TOP, compile_with, lines_of, load_module, python_lines, shapes, try_compiler  # noqa: E402
 from linear import try_linear  # noqa: E402
@@ -166,13 +170,14 @@ def python_with(module):
     return None
 
 
-def try_libclang(folder, trials):
-    """fmtcanon-replace, with libclang."""
+def try_libclang(folder, tools, trials):
+    """fmtcanon-replace and fmtcanon-check, with libclang."""
     python = python_with("clang.cindex")
     trials.expect("libclang is there: the package python3-clang has it", python is not None, True)
     if python:
         try_replacing(folder, python, trials)
         try_programs(folder, python, trials)
+        try_checking(folder, python, tools, trials)
 
 
 def try_shells(tools, trials):
@@ -206,6 +211,9 @@ def try_all(program, folder, trials):
     module = load_module(program, folder)
     with tempfile.TemporaryDirectory() as work:
         try_compilers(folder, tools, module, trials, Path(work))
+        header.try_other_compilers(folder, tools, trials, Path(work))
+        try_fmtcheck(module, trials, Path(work))
+        try_printed(module, ["gcc", "-m32", "-std=c11"], "ilp32", trials, Path(work))
         try_valgrind(folder, tools, module, trials, Path(work))
         try_second(folder, module, trials, Path(work))
         try_random(folder, trials, Path(work))
@@ -214,7 +222,7 @@ def try_all(program, folder, trials):
     try_gettext(folder, tools, module, trials)
     try_annotations(tools, trials)
     try_locale(program, folder, trials)
-    try_libclang(folder, trials)
+    try_libclang(folder, tools, trials)
     try_pairs(program, folder, argument_of, trials)
     try_times(program, folder, trials)
     try_recipes(program, folder, tools, trials)

@@ -83,7 +83,7 @@ def try_page(program, trials):
             True,
         )
     options = re.split(r"^\.TP\n", section, flags=re.MULTILINE)
-    for option in ["literal", "null", "whole"]:
+    for option in ["fewer", "literal", "null", "whole"]:
         found = {
             name
             for name in commands

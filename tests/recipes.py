@@ -13,7 +13,7 @@ import tempfile
 from pathlib import Path
 
 from diffing import Tool
-from harness import TIMEOUT, TOP
+from harness import PACKAGES, TIMEOUT, TOP
 
 CI = TOP / "examples/ci"
 OLD = '#include <stdio.h>\nvoid f(int n) {\n    printf("%05d\\n", n);\n}\n'
@@ -24,8 +24,8 @@ COMMAND = "::error file=src.c,line=3,col=12,endColumn=20::different: "
 
 def installed(tool):
     """A folder with the commands, as an installation has them."""
-    for name in ["diff", "po"]:
-        tool.put(f"bin/fmtcanon-{name}", f'#!/bin/sh\nexec "{sys.executable}" -m fmtcanon.{name} "$@"\n').chmod(0o755)
+    for name in ["check", "diff", "po"]:
+        tool.put(f"bin/fmtcanon-{name}", f'#!/bin/sh\nexec "{sys.executable}" -m fmtcanon.{PACKAGES.get(name, name)} "$@"\n').chmod(0o755)
     tool.environment["PATH"] = os.pathsep.join([str(tool.work / "bin"), os.environ["PATH"]])
 
 
@@ -85,7 +85,7 @@ def entries(file):
 def try_entries(tool, trials):
     """The entries of .pre-commit-hooks.yaml run."""
     found = entries(TOP / ".pre-commit-hooks.yaml")
-    trials.expect("hooks of pre-commit", sorted(found), ["fmtcanon-diff", "fmtcanon-po"])
+    trials.expect("hooks of pre-commit", sorted(found), ["fmtcanon-check", "fmtcanon-diff", "fmtcanon-po"])
     tool.put("src.c", OLD)
     status, output = shell(tool, found["fmtcanon-diff"], shell=True)
     trials.expect(
@@ -93,6 +93,7 @@ def try_entries(tool, trials):
     )
     status, output = shell(tool, f"{found['fmtcanon-po']} po/de.po", shell=True)
     trials.expect("the hook fmtcanon-po", (status, output), (0, "1 message judged, 0 not judged\n"))
+    trials.expect("the hook fmtcanon-check", shell(tool, f"{found['fmtcanon-check']} --help", shell=True)[0], 0)
     # In CI nothing is left to be committed, and pre-commit names the revisions.
     tool.git("commit", "-qnam", "back")
     trials.expect("the hook fmtcanon-diff after a commit", shell(tool, found["fmtcanon-diff"], shell=True), (0, ""))

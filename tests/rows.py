@@ -417,7 +417,7 @@ def try_every_two(program, trials):
 def compared(module, model, first, second):
     """The verdict of the library with how many words it gives, and how many renderings that took."""
     texts = [text.encode() for text in (first, second)]
-    answer, error = module._Comparison(), module._Error()
+    answer, error = module.prototypes.CComparison(), module.prototypes.CError()
     sized = [part for text in texts for part in (text, len(text))]
     call = module._library().fmtcanon_compare
     size = max(0, call(module.Model[model.upper()], *sized, None, 0, answer, error))
@@ -577,7 +577,7 @@ def try_many_arguments(program, trials):
 def called(module, row):
     """What a call of a row answers: its result, its buffer, its error and its comparison."""
     call, model, texts, room = row["call"], row["model"], row["texts"], row["room"]
-    error, found = module._Error(7, 8, 9), module._Comparison(7, 8, 9)
+    error, found = module.prototypes.CError(7, 8, 9), module.prototypes.CComparison(7, 8, 9)
     out = ctypes.create_string_buffer(b"Z" * (room or 0), room or 0)
     words = [] if model is None else [model]
     for text in texts:
@@ -608,6 +608,7 @@ def try_all(program, folder, trials):
     try_streams(program, trials, "literals.jsonl")
     try_streams(program, trials, "whole.jsonl")
     try_streams(program, trials, "opaque.jsonl")
+    try_streams(program, trials, "bounds.jsonl")
     try_usages(program, trials)
     try_refused(program, module, trials)
     try_bytes(program, module, trials)

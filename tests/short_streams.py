@@ -3,12 +3,12 @@
 
 Usage: tests/short_streams.py [--each] PROGRAM
 
-Standard output takes some bytes and then fails: each answer of worked.jsonl, whole.jsonl, opaque.jsonl, literals.jsonl
-and written.jsonl in tests/rows/, each canonical text, what `stream` settles before a refusal, what formats print, and
-replies to records go out in each room that is too small for them. What the C library prints goes into one room for each
-text. Standard input hands out some bytes and then fails, or ends there: formats and records are cut after each byte.
-The streams are those of tests/narrow.c. How many bytes they move a call, and the error, take turns from run to run;
-with --each every run is made with each of them.
+Standard output takes some bytes and then fails: each answer of worked.jsonl, whole.jsonl, opaque.jsonl, bounds.jsonl,
+literals.jsonl and written.jsonl in tests/rows/, each canonical text, what `stream` settles before a refusal, what
+formats print, and replies to records go out in each room that is too small for them. What the C library prints goes
+into one room for each text. Standard input hands out some bytes and then fails, or ends there: formats and records are
+cut after each byte. The streams are those of tests/narrow.c. How many bytes they move a call, and the error, take turns
+from run to run; with --each every run is made with each of them.
 
 It needs a Linux system with gcc. Its last line is 'N passed, M failed', and it exits with 1 where M isn't 0.
 """
@@ -73,7 +73,7 @@ def try_rooms(narrow, words, stdin, text):
 
 def try_answers(narrow):
     """The answers of the commands, and what `stream` settles of a text and of a directive."""
-    given = [row for name in ["worked", "whole", "opaque", "literals"] for row in rows_of(f"{name}.jsonl")]
+    given = [row for name in ["worked", "whole", "opaque", "bounds", "literals"] for row in rows_of(f"{name}.jsonl")]
     rows = [
         (row["words"], row.get("stdin", "").encode("latin-1"), row["stdout"], row["status"])
         for row in given

@@ -27,6 +27,8 @@ from library import WRAPPED, compile_with  # noqa: E402
 # A run may take this many times the seconds of a processor that its row has.
 TIMES = 50
 DIRECTIVES, ARGUMENTS, ESCAPES, FIRST_EQUAL = 300_000, 500_000, 1_000_000, 40_000
+# More than a megabyte of two bytes a unit.
+MEGABYTE = 700_000
 # Texts of two bytes a unit, or more.
 LARGE = 20_000_000
 LONG_RECORD = 400_000_000
@@ -43,11 +45,18 @@ CALLS = [
     ("canonical_length", DIRECTIVES, 0.03),
     ("canonical", DIRECTIVES, 0.05),
     ("types", ARGUMENTS, 0.02),
+    ("bounds", DIRECTIVES, 0.02),
     ("same", DIRECTIVES, 0.4),
     ("compare", DIRECTIVES, 0.1),
     ("compare_last", FIRST_EQUAL, 0.06),
     ("arguments", ARGUMENTS, 0.02),
     ("fits", ARGUMENTS, 0.04),
+    ("fits_fewer", ARGUMENTS, 0.1),
+    ("directives", ARGUMENTS, 0.1),
+    ("literal_runs", DIRECTIVES, 0.4),
+    ("whole_profile", MEGABYTE, 1.2),
+    ("canonical", MEGABYTE, 0.1),
+    ("compare", MEGABYTE, 0.2),
     ("whole_canonical", DIRECTIVES, 0.3),
     ("whole_same", DIRECTIVES, 1.2),
     ("whole_compare_last", FIRST_EQUAL, 0.06),
@@ -57,8 +66,10 @@ CALLS = [
     ("check", LARGE, 0.1),
     ("is_canonical", LARGE, 0.3),
     ("types", LARGE, 0.3),
+    ("bounds", LARGE, 0.9),
     ("arguments", LARGE, 0.4),
     ("fits", LARGE, 0.8),
+    ("fits_fewer", LARGE, 3.4),
     ("decode_literal", LARGE, 0.8),
     ("encode_literal", LARGE, 0.6),
     ("source_offset", LARGE, 0.6),
@@ -89,6 +100,9 @@ def of_directives():
         0,
         records(b"0 lp64\nsame\nilp32\nsame\nllp64\nsame"),
     ), 0.15
+    opaque, plain = b"%i%lf" * DIRECTIVES, b"%d%f" * DIRECTIVES
+    yield ["canon", "--whole", "-z"], records(opaque), (0, records(b"0 " + plain)), 0.4
+    yield ["same", "-z", "--whole"], records(opaque, plain), (0, records(b"0 same")), 1.0
     types = records(b"0 " + b"\n".join([b"int"] * ARGUMENTS))
     yield ["types", "-z"], records(many), (0, types), 0.03
     yield ["types", "-z", "--whole"], records(many), (0, types), 0.03

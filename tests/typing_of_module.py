@@ -24,6 +24,10 @@ answer: bool = fmtcanon.same("%d", b"%i") and fmtcanon.fits("%d", "%i") and fmtc
 where: List[fmtcanon.Model] = fmtcanon.same_in("%d", "%i") + fmtcanon.fits_in("%d", b"%i")
 spans: List[fmtcanon.DirectiveSpan] = fmtcanon.directives("%*d", model="ilp32")
 star: Optional[int] = spans[0].width_argument
+limits: fmtcanon.Bounds = fmtcanon.bounds(b"%d", model="ilp32")
+most: Optional[int] = limits.greatest
+enough: bool = fmtcanon.fits("%d%s", "%d", fewer=True) and limits.least < 5
+some: List[fmtcanon.Model] = fmtcanon.fits_in("%d%s", "%d", fewer=enough)
 found: fmtcanon.Comparison = fmtcanon.compare("%d", "%u")
 shown: Optional[Tuple[Union[int, bytes, None], ...]] = found.arguments
 apart: Optional[int] = fmtcanon.compare("%f", b"%e", whole=True).directives_differ_at
@@ -55,6 +59,9 @@ FAULTS = [
     'fmtcanon.Session("canon", whole="yes")',
     'fmtcanon.Session("canon", False, True)',
     'y: str = fmtcanon.decode_literal("a")',
+    'z: int = fmtcanon.bounds("%s").greatest',
+    'fmtcanon.fits("%d", "%d", fewer="yes")',
+    'fmtcanon.fits_in("%d", "%d", True)',
     'fmtcanon.source_offset("a", "b")',
 ]
 

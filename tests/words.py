@@ -40,25 +40,27 @@ PHRASES = [
 CALLING = "crates/*/CALLING.md"
 # How many words each page may have, and how many percent more are let pass.
 LIMITS = {
-    "README.md": 900,
+    "README.md": 960,
     "docs/INSTALL.md": 400,
-    "docs/CHEATSHEET.md": 400,
-    "docs/USING.md": 2000,
+    "docs/CHEATSHEET.md": 450,
+    "docs/USING.md": 2050,
     "docs/TRANSLATIONS.md": 1100,
+    "docs/EXPLAINING.md": 350,
+    "docs/PORTING.md": 1200,
     "docs/REFACTORING.md": 1400,
     "docs/REFUSALS.md": 1500,
-    "docs/C.md": 960,
-    "docs/PYTHON.md": 900,
+    "docs/C.md": 1300,
+    "docs/PYTHON.md": 950,
     "docs/VERIFICATION.md": 2200,
     "docs/DEFINITIONS.md": 4500,
-    "docs/PERFORMANCE.md": 900,
+    "docs/PERFORMANCE.md": 930,
     "docs/internals/ARCHITECTURE.md": 2800,
     "docs/internals/DECISIONS.md": 2200,
     "docs/internals/PROOF_NOTES.md": 3600,
     "docs/CONTRIBUTING.md": 1000,
     "SECURITY.md": 150,
-    "CHANGELOG.md": 750,
-    CALLING: 8500,
+    "CHANGELOG.md": 850,
+    CALLING: 9000,
 }
 MARGIN = 10
 

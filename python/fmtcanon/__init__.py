@@ -50,6 +50,10 @@ installation puts it, otherwise `libfmtcanon.so.1`, where the system looks for l
     True
     >>> [model.name for model in fmtcanon.fits_in("%zu", "%lu")]
     ['LP64']
+    >>> fmtcanon.fits("%d files in %s", "one file", fewer=True)
+    True
+    >>> fmtcanon.bounds("%+d: %.3s")
+    Bounds(least=4, greatest=16)
     >>> fmtcanon.directives("%2$*1$d")
     [DirectiveSpan(start=0, end=7, type=<Type.INT: 1>, argument=1, width_argument=0, precision_argument=None)]
     >>> fmtcanon.decode_literal('"Total: %i" "\\\\n"')
@@ -73,10 +77,12 @@ from typing import Any, Callable, List, NamedTuple, NoReturn, Optional, Sequence
 from .kinds import Kind, LiteralKind, Type, Verdict
 from .models import DataModel, Model, model_of
 from .printing import REFUSED, UNFIT, Directive, Failed, Percent, Shown, Text, run_format, run_show
+from .prototypes import CALLS, CBounds, CComparison, CDirective, CError
 from .sessions import Reply, Session
 
 __all__ = [
     "BadLiteral",
+    "Bounds",
     "Comparison",
     "Directive",
     "DirectiveSpan",
@@ -92,6 +98,7 @@ __all__ = [
     "Verdict",
     "__version__",
     "arguments",
+    "bounds",
     "canonical",
     "check",
     "compare",
@@ -125,6 +132,7 @@ _SONAME = f"libfmtcanon.so.{_VERSION[0]}"
 _NO_MEMORY = -100
 _NO_PLACE = -102
 _NO_ARGUMENT = 2**64 - 1
+_UNBOUNDED = 2**64 - 1
 _LONGEST_NAME = 18
 
 
@@ -178,6 +186,16 @@ class Comparison(NamedTuple):
     directives_differ_at: Optional[int] = None
 
 
+class Bounds(NamedTuple):
+    """How many bytes a format prints: the smallest number, and the largest, which is None if there is no largest.
+
+    A number above 2**64 - 2 is given as that.
+    """
+
+    least: int
+    greatest: Optional[int]
+
+
 class DirectiveSpan(NamedTuple):
     """A conversion specification of a format: its bytes, and the arguments that it takes.
 
@@ -194,67 +212,6 @@ class DirectiveSpan(NamedTuple):
     precision_argument: Optional[int]
 
 
-class _Error(ctypes.Structure):
-    _fields_ = [("at", ctypes.c_uint64), ("kind", ctypes.c_uint32), ("side", ctypes.c_uint32)]
-
-
-class _Comparison(ctypes.Structure):
-    _fields_ = [
-        ("number", ctypes.c_uint64),
-        ("verdict", ctypes.c_uint32),
-        ("renderings", ctypes.c_uint32),
-    ]
-
-
-class _Directive(ctypes.Structure):
-    _fields_ = [
-        ("begin", ctypes.c_uint64),
-        ("end", ctypes.c_uint64),
-        ("argument", ctypes.c_uint64),
-        ("width_argument", ctypes.c_uint64),
-        ("precision_argument", ctypes.c_uint64),
-        ("kind", ctypes.c_uint64),
-    ]
-
-
-_MODEL = (ctypes.c_int,)
-_TEXT = (ctypes.c_char_p, ctypes.c_size_t)
-_ERROR = (ctypes.POINTER(_Error),)
-_CALLS = {
-    "check": ((*_TEXT, *_ERROR), ctypes.c_int64),
-    "is_canonical": ((*_MODEL, *_TEXT, *_ERROR), ctypes.c_int64),
-    "canonical_length": ((*_MODEL, *_TEXT, *_ERROR), ctypes.c_int64),
-    "canonical": ((*_MODEL, *_TEXT, *_TEXT, *_ERROR), ctypes.c_int64),
-    "types": ((*_MODEL, *_TEXT, *_TEXT, *_ERROR), ctypes.c_int64),
-    "same": ((*_MODEL, *_TEXT, *_TEXT, *_ERROR), ctypes.c_int64),
-    "same_models": ((*_TEXT, *_TEXT, *_ERROR), ctypes.c_int64),
-    "compare": (
-        (*_MODEL, *_TEXT, *_TEXT, *_TEXT, ctypes.POINTER(_Comparison), *_ERROR),
-        ctypes.c_int64,
-    ),
-    "arguments": ((*_MODEL, *_TEXT, *_TEXT, *_ERROR), ctypes.c_int64),
-    "fits": ((*_MODEL, *_TEXT, *_TEXT, *_ERROR), ctypes.c_int64),
-    "fits_models": ((*_TEXT, *_TEXT, *_ERROR), ctypes.c_int64),
-    "whole_canonical_length": ((*_MODEL, *_TEXT, *_ERROR), ctypes.c_int64),
-    "whole_canonical": ((*_MODEL, *_TEXT, *_TEXT, *_ERROR), ctypes.c_int64),
-    "whole_same": ((*_MODEL, *_TEXT, *_TEXT, *_ERROR), ctypes.c_int64),
-    "whole_same_models": ((*_TEXT, *_TEXT, *_ERROR), ctypes.c_int64),
-    "whole_compare": (
-        (*_MODEL, *_TEXT, *_TEXT, *_TEXT, ctypes.POINTER(_Comparison), *_ERROR),
-        ctypes.c_int64,
-    ),
-    "directives": (
-        (*_MODEL, *_TEXT, ctypes.POINTER(_Directive), ctypes.c_size_t, *_ERROR),
-        ctypes.c_int64,
-    ),
-    "decode_literal": ((*_TEXT, *_TEXT, *_ERROR), ctypes.c_int64),
-    "encode_literal": ((*_TEXT, *_TEXT), ctypes.c_int64),
-    "source_offset": ((*_TEXT, ctypes.c_uint64), ctypes.c_int64),
-    "kind_name": ((ctypes.c_uint32, *_TEXT), ctypes.c_uint64),
-    "version": ((), ctypes.c_uint32),
-}
-
-
 def _library_name() -> str:
     beside = Path(__file__).parent / _SONAME
     return os.environ.get("FMTCANON_LIBRARY") or (str(beside) if beside.exists() else beside.name)
@@ -268,7 +225,7 @@ def _library() -> ctypes.CDLL:
     except OSError as error:
         hint = "install it, or name its file by FMTCANON_LIBRARY"
         raise ImportError(f"the library of fmtcanon isn't there: {error}; {hint}") from error
-    for call, (arguments, result) in _CALLS.items():
+    for call, (arguments, result) in CALLS.items():
         function = getattr(library, f"fmtcanon_{call}", None)
         if function is None:
             raise ImportError(f"{name} is another library or version: it has no fmtcanon_{call}")
@@ -303,7 +260,7 @@ def _name(kind: int) -> str:
     return out.value.decode()
 
 
-def _answer(result: int, error: _Error) -> int:
+def _answer(result: int, error: CError) -> int:
     if result >= 0:
         return result
     if result == _NO_MEMORY:
@@ -316,7 +273,7 @@ def _answer(result: int, error: _Error) -> int:
 def _filled(call: Callable[..., int], room: int, *arguments: Any) -> bytes:
     """Returns what a call writes into a buffer, which is made larger if it is too small."""
     while True:
-        error, out = _Error(), ctypes.create_string_buffer(room)
+        error, out = CError(), ctypes.create_string_buffer(room)
         size = _answer(call(*arguments, out, room, error), error)
         if size <= room:
             return out.raw[:size]
@@ -325,13 +282,13 @@ def _filled(call: Callable[..., int], room: int, *arguments: Any) -> bytes:
 
 def check(format: Format) -> None:
     """Returns if the format is accepted, and raises `Refused` otherwise."""
-    text, error = _bytes(format), _Error()
+    text, error = _bytes(format), CError()
     _answer(_library().fmtcanon_check(text, len(text), error), error)
 
 
 def is_canonical(format: Format, *, model: DataModel = Model.LP64) -> bool:
     """Returns whether the format is its own canonical text."""
-    text, error = _bytes(format), _Error()
+    text, error = _bytes(format), CError()
     return _answer(_library().fmtcanon_is_canonical(model_of(model), text, len(text), error), error) == 1
 
 
@@ -341,7 +298,7 @@ def canonical(format: _Text, *, model: DataModel = Model.LP64, whole: bool = Fal
     Two formats have the same canonical text exactly if they take arguments of the same types and print the same
     bytes for all of them. With `whole`, the format may be of the whole language without numbered arguments.
     """
-    text, error, number = _bytes(format), _Error(), model_of(model)
+    text, error, number = _bytes(format), CError(), model_of(model)
     size = _answer(_call("canonical_length", whole)(number, text, len(text), error), error)
     out = ctypes.create_string_buffer(size + 1)
     _answer(_call("canonical", whole)(number, text, len(text), out, len(out), error), error)
@@ -374,24 +331,36 @@ def arguments(format: Format, *, model: DataModel = Model.LP64) -> List[Type]:
     return [Type(code) for code in _argument_codes(format, model)]
 
 
-def fits(first: Format, second: Format, *, model: DataModel = Model.LP64) -> bool:
+def bounds(format: Format, *, model: DataModel = Model.LP64) -> Bounds:
+    """Returns the smallest and the largest number of bytes that the format prints, over all arguments of its types."""
+    text, error, found = _bytes(format), CError(), CBounds()
+    _answer(_library().fmtcanon_bounds(model_of(model), text, len(text), found, error), error)
+    return Bounds(found.least, None if found.greatest == _UNBOUNDED else found.greatest)
+
+
+def fits(first: Format, second: Format, *, model: DataModel = Model.LP64, fewer: bool = False) -> bool:
     """Returns whether the second format takes exactly the arguments of the first, by their types.
 
-    Both may be of the whole language. Ask this of a translation.
+    Both may be of the whole language. Ask this of a translation. With `fewer`, the second may also take only some
+    arguments at the beginning of the first's. Ask this of a format from outside.
     """
-    f, g, error = _bytes(first), _bytes(second), _Error()
-    result = _library().fmtcanon_fits(model_of(model), f, len(f), g, len(g), error)
+    f, g, error = _bytes(first), _bytes(second), CError()
+    result = _fits_call("", fewer)(model_of(model), f, len(f), g, len(g), error)
     return _answer(result, error) == 1
 
 
-def fits_in(first: Format, second: Format) -> List[Model]:
-    """Returns the data models in which the second format takes exactly the arguments of the first, LP64 first.
+def fits_in(first: Format, second: Format, *, fewer: bool = False) -> List[Model]:
+    """Returns the data models in which the second format fits the first, as `fits` has it, LP64 first.
 
     Raises `Refused` if one of the formats is rejected in any data model.
     """
-    f, g, error = _bytes(first), _bytes(second), _Error()
-    found = _answer(_library().fmtcanon_fits_models(f, len(f), g, len(g), error), error)
+    f, g, error = _bytes(first), _bytes(second), CError()
+    found = _answer(_fits_call("_models", fewer)(f, len(f), g, len(g), error), error)
     return _models(found)
+
+
+def _fits_call(name: str, fewer: bool) -> Any:
+    return getattr(_library(), f"fmtcanon_fits{'_fewer' if fewer else ''}{name}")
 
 
 def _models(found: int) -> List[Model]:
@@ -402,15 +371,15 @@ def directives(format: Format, *, model: DataModel = Model.LP64) -> List[Directi
     """Returns the conversion specifications of a format of the whole language, in the order of the text, without
     `%%`.
     """
-    text, error = _bytes(format), _Error()
+    text, error = _bytes(format), CError()
     # Each has a percent sign.
     room = text.count(b"%")
-    records = (_Directive * room)()
+    records = (CDirective * room)()
     result = _library().fmtcanon_directives(model_of(model), text, len(text), records, room, error)
     return [_span(record) for record in records[: _answer(result, error)]]
 
 
-def _span(record: _Directive) -> DirectiveSpan:
+def _span(record: CDirective) -> DirectiveSpan:
     width, precision = _index(record.width_argument), _index(record.precision_argument)
     return DirectiveSpan(record.begin, record.end, Type(record.kind), record.argument, width, precision)
 
@@ -424,14 +393,14 @@ def same(first: Format, second: Format, *, model: DataModel = Model.LP64, whole:
 
     With `whole`, they also make the same calls. A C library may print the same for calls that differ.
     """
-    f, g, error = _bytes(first), _bytes(second), _Error()
+    f, g, error = _bytes(first), _bytes(second), CError()
     result = _call("same", whole)(model_of(model), f, len(f), g, len(g), error)
     return _answer(result, error) == 1
 
 
 def same_in(first: Format, second: Format, *, whole: bool = False) -> List[Model]:
     """Returns the data models in which two formats are the same, LP64 first."""
-    f, g, error = _bytes(first), _bytes(second), _Error()
+    f, g, error = _bytes(first), _bytes(second), CError()
     found = _answer(_call("same_models", whole)(f, len(f), g, len(g), error), error)
     return _models(found)
 
@@ -444,7 +413,7 @@ def _told(word: bytes) -> Union[int, bytes, None]:
 
 def compare(first: Format, second: Format, *, model: DataModel = Model.LP64, whole: bool = False) -> Comparison:
     """Returns how two formats compare, with arguments that they print differently."""
-    f, g, answer = _bytes(first), _bytes(second), _Comparison()
+    f, g, answer = _bytes(first), _bytes(second), CComparison()
 
     def call(*arguments: Any) -> int:
         *texts, out, room, error = arguments
@@ -467,7 +436,7 @@ def decode_literal(source: Format) -> bytes:
 
     White space may come before, between and after them. Raises `BadLiteral` for anything else.
     """
-    text, error = _bytes(source), _Error()
+    text, error = _bytes(source), CError()
     # No element gives more bytes than it has.
     out = ctypes.create_string_buffer(len(text) + 1)
     size = _answer(_library().fmtcanon_decode_literal(text, len(text), out, len(out), error), error)
@@ -482,7 +451,7 @@ def encode_literal(format: _Text) -> _Text:
     text = _bytes(format)
     # No byte is written with more than four.
     out = ctypes.create_string_buffer(4 * len(text) + 3)
-    size = _answer(_library().fmtcanon_encode_literal(text, len(text), out, len(out)), _Error())
+    size = _answer(_library().fmtcanon_encode_literal(text, len(text), out, len(out)), CError())
     return out.raw[:size].decode() if isinstance(format, str) else out.raw[:size]
 
 

@@ -51,6 +51,31 @@ class Calls(unittest.TestCase):
         self.assertEqual(fmtcanon.directives(""), [])
         self.assertEqual(len(fmtcanon.directives("%d" * 5000)), 5000)
 
+    def test_bounds(self):
+        rows = [("", 0, 0), ("%d", 1, 11), (b"%ld", 1, 20), ("%+.0d", 1, 11), ("%#x", 1, 10), ("é%hhb", 3, 10)]
+        rows += [("[%5.3s]", 7, 7), ("%.3s %c%%", 3, 6), ("id=%s", 3, None), ("%4095d" * 2, 8190, 8190)]
+        for format, least, greatest in rows:
+            with self.subTest(format=format):
+                self.assertEqual(fmtcanon.bounds(format), fmtcanon.Bounds(least, greatest))
+        self.assertEqual(fmtcanon.bounds("%ld", model=Model.ILP32).greatest, 11)
+        self.assertEqual(fmtcanon.bounds("%zu", model="llp64"), (1, 20))
+
+    def test_fits_fewer(self):
+        rows = [("%d files in %s", "one file", True), ("%s: %d", "%1$s", True), ("%d", "%d%n", False)]
+        rows += [(b"%d%s", "%s", False), ("%s of %d", b"%2$d/%1$s", True), ("%u", "%d", False), ("", "", True)]
+        for first, second, answer in rows:
+            with self.subTest(first=first, second=second):
+                self.assertIs(fmtcanon.fits(first, second, fewer=True), answer)
+                self.assertEqual(fmtcanon.fits_in(first, second, fewer=True), list(Model) if answer else [])
+        self.assertFalse(fmtcanon.fits("%d files in %s", "one file"))
+        self.assertEqual(fmtcanon.fits_in("%d", ""), [])
+        self.assertEqual(fmtcanon.fits_in("%zu%s", "%lu", fewer=True), [Model.LP64])
+        self.assertTrue(fmtcanon.fits("%zu%s", "%u", fewer=True, model="ilp32"))
+        with self.assertRaises(ValueError):
+            fmtcanon.fits("%d", "%d", fewer=True, model=3)
+        with self.assertRaises(TypeError):
+            fmtcanon.fits_in("%d", "%d", True)
+
     def test_fits(self):
         self.assertTrue(fmtcanon.fits("%s of %d", "%2$d/%1$s"))
         self.assertFalse(fmtcanon.fits("%.2f of %s", "%.2f von %d"))
@@ -201,7 +226,7 @@ class Calls(unittest.TestCase):
 
     def test_no_model(self):
         for wrong in [3, -1, 64, 1 << 32, "LP65", "both", "", None]:
-            for call in [fmtcanon.canonical, fmtcanon.is_canonical, fmtcanon.types]:
+            for call in [fmtcanon.canonical, fmtcanon.is_canonical, fmtcanon.types, fmtcanon.bounds]:
                 with self.assertRaises(ValueError):
                     call("%d", model=wrong)
             for call in [fmtcanon.same, fmtcanon.compare]:
@@ -235,7 +260,7 @@ class Refusals(unittest.TestCase):
         return caught.exception
 
     def test_each_call(self):
-        one = [fmtcanon.check, fmtcanon.canonical, fmtcanon.is_canonical, fmtcanon.types]
+        one = [fmtcanon.check, fmtcanon.canonical, fmtcanon.is_canonical, fmtcanon.types, fmtcanon.bounds]
         for call in one:
             refusal = self.refused(call, "%d and %*d")
             self.assertEqual((refusal.kind, refusal.name), (Kind.STAR, "Star"))
@@ -256,6 +281,8 @@ class Refusals(unittest.TestCase):
         refusal = self.refused(fmtcanon.fits_in, "%lu", "%1$zu %1$lu")
         self.assertEqual((refusal.kind, refusal.byte, refusal.side), (Kind.TWO_TYPES, 10, 1))
         self.assertEqual(self.refused(fmtcanon.fits_in, "%1$d%d", "%y").side, 0)
+        refusal = self.refused(lambda *formats: fmtcanon.fits_in(*formats, fewer=True), "%lu%d", "%1$zu %1$lu")
+        self.assertEqual((refusal.kind, refusal.byte, refusal.side), (Kind.TWO_TYPES, 10, 1))
         refusal = self.refused(fmtcanon.directives, "%1$s%1$d")
         self.assertEqual((refusal.kind, refusal.byte, refusal.side), (Kind.TWO_TYPES, 7, 0))
 

@@ -6,7 +6,8 @@ import subprocess
 import sys
 import unittest
 
-COMMANDS = ["diff", "po", "replace"]
+# The names of the commands, and the package of each.
+COMMANDS = {"check": "checker", "diff": "diff", "explain": "explain", "po": "po", "replace": "replace"}
 # What the shell does with the streams, and what is said of standard output.
 UNWRITABLE = [(">&-", "standard output is closed"), (">/dev/full", "standard output: No space left on device")]
 
@@ -19,10 +20,10 @@ def shell(words: str, streams: str) -> "subprocess.CompletedProcess[str]":
 
 class Streams(unittest.TestCase):
     def test_help_and_version(self):
-        for command in COMMANDS:
+        for command, package in COMMANDS.items():
             for option in ["--help", "--version"]:
                 for streams, said in UNWRITABLE:
-                    done = shell(f"{command} {option}", streams)
+                    done = shell(f"{package} {option}", streams)
                     self.assertEqual(
                         (done.returncode, done.stdout, done.stderr), (2, "", f"fmtcanon-{command}: {said}\n")
                     )
@@ -33,10 +34,10 @@ class Streams(unittest.TestCase):
             self.assertEqual((done.returncode, done.stderr), (2, f"fmtcanon-replace: {said}\n"))
 
     def test_standard_error(self):
-        for command in COMMANDS:
+        for package in COMMANDS.values():
             for streams in ["2>&-", "2>/dev/full", ">&- 2>&-"]:
-                done = shell(f"{command} --nonsense", streams)
-                self.assertEqual((done.returncode, done.stdout), (2, ""), (command, streams))
+                done = shell(f"{package} --nonsense", streams)
+                self.assertEqual((done.returncode, done.stdout), (2, ""), (package, streams))
 
     def test_nobody_reads(self):
         for words in ["--list-functions", "--help"]:

@@ -4,13 +4,13 @@ import tempfile
 import time
 import unittest
 
+from fmtcanon.compiling.known import GETTEXT, KNOWN
+from fmtcanon.compiling.left import Left
+from fmtcanon.compiling.targets import assertions_in
 from fmtcanon.replace import doubts
-from fmtcanon.replace.calls import GNU_PRINTF, as_utf8
+from fmtcanon.compiling.parsing import GNU_PRINTF, as_utf8
 from fmtcanon.replace.files import with_sources
-from fmtcanon.replace.known import GETTEXT, KNOWN
-from fmtcanon.replace.left import Left
 from fmtcanon.replace.places import literals_of, places_in, respelled
-from fmtcanon.replace.targets import assertions_in
 from fmtcanon.replace.tokens import Tokens, common_front
 
 ASSERTIONS = (b"_Static_assert", b"static_assert")

@@ -8,10 +8,10 @@ import unittest.mock
 from pathlib import Path
 
 from fmtcanon import Model
-from fmtcanon.replace.compile_commands import SOURCES, CompileCommand, names_in_rule, said
-from fmtcanon.replace.left import Left
-from fmtcanon.replace.stand_ins import StandIn
-from fmtcanon.replace.targets import check_model, model_in
+from fmtcanon.compiling.compile_commands import SOURCES, CompileCommand, names_in_rule, said
+from fmtcanon.compiling.left import Left
+from fmtcanon.compiling.stand_ins import StandIn
+from fmtcanon.compiling.targets import check_model, model_in
 from fmtcanon.replace.units import Answer, Units, asked, units_of
 
 SOURCE = "int f(void);\nint f(void) { return 1; }\n"

@@ -11,12 +11,12 @@ import time
 import unittest
 from pathlib import Path
 
-from fmtcanon.replace import running
+from fmtcanon.compiling import running
+from fmtcanon.compiling.left import Left
+from fmtcanon.compiling.sources import Files
+from fmtcanon.compiling.stand_ins import StandIn, original
 from fmtcanon.replace.files import put_in_place
 from fmtcanon.replace.interrupting import Interrupted, interruptible
-from fmtcanon.replace.left import Left
-from fmtcanon.replace.sources import Files
-from fmtcanon.replace.stand_ins import StandIn, original
 
 # The seconds in which the command ends after a signal.
 SOON = 2
@@ -219,14 +219,18 @@ class SignalsOfATest(unittest.TestCase):
 # A run of the command whose files are judged by what is put into it.
 SCRIPT = """
 import argparse, os, signal, sys, time
+from fmtcanon.compiling import running
+from fmtcanon.compiling.stand_ins import StandIn, original
 from fmtcanon.findings import Finding
-from fmtcanon.replace import running, writing
-from fmtcanon.replace.replacer import Report
-from fmtcanon.replace.stand_ins import StandIn, original
+from fmtcanon.replace import writing
+from fmtcanon.replace.replacer import Replacer, Report
 
 names, how = sys.argv[2:], sys.argv[1]
 
-class Replacer:
+class Fake(Replacer):
+    def __init__(self):
+        pass
+
     def reports(self, _, pool):
         if "hang" in how:
             list(pool.map(self.hang, names))
@@ -255,7 +259,7 @@ def put_in_place(*rest, real=writing.put_in_place):
 writing.put_in_place = put_in_place
 options = argparse.Namespace(jobs=2, output="text", diff=False, dry_run=False)
 from fmtcanon.command_line import status_of
-sys.exit(status_of("fmtcanon-replace", lambda: writing.replace(options, Replacer(), names)))
+sys.exit(status_of("fmtcanon-replace", lambda: writing.replace(options, Fake(), names)))
 """
 
 

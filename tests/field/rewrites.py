@@ -22,12 +22,12 @@ TOP = Path(__file__).resolve().parent.parent.parent
 sys.path[:0] = [str(TOP / "python"), str(TOP / "tests/field")]
 
 import fmtcanon  # noqa: E402
+from fmtcanon.compiling.compile_commands import SOURCES, commands_in  # noqa: E402
+from fmtcanon.compiling.left import Left  # noqa: E402
+from fmtcanon.compiling.stand_ins import original  # noqa: E402
 from fmtcanon.replace.calls import Functions  # noqa: E402
-from fmtcanon.replace.compile_commands import SOURCES, commands_in  # noqa: E402
 from fmtcanon.replace.files import Change, File, put_in_place  # noqa: E402
-from fmtcanon.replace.left import Left  # noqa: E402
 from fmtcanon.replace.places import places_in, respelled  # noqa: E402
-from fmtcanon.replace.stand_ins import original  # noqa: E402
 from sources import is_accepted  # noqa: E402
 
 # What a format may be instead: each pattern is tried in turn, once.

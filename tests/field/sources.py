@@ -19,12 +19,12 @@ TOP = Path(__file__).resolve().parent.parent.parent
 sys.path.insert(0, str(TOP / "python"))
 
 import fmtcanon  # noqa: E402
+from fmtcanon.compiling.compile_commands import SOURCES, commands_in  # noqa: E402
+from fmtcanon.compiling.left import Left  # noqa: E402
+from fmtcanon.compiling.stand_ins import original  # noqa: E402
 from fmtcanon.replace.calls import Functions  # noqa: E402
-from fmtcanon.replace.compile_commands import SOURCES, commands_in  # noqa: E402
 from fmtcanon.replace.files import Change, File  # noqa: E402
-from fmtcanon.replace.left import Left  # noqa: E402
 from fmtcanon.replace.places import places_in  # noqa: E402
-from fmtcanon.replace.stand_ins import original  # noqa: E402
 
 TRANSLATORS = "it is a key for translators"
 # What a reason has for one place alone.

@@ -407,6 +407,56 @@ static void nothing(void)
     WANT(!strcmp(small, "%d"));
 }
 
+/* A text of `count` units and an end. */
+static size_t repeat(char *text, const char *unit, size_t count, const char *end)
+{
+    size_t at = 0;
+    for (text[0] = 0; count-- > 0; at += strlen(unit)) strcpy(text + at, unit);
+    strcpy(text + at, end);
+    return strlen(text);
+}
+
+/* At which numbers of arguments and lengths of texts a call begins to allocate, as the header says. */
+static void thresholds(void)
+{
+    char text[512], out[512];
+    fmtcanon_error e;
+    fmtcanon_comparison found;
+    size_t n, len;
+    for (n = 30; n < 36; n++) {
+        len = repeat(text, "%d", n, "");
+        growths = 0;
+        WANT(fmtcanon_types(LP64, text, len, (unsigned char *)out, sizeof out, &e) == (int64_t)n);
+        WANT((growths > 0) == (n > 32));
+        growths = 0;
+        WANT(fmtcanon_arguments(LP64, text, len, (unsigned char *)out, sizeof out, &e) == (int64_t)n);
+        WANT(growths == (n > 32));
+    }
+    for (n = 6; n < 12; n++) {
+        len = repeat(text, "%d", n, "%y");
+        growths = 0;
+        WANT(fmtcanon_types(LP64, text, len, (unsigned char *)out, sizeof out, &e) == -FMTCANON_UNEXPECTED);
+        WANT(e.at == 2 * n + 1 && (growths > 0) == (n > 8));
+        WANT(fmtcanon_arguments(LP64, text, len, (unsigned char *)out, sizeof out, &e) == -FMTCANON_UNEXPECTED);
+        WANT(fmtcanon_canonical(LP64, text, len, out, sizeof out, &e) == -FMTCANON_UNEXPECTED);
+    }
+    for (n = 124; n < 132; n++) {
+        len = repeat(text, "x", n, "%i");
+        growths = 0;
+        WANT(fmtcanon_canonical(LP64, text, len, out, sizeof out, &e) == (int64_t)len && growths == (len > 128));
+        /* A width of which only the last 11 columns stay in the directive, and `%11d` has four bytes. */
+        len = (size_t)sprintf(text, "%%%lud", (unsigned long)n);
+        growths = 0;
+        WANT(fmtcanon_canonical(LP64, text, len, out, sizeof out, &e) == (int64_t)n - 7 && growths == 0);
+        len = (size_t)sprintf(text, "%%%lud", (unsigned long)n + 7);
+        WANT(fmtcanon_canonical(LP64, text, len, out, sizeof out, &e) == (int64_t)n && growths == (n > 128));
+    }
+    growths = 0;
+    WANT(fmtcanon_whole_compare(LP64, "%d%f", 4, "%d", 2, out, sizeof out, &found, &e) == 0);
+    WANT(found.verdict == FMTCANON_TYPES && found.number == 1 && growths == 0);
+    WANT(fmtcanon_whole_compare(LP64, "%y", 2, "%d", 2, out, sizeof out, &found, &e) == -FMTCANON_UNEXPECTED && growths == 0);
+}
+
 /* One of the calls that take memory. */
 static int64_t growing(int call, char *out, size_t cap, fmtcanon_comparison *found,
                        fmtcanon_error *e)
@@ -504,14 +554,31 @@ static void without_memory(void)
     WANT(growths == 0);
 }
 
+/* Each call, of formats that take its longest ways. */
 static void *in_small_stack(void *p)
 {
-    static char out[8192];
+    static const char a[] = "%4095d%.4095s%#o%zd", b[] = "%4095d%.4094s%#o%ld", w[] = "%4095d%f%-*.3i%.4095s", v[] = "%4095d%f%-*.3i%.4094s";
+    static char out[16384];
+    unsigned char *bytes = (unsigned char *)out;
+    struct fmtcanon_bounds bounds;
+    fmtcanon_directive records[8];
     fmtcanon_error e;
     fmtcanon_comparison found;
-    (void)p;
-    fmtcanon_canonical(LP64, "%4095d%.4095s%#o%zd", 19, out, sizeof out, &e);
-    fmtcanon_compare(LP64, "%4095d%s", 8, "%4095d%.4095s", 13, out, sizeof out, &found, &e);
+    size_t n = strlen(a), m = strlen(w);
+    WANT(p == NULL && fmtcanon_check(a, n, &e) == 0 && fmtcanon_is_canonical(LP64, a, n, &e) == 0);
+    WANT(fmtcanon_canonical(LP64, a, n, out, sizeof out, &e) == fmtcanon_canonical_length(LP64, a, n, &e));
+    WANT(fmtcanon_types(LP64, a, n, bytes, sizeof out, &e) == 4 && fmtcanon_bounds(LP64, a, n, &bounds, &e) == 0);
+    WANT(fmtcanon_same(LP64, a, n, b, n, &e) == 0 && fmtcanon_same_models(a, n, b, n, &e) == 0);
+    WANT(fmtcanon_compare(LP64, a, n, b, n, out, sizeof out, &found, &e) > 4094);
+    WANT(fmtcanon_arguments(LP64, w, m, bytes, sizeof out, &e) == 5 && fmtcanon_directives(LP64, w, m, records, 8, &e) == 4);
+    WANT(fmtcanon_fits(LP64, w, m, v, m, &e) == 1 && fmtcanon_fits_models(w, m, v, m, &e) == FMTCANON_IN_ALL);
+    WANT(fmtcanon_fits_fewer(LP64, w, m, "%d", 2, &e) == 1);
+    WANT(fmtcanon_fits_fewer_models(w, m, "%d", 2, &e) == FMTCANON_IN_ALL);
+    WANT(fmtcanon_whole_canonical(LP64, w, m, out, sizeof out, &e) == fmtcanon_whole_canonical_length(LP64, w, m, &e));
+    WANT(fmtcanon_whole_same(LP64, w, m, v, m, &e) == 0 && fmtcanon_whole_same_models(w, m, v, m, &e) == 0);
+    WANT(fmtcanon_whole_compare(LP64, w, m, v, m, out, sizeof out, &found, &e) > 4094);
+    WANT(fmtcanon_encode_literal(w, m, out, sizeof out) == (int64_t)m + 2 && fmtcanon_source_offset(out, m + 2, m) > 0);
+    WANT(fmtcanon_decode_literal("\"\\t%d\"", 6, out, sizeof out, &e) == 3 && fmtcanon_kind_name(1, out, sizeof out) == 7);
     return NULL;
 }
 
@@ -559,6 +626,7 @@ int main(void)
     refusals_of_memory();
     memory_given_back();
     without_memory();
+    thresholds();
     WANT(!pthread_attr_init(&attr) && !pthread_attr_setstacksize(&attr, 24 * 1024));
     WANT(!pthread_create(&thread, &attr, in_small_stack, NULL));
     WANT(!pthread_join(thread, NULL));

@@ -13,15 +13,16 @@
 #define COUNT(rows) (sizeof(rows) / sizeof *(rows))
 
 enum call {
-    CHECK, IS_CANONICAL, CANONICAL_LENGTH, CANONICAL, TYPES, SAME, SAME_MODELS, COMPARE, ARGUMENTS, FITS, FITS_MODELS,
+    CHECK, IS_CANONICAL, CANONICAL_LENGTH, CANONICAL, TYPES, BOUNDS, SAME, SAME_MODELS, COMPARE, ARGUMENTS, FITS, FITS_MODELS,
+    FITS_FEWER, FITS_FEWER_MODELS,
     WHOLE_CANONICAL, WHOLE_LENGTH, WHOLE_SAME, WHOLE_MODELS, WHOLE_COMPARE, DIRECTIVES, DECODE, ENCODE, SOURCE_OFFSET, KIND_NAME,
     CALLS
 };
 enum { SIZE = 32768 };
 
 static const char *const NAMES[CALLS] = {
-    "check", "is_canonical", "canonical_length", "canonical", "types", "same", "same_models", "compare", "arguments", "fits",
-    "fits_models", "whole_canonical", "whole_canonical_length", "whole_same", "whole_same_models", "whole_compare", "directives", "decode_literal", "encode_literal", "source_offset", "kind_name"};
+    "check", "is_canonical", "canonical_length", "canonical", "types", "bounds", "same", "same_models", "compare", "arguments", "fits",
+    "fits_models", "fits_fewer", "fits_fewer_models", "whole_canonical", "whole_canonical_length", "whole_same", "whole_same_models", "whole_compare", "directives", "decode_literal", "encode_literal", "source_offset", "kind_name"};
 #define TEN "%d%d%d%d%d%d%d%d%d%d"
 static const struct {
     const char *first, *second;
@@ -94,6 +95,7 @@ struct given {
     char *out;
     size_t cap;
     fmtcanon_comparison *found;
+    struct fmtcanon_bounds *bounds;
     fmtcanon_error *error;
 };
 
@@ -116,12 +118,15 @@ static int64_t made(const struct given *g)
     case CANONICAL_LENGTH: return fmtcanon_canonical_length(g->model, f, n, g->error);
     case CANONICAL: return fmtcanon_canonical(g->model, f, n, g->out, g->cap, g->error);
     case TYPES: return fmtcanon_types(g->model, f, n, bytes, g->cap, g->error);
+    case BOUNDS: return fmtcanon_bounds(g->model, f, n, g->bounds, g->error);
     case SAME: return fmtcanon_same(g->model, f, n, s, m, g->error);
     case SAME_MODELS: return fmtcanon_same_models(f, n, s, m, g->error);
     case COMPARE: return fmtcanon_compare(g->model, f, n, s, m, g->out, g->cap, g->found, g->error);
     case ARGUMENTS: return fmtcanon_arguments(g->model, f, n, bytes, g->cap, g->error);
     case FITS: return fmtcanon_fits(g->model, f, n, s, m, g->error);
     case FITS_MODELS: return fmtcanon_fits_models(f, n, s, m, g->error);
+    case FITS_FEWER: return fmtcanon_fits_fewer(g->model, f, n, s, m, g->error);
+    case FITS_FEWER_MODELS: return fmtcanon_fits_fewer_models(f, n, s, m, g->error);
     case WHOLE_CANONICAL: return fmtcanon_whole_canonical(g->model, f, n, g->out, g->cap, g->error);
     case WHOLE_LENGTH: return fmtcanon_whole_canonical_length(g->model, f, n, g->error);
     case WHOLE_SAME: return fmtcanon_whole_same(g->model, f, n, s, m, g->error);
@@ -157,7 +162,7 @@ static int64_t counted(const struct given *g)
 static void try_refused(struct given g, int64_t result, int count)
 {
     static const fmtcanon_error before = {77, 78, 79};
-    g.out = locked(g.cap), g.error = locked(sizeof before), g.found = locked(sizeof *g.found);
+    g.out = locked(g.cap), g.error = locked(sizeof before), g.found = locked(sizeof *g.found), g.bounds = locked(sizeof *g.bounds);
     for (fails_at = 0; fails_at < count; fails_at++) {
         fmtcanon_error error = before;
         int64_t found;
@@ -175,14 +180,15 @@ static void try_one(struct given g)
     static uint64_t out[SIZE / sizeof(uint64_t)];
     fmtcanon_error error;
     fmtcanon_comparison found;
+    struct fmtcanon_bounds bounds;
     int64_t result;
     int count;
-    g.out = (char *)out, g.error = &error, g.found = &found;
+    g.out = (char *)out, g.error = &error, g.found = &found, g.bounds = &bounds;
     result = counted(&g);
     count = growths;
     if (!has_room(&g, result)) g.out = locked(g.cap);
     if (result >= 0 || result == FMTCANON_ERROR_MODEL) g.error = locked(sizeof error);
-    if (result < 0) g.found = locked(sizeof found);
+    if (result < 0) g.found = locked(sizeof found), g.bounds = locked(sizeof bounds);
     want(counted(&g) == result && growths == count, "the same result and as many allocations");
     try_refused(g, result, count);
 }
@@ -197,7 +203,7 @@ int main(void)
         for (text = 0; text < COUNT(TEXTS); text++)
             for (model = 0; model < COUNT(MODELS); model++)
                 for (room = 0; room < COUNT(ROOMS); room++) {
-                    struct given g = {call, MODELS[model], TEXTS[text].first, TEXTS[text].second, NULL, ROOMS[room], NULL, NULL};
+                    struct given g = {call, MODELS[model], TEXTS[text].first, TEXTS[text].second, NULL, ROOMS[room], NULL, NULL, NULL};
                     sprintf(now, "%s of texts %d, model %d, room %d", NAMES[call], (int)text, (int)model, (int)ROOMS[room]);
                     try_one(g);
                 }

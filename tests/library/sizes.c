@@ -136,6 +136,14 @@ static void types(void)
     WANT(is_repeated(out, "\1", units));
 }
 
+static void bounds(void)
+{
+    struct fmtcanon_bounds b;
+    one("", "%5i", "");
+    WANT(fmtcanon_bounds(LP64, first, first_len, &b, &error) == 0);
+    WANT(b.least == 5 * units && b.greatest == 11 * units && growths == 0);
+}
+
 static void same(void)
 {
     two("%i", "", "%d", "");
@@ -178,6 +186,56 @@ static void fits(void)
     WANT(fmtcanon_fits(LP64, first, first_len, second, second_len, &error) == 1);
     two("%i", "%f", "%d", "%s");
     WANT(fmtcanon_fits(LP64, first, first_len, second, second_len, &error) == 0 && growths == 0);
+}
+
+static void fits_fewer(void)
+{
+    two("%i", "%f", "%d", "");
+    WANT(fmtcanon_fits_fewer(LP64, first, first_len, second, second_len, &error) == 1);
+    WANT(fmtcanon_fits_fewer_models(first, first_len, second, second_len, &error) == FMTCANON_IN_ALL);
+    two("%i", "", "%d", "%f");
+    WANT(fmtcanon_fits_fewer(LP64, first, first_len, second, second_len, &error) == 0 && growths == 0);
+}
+
+static void directives(void)
+{
+    fmtcanon_directive *records = __real_malloc(units * sizeof *records);
+    one("", "ab%i", "");
+    WANT(records != NULL);
+    WANT(fmtcanon_directives(LP64, first, first_len, records, units, &error) == (int64_t)units);
+    for (size_t k = 0; k < units; k++) {
+        WANT(records[k].begin == 4 * k + 2 && records[k].end == 4 * k + 4);
+        WANT(records[k].argument == k && records[k].kind == FMTCANON_INT);
+    }
+    __real_free(records);
+}
+
+/* Literal bytes between any two directives. */
+static void literal_runs(void)
+{
+    one("", "ab%i", "");
+    WANT(fmtcanon_check(first, first_len, &error) == 0 && growths == 0);
+    WANT(fmtcanon_types(LP64, first, first_len, (unsigned char *)out, room, &error) == (int64_t)units);
+    growths = 0;
+    WANT(fmtcanon_canonical(LP64, first, first_len, out, room, &error) == (int64_t)(4 * units));
+    WANT(is_repeated(out, "ab%d", units) && out[4 * units] == 0 && growths == 1);
+    two("ab%i", "", "ab%d", "");
+    WANT(fmtcanon_same(LP64, first, first_len, second, second_len, &error) == 1);
+    WANT(fmtcanon_fits(LP64, first, first_len, second, second_len, &error) == 1 && growths == 1);
+}
+
+/* Formats of the profile, compared in the whole language. */
+static void whole_profile(void)
+{
+    two("%i", "", "%d", "");
+    WANT(fmtcanon_whole_compare(LP64, first, first_len, second, second_len, out, room, &found, &error) == 0);
+    WANT(found.verdict == FMTCANON_SAME && growths == 0);
+    two("%i", "%d", "%d", "%s");
+    WANT(fmtcanon_whole_compare(LP64, first, first_len, second, second_len, out, room, &found, &error) == 0);
+    WANT(found.verdict == FMTCANON_TYPES && found.number == units && growths == 0);
+    two("%i", "%05d", "%d", "%.5d");
+    WANT(fmtcanon_whole_compare(LP64, first, first_len, second, second_len, out, room, &found, &error) == (int64_t)(4 * units + 5));
+    WANT(found.verdict == FMTCANON_DIFFERENT && found.number == units + 1 && !memcmp(out + 4 * units, "n:-1", 5));
 }
 
 /* A stretch and a directive that the profile lacks, in turn. */
@@ -242,8 +300,9 @@ static const struct {
     void (*make)(void);
 } ROWS[] = {
     {"check", check}, {"refused", refused}, {"is_canonical", is_canonical}, {"canonical_length", canonical_length},
-    {"canonical", canonical}, {"types", types}, {"same", same}, {"compare", compare}, {"compare_last", compare_last},
-    {"arguments", arguments}, {"fits", fits}, {"whole_canonical", whole_canonical}, {"whole_same", whole_same},
+    {"canonical", canonical}, {"types", types}, {"bounds", bounds}, {"same", same}, {"compare", compare}, {"compare_last", compare_last},
+    {"arguments", arguments}, {"fits", fits}, {"fits_fewer", fits_fewer},
+    {"directives", directives}, {"literal_runs", literal_runs}, {"whole_profile", whole_profile}, {"whole_canonical", whole_canonical}, {"whole_same", whole_same},
     {"whole_compare_last", whole_compare_last}, {"decode_literal", decode}, {"encode_literal", encode}, {"source_offset", source_offset},
 };
 

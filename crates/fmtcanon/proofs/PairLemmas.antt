@@ -24,7 +24,7 @@ use Rattle.fmtcanon.specs.declared.models.Models.{Models}
 use Rattle.fmtcanon.specs.declared.models.Models.TheVariants.{All, Both, One}
 use Rattle.fmtcanon.specs.declared.outcome.Fault.{Fault}
 use Rattle.fmtcanon.specs.declared.questions.PairQuestion.{PairQuestion}
-use Rattle.fmtcanon.specs.declared.questions.PairQuestion.TheVariants.{Fits, Same, WholeSame}
+use Rattle.fmtcanon.specs.declared.questions.PairQuestion.TheVariants.{Fits, FitsFewer, Same, WholeSame}
 use Rattle.fmtcanon.proofs.GivenLemmas.{pair_fault}
 
 module _ (models : List Model) (i : ℕ) (d : Model) (few : i < length models) where
@@ -54,6 +54,8 @@ pub accepts_both : (question : PairQuestion) (model : Model) (first second out :
     → IsPairAnswer question model first second out ending
     → AcceptsText (language_of question) model first × AcceptsText (language_of question) model second
 accepts_both Fits model first second out ending h =
+    ((h.compares.types, h.compares.first_accepted), (h.compares.others, h.compares.second_accepted))
+accepts_both FitsFewer model first second out ending h =
     ((h.compares.types, h.compares.first_accepted), (h.compares.others, h.compares.second_accepted))
 accepts_both Same model first second out ending h = ((h.is.first, h.is.accepted_first), (h.is.second, h.is.accepted_second))
 accepts_both WholeSame model first second out ending h = (h.is.is.first, h.is.is.second)

@@ -1,10 +1,10 @@
 -- A directive has one reduction: as items it is a canonical text, of which equivalent ones are equal.
-use Rattle.std.proofs.Common.{◌≡◌, ◌≢◌, ℕ, zero, suc, List, [], ◌∷◌, ◌++◌, length, map, replicate, refl, sym, ap, ap₂, ◌∙◌, inl, inr, subst, arith, Result}
+use Rattle.std.proofs.Common.{◌≡◌, ◌≢◌, ℕ, zero, suc, List, [], ◌∷◌, ◌++◌, length, map, replicate, refl, sym, ap, ap₂, ◌∙◌, subst, arith, Result}
 use Rattle.std.specs.Prelude.{IfOk, flat_map}
 use Rattle.std.proofs.lemmas.List.{length-replicate}
 use Rattle.std.proofs.lemmas.Result.{IfOk-weaker}
 use Rattle.pf_values.specs.declared.models.Model.{Model}
-use Rattle.pf_values.specs.meaning.Canonical.{AreCanonical, ReadsCanonically, item_spelling}
+use Rattle.pf_values.specs.meaning.Canonical.{ReadsCanonically, item_spelling}
 use Rattle.pf_values.specs.meaning.Defined.{IsDefined}
 use Rattle.pf_values.specs.meaning.Items.{Item, Byte, Directive, Reads}
 use Rattle.pf_values.specs.meaning.Normal.{IsNormal, silent}

@@ -14,12 +14,13 @@ use Rattle.fmtcanon.specs.declared.outcome.Fault.TheVariants.{Refused, BadLitera
 use Rattle.fmtcanon.specs.declared.formats.GivenFormat.{GivenFormat}
 use Rattle.fmtcanon.specs.declared.formats.Notation.{Notation}
 use Rattle.fmtcanon.specs.declared.questions.FormatQuestion.{FormatQuestion}
-use Rattle.fmtcanon.specs.declared.questions.FormatQuestion.TheVariants.{Types, WholeTypes, Canonical, WholeCanonical, Parts}
+use Rattle.fmtcanon.specs.declared.questions.FormatQuestion.TheVariants.{Types, WholeTypes, Canonical, WholeCanonical, Parts, Bounds}
 use Rattle.fmtcanon.specs.declared.questions.OneQuestion.{OneQuestion}
 use Rattle.fmtcanon.specs.declared.questions.OneQuestion.TheVariants.{Any, Printed}
 use Rattle.fmtcanon.specs.declared.questions.Question.{Question}
 use Rattle.fmtcanon.specs.declared.questions.Question.TheVariants.{One, Two}
 use Rattle.fmtcanon.specs.ArgumentLines.{HasArgumentLines}
+use Rattle.fmtcanon.specs.ByteCounts.{HasBoundsLine}
 use Rattle.fmtcanon.specs.FormatArguments.{IsArgumentFault, IsPrinted}
 use Rattle.fmtcanon.specs.Formats.{HoldsAt, HoldsOf, IsFormat, IsNoFormat, IsOffsetInText, written_in}
 use Rattle.fmtcanon.specs.Languages.{Language, AcceptsText, RefusesText}
@@ -44,6 +45,7 @@ HasAnswer WholeTypes notation model bytes out = HasArgumentLines model bytes out
 HasAnswer Canonical notation model bytes out = HasCanonicalLine notation model bytes out
 HasAnswer WholeCanonical notation model bytes out = HasWholeCanonicalLine notation model bytes out
 HasAnswer Parts notation model bytes out = HasShownLines model bytes out
+HasAnswer Bounds notation model bytes out = HasBoundsLine model bytes out
 
 -- what is answered about the bytes of one format
 abbrev pub HasOneAnswer : OneQuestion → Notation → Model → Text → Text → Type 0

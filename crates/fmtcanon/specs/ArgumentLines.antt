@@ -4,7 +4,6 @@ use Rattle.std.specs.Prelude.{◌≡◌, ℕ, List, ◌++◌, Option, Some, None
 use Rattle.pf_posix.specs.declared.types.ArgumentType.{ArgumentType}
 use Rattle.pf_posix.specs.declared.types.ArgumentType.TheVariants.{Profile, Double, LongDouble, WideChar, WideString, Pointer, PointerToSChar, PointerToShort, PointerToInt, PointerToLong, PointerToLongLong}
 use Rattle.pf_posix.specs.Items.{HasArguments}
-use Rattle.pf_posix.specs.Laws.{ComparesArgumentTypes}
 use Rattle.pf_values.specs.declared.models.Model.{Model}
 use Rattle.pf_values.specs.meaning.Text.{Text}
 use Rattle.fmtcanon.specs.declared.answer.Ending.{Ending}
@@ -36,7 +35,7 @@ HasArgumentLines model format lines =
     (types : List ArgumentType) × HasArguments model format types
     × (lines ≡ flat_map argument_line types)
 
--- that a format takes just the arguments of another, or the first that differs
+-- that a format takes the arguments of another, or the index at which it doesn't
 abbrev pub fit_line : Option ℕ → Text
 fit_line None = line (codes "fits")
 fit_line (Some index) = line (codes "types differ at argument " ++ decimal index)
@@ -45,9 +44,9 @@ abbrev pub fit_ending : Option ℕ → Ending
 fit_ending None = endings.Same
 fit_ending (Some index) = endings.Different
 
--- the line on whether the second of two accepted formats takes just the arguments of the first
-pub record IsFitAnswer (model : Model) (first second out : Text) (ending : Ending) : Type 0 where
+-- the line on how the arguments of two formats compare, and how the run ends
+pub record IsFitAnswer (Compares : Option ℕ → Type 0) (out : Text) (ending : Ending) : Type 0 where
   pub index : Option ℕ
-  pub compares : ComparesArgumentTypes model first second index
+  pub compares : Compares index
   pub is_line : out ≡ fit_line index
   pub ends : ending ≡ fit_ending index

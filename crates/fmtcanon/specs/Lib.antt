@@ -9,6 +9,7 @@ pub mod Tasks
 pub mod Faults
 pub mod TypeLines
 pub mod ArgumentLines
+pub mod ByteCounts
 pub mod Shows
 pub mod ArgumentWords
 pub mod UntypedArgs

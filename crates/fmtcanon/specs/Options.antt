@@ -25,6 +25,10 @@ is_null rows = is_set (codes "null") rows
 abbrev pub is_whole : List Row → Bool
 is_whole rows = is_set (codes "whole") rows
 
+-- `--fewer`: the second may take fewer arguments
+abbrev pub is_fewer : List Row → Bool
+is_fewer rows = is_set (codes "fewer") rows
+
 -- `--literal`: they are given by string literals
 abbrev pub notation_in : List Row → Notation
 notation_in rows = if is_set (codes "literal") rows then Literals else Bytes

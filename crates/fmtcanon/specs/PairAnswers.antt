@@ -2,6 +2,7 @@
 use Rattle.std.specs.Prelude.{◌≡◌, List, [], ◌∷◌, ◌++◌}
 use Rattle.pf_values.specs.declared.models.Model.{Model}
 use Rattle.pf_values.specs.meaning.Text.{Text}
+use Rattle.pf_posix.specs.Laws.{ComparesArgumentTypes, ComparesBeginning}
 use Rattle.fmtcanon.specs.ArgumentLines.{IsFitAnswer}
 use Rattle.fmtcanon.specs.Comparisons.{IsComparisonAnswer}
 use Rattle.fmtcanon.specs.Lines.{line}
@@ -12,11 +13,12 @@ use Rattle.fmtcanon.specs.declared.answer.Ending.TheVariants as endings
 use Rattle.fmtcanon.specs.declared.models.Models.{Models}
 use Rattle.fmtcanon.specs.declared.models.Models.TheVariants.{All, Both, One}
 use Rattle.fmtcanon.specs.declared.questions.PairQuestion.{PairQuestion}
-use Rattle.fmtcanon.specs.declared.questions.PairQuestion.TheVariants.{Fits, Same, WholeSame}
+use Rattle.fmtcanon.specs.declared.questions.PairQuestion.TheVariants.{Fits, FitsFewer, Same, WholeSame}
 
 -- the answer to a question about two formats, in a data model
 abbrev pub IsPairAnswer : PairQuestion → Model → Text → Text → Text → Ending → Type 0
-IsPairAnswer Fits model first second = IsFitAnswer model first second
+IsPairAnswer Fits model first second = IsFitAnswer (ComparesArgumentTypes model first second)
+IsPairAnswer FitsFewer model first second = IsFitAnswer (ComparesBeginning model first second)
 IsPairAnswer Same model first second = IsComparisonAnswer model first second
 IsPairAnswer WholeSame model first second = IsAlikeAnswer model first second
 

@@ -5,12 +5,12 @@ use Rattle.clap.specs.Walk.{Row}
 use Rattle.pf_values.specs.meaning.Text.{Text}
 use Rattle.fmtcanon.specs.Languages.{Language, Profile, Numbered, Unnumbered}
 use Rattle.fmtcanon.specs.Models.{model_in, models_in}
-use Rattle.fmtcanon.specs.Options.{is_whole, notation_in}
+use Rattle.fmtcanon.specs.Options.{is_fewer, is_whole, notation_in}
 use Rattle.fmtcanon.specs.declared.questions.FormatQuestion.{FormatQuestion}
-use Rattle.fmtcanon.specs.declared.questions.FormatQuestion.TheVariants.{Types, WholeTypes, Canonical, WholeCanonical, Parts}
+use Rattle.fmtcanon.specs.declared.questions.FormatQuestion.TheVariants.{Types, WholeTypes, Canonical, WholeCanonical, Parts, Bounds}
 use Rattle.fmtcanon.specs.declared.questions.OneQuestion.TheVariants.{Any, Printed}
 use Rattle.fmtcanon.specs.declared.questions.PairQuestion.{PairQuestion}
-use Rattle.fmtcanon.specs.declared.questions.PairQuestion.TheVariants.{Fits, Same, WholeSame}
+use Rattle.fmtcanon.specs.declared.questions.PairQuestion.TheVariants.{Fits, FitsFewer, Same, WholeSame}
 use Rattle.fmtcanon.specs.declared.questions.Question.{Question}
 use Rattle.fmtcanon.specs.declared.questions.Question.TheVariants.{One, Two}
 use Rattle.fmtcanon.specs.declared.questions.RecordQuestion.{RecordQuestion}
@@ -23,10 +23,12 @@ language_of_format WholeTypes = Numbered
 language_of_format Canonical = Profile
 language_of_format WholeCanonical = Unnumbered
 language_of_format Parts = Profile
+language_of_format Bounds = Profile
 
 -- Argument types are compared with numbers, too. What two formats print is compared without.
 abbrev pub language_of : PairQuestion → Language
 language_of Fits = Numbered
+language_of FitsFewer = Numbered
 language_of Same = Profile
 language_of WholeSame = Unnumbered
 
@@ -56,10 +58,12 @@ IsAskedOfOne command rows WholeTypes = (command ≡ codes "types") × (is_whole 
 IsAskedOfOne command rows Canonical = (command ≡ codes "canon") × (is_whole rows ≡ false)
 IsAskedOfOne command rows WholeCanonical = (command ≡ codes "canon") × (is_whole rows ≡ true)
 IsAskedOfOne command rows Parts = command ≡ codes "show"
+IsAskedOfOne command rows Bounds = command ≡ codes "bounds"
 
 -- a command asks this about two formats
 abbrev pub IsAskedOfTwo : Text → List Row → PairQuestion → Type 0
-IsAskedOfTwo command rows Fits = command ≡ codes "fits"
+IsAskedOfTwo command rows Fits = (command ≡ codes "fits") × (is_fewer rows ≡ false)
+IsAskedOfTwo command rows FitsFewer = (command ≡ codes "fits") × (is_fewer rows ≡ true)
 IsAskedOfTwo command rows Same = (command ≡ codes "same") × (is_whole rows ≡ false)
 IsAskedOfTwo command rows WholeSame = (command ≡ codes "same") × (is_whole rows ≡ true)
 
@@ -72,7 +76,8 @@ IsAsked command rows (of_records.Two notation question models) =
 
 -- the names of the commands that ask about any formats
 abbrev pub question_names : List Text
-question_names = codes "types" ∷ codes "canon" ∷ codes "show" ∷ codes "fits" ∷ codes "same" ∷ []
+question_names =
+    codes "types" ∷ codes "canon" ∷ codes "show" ∷ codes "bounds" ∷ codes "fits" ∷ codes "same" ∷ []
 
 -- a command has another name
 abbrev pub IsNoQuestionName : Text → Type 0

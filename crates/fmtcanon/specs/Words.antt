@@ -11,7 +11,7 @@ use Rattle.clap.specs.declared.builder.value_parser.ValueParser.{ValueParser}
 use Rattle.clap.specs.declared.builder.value_parser.ValueParser.TheVariants.{Names}
 use Rattle.pf_values.specs.meaning.Text.{Text}
 use Rattle.fmtcanon.specs.declared.command.Shape.{Shape}
-use Rattle.fmtcanon.specs.declared.command.Shape.TheVariants.{Nothing, Records, WholeRecords, Pairs, WholePairs, Format}
+use Rattle.fmtcanon.specs.declared.command.Shape.TheVariants.{Nothing, Records, WholeRecords, FewerPairs, WholePairs, Format}
 use Rattle.fmtcanon.specs.declared.command.Row.{Row}
 use Rattle.fmtcanon.specs.Models.{model_names, model_names_or_more}
 
@@ -32,12 +32,16 @@ model_option models = record (new_rule (codes "model")) {
 abbrev pub on_nothing : Text → ValueParser → App
 on_nothing name models = with_rule (new_app name) (model_option models)
 
--- the option `--literal`
-abbrev pub literal_option : Rule
-literal_option = record (new_rule (codes "literal")) {
-  long = Some (codes "literal");
+-- an option without a value
+abbrev pub flag_option : Text → Rule
+flag_option name = record (new_rule name) {
+  long = Some name;
   action = Some SetTrue;
 }
+
+-- the option `--literal`
+abbrev pub literal_option : Rule
+literal_option = flag_option (codes "literal")
 
 -- a subcommand about formats that may be given by string literals
 abbrev pub on_literals : Text → ValueParser → App
@@ -66,10 +70,11 @@ on_pairs name models = with_rule (on_records name models) (new_rule (codes "G"))
 
 -- the option `--whole`
 abbrev pub whole_option : Rule
-whole_option = record (new_rule (codes "whole")) {
-  long = Some (codes "whole");
-  action = Some SetTrue;
-}
+whole_option = flag_option (codes "whole")
+
+-- the option `--fewer`
+abbrev pub fewer_option : Rule
+fewer_option = flag_option (codes "fewer")
 
 -- any number of arguments
 abbrev pub any_arguments : Rule
@@ -82,7 +87,7 @@ abbrev pub on_shape : Shape → Text → ValueParser → App
 on_shape Nothing name models = on_nothing name models
 on_shape Records name models = on_records name models
 on_shape WholeRecords name models = with_rule (on_records name models) whole_option
-on_shape Pairs name models = on_pairs name models
+on_shape FewerPairs name models = with_rule (on_pairs name models) fewer_option
 on_shape WholePairs name models = with_rule (on_pairs name models) whole_option
 on_shape Format name models = with_rule (on_format name models) any_arguments
 
@@ -117,8 +122,9 @@ command_rows one more =
     ∷ record { name = codes "canon"; shape = WholeRecords; models = one }
     ∷ record { name = codes "show"; shape = Records; models = one }
     ∷ record { name = codes "format"; shape = Format; models = one }
+    ∷ record { name = codes "bounds"; shape = Records; models = one }
     ∷ record { name = codes "same"; shape = WholePairs; models = more }
-    ∷ record { name = codes "fits"; shape = Pairs; models = more }
+    ∷ record { name = codes "fits"; shape = FewerPairs; models = more }
     ∷ record { name = codes "stream"; shape = Nothing; models = one }
     ∷ []
 

@@ -16,6 +16,7 @@ ghost use Rattle.fmtcanon.specs.Questions.{language_of, language_of_format};
 ghost use Rattle.fmtcanon.specs.declared.formats.GivenFormat.{GivenFormat};
 
 use crate::arguments::arguments_for;
+use crate::byte_counts::bounds_line;
 use crate::formats::{GivenFormat, Notation};
 use crate::models::Models;
 use crate::outcome::Fault;
@@ -143,6 +144,7 @@ fn lines_about(
         FormatQuestion::Canonical => canonical_line(alloc, notation, model, bytes),
         FormatQuestion::WholeCanonical => whole_canonical_line(alloc, notation, model, bytes),
         FormatQuestion::Parts => show_lines(alloc, model, bytes),
+        FormatQuestion::Bounds => bounds_line(alloc, model, bytes),
     }
 }
 

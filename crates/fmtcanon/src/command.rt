@@ -19,8 +19,8 @@ pub enum Shape {
     Records,
     /// A format, or records, perhaps of the whole language.
     WholeRecords,
-    /// Two formats, or records.
-    Pairs,
+    /// Two formats, or records, of which the second may take fewer arguments.
+    FewerPairs,
     /// Two formats, or records, perhaps of the whole language.
     WholePairs,
     /// A format, and what it is to print.
@@ -88,6 +88,13 @@ fn definition_with<'a>(
             models: one,
         },
         Row {
+            name: "bounds",
+            about: "Prints the smallest and the largest number of bytes that a format prints",
+            below: BOUNDS_HELP,
+            shape: Shape::Records,
+            models: one,
+        },
+        Row {
             name: "same",
             about: "Says whether two formats are interchangeable, and if not, how they differ",
             below: SAME_HELP,
@@ -98,7 +105,7 @@ fn definition_with<'a>(
             name: "fits",
             about: "Says whether one format takes the arguments of another, as a translation must",
             below: FITS_HELP,
-            shape: Shape::Pairs,
+            shape: Shape::FewerPairs,
             models: more,
         },
         Row {
@@ -224,6 +231,25 @@ memory
 The manual page fmtcanon(1) and docs/REFUSALS.md list the reasons for a rejection, and what to write
 instead.";
 
+// Below the help of `bounds`.
+const BOUNDS_HELP: &str = "\
+Example:
+  fmtcanon bounds 'Total: %i of %5u'
+  fmtcanon bounds --model ilp32 %ld
+  printf '%s\\0' %i %.8s | fmtcanon bounds --null
+
+If a format starts with `-`, put `--` before it: fmtcanon bounds -- '-%i'
+
+The numbers are exact. They cover all arguments of the format's types, and don't count the NUL that
+sprintf adds. If there is no largest number, as with a `%s` without a precision, it prints `unbounded`.
+
+With --null, formats are read from standard input, each terminated by NUL. Each reply is a status
+digit, a space, the output or the error line, and NUL. The exit status is the highest of them.
+
+Exit status: 0 success, 2 rejected, 3 usage error, 4 a write failed or out of memory
+The manual page fmtcanon(1) and docs/REFUSALS.md list the reasons for a rejection, and what to write
+instead.";
+
 // Below the help of `same`.
 const SAME_HELP: &str = "\
 Example:
@@ -255,12 +281,16 @@ const FITS_HELP: &str = "\
 Example:
   fmtcanon fits '%s of %d' '%2$d/%1$s'
   fmtcanon fits --model all %zu %lu
+  fmtcanon fits --fewer '%d files in %s' 'one file'
   printf '%s\\0' %d %i %.2f %d | fmtcanon fits --null
 
 If a format starts with `-`, put `--` before it: fmtcanon fits -- '-%d' '-%i'
 
 It accepts the whole language, and compares the types of arguments only. `same` also compares the
 bytes.
+
+With --fewer, G may also take only the first of the arguments of F, since printf ignores arguments that
+are left over.
 
 With --null, pairs of formats are read from standard input, each format terminated by NUL. Each reply
 is a status digit, a space, the output or the error line, and NUL. The exit status is the highest of

@@ -3,6 +3,7 @@
 
 mod answer;
 mod arguments;
+mod byte_counts;
 mod command;
 mod comparison;
 mod formats;

@@ -1,7 +1,7 @@
 //! Answers about two formats, in one data model after another.
 ghost use Rattle.std.specs.Prelude.{◌≡◌, ◌++◌, IfOk, MatchOption, MatchResult};
 ghost use Rattle.fmtcanon.specs.Answers.{IsPairFault, IsPairFaultIn, IsRefusalOfFirst};
-ghost use Rattle.fmtcanon.specs.Languages.{AcceptsText};
+ghost use Rattle.fmtcanon.specs.Languages.{AcceptsText, Numbered};
 ghost use Rattle.fmtcanon.specs.Lines.{line};
 ghost use Rattle.fmtcanon.specs.Models.{asked_models};
 ghost use Rattle.fmtcanon.specs.PairAnswers.{IsAnswerInEach, IsPairAnswer, IsPairAnswerIn, ending_with};
@@ -12,7 +12,7 @@ use crate::comparison::comparison_in;
 use crate::models::{Models, name_of};
 use crate::outcome::Fault;
 use crate::questions::PairQuestion;
-use crate::whole::{alike_in, fit_in};
+use crate::whole::{alike_in, fewer_in, fit_in};
 use pf_posix::{arguments, check_unnumbered};
 use pf_text::{Side, check};
 use pf_values::Model;
@@ -73,6 +73,7 @@ fn pair_answer_in(
 {
     match question {
         PairQuestion::Fits => fit_in(alloc, model, first, second),
+        PairQuestion::FitsFewer => fewer_in(alloc, model, first, second),
         PairQuestion::Same => comparison_in(alloc, model, first, second),
         PairQuestion::WholeSame => alike_in(alloc, model, first, second),
     }
@@ -84,10 +85,8 @@ pub fn refusal_of_first(question: PairQuestion, model: Model, bytes: &[u8]) -> O
         (IsRefusalOfFirst (language_of question) model bytes.now) }
 {
     match question {
-        PairQuestion::Fits => match arguments(model, bytes, &mut []) {
-            Ok(_) => None,
-            Err(refusal) => Some(Fault::refused(Some(Side::First), refusal)),
-        },
+        PairQuestion::Fits => numbered_refusal(model, bytes),
+        PairQuestion::FitsFewer => numbered_refusal(model, bytes),
         PairQuestion::Same => match check(bytes) {
             Ok(()) => None,
             Err(refusal) => Some(Fault::refused(Some(Side::First), refusal)),
@@ -96,6 +95,17 @@ pub fn refusal_of_first(question: PairQuestion, model: Model, bytes: &[u8]) -> O
             Ok(()) => None,
             Err(refusal) => Some(Fault::refused(Some(Side::First), refusal)),
         },
+    }
+}
+
+// The refusal of a first format in the whole language with numbered arguments.
+fn numbered_refusal(model: Model, bytes: &[u8]) -> Option<Fault>
+    ensures { MatchOption result (AcceptsText Numbered model bytes.now)
+        (IsRefusalOfFirst Numbered model bytes.now) }
+{
+    match arguments(model, bytes, &mut []) {
+        Ok(_) => None,
+        Err(refusal) => Some(Fault::refused(Some(Side::First), refusal)),
     }
 }
 

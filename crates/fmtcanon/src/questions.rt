@@ -22,6 +22,8 @@ pub enum FormatQuestion {
     WholeCanonical,
     /// What it is made of.
     Parts,
+    /// How many bytes it prints at least and at most.
+    Bounds,
 }
 
 /// What may be asked about any two formats, in one data model or several.
@@ -29,6 +31,8 @@ pub enum FormatQuestion {
 pub enum PairQuestion {
     /// Whether the second takes just the arguments of the first, in the whole language.
     Fits,
+    /// Whether the second takes no others than the first, in the whole language.
+    FitsFewer,
     /// Whether they are interchangeable.
     Same,
     /// Whether they are interchangeable, in the whole language without numbered arguments.
@@ -119,7 +123,8 @@ pub fn question_of(name: &str, inner: &ArgMatches<'_>) -> Option<RecordQuestion>
         "types" => Some(RecordQuestion::One(notation, about_types(inner), model)),
         "canon" => Some(RecordQuestion::One(notation, about_canonical(inner), model)),
         "show" => Some(RecordQuestion::One(notation, FormatQuestion::Parts, model)),
-        "fits" => Some(RecordQuestion::Two(notation, PairQuestion::Fits, models_of(inner))),
+        "bounds" => Some(RecordQuestion::One(notation, FormatQuestion::Bounds, model)),
+        "fits" => Some(RecordQuestion::Two(notation, about_fits(inner), models_of(inner))),
         "same" => Some(RecordQuestion::Two(notation, about_same(inner), models_of(inner))),
         _ => None,
     }
@@ -144,6 +149,18 @@ fn about_canonical(inner: &ArgMatches<'_>) -> FormatQuestion
         FormatQuestion::WholeCanonical
     } else {
         FormatQuestion::Canonical
+    }
+}
+
+// What the command about the arguments of two formats asks: whether they are the same, or whether the
+// second takes no others.
+fn about_fits(inner: &ArgMatches<'_>) -> PairQuestion
+    ensures { IsAskedOfTwo (codes "fits") (rows_in inner.now) result }
+{
+    if is_set(inner, "fewer") {
+        PairQuestion::FitsFewer
+    } else {
+        PairQuestion::Fits
     }
 }
 

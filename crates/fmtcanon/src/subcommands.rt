@@ -3,7 +3,7 @@ ghost use Rattle.std.specs.Prelude.{◌≡◌, IfOk, false};
 ghost use Rattle.clap.specs.Simple.{with_rule};
 ghost use Rattle.clap.specs.Words.{app_of};
 ghost use Rattle.clap.specs.declared.builder.command.Command.TheViews.{out-Command as fields_of};
-ghost use Rattle.fmtcanon.specs.Words.{any_arguments, on_format, on_literals, on_nothing, on_pairs, on_records, row_app, row_of, whole_option};
+ghost use Rattle.fmtcanon.specs.Words.{any_arguments, fewer_option, flag_option, on_format, on_literals, on_nothing, on_pairs, on_records, row_app, row_of, whole_option};
 
 use crate::command::{Row, Shape};
 use clap::{Arg, ArgAction, Command};
@@ -18,7 +18,7 @@ pub fn subcommand<'a>(alloc: Global, row: &Row<'a>) -> Result<Command<'a>, Alloc
         Shape::Nothing => on_nothing(alloc, row),
         Shape::Records => on_records(alloc, row),
         Shape::WholeRecords => taking_whole(alloc, on_records(alloc, row)?),
-        Shape::Pairs => on_pairs(alloc, row),
+        Shape::FewerPairs => taking_fewer(alloc, on_pairs(alloc, row)?),
         Shape::WholePairs => taking_whole(alloc, on_pairs(alloc, row)?),
         Shape::Format => taking_arguments(alloc, on_format(alloc, row)?),
     }
@@ -96,10 +96,43 @@ fn taking_whole<'a>(alloc: Global, command: Command<'a>) -> Result<Command<'a>, 
     ensures { IfOk result (λ c. (app_of c ≡ with_rule (app_of command.entry) whole_option)
         × ((fields_of c).has_globals ≡ false)) }
 {
-    let option = Arg::new(alloc, "whole")
-        .long("whole")
+    taking(
+        alloc,
+        command,
+        "whole",
+        "Accepts the whole language of printf",
+    )
+}
+
+// Adds the option `--fewer`.
+fn taking_fewer<'a>(alloc: Global, command: Command<'a>) -> Result<Command<'a>, AllocError>
+    requires { (fields_of command).has_globals ≡ false }
+    ensures { IfOk result (λ c. (app_of c ≡ with_rule (app_of command.entry) fewer_option)
+        × ((fields_of c).has_globals ≡ false)) }
+{
+    taking(
+        alloc,
+        command,
+        "fewer",
+        "Allows G to take fewer arguments than F",
+    )
+}
+
+// Adds an option without a value.
+fn taking<'a>(
+    alloc: Global,
+    command: Command<'a>,
+    name: &'a str,
+    help: &'a str,
+) -> Result<Command<'a>, AllocError>
+    requires { (fields_of command).has_globals ≡ false }
+    ensures { IfOk result (λ c. (app_of c ≡ with_rule (app_of command.entry) (flag_option name.now))
+        × ((fields_of c).has_globals ≡ false)) }
+{
+    let option = Arg::new(alloc, name)
+        .long(name)
         .action(ArgAction::SetTrue)
-        .help("Accepts the whole language of printf");
+        .help(help);
     command.arg(option)
 }
 

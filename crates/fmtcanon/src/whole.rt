@@ -2,6 +2,7 @@
 ghost use Rattle.std.specs.Prelude.{◌≡◌, ◌++◌, IfOk, MatchResult, codes, decimal, flat_map};
 ghost use Rattle.fmtcanon.specs.Answers.{IsFormatFault, IsPairFault};
 ghost use Rattle.fmtcanon.specs.ArgumentLines.{IsFitAnswer, fit_ending, fit_line};
+ghost use Rattle.pf_posix.specs.Laws.{ComparesArgumentTypes, ComparesBeginning};
 ghost use Rattle.fmtcanon.specs.Languages.{Numbered, Unnumbered};
 ghost use Rattle.fmtcanon.specs.Lines.{line};
 ghost use Rattle.fmtcanon.specs.WholeAnswers.{HasWholeCanonicalLine, IsAlikeAnswer, shown_line, whole_ending_of, whole_verdict_lines};
@@ -12,7 +13,7 @@ use crate::formats::Notation;
 use crate::outcome::Fault;
 use crate::show_lines::push_decimal;
 use pf_compare::OwnedArg;
-use pf_posix::fits;
+use pf_posix::{fits, fits_fewer};
 use pf_values::Model;
 use pf_whole::{WholeVerdict, canonical_with_room, compare};
 use std::alloc::{AllocError, Global};
@@ -36,13 +37,37 @@ pub fn whole_canonical_line(
 /// which they differ.
 pub fn fit_in(alloc: Global, model: Model, first: &[u8], second: &[u8]) -> Result<Answer, Fault>
     ensures { MatchResult result
-        (λ answer. IsFitAnswer model first.now second.now answer.bytes.items answer.ending)
+        (λ answer. IsFitAnswer (ComparesArgumentTypes model first.now second.now)
+        answer.bytes.items answer.ending)
         (IsPairFault Numbered model first.now second.now) }
 {
     let index = match fits(model, first, second) {
         Ok(index) => index,
         Err((side, refusal)) => return Err(Fault::refused(Some(side), refusal)),
     };
+    Ok(fit_answer(alloc, index)?)
+}
+
+/// Says whether the second format takes no other arguments than the first, from which it may leave out
+/// the last ones; otherwise the first index at which it takes another.
+pub fn fewer_in(alloc: Global, model: Model, first: &[u8], second: &[u8]) -> Result<Answer, Fault>
+    ensures { MatchResult result
+        (λ answer. IsFitAnswer (ComparesBeginning model first.now second.now)
+        answer.bytes.items answer.ending)
+        (IsPairFault Numbered model first.now second.now) }
+{
+    let index = match fits_fewer(model, first, second) {
+        Ok(index) => index,
+        Err((side, refusal)) => return Err(Fault::refused(Some(side), refusal)),
+    };
+    Ok(fit_answer(alloc, index)?)
+}
+
+// Returns the answer of the index at which the arguments of two formats differ.
+fn fit_answer(alloc: Global, index: Option<u64>) -> Result<Answer, AllocError>
+    ensures { IfOk result (λ answer. (answer.bytes.items ≡ fit_line index)
+        × (answer.ending ≡ fit_ending index)) }
+{
     Ok(Answer {
         bytes: fit_line(alloc, index)?,
         ending: fit_ending(index),

@@ -1,5 +1,5 @@
 -- Two formats that don't take the same arguments, data models in which they do, and types at the front of a slice.
-use Rattle.std.proofs.Common.{◌≡◌, ◌∙◌, ◌++◌, ◌+◌, ◌<◌, ◌≤◌, [], ◌∷◌, Bool, true, false, List, ℕ, suc, Some, ap, arith, drop, get_or, length, refl, slice_get}
+use Rattle.std.proofs.Common.{◌≡◌, ◌∙◌, ◌++◌, ◌+◌, ◌<◌, ◌≤◌, [], ◌∷◌, Bool, true, false, List, ℕ, suc, None, Some, ap, arith, drop, get_or, length, refl, slice_get}
 use Rattle.std.proofs.Common.{subst, sym, take}
 use Rattle.std.specs.List.{AllByRecursion}
 use Rattle.std.specs.Prelude.{◌↔◌, IsTrue}
@@ -9,13 +9,14 @@ use Rattle.std.proofs.lemmas.List.{drop_more, take-append-drop}
 use Rattle.pf_text.specs.declared.refusals.Refusal.{Refusal}
 use Rattle.pf_text.specs.declared.refusals.Side.{Side}
 use Rattle.pf_posix.specs.declared.types.ArgumentType.{ArgumentType}
-use Rattle.pf_posix.specs.Items.{IsPosixAccepted}
-use Rattle.pf_posix.specs.Laws.{ComparesArgumentTypes, FaultForFits, HasCount, filled}
+use Rattle.pf_posix.specs.Items.{HasArguments, IsPosixAccepted}
+use Rattle.pf_posix.specs.Laws.{ComparesArgumentTypes, ComparesBeginning, FaultForFits, HasCount, filled}
 use Rattle.pf_posix.proofs.Agreeing.{all_push}
+use Rattle.pf_posix.proofs.BeginningLemmas.{fewer_once}
 use Rattle.pf_posix.proofs.Unique.{one_list}
 use Rattle.pf_values.specs.declared.models.Model.{Model}
 use Rattle.pf_values.specs.meaning.Text.{Text}
-use Rattle.fmtcanon_c.specs.ArgumentTypes.{Fit, StopsFitsIn}
+use Rattle.fmtcanon_c.specs.ArgumentTypes.{Fit, FitFewer, StopsFitsIn}
 
 module _ (model : Model) (f g : Text) where
   pub they_differ : (index : ℕ) → ComparesArgumentTypes model f g (Some index) → ¬ Fit model f g
@@ -23,6 +24,21 @@ module _ (model : Model) (f g : Text) where
       let one = one_list model f h.types types h.first_accepted of_f in
       let other = one_list model g h.others types h.second_accepted of_g in
       h.difference.0 (ap (λ (ts : _). slice_get ts index) (one ∙ sym other))
+
+  pub they_exceed : (index : ℕ) → ComparesBeginning model f g (Some index) → ¬ FitFewer model f g
+  they_exceed index h (types, more, of_f, of_g) =
+      let beginning : ComparesBeginning model f g None = record {
+        types = types ++ more;
+        others = types;
+        first_accepted = of_f;
+        second_accepted = of_g;
+        excess = (more, refl);
+      } in
+      let same = fewer_once model f g (Some index) None h beginning in
+      cc
+
+  pub they_begin : ComparesBeginning model f g None → FitFewer model f g
+  they_begin h = (h.others, h.excess.0, subst (HasArguments model f) h.excess.1 h.first_accepted, h.second_accepted)
 
 -- a truth value that says so, or doesn't
 pub fits_so : (is : Bool) (Is : Type 0) → is ≡ true → (IsTrue is ↔ Is) → Is

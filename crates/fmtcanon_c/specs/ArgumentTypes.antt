@@ -1,5 +1,5 @@
 -- What the calls about the types of the whole language answer. This project's own.
-use Rattle.std.specs.Prelude.{◌≡◌, ◌≢◌, ◌⊎◌, ℕ, ℤ, pos, neg_ℤ, List, [], ◌∷◌, ◌++◌, Option, Some, None, length, map}
+use Rattle.std.specs.Prelude.{◌≡◌, ◌≢◌, ◌⊎◌, ℕ, ℤ, pos, List, [], ◌∷◌, ◌++◌, Option, Some, None, length, map}
 use Rattle.std.specs.List.{AllByRecursion}
 use Rattle.pf_text.specs.declared.refusals.Refusal.{Refusal}
 use Rattle.pf_text.specs.declared.refusals.Side.{Side}
@@ -51,6 +51,18 @@ AnswersFit model first second error code error_now =
     × (error_now ≡ error))
     ⊎ IsOneRefusedWhole model first second code error_now
 
+-- the types of the second of two accepted texts are a beginning of those of the first
+abbrev pub FitFewer : Model → Text → Text → Type 0
+FitFewer model first second =
+    (types more : List ArgumentType) × HasArguments model first (types ++ more) × HasArguments model second types
+
+-- 1 where they are, 0 where they aren't, with the error untouched; or one text is refused
+abbrev pub AnswersFewer : Model → Text → Text → CError → ℤ → CError → Type 0
+AnswersFewer model first second error code error_now =
+    (IsPosixAccepted model first × IsPosixAccepted model second × IsTruthCode (FitFewer model first second) code
+    × (error_now ≡ error))
+    ⊎ IsOneRefusedWhole model first second code error_now
+
 -- two texts are compared in one data model after the other, and one is refused
 pub record StopsFitsIn (models : List Model) (first second : Text) (refusal : Side × Refusal) : Type 0 where
   pub before : List Model
@@ -75,6 +87,15 @@ abbrev pub AnswersFitModels : Text → Text → CError → ℤ → CError → Ty
 AnswersFitModels first second error code error_now =
     (AllByRecursion (λ model. IsPosixAccepted model first × IsPosixAccepted model second) ALL
     × IsModelsCode (λ model. Fit model first second) code × (error_now ≡ error))
+    ⊎ IsRefusedFirstIn ALL first second code error_now
+
+-- the data models in which the types of the second are a beginning of those of the first, where both are
+-- accepted in all, with the error untouched; or one text is refused in the first data model in which
+-- one is
+abbrev pub AnswersFewerModels : Text → Text → CError → ℤ → CError → Type 0
+AnswersFewerModels first second error code error_now =
+    (AllByRecursion (λ model. IsPosixAccepted model first × IsPosixAccepted model second) ALL
+    × IsModelsCode (λ model. FitFewer model first second) code × (error_now ≡ error))
     ⊎ IsRefusedFirstIn ALL first second code error_now
 
 -- the index of an argument, or the number for none

@@ -3,6 +3,7 @@ use Rattle.std.specs.Prelude.{◌≡◌, ℕ, ◌+◌, ◌-◌, ◌^◌, ℤ, po
 use Rattle.pf_literals.specs.Kinds.{literal_kind_number}
 use Rattle.pf_literals.specs.declared.faults.LiteralKind.{LiteralKind}
 use Rattle.pf_literals.specs.declared.faults.LiteralKind.TheVariants.{NoLiteral, Unterminated, BadEscape, EscapeTooLarge, ZeroByte, Trigraph}
+use Rattle.fmtcanon_c.specs.declared.byte_counts.TheConstants.{UNBOUNDED}
 use Rattle.fmtcanon_c.specs.declared.directives.TheConstants.{NO_ARGUMENT}
 use Rattle.fmtcanon_c.specs.declared.interface.TheConstants.{LITERAL_KINDS, NO_MEMORY, NO_MODEL, NO_PLACE}
 
@@ -40,3 +41,7 @@ HasNumberOfHeader kind = LITERAL_KINDS + literal_kind_number kind ≡ literal_ki
 -- FMTCANON_NO_ARGUMENT, which is UINT64_MAX
 abbrev pub IsArgumentOfHeader : Type 0
 IsArgumentOfHeader = NO_ARGUMENT ≡ 2 ^ 64 - 1
+
+-- FMTCANON_UNBOUNDED, which is UINT64_MAX
+abbrev pub IsUnboundedOfHeader : Type 0
+IsUnboundedOfHeader = UNBOUNDED ≡ 2 ^ 64 - 1

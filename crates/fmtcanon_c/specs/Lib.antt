@@ -6,5 +6,6 @@ pub mod Words
 pub mod Calls
 pub mod Literals
 pub mod ArgumentTypes
+pub mod ByteCounts
 pub mod Whole
 pub mod WholeComparisons

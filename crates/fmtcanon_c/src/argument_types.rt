@@ -9,10 +9,10 @@ ghost use Rattle.pf_posix.specs.Items.{IsPosixAccepted};
 ghost use Rattle.pf_posix.specs.TypeNumbers.{number_of_type};
 ghost use Rattle.pf_posix.specs.Laws.{FaultForFits};
 ghost use Rattle.pf_values.specs.declared.models.TheConstants.Model.{ALL};
-ghost use Rattle.fmtcanon_c.specs.ArgumentTypes.{AnswersFit, AnswersFitModels, Fit, PutsArguments, StopsFitsIn};
+ghost use Rattle.fmtcanon_c.specs.ArgumentTypes.{AnswersFewer, AnswersFewerModels, AnswersFit, AnswersFitModels, Fit, FitFewer, PutsArguments, StopsFitsIn};
 
 use crate::interface::{CError, NO_MEMORY, NO_MODEL, model_of, put_refusal};
-use pf_posix::{ArgumentType, arguments, arguments_vec, fits};
+use pf_posix::{ArgumentType, arguments, arguments_vec, fits, fits_fewer};
 use pf_text::{Refusal, Side, TextFault, known_types, signature};
 use pf_values::{ArgType, Model};
 use std::alloc::Global;
@@ -197,6 +197,34 @@ fn fits_in(model: Model, first: &[u8], second: &[u8], error: &mut CError) -> i64
     }
 }
 
+/// 1 where the second format takes the arguments of the first, or those at their beginning, 0 where it
+/// doesn't, else the code of the refusal of one. It takes no memory.
+#[unsafe(no_mangle)]
+pub extern "C" fn fmtcanon_fits_fewer(
+    model: i32,
+    first: &[u8],
+    second: &[u8],
+    error: &mut CError,
+) -> i64
+    ensures { InModel model (λ m. AnswersFewer m first.now second.now error.old result error.new)
+        result (error.new ≡ error.old) }
+{
+    match model_of(model) {
+        Some(model) => fits_fewer_in(model, first, second, error),
+        None => NO_MODEL,
+    }
+}
+
+fn fits_fewer_in(model: Model, first: &[u8], second: &[u8], error: &mut CError) -> i64
+    ensures { AnswersFewer model first.now second.now error.old result error.new }
+{
+    match fits_fewer(model, first, second) {
+        Ok(None) => 1,
+        Ok(Some(_)) => 0,
+        Err((side, refusal)) => put_refusal(error, side, refusal),
+    }
+}
+
 /// The data models in which the second format takes just the arguments of the first, as
 /// `fmtcanon_same_models` gives them, else the code of the refusal of one in the first data model in
 /// which one is refused. It takes no memory.
@@ -236,6 +264,51 @@ fn is_fit(model: Model, first: &[u8], second: &[u8]) -> Result<bool, (Side, Refu
         (FaultForFits model first.now second.now) }
 {
     match fits(model, first, second) {
+        Ok(None) => Ok(true),
+        Ok(Some(_)) => Ok(false),
+        Err(refusal) => Err(refusal),
+    }
+}
+
+/// The data models in which the second format takes the arguments of the first, or those at their
+/// beginning, as `fmtcanon_same_models` gives them, else the code of the refusal of one in the first data model in
+/// which one is refused. It takes no memory.
+#[unsafe(no_mangle)]
+pub extern "C" fn fmtcanon_fits_fewer_models(first: &[u8], second: &[u8], error: &mut CError) -> i64
+    ensures { AnswersFewerModels first.now second.now error.old result error.new }
+{
+    match fits_fewer_models(first, second) {
+        Ok(sum) => i64::from(sum),
+        Err((side, refusal)) => put_refusal(error, side, refusal),
+    }
+}
+
+// The data models in which it does, as a sum.
+fn fits_fewer_models(first: &[u8], second: &[u8]) -> Result<u8, (Side, Refusal)>
+    ensures { MatchResult result
+        (λ sum. AllByRecursion (λ model. IsPosixAccepted model first.now × IsPosixAccepted model second.now) ALL
+        × AreModels (λ model. FitFewer model first.now second.now) 1 ALL sum)
+        (StopsFitsIn ALL first.now second.now) }
+{
+    let mut sum = 0;
+    let mut weight = 1;
+    for model in &Model::ALL {
+        if is_fewer(*model, first, second)? {
+            sum += weight;
+        }
+        weight *= 2;
+    }
+    Ok(sum)
+}
+
+// Whether it does in a data model.
+fn is_fewer(model: Model, first: &[u8], second: &[u8]) -> Result<bool, (Side, Refusal)>
+    ensures { MatchResult result
+        (λ is. IsPosixAccepted model first.now × IsPosixAccepted model second.now
+        × (IsTrue is ↔ FitFewer model first.now second.now))
+        (FaultForFits model first.now second.now) }
+{
+    match fits_fewer(model, first, second) {
         Ok(None) => Ok(true),
         Ok(Some(_)) => Ok(false),
         Err(refusal) => Err(refusal),

@@ -2,6 +2,7 @@
 #![tactic(auto)]
 
 mod argument_types;
+mod byte_counts;
 mod canonical_texts;
 mod comparison;
 mod directives;

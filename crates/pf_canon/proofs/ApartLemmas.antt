@@ -15,6 +15,7 @@ use Rattle.pf_text.proofs.CanonicalRunLemmas.{Reads-append}
 use Rattle.pf_text.proofs.Texts.{Reads-unique}
 use Rattle.pf_probes.proofs.Probes.{probe_typed}
 use Rattle.pf_canon.specs.Comparison.{AreCommon, AreTextsSame, BeginApart}
+use Rattle.pf_canon.proofs.OneCanonical.{are_same}
 use Rattle.pf_canon.proofs.SomeCanonical.{some_canonical}
 
 -- the first item of a text that begins with an ordinary character
@@ -94,15 +95,9 @@ module _ (model : Model) where
       (Reads-append (take common f) (drop common f) front.0 one.0 front.1.reads one.1.reads) in
       let reads_g : Reads g (front.0 ++ other.0) = subst (λ (t : Text). Reads t (front.0 ++ other.0)) front_of_g
       (Reads-append (take common f) (drop common g) front.0 other.0 front.1.reads other.1.reads) in
-      record {
-        first = (_, record { reads = reads_f; limit = f_short });
-        second = (_, record { reads = reads_g; limit = g_short });
-        first_canonical = some_canonical model f _ reads_f;
-        second_canonical = some_canonical model g _ reads_g;
-        same = (
-          λ is. absurd (cc),
-          λ e. absurd (not_equivalent (take common f) (drop common f) (drop common g) front.0 one.0 other.0 apart front.1.reads one.1.reads
-              other.1.reads (subst (λ (t : Text). AreEquivalent model t (take common f ++ drop common g)) (sym (take-append-drop common f))
-              (subst (λ (t : Text). AreEquivalent model f t) (sym front_of_g) e))),
-        );
-      }
+      let unlike : AreEquivalent model f g → ⊥ = λ e.
+      not_equivalent (take common f) (drop common f) (drop common g) front.0 one.0 other.0 apart front.1.reads one.1.reads
+      other.1.reads (subst (λ (t : Text). AreEquivalent model t (take common f ++ drop common g)) (sym (take-append-drop common f))
+      (subst (λ (t : Text). AreEquivalent model f t) (sym front_of_g) e)) in
+      are_same model f g false (λ is. absurd (cc), λ e. absurd (unlike e)) (_, record { reads = reads_f; limit = f_short })
+      (_, record { reads = reads_g; limit = g_short }) (some_canonical model f _ reads_f) (some_canonical model g _ reads_g)

@@ -5,8 +5,10 @@ use Rattle.std.proofs.Math.Seq.{take-add}
 use Rattle.std.proofs.lemmas.List.{take-append-le, append-nil, append_assoc, append_cancel_left, length-append, length-take, take-append-drop}
 use Rattle.std.specs.Prelude.{◌⊎◌}
 use Rattle.std.specs.Io.KnownBytes.{Consumes}
+use Rattle.pf_canon.proofs.OneCanonical.{are_same, end_both}
 use Rattle.pf_canon.proofs.SomeCanonical.{some_canonical}
 use Rattle.pf_values.specs.meaning.Items.{IsAccepted}
+use Rattle.pf_values.specs.meaning.Printing.{AreEquivalent}
 use Rattle.pf_values.specs.meaning.Text.{Text}
 use Rattle.pf_values.specs.declared.models.Model.{Model}
 use Rattle.pf_values.specs.Counting.{Known}
@@ -144,18 +146,11 @@ module _ (model : Model) (f f_left g g_left : Known) where
   apart_ends pending other given apart d h =
       let c = d.canonical in
       let k = h.canonical in
-      record {
-        t = d.text;
-        u = h.text;
-        first = d.whole;
-        second = h.whole;
-        same = (
-          λ is. absurd (cc),
-          λ e. absurd (apart d.rest h.rest d.ended h.ended
-              (append_cancel_left given (pending ++ d.rest) (other ++ h.rest) (equivalent_formats_one model d.text h.text (given ++ (pending ++ d.rest))
-              (given ++ (other ++ h.rest)) e c k))),
-        );
-      }
+      let unlike : AreEquivalent model d.text h.text → ⊥ = λ e.
+      apart d.rest h.rest d.ended h.ended
+      (append_cancel_left given (pending ++ d.rest) (other ++ h.rest) (equivalent_formats_one model d.text h.text (given ++ (pending ++ d.rest))
+      (given ++ (other ++ h.rest)) e c k)) in
+      end_both model d.text h.text false (λ is. absurd (cc), λ e. absurd (unlike e)) f f_left g g_left d.whole h.whole
 
   -- both ended at once
   pub same_ends : (one two : ByteTransducer) (t u given : Text) → IsFilled one → IsFilled two → pending_in one ≡ [] → pending_in two ≡ []
@@ -165,13 +160,9 @@ module _ (model : Model) (f f_left g g_left : Known) where
       let b = rw no_more at (ending model two.is_open two.transducer _ g g_left u given (two_filled no_more) k) in
       let c = a.canonical in
       let d = b.canonical in
-      record {
-        t = t;
-        u = u;
-        first = record { reader = a.reader; end = a.end; accepted = a.accepted; canonical = (_, c) };
-        second = record { reader = b.reader; end = b.end; accepted = b.accepted; canonical = (_, d) };
-        same = (λ _. equivalent_by model t u (given ++ []) c.equivalent d.equivalent, λ _. refl);
-      }
+      end_both model t u true (λ _. equivalent_by model t u (given ++ []) c.equivalent d.equivalent, λ _. refl) f f_left g g_left
+      (record { reader = a.reader; end = a.end; accepted = a.accepted; canonical = (_, c) })
+      (record { reader = b.reader; end = b.end; accepted = b.accepted; canonical = (_, d) })
 
 -- so many bytes more were given on both sides
 pub in_step_on : (model : Model) (first one second two : ByteTransducer) (a b f g : Known) (x y : Text) (count : ℕ) → IsFrontOf (pending_in first) x
@@ -240,13 +231,8 @@ begun_both model r f g out common at both same h = (
 
 -- their canonical texts differ
 unlike_told : (model : Model) (f g c d : Text) → c ≢ d → IsAcceptedAs model f c → IsAcceptedAs model g d → AreTextsSame model f g false
-unlike_told model f g c d unlike h k = record {
-  first = h.0;
-  second = k.0;
-  first_canonical = (c, h.1);
-  second_canonical = (d, k.1);
-  same = (λ is. absurd (cc), λ e. absurd (unlike (equivalent_formats_one model f g c d e h.1 k.1)));
-}
+unlike_told model f g c d unlike h k =
+    are_same model f g false (λ is. absurd (cc), λ e. absurd (unlike (equivalent_formats_one model f g c d e h.1 k.1))) h.0 k.0 (c, h.1) (d, k.1)
 
 module _ (model : Model) (f g given w v : Text) where
   -- both canonical texts are equal
@@ -255,13 +241,7 @@ module _ (model : Model) (f g given w v : Text) where
   same_told x y w_none x_none v_none y_none h k =
       let c = rw (w_none, x_none) at h in
       let d = rw (v_none, y_none) at k in
-      record {
-        first = h.0;
-        second = k.0;
-        first_canonical = (_, h.1);
-        second_canonical = (_, k.1);
-        same = (λ _. equivalent_by model f g (given ++ []) c.1.equivalent d.1.equivalent, λ _. refl);
-      }
+      are_same model f g true (λ _. equivalent_by model f g (given ++ []) c.1.equivalent d.1.equivalent, λ _. refl) h.0 k.0 (_, h.1) (_, k.1)
 
   -- they go on with other bytes
   pub apart_told : (x y : Text) → AreApart w v → (w ≡ [] → x ≡ []) → (v ≡ [] → y ≡ []) → IsAcceptedAs model f (given ++ (w ++ x))
@@ -284,10 +264,4 @@ told model first second f g false step h k =
 pub told_itself : (model : Model) (t : Text) → IsAccepted t → AreTextsSame model t t true
 told_itself model t h =
     let own = some_canonical model t h.0 h.1.reads in
-    record {
-      first = h;
-      second = h;
-      first_canonical = own;
-      second_canonical = own;
-      same = (λ _. equivalent_by model t t own.0 own.1.equivalent own.1.equivalent, λ _. refl);
-    }
+    are_same model t t true (λ _. equivalent_by model t t own.0 own.1.equivalent own.1.equivalent, λ _. refl) h h own own

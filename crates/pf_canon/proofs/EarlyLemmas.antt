@@ -12,29 +12,25 @@ use Rattle.pf_values.specs.meaning.Items.{Byte, IsAccepted, Reads, types}
 use Rattle.pf_values.specs.meaning.Refusals.{IsRefusedAt}
 use Rattle.pf_values.specs.meaning.Text.{Text}
 use Rattle.pf_text.specs.History.{IsLiteral}
+use Rattle.pf_values.specs.meaning.Printing.{AreEquivalent}
 use Rattle.pf_text.specs.Signatures.{TakesTypes}
 use Rattle.pf_text.proofs.CanonicalRunLemmas.{Reads-append}
 use Rattle.pf_text.proofs.LiteralLemmas.{Reads-literals}
 use Rattle.pf_text.proofs.Texts.{Reads-unique}
 use Rattle.pf_canon.specs.Comparison.{AreTextsSame}
+use Rattle.pf_canon.proofs.OneCanonical.{are_same}
 use Rattle.pf_canon.proofs.SomeCanonical.{some_canonical}
 
 -- two texts that take arguments of different types
 module _ (model : Model) (f g : Text) (ts us : List ArgType) (first : TakesTypes model f ts) (second : TakesTypes model g us) where
   pub other_types : ts ≢ us → AreTextsSame model f g false
-  other_types other = record {
-    first = (first.items, first.accepted);
-    second = (second.items, second.accepted);
-    first_canonical = some_canonical model f first.items first.accepted.reads;
-    second_canonical = some_canonical model g second.items second.accepted.reads;
-    same = (
-      λ is. absurd (cc),
-      λ e.
-          let one = Reads-unique f first.items e.first first.accepted.reads e.reads_first in
-          let two = Reads-unique g e.second second.items e.reads_second second.accepted.reads in
-          absurd (other (first.types_are ∙ ap (types model) one ∙ e.alike.same_types ∙ ap (types model) two ∙ sym second.types_are)),
-    );
-  }
+  other_types other =
+      let unlike : AreEquivalent model f g → ⊥ = λ e.
+      let one = Reads-unique f first.items e.first first.accepted.reads e.reads_first in
+      let two = Reads-unique g e.second second.items e.reads_second second.accepted.reads in
+      other (first.types_are ∙ ap (types model) one ∙ e.alike.same_types ∙ ap (types model) two ∙ sym second.types_are) in
+      are_same model f g false (λ is. absurd (cc), λ e. absurd (unlike e)) (first.items, first.accepted) (second.items, second.accepted)
+      (some_canonical model f first.items first.accepted.reads) (some_canonical model g second.items second.accepted.reads)
 
 -- a list of types is equal to itself
 module _ (eq : ArgType → ArgType → Bool) (reflexive : (a : ArgType) → eq a a ≡ true) where

@@ -46,6 +46,10 @@ BeginApart (x ∷ t) (y ∷ u) = (x ≢ y) × (x ≢ percent) × (y ≢ percent)
 abbrev pub HasCanonical : Model → Text → Type 0
 HasCanonical model t = (c : Text) × IsCanonicalOf model t c
 
+-- one text is the canonical text of both
+abbrev pub HaveOneCanonical : Model → Text → Text → Type 0
+HaveOneCanonical model t u = (c : Text) × IsCanonicalOf model t c × IsCanonicalOf model u c
+
 -- a text was read to its end, and is accepted
 pub record IsReadWhole (model : Model) (start left : Known) (t : Text) : Type 0 where
   pub reader : Consumes start left t
@@ -53,13 +57,14 @@ pub record IsReadWhole (model : Model) (start left : Known) (t : Text) : Type 0 
   pub accepted : IsAccepted t
   pub canonical : HasCanonical model t
 
--- both texts were, and this is whether they are equivalent
+-- both texts were, and this is whether they are equivalent, and whether they have one canonical text
 pub record EndsBoth (model : Model) (f f_left g g_left : Known) (is : Bool) : Type 0 where
   pub t : Text
   pub u : Text
   pub first : IsReadWhole model f f_left t
   pub second : IsReadWhole model g g_left u
   pub same : IsTrue is ↔ AreEquivalent model t u
+  pub one : IsTrue is ↔ HaveOneCanonical model t u
 
 -- a text stopped after `taken`, whose whole items settle this
 abbrev pub StopsBy : Model → StreamFault → Known → Known → Text → Text → Type 0
@@ -113,14 +118,15 @@ abbrev pub CountsBehind : {A : Type 0} → (A → A → Type 0) → (A → A →
 CountsBehind kept failed fault First told old new = FaultCounts kept failed told old new
 CountsBehind kept failed fault Second told old new = kept old new × (told ≡ fault)
 
--- two texts in memory are accepted, have canonical texts, and this is whether they are
--- equivalent
+-- two texts in memory are accepted, have canonical texts, and this is whether they are equivalent, and
+-- whether they have one canonical text
 pub record AreTextsSame (model : Model) (f g : Text) (is : Bool) : Type 0 where
   pub first : IsAccepted f
   pub second : IsAccepted g
   pub first_canonical : HasCanonical model f
   pub second_canonical : HasCanonical model g
   pub same : IsTrue is ↔ AreEquivalent model f g
+  pub one : IsTrue is ↔ HaveOneCanonical model f g
 
 -- the first is refused, or the first is accepted and the second refused
 abbrev pub TextStops : Text → Text → Side × Refusal → Type 0

@@ -29,5 +29,6 @@ pub use canonical_texts::{
 pub use comparison::{same_stream, same_text};
 pub use copy::{canonical_stream, copy_canonical};
 pub use faults::{CopyFault, SideFault, StreamFault};
+pub use pf_text::{Side, TextFault as CanonFault};
 pub use short_texts::ShortText;
 pub use verbatim_front::VerbatimFront;

@@ -20,6 +20,7 @@ pub mod Unique
 mod ListLemmas
 pub mod StepLemmas
 pub mod DifferenceLemmas
+pub mod BeginningLemmas
 pub mod Profile
 pub mod EachOnce
 pub mod DefinedLemmas

@@ -1,5 +1,5 @@
 -- What the laws say, and what the calls answer.
-use Rattle.std.specs.Prelude.{◌≡◌, ◌≢◌, ℕ, ◌<◌, List, [], ◌∷◌, length, slice_get, ◌⊎◌, Option, Some, None}
+use Rattle.std.specs.Prelude.{◌≡◌, ◌≢◌, ℕ, ◌<◌, List, [], ◌∷◌, ◌++◌, length, slice_get, ◌⊎◌, Option, Some, None}
 use Rattle.pf_values.specs.declared.models.Model.{Model}
 use Rattle.pf_values.specs.meaning.Text.{Text}
 use Rattle.pf_text.specs.declared.refusals.Side.{Side}
@@ -48,6 +48,22 @@ pub record ComparesArgumentTypes (model : Model) (first second : Text) (index : 
   pub first_accepted : HasArguments model first types
   pub second_accepted : HasArguments model second others
   pub difference : IsFirstDifference types others index
+
+-- the second list is a beginning of the first, or an index is the least at which it has a type that
+-- the first doesn't have there
+abbrev pub IsFirstExcess : List ArgumentType → List ArgumentType → Option ℕ → Type 0
+IsFirstExcess types others None = (more : List ArgumentType) × (types ≡ others ++ more)
+IsFirstExcess types others (Some index) =
+    (index < length others) × IsFirstDifference types others (Some index)
+
+-- two texts are accepted, and this is where the second takes an argument that the first doesn't take:
+-- arguments that are left over are ignored (C11 7.21.6.1 p2)
+pub record ComparesBeginning (model : Model) (first second : Text) (index : Option ℕ) : Type 0 where
+  pub types : List ArgumentType
+  pub others : List ArgumentType
+  pub first_accepted : HasArguments model first types
+  pub second_accepted : HasArguments model second others
+  pub excess : IsFirstExcess types others index
 
 -- one of two texts is refused, and the first of them that is
 abbrev pub FaultForFits : Model → Text → Text → Side × Refusal → Type 0

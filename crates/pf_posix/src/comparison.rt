@@ -1,8 +1,8 @@
 //! Whether two formats take the same arguments.
-ghost use Rattle.std.specs.Prelude.{◌≡◌, ◌≤◌, List, length, ◌⊎◌, MatchResult};
+ghost use Rattle.std.specs.Prelude.{◌≡◌, ◌≤◌, List, length, ◌⊎◌, MatchResult, Some};
 ghost use Rattle.pf_posix.specs.declared.tables.TheConstants.{ROOM as MOST};
 ghost use Rattle.pf_posix.specs.declared.types.ArgumentType.{ArgumentType as ArgumentTypeOf};
-ghost use Rattle.pf_posix.specs.Laws.{ComparesArgumentTypes, FaultForFits, IsFirstDifference, filled};
+ghost use Rattle.pf_posix.specs.Laws.{ComparesArgumentTypes, ComparesBeginning, FaultForFits, IsFirstDifference, filled};
 ghost use Rattle.pf_posix.specs.Steps.{AreFew, DifferAt};
 
 use crate::argument_types::arguments;
@@ -27,6 +27,43 @@ pub fn fits(model: Model, first: &[u8], second: &[u8]) -> Result<Option<u64>, (S
         InStepResult::Equal => Ok(None),
         InStepResult::Differ(index) => by_step(model, first, second, index),
         InStepResult::Other => by_tables(model, first, second),
+    }
+}
+
+/// Whether the arguments of the first format serve the second, which may leave some over at the end
+/// (C11 7.21.6.1, paragraph 2): `None` where the types of the second are a beginning of those of the
+/// first, else the least index from 0 at which the second has a type that the first doesn't have
+/// there. Where both are refused, the refusal is that of the first.
+pub fn fits_fewer(model: Model, first: &[u8], second: &[u8]) -> Result<Option<u64>, (Side, Refusal)>
+    ensures { MatchResult result (ComparesBeginning model first.now second.now)
+        (FaultForFits model first.now second.now) }
+{
+    match fits(model, first, second) {
+        Ok(None) => Ok(None),
+        Ok(Some(index)) => fits_up_to(model, first, second, index),
+        Err(fault) => Err(fault),
+    }
+}
+
+// Whether the second of two formats that differ at an index has no argument there.
+fn fits_up_to(
+    model: Model,
+    first: &[u8],
+    second: &[u8],
+    index: u64,
+) -> Result<Option<u64>, (Side, Refusal)>
+    requires { ComparesArgumentTypes model first.now second.now (Some index) }
+    ensures { MatchResult result (ComparesBeginning model first.now second.now)
+        (FaultForFits model first.now second.now) }
+{
+    match arguments(model, second, &mut []) {
+        Err(refusal) => Err((Side::Second, refusal)),
+        Ok(count) => {
+            if index < count {
+                return Ok(Some(index));
+            }
+            Ok(None)
+        }
     }
 }
 

@@ -1,6 +1,6 @@
 //! Laws of the definitions: a text has one list of argument types, or is refused for one reason and
 //! at one offset.
-ghost use Rattle.std.specs.Prelude.{◌≡◌, ◌≢◌, false, ◌++◌, ◌<◌, ℕ, List, None, length, map};
+ghost use Rattle.std.specs.Prelude.{◌≡◌, ◌≢◌, false, ◌++◌, ◌<◌, ℕ, List, None, Option, length, map};
 ghost use Rattle.pf_values.specs.declared.models.Model.{Model as model_of_data};
 ghost use Rattle.pf_values.specs.meaning.Items.{HasItems, IsAccepted, Item, types};
 ghost use Rattle.pf_values.specs.meaning.Printing.{AreEquivalent};
@@ -14,7 +14,7 @@ ghost use Rattle.pf_posix.specs.declared.types.TheConstants.ArgumentType.{ALL as
 ghost use Rattle.pf_posix.specs.declared.directive_spans.DirectiveSpan.{DirectiveSpan};
 ghost use Rattle.pf_posix.specs.Directives.{HasDirectives};
 ghost use Rattle.pf_posix.specs.Items.{HasArguments};
-ghost use Rattle.pf_posix.specs.Laws.{ComparesArgumentTypes, IsAcceptedOrRefused};
+ghost use Rattle.pf_posix.specs.Laws.{ComparesArgumentTypes, ComparesBeginning, IsAcceptedOrRefused};
 ghost use Rattle.pf_posix.specs.Refusals.{IsPosixRefusedAt};
 ghost use Rattle.pf_posix.specs.Types.{widened};
 ghost use Rattle.pf_posix.specs.Unnumbered.{AcceptsUnnumbered, IsJudged, IsReadOnce, IsWholeRefusedAt, TypesAreKept};
@@ -65,6 +65,24 @@ pub fn profile_types()
 pub fn same_fits()
     ensures { (model : model_of_data) (t u : Text) → IsAccepted t → IsAccepted u
         → AreEquivalent model t u → ComparesArgumentTypes model t u None }
+{}
+
+/// A text that takes just the arguments of another takes no others.
+pub fn fits_is_fewer()
+    ensures { (model : model_of_data) (t u : Text) → ComparesArgumentTypes model t u None
+        → ComparesBeginning model t u None }
+{}
+
+/// Two texts of which each takes no other arguments than the other take the same ones.
+pub fn fewer_both_ways()
+    ensures { (model : model_of_data) (t u : Text) → ComparesBeginning model t u None
+        → ComparesBeginning model u t None → ComparesArgumentTypes model t u None }
+{}
+
+/// There is one answer to where a text takes an argument that another doesn't take.
+pub fn fewer_once()
+    ensures { (model : model_of_data) (t u : Text) (index other : Option ℕ)
+        → ComparesBeginning model t u index → ComparesBeginning model t u other → index ≡ other }
 {}
 
 /// A text is read as one list of stretches and opaque directives at most.

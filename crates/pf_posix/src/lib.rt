@@ -25,7 +25,7 @@ mod undefined_combinations;
 mod unnumbered;
 
 pub use argument_types::{arguments, arguments_vec};
-pub use comparison::fits;
+pub use comparison::{fits, fits_fewer};
 pub use conversions::{Conversion, Floating, Modifier};
 pub use directive_spans::{DirectiveSpan, directives, directives_vec};
 pub use opaque_directives::{OpaqueAmount, OpaqueDirective};

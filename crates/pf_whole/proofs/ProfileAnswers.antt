@@ -11,6 +11,7 @@ use Rattle.pf_posix.specs.Stretches.{Last, IsWholeAccepted}
 use Rattle.pf_whole.specs.Answers.{IsWholeCanonicalFor}
 use Rattle.pf_whole.specs.Faults.{AreWholeSame}
 use Rattle.pf_whole.specs.meaning.WholeCanonical.{IsWholeCanonicalOf}
+use Rattle.pf_whole.proofs.AnswerLemmas.{are_same, canonical_for}
 use Rattle.pf_whole.proofs.OwnCanonical.{own_stretch, own_whole}
 use Rattle.pf_whole.proofs.ProfileTexts.{profile_coincides}
 
@@ -21,16 +22,13 @@ pub canonical_whole : (model : Model) (t c : Text) → IsCanonicalFor model t c 
 canonical_whole model t c h =
     let accepted : IsAccepted t = (h.items, h.accepted) in
     let both = profile_coincides model t t accepted accepted in
-    record { accepted = accepted_whole t accepted; canonical_is = (both.canonical c).1 h.canonical_is }
+    canonical_for model t c (accepted_whole t accepted) ((both.canonical c).1 h.canonical_is)
 
 pub same_whole : (model : Model) (t u : Text) (is : Bool) → AreTextsSame model t u is → AreWholeSame model t u is
 same_whole model t u is h =
     let both = profile_coincides model t u h.first h.second in
-    record {
-      first = accepted_whole t h.first;
-      second = accepted_whole u h.second;
-      same = (λ yes. both.alike.1 (h.same.0 yes), λ alike. h.same.1 (both.alike.0 alike));
-    }
+    are_same model t u (accepted_whole t h.first) (accepted_whole u h.second) is
+    (λ yes. both.alike.1 (h.same.0 yes), λ alike. h.same.1 (both.alike.0 alike))
 
 pub own_profile : (model : Model) (t : Text) (is : Bool) → IsAccepted t → (IsTrue is ↔ IsCanonicalText model t) → (IsTrue is ↔ IsWholeCanonicalOf model t t)
 own_profile model t is accepted h =

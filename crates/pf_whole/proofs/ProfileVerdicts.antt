@@ -19,6 +19,7 @@ use Rattle.pf_whole.specs.Answers.{HaveOneShape, IsWholeComparisonOf, IsWholeVer
 use Rattle.pf_whole.specs.Comparisons.{FaultForWholeCompare, HasShownType, ShowsDifference, shown_as}
 use Rattle.pf_whole.specs.Laws.{Correspond}
 use Rattle.pf_whole.specs.meaning.Traces.{AreWholeAlike}
+use Rattle.pf_whole.proofs.AnswerLemmas.{comparison_is}
 use Rattle.pf_whole.proofs.Corresponding.{alike_is_corresponding}
 use Rattle.pf_whole.proofs.FindingLemmas.{shows_neutral, shows_probe}
 use Rattle.pf_whole.proofs.FindingLoops.{compared_from}
@@ -69,12 +70,10 @@ profile_same model t u comparison h e =
 
 verdict_apart : (model : Model) (t u : Text) (comparison : Comparison) (verdict : WholeVerdict) → (h : IsComparisonOf model t u comparison)
     → comparison.verdict ≢ compared.Same → verdict ≢ Same → IsWholeVerdict model (Last h.first) (Last h.second) verdict → IsWholeComparisonOf model t u verdict
-verdict_apart model t u comparison verdict h other differ is = record {
-  first = record { stretches = Last h.first; reads = h.accepted_first.reads; limit = h.accepted_first.limit };
-  second = record { stretches = Last h.second; reads = h.accepted_second.reads; limit = h.accepted_second.limit };
-  same = (λ e. absurd (differ e), λ alike. absurd (apart model t u comparison h other alike));
-  is = is;
-}
+verdict_apart model t u comparison verdict h other differ is =
+    comparison_is model t u (record { stretches = Last h.first; reads = h.accepted_first.reads; limit = h.accepted_first.limit })
+    (record { stretches = Last h.second; reads = h.accepted_second.reads; limit = h.accepted_second.limit }) verdict
+    (λ e. absurd (differ e), λ alike. absurd (apart model t u comparison h other alike)) is
 
 pub profile_types : (model : Model) (t u : Text) (comparison : Comparison) (index : ℕ) → IsComparisonOf model t u comparison
     → comparison.verdict ≡ compared.Types index → IsWholeComparisonOf model t u (TypesDiffer index)

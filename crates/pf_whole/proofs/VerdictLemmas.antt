@@ -16,6 +16,7 @@ use Rattle.pf_whole.specs.Answers.{IsWholeComparisonOf, IsWholeVerdict, WholeVer
 use Rattle.pf_whole.specs.Calls.{CallsDiffer}
 use Rattle.pf_whole.specs.Comparisons.{ShowsDifference}
 use Rattle.pf_whole.specs.meaning.Traces.{AreWholeAlike, TraceAlike}
+use Rattle.pf_whole.proofs.AnswerLemmas.{comparison_is}
 use Rattle.pf_whole.proofs.Telling.{calls_give_shape}
 
 -- the types that a comparison of types finds are those of the stretches
@@ -31,12 +32,8 @@ compared_types model t u index h g found =
 -- a verdict on texts that aren't alike
 apart_verdict : (model : Model) (t u : Text) (verdict : WholeVerdict) → (h : IsWholeAccepted t) → (g : IsWholeAccepted u) → ¬ AreWholeAlike model t u
     → verdict ≢ Same → IsWholeVerdict model h.stretches g.stretches verdict → IsWholeComparisonOf model t u verdict
-apart_verdict model t u verdict h g apart other is = record {
-  first = h;
-  second = g;
-  same = (λ e. absurd (other e), λ alike. absurd (apart alike));
-  is = is;
-}
+apart_verdict model t u verdict h g apart other is =
+    comparison_is model t u h g verdict (λ e. absurd (other e), λ alike. absurd (apart alike)) is
 
 pub types_verdict : (model : Model) (t u : Text) (index : ℕ) → IsWholeAccepted t → IsWholeAccepted u → ¬ AreWholeAlike model t u
     → ComparesArgumentTypes model t u (Some index) → IsWholeComparisonOf model t u (TypesDiffer index)
@@ -69,13 +66,10 @@ shown_verdict model t u shown h g apart types calls shows =
     )
 
 pub same_verdict : (model : Model) (t u : Text) → IsWholeAccepted t → IsWholeAccepted u → AreWholeAlike model t u → IsWholeComparisonOf model t u Same
-same_verdict model t u h g alike = record {
-  first = h;
-  second = g;
-  same = (λ e. alike, λ e. refl);
-  is = subst (λ a. TraceAlike model a g.stretches) (read_once t alike.first h.stretches alike.reads_first h.reads)
-      (subst (λ b. TraceAlike model alike.first b) (read_once u alike.second g.stretches alike.reads_second g.reads) alike.alike);
-}
+same_verdict model t u h g alike =
+    comparison_is model t u h g Same (λ e. alike, λ e. refl)
+    (subst (λ a. TraceAlike model a g.stretches) (read_once t alike.first h.stretches alike.reads_first h.reads)
+    (subst (λ b. TraceAlike model alike.first b) (read_once u alike.second g.stretches alike.reads_second g.reads) alike.alike))
 
 -- texts that are accepted are compared by their types
 pub fit_anyway : (model : Model) (t u : Text) (side : Side) (refusal : Refusal) → IsWholeAccepted t → IsWholeAccepted u

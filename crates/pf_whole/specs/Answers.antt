@@ -22,10 +22,17 @@ use Rattle.pf_whole.specs.meaning.Traces.{AreWholeAlike, HasTrace, Trace, TraceA
 use Rattle.pf_whole.specs.meaning.WholeArguments.{WholeArgument, Known, Other, HasWholeTypes, narrowed}
 use Rattle.pf_whole.specs.meaning.WholeCanonical.{IsWholeCanonicalOf}
 
--- `t` is accepted, and `c` is its canonical text
+-- `t` is accepted, and `c` is its canonical text: it is alike to `t`, and is `t` itself if that is canonical
 pub record IsWholeCanonicalFor (model : Model) (t c : Text) : Type 0 where
   pub accepted : IsWholeAccepted t
   pub canonical_is : IsWholeCanonicalOf model t c
+  pub alike : AreWholeAlike model t c
+  pub kept : IsWholeCanonicalOf model t t → c ≡ t
+
+-- one text is the canonical text of both
+abbrev pub HaveOneWholeCanonical : Model → Text → Text → Type 0
+HaveOneWholeCanonical model t u =
+    (c : Text) × IsWholeCanonicalOf model t c × IsWholeCanonicalOf model u c
 
 -- What a comparison answers. Of the shown arguments, `None` is any argument of an opaque directive.
 pub data WholeVerdict : Type 0 where
@@ -110,11 +117,13 @@ IsWholeVerdict model a b (Different shown) = (whole_types model a ≡ whole_type
     × (placed_calls model 0 a ≡ placed_calls model 0 b)
     × (ShowsNeutral model a b shown ⊎ ShowsProbe model a b shown)
 
--- the verdict on two accepted texts, which is Same exactly if they are alike
+-- the verdict on two accepted texts, which is Same exactly if they are alike, and exactly if they have one
+-- canonical text
 pub record IsWholeComparisonOf (model : Model) (t u : Text) (verdict : WholeVerdict) : Type 0 where
   pub first : IsWholeAccepted t
   pub second : IsWholeAccepted u
   pub same : (verdict ≡ Same) ↔ AreWholeAlike model t u
+  pub one : (verdict ≡ Same) ↔ HaveOneWholeCanonical model t u
   pub is : IsWholeVerdict model first.stretches second.stretches verdict
 
 -- two texts have at most one verdict

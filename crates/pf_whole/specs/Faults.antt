@@ -9,7 +9,7 @@ use Rattle.pf_text.specs.declared.refusals.TextFault.TheVariants.{Refused, Memor
 use Rattle.pf_text.specs.Refusals.{RefusesOne}
 use Rattle.pf_posix.specs.Stretches.{IsWholeAccepted}
 use Rattle.pf_posix.specs.Unnumbered.{IsWholeRefusedAt}
-use Rattle.pf_whole.specs.Answers.{IsWholeCanonicalFor}
+use Rattle.pf_whole.specs.Answers.{HaveOneWholeCanonical, IsWholeCanonicalFor}
 use Rattle.pf_whole.specs.meaning.Traces.{AreWholeAlike}
 
 -- why there is no canonical text: memory is wanting only where that has bytes to be kept
@@ -22,8 +22,9 @@ abbrev pub FaultForWholeSame : Model → Text → Text → Side × Refusal → T
 FaultForWholeSame model t u fault =
     RefusesOne IsWholeAccepted (IsWholeRefusedAt model) t u fault.0 fault.1
 
--- two accepted texts, and whether they are alike
+-- two accepted texts, and whether they are alike, and whether they have one canonical text
 pub record AreWholeSame (model : Model) (t u : Text) (is : Bool) : Type 0 where
   pub first : IsWholeAccepted t
   pub second : IsWholeAccepted u
   pub same : IsTrue is ↔ AreWholeAlike model t u
+  pub one : IsTrue is ↔ HaveOneWholeCanonical model t u

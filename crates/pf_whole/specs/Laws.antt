@@ -1,10 +1,13 @@
 -- What the laws say.
-use Rattle.std.specs.Prelude.{◌≡◌, ℕ, ◌+◌, List, [], ◌∷◌, ◌++◌, length, ◌↔◌}
+use Rattle.std.specs.Prelude.{◌≡◌, ℕ, ◌+◌, ◌≤◌, List, [], ◌∷◌, ◌++◌, length, take, None, ◌↔◌}
 use Rattle.pf_values.specs.declared.models.Model.{Model}
 use Rattle.pf_values.specs.meaning.Canonical.{IsCanonicalOf}
 use Rattle.pf_values.specs.meaning.Items.{IsAccepted, types}
 use Rattle.pf_values.specs.meaning.Printing.{AreEquivalent, PrintAlike}
 use Rattle.pf_values.specs.meaning.Text.{Text}
+use Rattle.pf_posix.specs.declared.types.ArgumentType.{ArgumentType}
+use Rattle.pf_posix.specs.Items.{HasArguments}
+use Rattle.pf_posix.specs.Laws.{ComparesBeginning}
 use Rattle.pf_posix.specs.Stretches.{Stretches, Last, Before, ReadsWhole, types_of_opaque, whole_types}
 use Rattle.pf_whole.specs.meaning.NormalSpellings.{normal_spelling}
 use Rattle.pf_whole.specs.meaning.Traces.{AreWholeAlike, Call, Calls, Ends, HasTrace, Trace}
@@ -75,6 +78,14 @@ CanonicalIsAlike model = (t c : Text) → IsWholeCanonicalOf model t c
 abbrev pub OneCanonicalIsAlike : Model → Type 0
 OneCanonicalIsAlike model = (t u c : Text) → IsWholeCanonicalOf model t c
     → IsWholeCanonicalOf model u c → AreWholeAlike model t u
+
+-- Arguments for a text serve one that takes fewer: those that it takes are there, and of its types, so that
+-- nothing is read that was not passed; the rest is ignored (C11 7.21.6.1 p2)
+abbrev pub ServeFewer : Model → Type 0
+ServeFewer model = (t u : Text) (types : List ArgumentType) (args : List WholeArgument)
+    → ComparesBeginning model t u None → HasArguments model t types → HasWholeTypes model args types
+    → (others : List ArgumentType) × HasArguments model u others × (length others ≤ length args)
+    × HasWholeTypes model (take (length others) args) others
 
 -- Two lists of stretches correspond: side by side, the stretches print alike, and the opaque directives
 -- have the same normal spelling.

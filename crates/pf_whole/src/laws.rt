@@ -2,7 +2,7 @@
 ghost use Rattle.pf_values.specs.declared.models.Model.{Model as ModelOf};
 ghost use Rattle.pf_whole.specs.Answers.{AgreeingIsTogether, CallsGiveShape, OneVerdict, TellingIsApart};
 ghost use Rattle.pf_whole.specs.meaning.WholeHeadline.{WholeHeadline};
-ghost use Rattle.pf_whole.specs.Laws.{AlikeCallTheSame, AlikeIsCorresponding, CanonicalIsAlike, AlikeHaveOneCanonical, OneCanonicalIsAlike, ProfileCoincides, AlikePrintAlike, TracesOnce};
+ghost use Rattle.pf_whole.specs.Laws.{AlikeCallTheSame, AlikeIsCorresponding, CanonicalIsAlike, AlikeHaveOneCanonical, OneCanonicalIsAlike, ProfileCoincides, AlikePrintAlike, ServeFewer, TracesOnce};
 
 /// Stretches and opaque directives have exactly one trace for each list of arguments of their types.
 pub fn traces_once()
@@ -52,6 +52,13 @@ pub fn alike_is_corresponding()
 /// Alike texts have the same calls, each with the same first argument.
 pub fn alike_call_the_same()
     ensures { (model : ModelOf) → AlikeCallTheSame model }
+{}
+
+/// Arguments for a text serve one whose types are a beginning of its own: those that it takes are there,
+/// and of its types (C11 7.21.6.1, paragraph 2). So where `fits_fewer` finds no difference, nothing is
+/// read that was not passed.
+pub fn serve_fewer()
+    ensures { (model : ModelOf) → ServeFewer model }
 {}
 
 /// Two texts have at most one verdict. So `compare` can return no other one.

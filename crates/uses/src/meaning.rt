@@ -7,6 +7,7 @@ ghost use Rattle.pf_compare.specs.Answers.{TellApart};
 use pf_canon::laws::one_canonical_text_means_the_same;
 use pf_canon::{canonical, same_text};
 use pf_compare::confirms;
+use pf_compare::laws::headline;
 use pf_values::{Arg, Model};
 use std::alloc::Global;
 
@@ -35,6 +36,27 @@ pub fn may_replace(alloc: Global, model: Model, old: &[u8], new: &[u8]) -> bool
         return false;
     };
     of_old.as_slice() == of_new.as_slice()
+}
+
+/// Returns whether the canonical texts of two formats are equal byte for byte. By the headline, they are
+/// exactly if both formats take the same types and print the same bytes for all arguments. `None` if a
+/// format is refused, or out of memory.
+pub fn have_one_canonical_text(
+    alloc: Global,
+    model: Model,
+    first: &[u8],
+    second: &[u8],
+) -> Option<bool>
+    ensures { IfSome result (λ same. IsTrue same ↔ AreEquivalent model first.now second.now) }
+{
+    headline();
+    let Ok(of_first) = canonical(alloc, model, first) else {
+        return None;
+    };
+    let Ok(of_second) = canonical(alloc, model, second) else {
+        return None;
+    };
+    Some(of_first.as_slice() == of_second.as_slice())
 }
 
 /// Whether a number shows that two formats differ: both take an int and nothing else, and print

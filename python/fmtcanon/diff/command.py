@@ -5,9 +5,13 @@ import collections
 import functools
 import os
 import sys
+import tempfile
 from typing import Any, Dict, Iterable, Iterator, NamedTuple, Optional, Sequence, Tuple
 
+from ..checker.fitting import Fitting
+from ..checker.retargeting import write_headers
 from ..command_line import MODELS, USAGE, Parser, status_of
+from ..compiling.libclang import MISSING, cindex
 from ..findings import ERROR, Finding, Printer
 from ..models import Model
 from ..output import complain
@@ -63,6 +67,12 @@ def parser() -> Parser:
         metavar="GLOB",
         help="leave out files and folders whose name or path matches; may be given more than once",
     )
+    made.add_argument(
+        "-p",
+        metavar="DIR",
+        dest="database",
+        help="the folder of the new tree's compile_commands.json: other types are a note if the new call fits",
+    )
     made.add_argument("--verbose", action="store_true", help="also report what is the same")
     made.add_argument(
         "--fail-on",
@@ -94,7 +104,9 @@ class Report(NamedTuple):
     error: str = ""
 
 
-def report_on(change: Change, models: Sequence[Model], fail_on: Sequence[str] = FAULTS) -> Report:
+def report_on(
+    change: Change, models: Sequence[Model], fail_on: Sequence[str] = FAULTS, fitting: Optional[Fitting] = None
+) -> Report:
     """Judges the places of a file that changed."""
     if change.error:
         return Report(error=change.error)
@@ -103,7 +115,7 @@ def report_on(change: Change, models: Sequence[Model], fail_on: Sequence[str] = 
         return Report(came=len(new.read().places), went=len(old.read().places))
     pairs, library = paired(old, new), Library()
     findings = [judge(library, change.name, it, models, fail_on) for it in pairs.changed if is_judged(*it)]
-    return Report(findings, pairs.came, pairs.went)
+    return Report(fitting.noted(change.name, findings) if fitting else findings, pairs.came, pairs.went)
 
 
 def changes_for(options: Any, paths: Sequence[str]) -> Iterator[Change]:
@@ -114,6 +126,18 @@ def changes_for(options: Any, paths: Sequence[str]) -> Iterator[Change]:
     return changes_of(old, new, options.exclude)
 
 
+def fitting_in(options: Any, folder: str) -> Optional[Fitting]:
+    """Returns what says whether new formats fit their calls, if it is asked for. The folder gets its headers."""
+    if not options.database:
+        return None
+    if cindex is None:
+        raise Unreadable(MISSING)
+    try:
+        return Fitting(options.database, write_headers(folder))
+    except OSError as error:
+        raise Unreadable(str(error)) from error
+
+
 def summary(counts: Dict[str, int]) -> str:
     """Returns what is said at the end: how many places were judged, with what verdict, and how many came and went."""
     judged = ", ".join(
@@ -122,7 +146,7 @@ def summary(counts: Dict[str, int]) -> str:
             (Kind.SAME, "same"),
             (Kind.WORDS, "with other words"),
             (Kind.DIFFERENT, "different"),
-            (Kind.TYPES, "with other types"),
+            (Kind.TYPES, "with other types" + (f", {counts['fits']} of them fitting" if counts["fits"] else "")),
             (Kind.DIRECTIVES, "with other directives"),
             (Kind.REJECTED, "rejected now"),
             (Kind.UNJUDGED, "not judged"),
@@ -139,6 +163,7 @@ def run(changes: Iterable[Report], printer: Printer, counts: Dict[str, int], is_
     for report in changes:
         for finding in report.findings:
             counts[finding.kind] += 1
+            counts["fits"] += "fits" in finding.details
             if is_verbose or finding.kind != Kind.SAME.value or finding.level == ERROR:
                 printer.add(finding)
             if finding.level == ERROR:
@@ -162,7 +187,14 @@ def main(words: Optional[Sequence[str]] = None) -> int:
         made.error("--cached needs --git, and takes at most one revision")
     if not options.git and len(options.operands) != 2:
         made.error("give OLD and NEW, or --git")
+    if options.database and options.git and not is_of_work_tree(options):
+        made.error("-p needs the work tree as the new one")
     return status_of(NAME, lambda: diff(options, more))
+
+
+def is_of_work_tree(options: Any) -> bool:
+    """Returns whether git compares with the work tree."""
+    return not options.cached and len(options.operands) < 2 and ".." not in "".join(options.operands)
 
 
 def diff(options: Any, paths: Sequence[str]) -> int:
@@ -170,9 +202,11 @@ def diff(options: Any, paths: Sequence[str]) -> int:
     printer = Printer(NAME, options.output, RULES)
     counts: Dict[str, int] = collections.Counter()
     try:
-        work = functools.partial(report_on, models=MODELS[options.model], fail_on=options.fail_on)
-        found = in_order(work, changes_for(options, paths), options.jobs)
-        status = run(found, printer, counts, options.verbose)
+        with tempfile.TemporaryDirectory() as folder:
+            fitting = fitting_in(options, folder)
+            work = functools.partial(report_on, models=MODELS[options.model], fail_on=options.fail_on, fitting=fitting)
+            found = in_order(work, changes_for(options, paths), options.jobs)
+            status = run(found, printer, counts, options.verbose)
     except Unreadable as error:
         complain(f"{NAME}: {visible(str(error))}")
         status = USAGE

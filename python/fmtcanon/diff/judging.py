@@ -4,9 +4,9 @@ from typing import Any, Dict, Iterable, List, NamedTuple, Optional, Sequence
 
 from .. import Refused, Type
 from ..command_line import model_names
+from ..compiling.known import KNOWN
 from ..findings import ERROR, NOTE, TYPE_NAMES, WARNING, Finding
 from ..models import Model
-from ..replace.known import KNOWN
 from ..verdicts import (
     Kind,
     Verdict,

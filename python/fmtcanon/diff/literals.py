@@ -7,8 +7,8 @@ import re
 from typing import Any, Dict, Iterator, List, NamedTuple, Optional, Set, Tuple
 
 from .. import BadLiteral, decode_literal, source_offset
+from ..compiling.known import GETTEXT
 from ..models import Model
-from ..replace.known import GETTEXT
 from ..replace.tokens import CHARACTER, COMMENT, NAME, NUMBER, SPLICE, STRING
 from ..verdicts import without_specifications
 from .macros import Part, definitions, expansion

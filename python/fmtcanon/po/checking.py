@@ -69,13 +69,15 @@ class Reason(NamedTuple):
 
 def difference(wanted: Format, found: Format, may_be_fewer: bool, model: fmtcanon.Model) -> Optional[Reason]:
     """Says how the types of two formats differ: by their number, or at an argument, from 0. None if they don't."""
+    is_fit = fmtcanon.fits(wanted.plain, found.plain, model=model, fewer=may_be_fewer)
+    macros, others = wanted.macros(), found.macros()
+    if is_fit and not macros and not others:
+        return None
     first, second = wanted.codes(model), found.codes(model)
-    if len(second) != len(first) and not (may_be_fewer and len(second) < len(first)):
+    if not is_fit and (len(second) > len(first) or (len(second) < len(first) and not may_be_fewer)):
         counts = f"{len(first)} and {len(second)}"
         return Reason(NUMBER, f"number of format specifications in '{{}}' and '{{}}' does not match: {counts}")
-    macros, others = wanted.macros(), found.macros()
-    if not macros and not others and first.startswith(second):
-        return None
+    # The library sees no macros.
     for at, (one, other) in enumerate(zip(first, second)):
         if macros.get(at) != others.get(at) or (at not in macros and one != other):
             names = f"{shown_type(one, macros.get(at))} and {shown_type(other, others.get(at))}"

@@ -1,42 +1,16 @@
-"""What libclang finds in preprocessed text: which call has a marker as its format.
+"""What libclang finds in preprocessed text: which call has a marker as its format."""
 
-The text is the one that the file's own compiler made, so no macro, branch or flag is left to judge.
-"""
-
-import ctypes
 import os
 import re
 from typing import Any, Dict, List, NamedTuple, Optional, Set
 
-from .compile_commands import CompileCommand
-from .known import GETTEXT, KNOWN
-from .left import Left
-from .libclang import cindex
+from ..compiling.compile_commands import CompileCommand
+from ..compiling.known import GETTEXT, KNOWN
+from ..compiling.left import Left
+from ..compiling.parsing import CALL_EXPR, FUNCTION_DECL, VISIT_INSIDE, Parsed
 
-# What the headers of gcc have and an older clang hasn't.
-SHIMS = [
-    "-D_Float128=__float128",
-    "-D_Float64x=long double",
-    "-D_Float64=double",
-    "-D_Float32x=double",
-    "-D_Float32=float",
-    "-D__malloc__(...)=__malloc__",
-    "-D__builtin_va_arg_pack()=0",
-    "-D__builtin_va_arg_pack_len()=0",
-]
-FLAGS = ["-undef", "-nostdinc", "-w", "-ferror-limit=0", "-fdouble-square-bracket-attributes"]
-# In an attribute, gcc's name of the language of formats, which an older clang hasn't.
-GNU_PRINTF = re.compile(
-    rb"(?<![\w$])((?:__)?format(?:__)?%(gap)b\(%(gap)b)(?:__)?gnu_printf(?:__)?(?=%(gap)b,)"
-    # White space, and line markers.
-    % {b"gap": rb"(?:\s|(?<=\n)# \d+ [^\n]*)*"}
-)
 # An attribute that has another function's code run under a name.
 ALIAS = re.compile(r"(?<![\w$])_*(alias|weakref|ifunc)(?![\w$])")
-FORMAT_ATTRIBUTE = re.compile(r"format\w*\s*\(\s*(?:__)?printf(?:__)?\s*,\s*(\d+)")
-# The kinds of cursors and the answers of a visitor, as the C interface of libclang numbers them.
-FUNCTION_DECL, CALL_EXPR, VISIT_INSIDE = 8, 103, 2
-ERROR = 3
 SCOPES = ("NAMESPACE", "CLASS_DECL", "STRUCT_DECL", "CLASS_TEMPLATE", "UNION_DECL")
 
 
@@ -64,17 +38,6 @@ class Marker:
         )
 
 
-def as_utf8(text: bytes) -> bytes:
-    """Returns preprocessed text for libclang, which takes UTF-8: other bytes, which are in literals, comments and names
-    alone, become `_`.
-    """
-    try:
-        text.decode()
-        return text
-    except UnicodeDecodeError:
-        return re.sub(rb"[\x80-\xff]", b"_", text)
-
-
 class Functions(NamedTuple):
     """What the options say of functions: the index of the format of some by name, and whether attributes count."""
 
@@ -82,13 +45,15 @@ class Functions(NamedTuple):
     by_attribute: bool
 
 
-class Calls:
+class Calls(Parsed):
     """The calls in preprocessed text that have a marker among their arguments."""
 
     def __init__(self, command: CompileCommand, text: bytes, marker: Marker, functions: Functions) -> None:
-        self.command, self.marker, self.functions = command, marker, functions
-        self.folders = tuple(f"{it}/" for it in command.system_folders())
-        self.files: Dict[str, str] = {}
+        super().__init__(command, text)
+        errors = self.errors()
+        if errors:
+            raise Left(f"libclang can't parse it: {errors[0]}")
+        self.marker, self.functions = marker, functions
         # Where a known name is declared outside of the C library's headers.
         self.declared: Dict[str, str] = {}
         # Why a known name doesn't mean its function.
@@ -98,67 +63,16 @@ class Calls:
         self.reasons: Dict[Any, Optional[str]] = {}
         self.uses: Dict[int, List[str]] = {}
         self.why: Dict[int, str] = {}
-        self.text = GNU_PRINTF.sub(rb"\1printf", as_utf8(text))
-        self.unit = self.parsed()
-        self.walk()
+        self.names = {*KNOWN, *functions.given}
+        self.visit(self.note)
 
-    def parsed(self) -> Any:
-        """Returns the translation unit, which has no error outside of the compiler's own headers."""
-        language = "-xc++" if self.command.is_cxx() else "-xc"
-        kept = [
-            it.replace("gnu23", "gnu2x").replace("c23", "c2x")
-            for it in self.command.words
-            if it.startswith(("-std=", "-m32", "-mx32", "-funsigned-char"))
-        ]
-        try:
-            unit = cindex.Index.create().parse(
-                "/unit", args=[language, *FLAGS, *kept, *SHIMS], unsaved_files=[("/unit", self.text.decode())]
-            )
-        except (cindex.LibclangError, cindex.TranslationUnitLoadError) as error:
-            raise Left(f"libclang: {error}") from error
-        for found in unit.diagnostics:
-            file = self.file_of(found.location)
-            if found.severity >= ERROR and not file.startswith(self.folders):
-                raise Left(
-                    f"libclang can't parse it: {os.path.basename(file)}:{self.line_of(found.location)}: {found.spelling}"
-                )
-        return unit
-
-    def presumed(self, location: Any) -> Any:
-        """Returns the name of the file and the line of a location, as line markers have them."""
-        name, line, column = cindex._CXString(), ctypes.c_uint(), ctypes.c_uint()
-        library = cindex.conf.lib
-        library.clang_getPresumedLocation(location, ctypes.byref(name), ctypes.byref(line), ctypes.byref(column))
-        return library.clang_getCString(name), line.value
-
-    def file_of(self, location: Any) -> str:
-        """Returns the path of the file that a location is in."""
-        name = self.presumed(location)[0]
-        name = os.fsdecode(name) if isinstance(name, bytes) else str(name)
-        if name not in self.files:
-            self.files[name] = os.path.realpath(os.path.join(self.command.folder, name))
-        return self.files[name]
-
-    def line_of(self, location: Any) -> int:
-        return int(self.presumed(location)[1])
-
-    def walk(self) -> None:
-        """Goes through all declarations and calls."""
-        library = cindex.conf.lib
-        names = {*KNOWN, *self.functions.given}
-
-        def visit(cursor: Any, _parent: Any, _data: Any) -> int:
-            if cursor._kind_id == FUNCTION_DECL:
-                cursor._tu = self.unit
-                if cursor.spelling in names:
-                    self.note_declaration(cursor)
-            elif cursor._kind_id == CALL_EXPR:
-                cursor._tu = self.unit
-                self.note_call(cursor)
-            return VISIT_INSIDE
-
-        callback = library.clang_visitChildren.argtypes[1]
-        library.clang_visitChildren(self.unit.cursor, callback(visit), None)
+    def note(self, cursor: Any) -> int:
+        """Notes a declaration or a call. Returns that what is inside is visited, too."""
+        if cursor._kind_id == FUNCTION_DECL and cursor.spelling in self.names:
+            self.note_declaration(cursor)
+        elif cursor._kind_id == CALL_EXPR:
+            self.note_call(cursor)
+        return VISIT_INSIDE
 
     def note_declaration(self, function: Any) -> None:
         file, known = self.file_of(function.location), KNOWN.get(function.spelling)
@@ -172,9 +86,6 @@ class Calls:
                 alias = ALIAS.search(self.text_of(child))
                 if alias:
                     self.renamed[function.spelling] = f"has the attribute {alias[1]}"
-
-    def text_of(self, cursor: Any) -> str:
-        return self.text[cursor.extent.start.offset : cursor.extent.end.offset].decode()
 
     def is_own_header(self, file: str, header: "re.Pattern[str]") -> bool:
         """Returns whether a file is the C library's header of this name."""
@@ -215,7 +126,7 @@ class Calls:
 
     def why_unknown_function(self, function: Any, name: str, index: int) -> Optional[str]:
         by_attribute = self.format_by_attribute(function) if self.functions.by_attribute else None
-        if index in (self.functions.given.get(name), by_attribute):
+        if index in (self.functions.given.get(name), by_attribute and by_attribute.format):
             self.chosen.add(name)
             return None
         if GETTEXT.fullmatch(name):
@@ -236,15 +147,6 @@ class Calls:
         if not is_right or first.type.is_function_variadic() != known.is_variadic:
             return f"{name} has another prototype"
         return None if index == known.index else f"it isn't the format of {name}"
-
-    def format_by_attribute(self, function: Any) -> Optional[int]:
-        """Returns the index of the format by the attribute `format(printf, ..)` of a function, or None."""
-        for child in function.get_children():
-            if child.kind.name == "UNEXPOSED_ATTR":
-                found = FORMAT_ATTRIBUTE.search(re.sub(r"(?m)^# \d+ .*", "", self.text_of(child)))
-                if found:
-                    return int(found[1]) - 1
-        return None
 
     def why_left(self, number: int, count: int) -> Optional[str]:
         """Returns why the place of this number is left, whose marker is in the text so often; None if each is the

@@ -4,15 +4,15 @@ import sys
 from typing import Any, List, Optional, Sequence
 
 from ..command_line import MODELS, USAGE, status_of
+from ..compiling.libclang import MISSING, cindex
+from ..compiling.sources import Files, Name
 from ..diff.trees import Unreadable, read
 from ..findings import Printer
 from ..output import complain, put
 from . import listing
-from .libclang import MISSING, cindex
 from .options import NAME, parsed
 from .pairs import Wrong
 from .replacer import Replacer
-from .sources import Files, Name
 from .writing import replace
 
 NO_FILES = "give files or folders, or the folder of a compile_commands.json"

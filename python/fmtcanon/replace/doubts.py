@@ -7,9 +7,9 @@ import os
 import re
 from typing import Iterator, Set, Tuple
 
-from .compile_commands import CompileCommand
-from .known import KNOWN
-from .left import Left
+from ..compiling.compile_commands import CompileCommand
+from ..compiling.known import KNOWN
+from ..compiling.left import Left
 from .places import decoded
 from .tokens import PREPROCESSED, without_splices
 

@@ -5,13 +5,13 @@ from collections import Counter
 from dataclasses import dataclass, field
 from typing import List, NamedTuple, Sequence, Tuple, Union
 
+from ..compiling.compile_commands import CompileCommand
+from ..compiling.left import Left
+from ..compiling.stand_ins import Original, StandIn
+from ..compiling.targets import assertions_in
 from . import doubts
 from .calls import Calls, Functions, Marker
-from .compile_commands import CompileCommand
-from .left import Left
 from .places import Place, literals_of
-from .stand_ins import Original, StandIn
-from .targets import assertions_in
 from .tokens import Tokens, common_front
 
 # A token, or the number of the place whose marker it is.

@@ -5,11 +5,11 @@ from typing import Any, Dict, Iterable, Iterator, List, NamedTuple, Sequence, Tu
 
 from .. import Refused
 from ..command_line import model_names
+from ..compiling.known import GETTEXT, KNOWN
 from ..diff.literals import NOT_FORMATS, Place, Source
 from ..findings import NOTE, WARNING, Finding
 from ..models import Model
 from ..verdicts import Library, shown
-from .known import GETTEXT, KNOWN
 
 FORMAT, FUNCTION, UNJUDGED = "format", "function", "unjudged"
 RULES = {

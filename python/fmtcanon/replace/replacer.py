@@ -3,18 +3,20 @@
 import difflib
 import os
 from concurrent.futures import ThreadPoolExecutor
-from typing import Any, List, NamedTuple, Optional, Sequence, Union
+from typing import Any, List, Mapping, NamedTuple, Optional, Sequence, Union
 
 from ..command_line import MODELS, model_names
-from ..findings import NOTE, WARNING, Finding
+from ..compiling.left import Left
+from ..compiling.sources import Files, Name
+from ..compiling.stand_ins import Original, original
+from ..compiling.targets import check_model
+from ..findings import NOTE, WARNING, Finding, as_text
+from ..models import Model
 from .calls import Functions
 from .files import Change, File, with_sources
-from .left import Left
+from .options import NAME
 from .pairs import Pairs
 from .places import Place, places_in, respelled
-from .sources import Files, Name
-from .stand_ins import Original, original
-from .targets import check_model
 from .units import Units, units_of
 
 REPLACED, LEFT = "replaced", "left"
@@ -47,15 +49,28 @@ class Scanned(NamedTuple):
         return any(not it.why_left for it in self.changes)
 
 
-class Replacer:
-    """Replaces formats by others in files."""
+class Rewriter:
+    """Changes places in files, several files at a time. A kind of it says which places, and how each is reported."""
 
-    def __init__(self, options: Any, files: Files) -> None:
-        self.options, self.files = options, files
-        self.models = MODELS[options.model]
-        self.pairs = Pairs(options.formats, self.models, options.posix_locale, bool(options.pairs))
-        self.functions = Functions(dict(options.function), options.attribute)
+    name = ""
+    rules: Mapping[str, str] = {}
+    as_text = staticmethod(as_text)
+
+    def __init__(self, files: Files, functions: Functions, models: Sequence[Model], with_diff: bool) -> None:
+        self.files, self.functions, self.models, self.with_diff = files, functions, models, with_diff
         self.units = Units([])
+
+    def changes_in(self, name: Name, source: bytes) -> List[Change]:
+        """Returns the places of a source of which something is to be said."""
+        raise NotImplementedError
+
+    def findings_of(self, name: str, source: bytes, changes: Sequence[Change]) -> Sequence[Finding]:
+        """Returns what is said of the places of a file that were judged."""
+        raise NotImplementedError
+
+    def left(self, name: str, why: str) -> Report:
+        """Returns the report on a file that is left as a whole."""
+        raise NotImplementedError
 
     def reports(self, names: Sequence[Name], pool: ThreadPoolExecutor) -> List[Report]:
         """Returns what is to be reported of each file, and done with it."""
@@ -71,20 +86,8 @@ class Replacer:
             read = original(name.path)
         except OSError as error:
             return Report(name.shown, error=f"{name.shown}: {error.strerror or error}")
-        changes = [it for it in map(self.change_of, places_in(read.source)) if it]
+        changes = self.changes_in(name, read.source)
         return Scanned(name.shown, read, changes) if changes else Report(name.shown)
-
-    def change_of(self, place: Place) -> Optional[Change]:
-        """Returns what is to be done with a place, or None if nothing is to be said of it."""
-        rule = self.pairs.rule(place.text)
-        if rule is None:
-            return None
-        if rule.why_left:
-            return Change(place, place.source, rule.why_left)
-        source = respelled(place, rule.new)
-        if source is None:
-            return Change(place, place.source, "a line break within its literals would be lost")
-        return Change(place, source)
 
     def report_on(self, scanned: Union[Scanned, Report]) -> Report:
         """Judges the places of a file."""
@@ -99,8 +102,8 @@ class Replacer:
             return self.left(name, str(left))
         except OSError as error:
             return Report(name, error=f"{name}: {error.strerror or error}")
-        findings = [self.finding_of(name, read.source, it) for it in changes]
-        diff = unified_diff(name, read.source, after) if self.options.diff else b""
+        findings = self.findings_of(name, read.source, changes)
+        diff = unified_diff(name, read.source, after) if self.with_diff else b""
         is_left = any(it.why_left for it in changes)
         return Report(name, findings, read if after != read.source else None, after, diff, is_left)
 
@@ -112,8 +115,33 @@ class Replacer:
             check_model(command, self.models)
         return File(read, changes, self.functions).result(commands)
 
+
+class Replacer(Rewriter):
+    """Replaces formats by others in files."""
+
+    name, rules = NAME, RULES
+
+    def __init__(self, options: Any, files: Files) -> None:
+        functions = Functions(dict(options.function), options.attribute)
+        super().__init__(files, functions, MODELS[options.model], options.diff)
+        self.pairs = Pairs(options.formats, self.models, options.posix_locale, bool(options.pairs))
+
+    def changes_in(self, name: Name, source: bytes) -> List[Change]:
+        return [it for it in map(self.change_of, places_in(source)) if it]
+
+    def change_of(self, place: Place) -> Optional[Change]:
+        """Returns what is to be done with a place, or None if nothing is to be said of it."""
+        rule = self.pairs.rule(place.text)
+        if rule is None:
+            return None
+        if rule.why_left:
+            return Change(place, place.source, rule.why_left)
+        return change_to(place, rule.new)
+
+    def findings_of(self, name: str, source: bytes, changes: Sequence[Change]) -> Sequence[Finding]:
+        return [self.finding_of(name, source, it) for it in changes]
+
     def left(self, name: str, why: str) -> Report:
-        """Returns the report on a file that is left as a whole."""
         finding = Finding(name, 0, None, LEFT, WARNING, f"left: {why}", models=model_names(self.models))
         return Report(name, [finding], is_left=True)
 
@@ -138,6 +166,14 @@ class Replacer:
             model_names(self.models),
             dict(zip(("old", "new"), formats)),
         )
+
+
+def change_to(place: Place, text: bytes) -> Change:
+    """Returns the change of a place to another text."""
+    source = respelled(place, text)
+    if source is None:
+        return Change(place, place.source, "a line break within its literals would be lost")
+    return Change(place, source)
 
 
 def column_of(source: bytes, offset: int) -> int:

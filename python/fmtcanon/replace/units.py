@@ -7,8 +7,8 @@ import os
 import re
 from typing import Callable, Dict, Iterable, NamedTuple, Optional, Set
 
-from .compile_commands import CompileCommand
-from .left import Left
+from ..compiling.compile_commands import CompileCommand
+from ..compiling.left import Left
 
 # The endings of what a compiler of C reads.
 OF_C = re.compile(r".*\.(?:c|cc|cp|cpp|cxx|c\+\+|C|CPP|m|mm|M|S|sx|i|ii)", re.DOTALL)

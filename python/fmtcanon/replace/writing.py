@@ -8,19 +8,18 @@ from concurrent.futures import ThreadPoolExecutor
 from typing import Any, List, NoReturn, Sequence
 
 from ..command_line import USAGE
+from ..compiling.left import Left
+from ..compiling.running import stop
+from ..compiling.sources import Name
+from ..compiling.stand_ins import StandIn
 from ..findings import Printer
 from ..output import Unwritable, complain, write
 from .files import put_in_place
 from .interrupting import Interrupted, Signals, interruptible
-from .left import Left
-from .options import NAME
-from .replacer import RULES, Replacer, Report
-from .running import stop
-from .sources import Name
-from .stand_ins import StandIn
+from .replacer import Report, Rewriter
 
 
-def replace(options: Any, replacer: Replacer, names: Sequence[Name]) -> int:
+def replace(options: Any, replacer: Rewriter, names: Sequence[Name]) -> int:
     """Judges the files, reports each in its order, and replaces them. Returns the exit status."""
     pool = ThreadPoolExecutor(max(options.jobs, 1))
     changed: List[str] = []
@@ -28,18 +27,18 @@ def replace(options: Any, replacer: Replacer, names: Sequence[Name]) -> int:
         try:
             with signals.raised():
                 reports = [as_it_is(replacer, it) for it in replacer.reports(names, pool)]
-                print_reports(options, reports)
+                print_reports(options, replacer, reports)
                 status = max([USAGE if it.error else int(it.is_left) for it in reports], default=0)
                 if options.dry_run or options.diff:
                     return status
                 return max(status, put_all_in_place(reports, signals, changed))
         except Interrupted as interrupted:
-            end(pool, interrupted.number, changed)
+            end(pool, replacer.name, interrupted.number, changed)
         finally:
             pool.shutdown(wait=False)
 
 
-def as_it_is(replacer: Replacer, report: Report) -> Report:
+def as_it_is(replacer: Rewriter, report: Report) -> Report:
     """Returns the report on a file, or on one that has changed since it was read."""
     try:
         is_as_read = report.original is None or report.original.is_as_read()
@@ -48,9 +47,10 @@ def as_it_is(replacer: Replacer, report: Report) -> Report:
     return report if is_as_read else replacer.left(report.name, "it was changed meanwhile")
 
 
-def print_reports(options: Any, reports: Sequence[Report]) -> None:
+def print_reports(options: Any, replacer: Rewriter, reports: Sequence[Report]) -> None:
     """Prints the reports. Raises Unwritable before a file is replaced."""
-    printer = Printer(NAME, options.output, RULES, sys.stderr if options.diff else None)
+    stream = sys.stderr if options.diff else None
+    printer = Printer(replacer.name, options.output, replacer.rules, stream, replacer.as_text)
     try:
         for report in reports:
             if report.diff:
@@ -79,11 +79,11 @@ def put_all_in_place(reports: Sequence[Report], signals: Signals, changed: List[
     return status
 
 
-def end(pool: ThreadPoolExecutor, number: int, changed: Sequence[str]) -> NoReturn:
+def end(pool: ThreadPoolExecutor, name: str, number: int, changed: Sequence[str]) -> NoReturn:
     """Ends the command early, without its copies of files, and says what was changed."""
     pool.shutdown(wait=False)
     stop()
     StandIn.remove_all()
-    complain(f"{NAME}: interrupted; " + (f"changed: {', '.join(changed)}" if changed else "no file was changed"))
+    complain(f"{name}: interrupted; " + (f"changed: {', '.join(changed)}" if changed else "no file was changed"))
     # libclang can't be interrupted, and Python would wait for it.
     os._exit(128 + number)

@@ -1,6 +1,7 @@
 use Rattle.std.proofs.Common.{◌≡◌, [], ◌++◌, length, length-append, refl, sym, ap, ◌∙◌, arith}
 use Rattle.pf_posix.specs.OpaqueParts.{parts_of_opaque}
 use Rattle.pf_whole.specs.meaning.NormalSpellings.{normal_spelling, posix_spelling_of}
+use Rattle.pf_whole.proofs.AnswerLemmas.{canonical_for}
 use Rattle.pf_whole.proofs.HeadLemmas.{at_last, before_directive, between, first_items, less_left, goes_on_behind, stretch_few, stretch_has}
 use Rattle.pf_whole.proofs.Loops.{continues_from, ends_with, goes_past}
 use Rattle.pf_whole.proofs.lengths.len_of_stretches.Goals as goal
@@ -45,7 +46,7 @@ returns-in-None c =
     let together = ends_with c.args.model i.0 i.1 (first_items i.1) (between t c.loop-stretch.at c.in-Some.stretch.end) i.2 piece.0 i.8 last.0 has.reads
     piece.1.canonical_is in (
       i.2 ++ piece.0,
-      record { accepted = c.requires; canonical_is = record { stretches = i.0; reads = i.3; together = together } },
+      canonical_for c.args.model t (i.2 ++ piece.0) c.requires (record { stretches = i.0; reads = i.3; together = together }),
       omega (arith, i.6, piece.2, length-append i.2 piece.0),
     )
 

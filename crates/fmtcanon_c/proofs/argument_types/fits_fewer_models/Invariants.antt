@@ -1,0 +1,17 @@
+use Rattle.std.proofs.Common.{◌≡◌, ◌<◌, ◌≤◌, ◌^◌, take}
+use Rattle.std.specs.List.{AllByRecursion}
+use Rattle.pf_posix.specs.Items.{IsPosixAccepted}
+use Rattle.pf_values.specs.declared.models.TheConstants.Model.{ALL}
+use Rattle.fmtcanon_c.specs.Calls.{AreModels}
+use Rattle.fmtcanon_c.specs.ArgumentTypes.{FitFewer}
+use Rattle.fmtcanon_c.proofs.SamenessLemmas.{weight_after}
+use Rattle.fmtcanon_c.proofs.argument_types.fits_fewer_models.Given as goal
+
+abbrev pub invariant-loop-model : goal.invariant-loop-model
+invariant-loop-model l = record {
+  fit : AreModels (λ model. FitFewer model l.first l.second) 1 (take l.model-index ALL) l.sum;
+  weight : l.weight ≡ weight_after 1 (take l.model-index ALL);
+  below : l.sum < l.weight;
+  small : l.weight ≤ 2 ^ l.model-index;
+  accepted : AllByRecursion (λ model. IsPosixAccepted model l.first × IsPosixAccepted model l.second) (take l.model-index ALL);
+}

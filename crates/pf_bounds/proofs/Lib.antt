@@ -1,0 +1,7 @@
+pub mod BoundsLemmas
+pub mod Lengths
+pub mod Extremes
+pub mod NumberBounds
+pub mod TextBounds
+pub mod SumLemmas
+pub mod LawLemmas

@@ -1,0 +1,5 @@
+use Rattle.pf_posix.proofs.BeginningLemmas.{fits_is_fewer}
+use Rattle.pf_posix.proofs.laws.fits_is_fewer.Goals as goal
+
+pub returns : goal.returns
+returns c = fits_is_fewer

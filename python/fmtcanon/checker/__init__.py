@@ -1,0 +1,1 @@
+"""Says whether each printf format fits its call on every platform: the command fmtcanon-check."""

@@ -1,0 +1,97 @@
+"""Says whether each printf format fits its call on every platform."""
+
+import collections
+import tempfile
+from typing import Any, Counter, Hashable, Iterable, Iterator, Optional, Sequence, Set
+
+from ..command_line import MODELS, USAGE, status_of
+from ..compiling.left import Left
+from ..compiling.libclang import MISSING, cindex
+from ..compiling.sources import Files
+from ..diff.trees import Unreadable
+from ..findings import ERROR, Printer
+from ..output import complain
+from ..processes import in_order
+from ..replace.writing import replace
+from .checking import Answer, Job, Question, answer
+from .fixer import Fixer
+from .options import NAME, parsed
+from .reporting import COMPOSED, RANK, RULES, SIGN, as_source
+from .retargeting import write_headers
+from .unit import Settings
+
+
+def jobs_of(files: Files, question: Question) -> Iterator[Job]:
+    """Yields what is to be checked."""
+    for name in files.names():
+        try:
+            yield Job(name.path, files.commands(name.path), question)
+        except Left as why:
+            yield Job(name.path, (), question, str(why))
+
+
+def question_of(options: Any, folder: str) -> Question:
+    """Returns what the options ask. The folder gets the headers of this command."""
+    added = [it for it in (RANK, SIGN, COMPOSED) if getattr(options, it)]
+    settings = Settings(write_headers(folder), dict(options.function), dict(options.type))
+    return Question(MODELS[options.model], added, settings)
+
+
+def each_once(answers: Iterable[Answer], seen: Set[Hashable]) -> Iterator[Answer]:
+    """Yields answers without what an earlier one has: what is found in a header, in several units."""
+    for one in answers:
+        found = {key: it for key, it in one.found.items() if key not in seen}
+        seen.update(found)
+        yield one._replace(found=found)
+
+
+def summary(counts: Counter[str]) -> str:
+    """Returns what is said at the end: how much was judged, and what was found."""
+    parts = [f"{counts[it]} {it if counts[it] != 1 else it[:-1]}" for it in ("files", "formats", "arguments")]
+    found = ", ".join(f"{counts[it]} {it}" for it in RULES if counts[it])
+    return f"{', '.join(parts)}: {found or 'nothing found'}"
+
+
+def check(options: Any, answers: Iterable[Answer]) -> int:
+    """Prints what is found. Returns the exit status."""
+    printer, status = Printer(NAME, options.output, RULES, text=as_source), 0
+    counts: Counter[str] = collections.Counter()
+    for one in answers:
+        counts.update({it: one.counts[it] for it in ("files", "formats", "arguments")})
+        for found in one.found.values():
+            printer.add(found.finding)
+            counts[found.finding.kind] += 1
+            status = max(status, int(found.finding.level == ERROR))
+        status = max(status, USAGE if one.counts["left"] else 0)
+    printer.end()
+    complain(summary(counts))
+    return status
+
+
+def fix(options: Any, files: Files, answers: Sequence[Answer]) -> int:
+    """Writes what is proposed, or prints it as a diff. Returns the exit status."""
+    options.dry_run = False
+    fixer = Fixer(options, files, answers)
+    status = replace(options, fixer, fixer.names())
+    return max(status, USAGE if any(it.counts["left"] for it in answers) else 0)
+
+
+def run(options: Any) -> int:
+    if cindex is None:
+        complain(f"{NAME}: {MISSING}")
+        return USAGE
+    try:
+        files = Files(options)
+        with tempfile.TemporaryDirectory() as folder:
+            found = each_once(in_order(answer, jobs_of(files, question_of(options, folder)), options.jobs), set())
+            is_writing = options.fix or options.diff
+            return fix(options, files, list(found)) if is_writing else check(options, found)
+    except BrokenPipeError:
+        raise
+    except (Unreadable, OSError) as error:
+        complain(f"{NAME}: {error}")
+        return USAGE
+
+
+def main(words: Optional[Sequence[str]] = None) -> int:
+    return status_of(NAME, lambda: run(parsed(words)))

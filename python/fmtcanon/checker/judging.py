@@ -1,0 +1,208 @@
+"""Judges the calls of a unit: whether each argument has the type that its directive takes, on every platform."""
+
+import enum
+import re
+from typing import Iterator, List, Mapping, NamedTuple, Sequence, Set, Tuple
+
+from .. import BadLiteral, DirectiveSpan, Refused, decode_literal, directives
+from ..kinds import Type
+from ..models import Model
+from .calls import Argument, Call, Format, Key, Token
+from .platforms import PLATFORMS, Platform
+
+# The directive of glibc and syslog for the text of errno, which takes no argument. The library rejects it.
+ERRNO = re.compile(rb"(?<!%)((?:%%)*)%[-+ #0']*\d*(?:\.\d*)?m")
+SIGNED = {Type.UINT: Type.INT, Type.ULONG: Type.LONG, Type.ULONG_LONG: Type.LONG_LONG}
+INTEGERS = (*SIGNED.values(), *SIGNED)
+# What C calls the types that aren't integers, without qualifiers.
+POINTERS = {
+    Type.POINTER_TO_SCHAR: "signed char",
+    Type.POINTER_TO_SHORT: "short",
+    Type.POINTER_TO_INT: "int",
+    Type.POINTER_TO_LONG: "long",
+    Type.POINTER_TO_LONG_LONG: "long long",
+}
+OTHERS = {
+    Type.DOUBLE: re.compile("double"),
+    Type.LONG_DOUBLE: re.compile("long double"),
+    Type.STRING: re.compile(r"(?:(?:un)?signed )?char \*"),
+    Type.WIDE_STRING: re.compile(r"(?:int|long|unsigned short) \*"),
+    Type.POINTER_TO_VOID: re.compile(r".*\*.*"),
+    **{type: re.compile(rf"(?:unsigned )?{name} \*") for type, name in POINTERS.items()},
+}
+QUALIFIER = re.compile(r"\b(?:const|volatile|restrict) ?|(?<=\*)(?:const|volatile|restrict)\b")
+LONG_BITS = {Model.LP64: 64, Model.ILP32: 32, Model.LLP64: 32}
+
+
+class Fit(enum.Enum):
+    """How an argument fits its directive, the worst last. An argument of another kind may be no integer, or missing."""
+
+    EQUAL = "equal"
+    SIGN = "sign"
+    RANK = "rank"
+    KIND = "kind"
+    SIZE = "size"
+
+
+ORDER = list(Fit)
+MISSING = Argument(None, "", "missing")
+
+
+class Fault(NamedTuple):
+    """An argument that doesn't fit on some platform. `fits`, `wanted` and `given` are of each platform in PLATFORMS.
+
+    `span` is the directive in `text`, the format in LP64. `number` is the index of the argument in what the format
+    converts.
+    """
+
+    key: Key
+    call: Call
+    format: int
+    text: bytes
+    span: DirectiveSpan
+    number: int
+    fits: Tuple[Fit, ...]
+    wanted: Tuple[Type, ...]
+    given: Tuple[Argument, ...]
+
+    @property
+    def worst(self) -> Fit:
+        return max(self.fits, key=ORDER.index)
+
+    @property
+    def is_star(self) -> bool:
+        """Whether the argument is that of a `*`."""
+        return self.number != self.span.argument
+
+    @property
+    def range(self) -> Tuple[int, int]:
+        """Where what takes the argument is in the text: the directive, or a `*` of it."""
+        if not self.is_star:
+            return self.span.start, self.span.end
+        find = self.text.index if self.number == self.span.width_argument else self.text.rindex
+        at = find(b"*", self.span.start, self.span.end)
+        return at, at + 1
+
+    @property
+    def directive(self) -> str:
+        return self.text[self.span.start : self.span.end].decode(errors="backslashreplace")
+
+
+class Judged(NamedTuple):
+    """What is found in a unit: its faults, the formats that fit their calls except in a sign, the calls that a platform
+    lacks, the formats that aren't accepted with why, and how many formats and arguments were judged.
+    """
+
+    faults: List[Fault]
+    fitting: Set[Tuple[Key, int]]
+    lost: List[Tuple[Call, List[str]]]
+    refused: List[Tuple[Call, str]]
+    formats: int
+    arguments: int
+
+
+def bits_of(type: Type, model: Model) -> int:
+    return {Type.INT: 32, Type.LONG: LONG_BITS[model], Type.LONG_LONG: 64}[SIGNED.get(type, type)]
+
+
+def fit_of(wanted: Type, given: Argument, model: Model) -> Fit:
+    """Returns how an argument fits what a directive takes."""
+    if wanted is Type.WIDE_CHAR:
+        fit = fit_of(Type.UINT, given, model)
+        return Fit.EQUAL if fit is Fit.SIGN else fit
+    if wanted not in INTEGERS or given.type is None:
+        pattern = OTHERS.get(wanted)
+        is_right = pattern is not None and pattern.fullmatch(QUALIFIER.sub("", given.spelling).strip())
+        return Fit.EQUAL if is_right else Fit.KIND
+    if wanted is given.type:
+        return Fit.EQUAL
+    if SIGNED.get(wanted, wanted) is SIGNED.get(given.type, given.type):
+        return Fit.SIGN
+    return Fit.RANK if bits_of(wanted, model) == bits_of(given.type, model) else Fit.SIZE
+
+
+def without_errno(text: bytes) -> bytes:
+    """Returns a format of the same length in which `%%` and more bytes replace each `%m`."""
+    return ERRNO.sub(lambda it: it[1] + b"%%" + b"_" * (len(it[0]) - len(it[1]) - 2), text)
+
+
+class Text(NamedTuple):
+    """A format on a platform: its text, and its directives."""
+
+    text: bytes
+    spans: Sequence[DirectiveSpan]
+
+
+def text_of(format: Format, platform: Platform) -> Text:
+    """Returns the text of a format. Raises `Refused` or `BadLiteral`."""
+    text = without_errno(decode_literal(format.source.encode("utf-8", "surrogateescape")))
+    return Text(text, directives(text, model=platform.model))
+
+
+def arguments_of(spans: Sequence[DirectiveSpan]) -> Iterator[Tuple[int, int, Type]]:
+    """Yields the arguments that directives take: the index of the directive, that of the argument, and its type."""
+    for index, span in enumerate(spans):
+        for star in (span.width_argument, span.precision_argument):
+            if star is not None:
+                yield index, star, Type.INT
+        yield index, span.argument, span.type
+
+
+def faults_of(key: Key, calls: Sequence[Call], number: int, texts: Sequence[Text]) -> Iterator[Fault]:
+    """Yields the arguments of a call, as it is on each platform, that don't fit one of its formats."""
+    listed = [list(arguments_of(it.spans)) for it in texts]
+    for found in zip(*listed):
+        index, argument, _ = found[0]
+        given = tuple(it.arguments[argument] if argument < len(it.arguments) else MISSING for it in calls)
+        wanted = tuple(type for _, _, type in found)
+        fits = tuple(fit_of(it, had, platform.model) for it, had, platform in zip(wanted, given, PLATFORMS))
+        if set(fits) != {Fit.EQUAL}:
+            text, spans = texts[0]
+            yield Fault(key, calls[0], number, text, spans[index], argument, fits, wanted, given)
+
+
+def judged(units: Sequence[Mapping[Key, Call]]) -> Judged:
+    """Judges the calls of a unit, which are those of each platform."""
+    result = Judged([], set(), [], [], 0, 0)
+    formats = arguments = 0
+    for key, call in units[0].items():
+        calls = [it[key] for it in units if key in it and len(it[key].formats) == len(call.formats)]
+        if len(calls) < len(units):
+            missing = [it.name for it, unit in zip(PLATFORMS, units) if key not in unit]
+            result.lost.append((call, missing or [it.name for it in PLATFORMS[1:]]))
+            continue
+        for number in range(len(call.formats)):
+            try:
+                texts = [text_of(it.formats[number], platform) for it, platform in zip(calls, PLATFORMS)]
+            except (Refused, BadLiteral) as why:
+                result.refused.append((call, str(why)))
+                continue
+            formats += 1
+            arguments += sum(1 for _ in arguments_of(texts[0].spans))
+            faults = list(faults_of(key, calls, number, texts))
+            result.faults.extend(faults)
+            if all(it.worst is Fit.SIGN for it in faults):
+                result.fitting.add((key, number))
+    return result._replace(formats=formats, arguments=arguments)
+
+
+def is_composed(fault: Fault) -> bool:
+    """Returns whether a directive is in several literals, none of which a PRI macro made: then `#if` may have chosen
+    its modifier.
+    """
+    listed = spans_of(fault.call.formats[fault.format].tokens)
+    touched = [it for it, start, end in listed if overlaps(fault.span, start, end)]
+    return len(touched) > 1 and not any(it.is_pri for it in touched)
+
+
+def overlaps(span: DirectiveSpan, start: int, end: int) -> bool:
+    return start < span.end and span.start < end
+
+
+def spans_of(tokens: Sequence[Token]) -> Iterator[Tuple[Token, int, int]]:
+    """Yields the literals of a format, with where the bytes of each are in its text."""
+    at = 0
+    for token in tokens:
+        size = len(decode_literal(token.source.encode("utf-8", "surrogateescape")))
+        yield token, at, at + size
+        at += size

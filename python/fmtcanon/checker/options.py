@@ -1,0 +1,101 @@
+"""The command line of fmtcanon-check."""
+
+import argparse
+import os
+import re
+from typing import Any, Optional, Sequence, Tuple
+
+from ..command_line import Parser
+from ..compiling.parsing import Shape
+from .platforms import COMPILED
+from .reporting import RULES
+
+NAME = "fmtcanon-check"
+USAGE = """\
+fmtcanon-check [OPTION]... -p DIR [FILE...]
+       fmtcanon-check [OPTION]... FILE..."""
+DESCRIPTION = """\
+Says of each call of a printf function in C source whether its arguments have the types that its format
+takes: where it is compiled, on 32-bit systems, also with a 64-bit time_t, and on 64-bit Windows. It
+proposes a directive that is right on all of them.
+
+Each file is preprocessed by its own compiler, for 64-bit Unix. In that text, the types of the C library
+get those of each platform, and libclang (the package python3-clang) parses it for that platform, of
+which no headers are needed.
+
+FILE is a file or a folder, of which all C files are read. Without one, all files of the compile commands
+in -p are read."""
+EPILOG = f"""\
+Functions of the C library's printf family and those with the attribute format(printf, m, n) are known.
+Arguments count from 0. Types are compared between integers; of other types it is only said if one of
+the two is an integer.
+
+The kinds of findings are {', '.join(RULES)}.
+
+The exit status is 0 if nothing is an error, 1 if something is, and 2 for a usage error, a file that was
+left, or an output that can't be written."""
+# Types of C that --type may name, beside typedefs of the C library.
+INTEGER = re.compile(r"(?:(?:un)?signed )?(?:char|short|int|long|long long)")
+
+
+def parser() -> Parser:
+    """Returns the definition of the command line."""
+    made = Parser(NAME, USAGE, DESCRIPTION, EPILOG)
+    made.add_model(
+        "the data models that are reported: lp64, ilp32, llp64, both for the first two, or all, the default; "
+        "what is proposed fits all of them"
+    )
+    database = "the folder of compile_commands.json; without FILE all its files are read"
+    made.add_argument("-p", metavar="DIR", dest="database", help=database)
+    flag = "without -p, a flag of the compile command, which is cc: --flag=-Iinclude"
+    made.add_argument("--flag", action="append", default=[], metavar="FLAG", help=flag)
+    function = "NAME takes a format as its argument FORMAT, which converts those from FIRST on, counted from 0"
+    made.add_argument(
+        "--function", action="append", default=[], type=function_of, metavar="NAME:FORMAT:FIRST", help=function
+    )
+    type = "the typedef NAME is TYPE, an integer type or one of the C library, whatever #if chose"
+    made.add_argument("--type", action="append", default=[], type=type_of, metavar="NAME=TYPE", help=type)
+    for option, text in [
+        ("--rank", "also report arguments of the right size whose type is another, as long and long long"),
+        ("--sign", "also report arguments whose sign alone is another"),
+        ("--composed", "also report directives of several literals, once for each file and type"),
+    ]:
+        made.add_argument(option, action="store_true", help=text)
+    modes = made.add_mutually_exclusive_group()
+    fix = "write what is proposed where only a length modifier changes and the program prints the same"
+    modes.add_argument("--fix", action="store_true", help=fix)
+    modes.add_argument("--diff", action="store_true", help="print what --fix would write as a unified diff")
+    made.add_output()
+    made.add_argument(
+        "--jobs", type=int, default=os.cpu_count() or 1, metavar="N", help="how many files are read at a time"
+    )
+    made.add_argument("files", metavar="FILE", nargs="*", help="files or folders")
+    return made
+
+
+def function_of(word: str) -> Tuple[str, Shape]:
+    """Returns the name and the indexes that `NAME:FORMAT:FIRST` gives."""
+    found = re.fullmatch(r"([A-Za-z_]\w*):(\d+):(\d+)", word)
+    if not found or int(found[3]) <= int(found[2]):
+        raise argparse.ArgumentTypeError(f"{word!r} isn't NAME:FORMAT:FIRST")
+    return found[1], Shape(int(found[2]), int(found[3]))
+
+
+def type_of(word: str) -> Tuple[str, str]:
+    """Returns the two names of `NAME=TYPE`."""
+    found = re.fullmatch(r"([A-Za-z_]\w*)=([\w ]+)", word)
+    if not found:
+        raise argparse.ArgumentTypeError(f"{word!r} isn't NAME=TYPE")
+    if found[2] not in COMPILED.types and not INTEGER.fullmatch(found[2]):
+        raise argparse.ArgumentTypeError(f"{found[2]!r} is neither an integer type nor a typedef of the C library")
+    return found[1], found[2]
+
+
+def parsed(words: Optional[Sequence[str]]) -> Any:
+    """Returns the options, with `files`. A usage error ends the command."""
+    made = parser()
+    options, more = made.parsed(words)
+    options.files += more
+    if not options.files and not options.database:
+        made.error("give files or folders, or the folder of a compile_commands.json")
+    return options

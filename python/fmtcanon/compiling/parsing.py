@@ -1,0 +1,139 @@
+"""Preprocessed text as libclang parses it: its cursors, and the files and lines that its line markers name.
+
+The text is the one that the file's own compiler made, so no macro, branch or flag is left to judge.
+"""
+
+import ctypes
+import os
+import re
+from typing import Any, Callable, Dict, List, NamedTuple, Optional, Sequence
+
+from .compile_commands import CompileCommand
+from .left import Left
+from .libclang import cindex
+
+# What the headers of gcc have and an older clang hasn't.
+SHIMS = [
+    "-D_Float128=__float128",
+    "-D_Float64x=long double",
+    "-D_Float64=double",
+    "-D_Float32x=double",
+    "-D_Float32=float",
+    "-D__malloc__(...)=__malloc__",
+    "-D__builtin_va_arg_pack()=0",
+    "-D__builtin_va_arg_pack_len()=0",
+]
+FLAGS = ["-undef", "-nostdinc", "-w", "-ferror-limit=0", "-fdouble-square-bracket-attributes"]
+# In an attribute, gcc's name of the language of formats, which an older clang hasn't.
+GNU_PRINTF = re.compile(
+    rb"(?<![\w$])((?:__)?format(?:__)?%(gap)b\(%(gap)b)(?:__)?gnu_printf(?:__)?(?=%(gap)b,)"
+    # White space, and line markers.
+    % {b"gap": rb"(?:\s|(?<=\n)# \d+ [^\n]*)*"}
+)
+FORMAT_ATTRIBUTE = re.compile(r"format\w*\s*\(\s*(?:__)?printf(?:__)?\s*,\s*(\d+)\s*,\s*(\d+)")
+LINE_MARKER = re.compile(r"(?m)^# \d+ .*")
+# The kinds of cursors and the answers of a visitor, as the C interface of libclang numbers them.
+FUNCTION_DECL, CALL_EXPR, VISIT_NEXT, VISIT_INSIDE = 8, 103, 1, 2
+ERROR = 3
+
+
+def as_utf8(text: bytes) -> bytes:
+    """Returns preprocessed text for libclang, which takes UTF-8: other bytes, which are in literals, comments and names
+    alone, become `_`.
+    """
+    try:
+        text.decode()
+        return text
+    except UnicodeDecodeError:
+        return re.sub(rb"[\x80-\xff]", b"_", text)
+
+
+class Shape(NamedTuple):
+    """The index of a function's format, and that of the first argument that it converts; None for a `va_list`."""
+
+    format: int
+    first: Optional[int]
+
+
+class Parsed:
+    """The translation unit of preprocessed text."""
+
+    def __init__(self, command: CompileCommand, text: bytes, words: Sequence[str] = ()) -> None:
+        self.command = command
+        self.folders = tuple(f"{it}/" for it in command.system_folders())
+        self.files: Dict[str, str] = {}
+        self.text = GNU_PRINTF.sub(rb"\1printf", as_utf8(text))
+        language = "-xc++" if command.is_cxx() else "-xc"
+        kept = [
+            it.replace("gnu23", "gnu2x").replace("c23", "c2x")
+            for it in command.words
+            if it.startswith(("-std=", "-m32", "-mx32", "-funsigned-char"))
+        ]
+        try:
+            self.unit = cindex.Index.create().parse(
+                "/unit", args=[language, *FLAGS, *kept, *SHIMS, *words], unsaved_files=[("/unit", self.text.decode())]
+            )
+        except (cindex.LibclangError, cindex.TranslationUnitLoadError) as error:
+            raise Left(f"libclang: {error}") from error
+
+    def errors(self) -> List[str]:
+        """Returns what libclang can't parse outside of the compiler's own headers."""
+        return [
+            f"{os.path.basename(self.file_of(it.location))}:{self.line_of(it.location)}: {it.spelling}"
+            for it in self.unit.diagnostics
+            if it.severity >= ERROR and not self.file_of(it.location).startswith(self.folders)
+        ]
+
+    def presumed(self, location: Any) -> Any:
+        """Returns the name of the file and the line of a location, as line markers have them."""
+        name, line, column = cindex._CXString(), ctypes.c_uint(), ctypes.c_uint()
+        library = cindex.conf.lib
+        library.clang_getPresumedLocation(location, ctypes.byref(name), ctypes.byref(line), ctypes.byref(column))
+        return library.clang_getCString(name), line.value
+
+    def file_of(self, location: Any) -> str:
+        """Returns the path of the file that a location is in."""
+        name = self.presumed(location)[0]
+        name = os.fsdecode(name) if isinstance(name, bytes) else str(name)
+        if name not in self.files:
+            self.files[name] = os.path.realpath(os.path.join(self.command.folder, name))
+        return self.files[name]
+
+    def line_of(self, location: Any) -> int:
+        return int(self.presumed(location)[1])
+
+    def text_of(self, cursor: Any) -> str:
+        return self.text[cursor.extent.start.offset : cursor.extent.end.offset].decode()
+
+    def attributes_of(self, declaration: Any) -> List[str]:
+        """Returns the texts of the attributes that libclang has no kind for, without line markers."""
+        return [
+            LINE_MARKER.sub("", self.text_of(it))
+            for it in declaration.get_children()
+            if it.kind.name == "UNEXPOSED_ATTR"
+        ]
+
+    def format_by_attribute(self, declaration: Any) -> Optional[Shape]:
+        """Returns what the attribute `format(printf, ..)` of a declaration says, or None."""
+        found = next(filter(None, map(FORMAT_ATTRIBUTE.search, self.attributes_of(declaration))), None)
+        return Shape(int(found[1]) - 1, int(found[2]) - 1 if found[2] != "0" else None) if found else None
+
+    def visit(self, function: Callable[[Any], int]) -> None:
+        """Calls a function for each cursor, which returns whether to go on inside of it.
+
+        ctypes would only print an exception of the function, and go on: the first is kept, and raised at the end.
+        """
+        failures: List[BaseException] = []
+
+        def called(cursor: Any, _parent: Any, _data: Any) -> int:
+            cursor._tu = self.unit
+            try:
+                return 0 if failures else function(cursor)
+            except BaseException as failure:
+                failures.append(failure)
+                return 0
+
+        library = cindex.conf.lib
+        library.clang_visitChildren(self.unit.cursor, library.clang_visitChildren.argtypes[1](called), None)
+        if failures:
+            raise failures[0]

@@ -1,0 +1,1 @@
+"""Says in words what a printf format does: the command fmtcanon-explain."""

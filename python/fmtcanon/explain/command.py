@@ -1,0 +1,206 @@
+"""Explains a format, a difference of two, or a kind of rejection."""
+
+from __future__ import annotations
+
+import json
+import os
+import shutil
+import sys
+from typing import Any, Dict, List, Optional, Sequence, Union
+
+import fmtcanon
+from fmtcanon import BadLiteral, Kind, Model, Refused, Verdict
+
+from ..command_line import USAGE, Parser, status_of
+from ..explaining import Difference, Explanation, Part, Rejection, compare, explain, reject
+from ..findings import TYPE_NAMES
+from ..models import model_of
+from ..output import complain, put
+from ..rejections import HELP
+from .layout import Style, difference_lines, explanation_lines, rejection_lines
+
+NAME = "fmtcanon-explain"
+USAGE_LINES = """\
+fmtcanon-explain [OPTION]... FORMAT
+       fmtcanon-explain [OPTION]... FORMAT FORMAT
+       fmtcanon-explain --kind KIND"""
+DESCRIPTION = """\
+Says in words what a printf format does, how two formats differ, or what a
+kind of rejection means.
+
+For each directive it prints the number of its argument, counted from 1, the
+argument's type, what is printed, and which parts have no effect. Formats are
+those of POSIX fprintf.
+
+Example: fmtcanon-explain '%-08.6lf of %5zu%%'"""
+EPILOG = """\
+The words may change from version to version: scripts use --output json, or
+the other commands. If a format starts with -, put -- before it.
+
+The exit status is 0 for a format that is accepted and for two that are the
+same, 1 for two that differ, and 2 for a rejected format or a usage error."""
+# Of what is not a terminal, and at least.
+WIDTH, NARROWEST = 104, 40
+NAMES = {Verdict.SAME: "same", Verdict.TYPES: "types", Verdict.DIFFERENT: "different", Verdict.DIRECTIVES: "directives"}
+
+
+def parser() -> Parser:
+    """Returns the definition of the command line."""
+    made = Parser(NAME, USAGE_LINES, DESCRIPTION, EPILOG)
+    made.add_argument(
+        "--model",
+        choices=[it.name.lower() for it in Model],
+        default="lp64",
+        metavar="MODEL",
+        help="the data model: lp64, the default, ilp32 or llp64",
+    )
+    made.add_argument("--literal", action="store_true", help="formats are string literals of C, with their quotes")
+    made.add_argument("--kind", metavar="KIND", help="explain a kind of rejection, by its number or name")
+    made.add_argument(
+        "--color",
+        choices=["auto", "always", "never"],
+        default="auto",
+        metavar="WHEN",
+        help="colour: auto, the default, on a terminal unless NO_COLOR is set; always; or never",
+    )
+    made.add_argument(
+        "--output", choices=["text", "json"], default="text", metavar="FORM", help="text, the default, or json"
+    )
+    made.add_argument("formats", metavar="FORMAT", nargs="*", help="a format, or two")
+    return made
+
+
+def main(words: Optional[Sequence[str]] = None) -> int:
+    made = parser()
+    options, more = made.parsed(words)
+    formats = [*options.formats, *more]
+    if options.kind is None and len(formats) not in (1, 2):
+        made.error("give one format, or two")
+    if options.kind is not None and formats:
+        made.error("--kind takes no formats")
+    return status_of(NAME, lambda: run(options, formats))
+
+
+def run(options: Any, formats: Sequence[str]) -> int:
+    """Explains what is asked, and returns the exit status."""
+    if options.kind is not None:
+        return explain_kind(options.kind)
+    try:
+        texts = [text_of(it, options.literal) for it in formats]
+    except BadLiteral as fault:
+        complain(str(fault))
+        return USAGE
+    found = found_of(texts, model_of(options.model))
+    if options.output == "json":
+        put(sys.stdout, json.dumps(as_json(found)))
+    else:
+        for line in lines_of(found, model_of(options.model), style_of(options.color)):
+            put(sys.stdout, line)
+    return status_of_found(found)
+
+
+def text_of(word: str, is_literal: bool) -> bytes:
+    """Returns the bytes of a format that is given as an argument. Raises `BadLiteral`."""
+    given = os.fsencode(word)
+    return fmtcanon.decode_literal(given) if is_literal else given
+
+
+Found = Union[Explanation, Difference, Rejection]
+
+
+def found_of(texts: Sequence[bytes], model: Model) -> Found:
+    """Explains one format, or compares two; or says why one is rejected."""
+    try:
+        return explain(texts[0], model) if len(texts) == 1 else compare(texts[0], texts[1], model)
+    except Refused as refusal:
+        return reject(texts[refusal.side], refusal, model)
+
+
+def status_of_found(found: Found) -> int:
+    if isinstance(found, Rejection):
+        return USAGE
+    return 1 if isinstance(found, Difference) and found.verdict is not Verdict.SAME else 0
+
+
+def lines_of(found: Found, model: Model, style: Style) -> List[str]:
+    """Returns what is found as lines of text."""
+    if isinstance(found, Explanation):
+        return list(explanation_lines(found, model, style))
+    if isinstance(found, Rejection):
+        return list(rejection_lines(found, style))
+    return list(difference_lines(found, model, style))
+
+
+def style_of(color: str) -> Style:
+    """Returns how lines are laid out on standard output."""
+    is_terminal = sys.stdout is not None and sys.stdout.isatty()
+    width = max(shutil.get_terminal_size().columns, NARROWEST) if is_terminal else WIDTH
+    return Style(width, color == "always" or (color == "auto" and is_terminal and not os.environ.get("NO_COLOR")))
+
+
+def explain_kind(word: str) -> int:
+    """Prints what a kind of rejection means."""
+    names = {it.name.replace("_", "").lower(): it for it in Kind}
+    kind = names.get(word.lower()) or (Kind(int(word)) if word.isdecimal() and int(word) in set(Kind) else None)
+    if kind is None:
+        complain(f"{NAME}: {word} is no kind: give a number from 1 to {len(Kind)}, or a name such as Star")
+        return USAGE
+    put(sys.stdout, f"{int(kind)} {fmtcanon._name(kind)}: {HELP[kind]}")
+    return 0
+
+
+def text_in_json(text: bytes) -> str:
+    """Returns a text for JSON: bytes that are not UTF-8 are lone surrogates, as in names of files."""
+    return text.decode("utf-8", "surrogateescape")
+
+
+def part_in_json(part: Optional[Part]) -> Optional[Dict[str, Any]]:
+    if part is None:
+        return None
+    types = {model.name.lower(): TYPE_NAMES[kind] for model, kind in part.types.items()}
+    text = text_in_json(part.text)
+    place = {"start": part.start, "end": part.end, "text": text, "argument": part.argument}
+    return {**place, "types": types, "meaning": part.meaning, "notes": list(part.notes)}
+
+
+def as_json(found: Found) -> Dict[str, Any]:
+    """Returns what is found as one object."""
+    if isinstance(found, Rejection):
+        return rejection_in_json(found)
+    if isinstance(found, Explanation):
+        return explanation_in_json(found)
+    return difference_in_json(found)
+
+
+def rejection_in_json(found: Rejection) -> Dict[str, Any]:
+    refusal: Dict[str, Any] = {"kind": int(found.refusal.kind), "name": found.refusal.name, "at": found.refusal.byte}
+    refusal["help"] = found.help
+    if found.refusal.side:
+        refusal["side"] = found.refusal.side
+    if found.instead is not None:
+        refusal["write"] = text_in_json(found.instead)
+    return {"format": text_in_json(found.format), "accepted": False, "refusal": refusal}
+
+
+def explanation_in_json(found: Explanation) -> Dict[str, Any]:
+    canonical = {model.name.lower(): text_in_json(text) for model, text in found.canonical.items()}
+    bounds = None if found.bounds is None else {"least": found.bounds.least, "greatest": found.bounds.greatest}
+    return {
+        "format": text_in_json(found.format),
+        "accepted": True,
+        "directives": [part_in_json(it) for it in found.parts],
+        "canonical": canonical or None,
+        "bounds": bounds,
+    }
+
+
+def difference_in_json(found: Difference) -> Dict[str, Any]:
+    arguments = [text_in_json(it) if isinstance(it, bytes) else it for it in found.arguments]
+    return {
+        "formats": [text_in_json(it) for it in found.formats],
+        "verdict": NAMES[found.verdict],
+        "argument": None if found.at is None else found.at + 1,
+        "arguments": arguments,
+        "printed": [text_in_json(it) for it in found.printed],
+        "directives": [part_in_json(it) for it in found.parts],
+    }

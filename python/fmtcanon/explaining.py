@@ -1,0 +1,196 @@
+"""Explains formats: what each directive prints, and how two formats differ.
+
+Every fact comes from a call of the library. A part of a directive has no effect if the library says that the directive
+without it is the same.
+"""
+
+from __future__ import annotations
+
+from typing import Dict, List, NamedTuple, Optional, Sequence, Tuple
+
+import fmtcanon
+from fmtcanon import DirectiveSpan, Kind, Model, Refused, Type, Verdict
+
+from .rejections import HELP, instead_of
+from .specification import Specification, specification_of
+from .verdicts import Argument, Library, shared_front
+from .wording import Stars, meaning, note
+
+
+class Part(NamedTuple):
+    """A directive of a format: where it is, its text, its argument from 1, its type by data model, and in words what it
+    prints and which of its parts have no effect.
+    """
+
+    start: int
+    end: int
+    text: bytes
+    argument: int
+    types: Dict[Model, Type]
+    meaning: str
+    notes: Tuple[str, ...]
+
+
+class Explanation(NamedTuple):
+    """What a format does. `canonical` is empty if its arguments are numbered, and `bounds` None outside the profile."""
+
+    format: bytes
+    parts: Tuple[Part, ...]
+    canonical: Dict[Model, bytes]
+    bounds: Optional[fmtcanon.Bounds]
+
+
+class Rejection(NamedTuple):
+    """Why a format is rejected: the refusal, what it means, and what to write instead of the specification."""
+
+    format: bytes
+    refusal: Refused
+    help: str
+    instead: Optional[bytes]
+
+
+class Difference(NamedTuple):
+    """How two formats compare.
+
+    `arguments` are some that they print differently, and `printed` is what each prints for them, if the program can be
+    run. `at` is the index from
+    0 of the first argument at which their types or directives differ. `parts` are the directives there: of each format
+    one, or None.
+    """
+
+    formats: Tuple[bytes, bytes]
+    verdict: Verdict
+    canonical: Optional[bytes] = None
+    arguments: Tuple[Argument, ...] = ()
+    printed: Tuple[bytes, ...] = ()
+    at: Optional[int] = None
+    parts: Tuple[Optional[Part], ...] = ()
+
+
+def explain(text: bytes, model: Model) -> Explanation:
+    """Explains a format of the whole language. Raises `Refused`."""
+    spans = fmtcanon.directives(text, model=model)
+    types = {other: types_in(text, other) for other in Model}
+    parts = tuple(part_of(text, span, types, model) for span in spans)
+    return Explanation(text, parts, canonical_by_model(text), bounds_of(text, model))
+
+
+def types_in(text: bytes, model: Model) -> List[Type]:
+    """Returns the type of each directive's argument, or none if the format is rejected in this data model."""
+    try:
+        return [it.type for it in fmtcanon.directives(text, model=model)]
+    except Refused:
+        return []
+
+
+def canonical_by_model(text: bytes) -> Dict[Model, bytes]:
+    """Returns the canonical text in each data model; none if arguments are numbered."""
+    try:
+        return {model: fmtcanon.canonical(text, model=model, whole=True) for model in Model}
+    except Refused:
+        return {}
+
+
+def bounds_of(text: bytes, model: Model) -> Optional[fmtcanon.Bounds]:
+    """Returns how many bytes a format of the profile prints."""
+    try:
+        return fmtcanon.bounds(text, model=model)
+    except Refused:
+        return None
+
+
+def part_of(text: bytes, span: DirectiveSpan, types: Dict[Model, List[Type]], model: Model) -> Part:
+    """Returns a directive with what it prints."""
+    spelling = text[span.start : span.end]
+    index = [it.start for it in fmtcanon.directives(text, model=model)].index(span.start)
+    by_model = {other: found[index] for other, found in types.items() if found}
+    effective, notes = effects(specification_of(spelling))
+    stars = Stars(*(None if it is None else it + 1 for it in (span.width_argument, span.precision_argument)))
+    return Part(span.start, span.end, spelling, span.argument + 1, by_model, meaning(effective, stars), notes)
+
+
+def effects(found: Specification) -> Tuple[Specification, Tuple[str, ...]]:
+    """Returns the parts of a specification that have an effect, and a note on each other one."""
+    notes: List[str] = []
+    effective = found.without_numbers()
+    for name, spelling, shorter in found.without_numbers().shorter():
+        if is_same(found.without_numbers(), shorter):
+            notes.append(note(name, spelling, found))
+            without = [it for other, part, it in effective.shorter() if (other, part) == (name, spelling)]
+            effective = without[0] if is_same(effective, without[0]) else effective
+    notes += [f"`{flag}` is there more than once" for flag in dict.fromkeys(found.flags) if found.flags.count(flag) > 1]
+    return effective, tuple(notes)
+
+
+def is_same(first: Specification, second: Specification) -> bool:
+    """Returns whether two specifications are interchangeable in all data models."""
+    try:
+        return len(fmtcanon.same_in(str(first), str(second), whole=True)) == len(Model)
+    except Refused:
+        return False
+
+
+def reject(text: bytes, refusal: Refused, model: Model) -> Rejection:
+    """Returns what a refusal of a format means."""
+    return Rejection(text, refusal, HELP[refusal.kind], instead_of(text, refusal, model))
+
+
+def compare(first: bytes, second: bytes, model: Model) -> Difference:
+    """Compares two formats. Raises `Refused` with the side that is rejected."""
+    formats = (first, second)
+    try:
+        found = fmtcanon.compare(first, second, model=model, whole=True)
+    except Refused as refusal:
+        if refusal.kind is not Kind.NUMBERED:
+            raise
+        return by_types(formats, model)
+    if found.verdict is Verdict.SAME:
+        return Difference(formats, found.verdict, canonical=fmtcanon.canonical(first, model=model, whole=True))
+    if found.verdict is Verdict.DIFFERENT:
+        return printed_unlike(formats, found.arguments or (), model)
+    at = found.types_differ_at if found.verdict is Verdict.TYPES else found.directives_differ_at
+    return Difference(formats, found.verdict, at=at, parts=parts_at(formats, at or 0, model))
+
+
+def by_types(formats: Tuple[bytes, bytes], model: Model) -> Difference:
+    """Compares two formats of which one has numbered arguments: only their types can be compared."""
+    first, second = (bytes(fmtcanon.arguments(it, model=model)) for it in formats)
+    at = shared_front(first, second)
+    if fmtcanon.fits(*formats, model=model):
+        return Difference(formats, Verdict.SAME)
+    return Difference(formats, Verdict.TYPES, at=at, parts=parts_at(formats, at, model))
+
+
+def parts_at(formats: Sequence[bytes], index: int, model: Model) -> Tuple[Optional[Part], ...]:
+    """Returns the directive of each format that takes the argument of this index."""
+    return tuple(part_at(it, index, model) for it in formats)
+
+
+def part_at(text: bytes, index: int, model: Model) -> Optional[Part]:
+    """Returns the directive that takes the argument of this index, converted or as a `*`."""
+    for span, part in zip(fmtcanon.directives(text, model=model), explain(text, model).parts):
+        if index in (span.argument, span.width_argument, span.precision_argument):
+            return part
+    return None
+
+
+def printed_unlike(formats: Tuple[bytes, bytes], arguments: Tuple[Argument, ...], model: Model) -> Difference:
+    """Returns what two formats print for arguments that show a difference, and the first directives that do."""
+    printed = tuple(it for it in (printed_by(it, arguments, model) for it in formats) if it is not None)
+    first, second = (explain(it, model).parts for it in formats)
+    unlike = ((one, two) for one, two in zip(first, second) if not is_alike(one, two, arguments, model))
+    parts: Tuple[Optional[Part], ...] = next(unlike, ())
+    return Difference(formats, Verdict.DIFFERENT, arguments=arguments, printed=printed, parts=parts)
+
+
+def is_alike(first: Part, second: Part, arguments: Sequence[Argument], model: Model) -> bool:
+    """Returns whether two directives print the same for their arguments."""
+    if arguments[first.argument - 1] is None:
+        return True
+    one, two = (printed_by(it.text, [arguments[it.argument - 1]], model) for it in (first, second))
+    return one == two
+
+
+def printed_by(text: bytes, arguments: Sequence[Argument], model: Model) -> Optional[bytes]:
+    """Returns what a format prints, or None if the program can't be run."""
+    return Library().printed(text, arguments, model)

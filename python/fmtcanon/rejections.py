@@ -1,0 +1,82 @@
+"""Says what a rejection means, and what to write instead."""
+
+from __future__ import annotations
+
+from typing import Iterator, Mapping, Optional
+
+import fmtcanon
+from fmtcanon import Kind, Model, Refused
+
+# What each kind means in the whole language; docs/REFUSALS.md has more for each.
+HELP: Mapping[Kind, str] = {
+    Kind.NUL_BYTE: "A NUL ends a C string. Print it by `%c` with the argument 0.",
+    Kind.TRUNCATED: "The format ends inside a conversion specification. Complete it, or write `%%` for a percent sign.",
+    Kind.UNEXPECTED: "The byte can't continue the specification. Flags, width, precision, length modifier and "
+    "conversion come in this order. A percent sign is `%%`.",
+    Kind.BAD_PERCENT: "There is a `%` inside a specification. Write `%%` alone.",
+    Kind.STAR: "A width or a precision is an argument (`*`), which the profile leaves out.",
+    Kind.NUMBERED: "The argument is numbered.",
+    Kind.WIDTH_TOO_LARGE: "The width, or the number of an argument, is above 4,095.",
+    Kind.PRECISION_TOO_LARGE: "The precision is above 4,095.",
+    Kind.FLOAT: "The profile has no floating conversions.",
+    Kind.POINTER: "The profile has no `%p`.",
+    Kind.COUNT: "The profile has no `%n`.",
+    Kind.WIDE: "The profile has no wide characters and strings.",
+    Kind.ALT_UNDEFINED: "`#` has no meaning with this conversion.",
+    Kind.ZERO_UNDEFINED: "`0` has no meaning with this conversion.",
+    Kind.GROUP_UNDEFINED: "`'` has no meaning with this conversion.",
+    Kind.PRECISION_UNDEFINED: "A precision has no meaning with this conversion.",
+    Kind.LENGTH_UNDEFINED: "This conversion doesn't take this length modifier.",
+    Kind.TOO_LONG: "A format has at most 2^62 bytes.",
+    Kind.COUNT_UNDEFINED: "`n` with `-`, `+`, a space or a width is undefined.",
+    Kind.MIXED: "One format can't have numbered arguments and others. Number all or none.",
+    Kind.MISSING_ARGUMENT: "Every argument up to the highest number is used: otherwise its type can't be known.",
+    Kind.TWO_TYPES: "An argument has one type.",
+}
+# What is left out of a specification that has too much.
+NEEDLESS: Mapping[Kind, bytes] = {
+    Kind.ALT_UNDEFINED: b"#",
+    Kind.ZERO_UNDEFINED: b"0",
+    Kind.GROUP_UNDEFINED: b"'",
+    Kind.LENGTH_UNDEFINED: b"hlLjzt",
+    Kind.COUNT_UNDEFINED: b"-+ 0123456789",
+}
+
+
+def is_accepted(text: bytes, model: Model) -> bool:
+    """Returns whether a format is of the whole language."""
+    try:
+        fmtcanon.arguments(text, model=model)
+    except Refused:
+        return False
+    return True
+
+
+def begin_of(text: bytes, at: int) -> int:
+    """Returns the offset of the `%` with which the specification begins in which a byte is rejected."""
+    begin = text.rfind(b"%", 0, at)
+    # Of two percent signs in front, the second ends a `%%`.
+    signs = len(text[: begin + 1]) - len(text[: begin + 1].rstrip(b"%"))
+    return begin if signs % 2 else text.rfind(b"%", 0, begin)
+
+
+def candidates(kind: Kind, specification: bytes) -> Iterator[bytes]:
+    """Yields what may be written instead of a specification that is rejected."""
+    if kind is Kind.PRECISION_UNDEFINED:
+        yield specification[: specification.index(b".")] + specification[-1:]
+    elif kind in NEEDLESS:
+        front = specification[1:-1].translate(None, NEEDLESS[kind])
+        yield b"%" + front + specification[-1:]
+    elif kind is Kind.TRUNCATED and specification == b"%":
+        yield b"%%"
+    elif kind is Kind.BAD_PERCENT:
+        yield b"%%"
+
+
+def instead_of(text: bytes, refusal: Refused, model: Model) -> Optional[bytes]:
+    """Returns what to write instead of the specification that is rejected, if that is accepted and one is known."""
+    begin = begin_of(text, refusal.byte)
+    if begin < 0:
+        return None
+    specification = text[begin : refusal.byte + 1]
+    return next((it for it in candidates(refusal.kind, specification) if is_accepted(it, model)), None)

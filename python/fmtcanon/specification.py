@@ -1,0 +1,53 @@
+"""The parts of a conversion specification that the library accepts. Nothing is judged here."""
+
+from __future__ import annotations
+
+import re
+from typing import Iterator, NamedTuple, Tuple
+
+_PARTS = re.compile(
+    rb"%(?P<position>(?:\d+\$)?)(?P<flags>[-+ #0']*)(?P<width>\*(?:\d+\$)?|\d*)(?P<precision>(?:\.(?:\*(?:\d+\$)?|\d*))?)"
+    rb"(?P<modifier>[hlLjzt]*)(?P<conversion>.)",
+    re.DOTALL,
+)
+# The parts that can be left out.
+OPTIONAL = ("width", "precision", "modifier")
+
+
+class Specification(NamedTuple):
+    """The parts of a conversion specification, as they are spelled (C11 7.21.6.1 p4; POSIX `fprintf`).
+
+    `position` is `2$` of `%2$d`, and `precision` has its point.
+    """
+
+    position: str
+    flags: str
+    width: str
+    precision: str
+    modifier: str
+    conversion: str
+
+    def __str__(self) -> str:
+        return "%" + "".join(self)
+
+    def without_numbers(self) -> Specification:
+        """Returns the specification that takes its arguments in order."""
+        width, precision = (it[: it.index("*") + 1] if "*" in it else it for it in (self.width, self.precision))
+        return self._replace(position="", width=width, precision=precision)
+
+    def shorter(self) -> Iterator[Tuple[str, str, Specification]]:
+        """Yields each part that can be left out: its name, its spelling, and the specification without it."""
+        for flag in dict.fromkeys(self.flags):
+            yield "flag", flag, self._replace(flags=self.flags.replace(flag, ""))
+        for name in OPTIONAL:
+            spelling = getattr(self, name)
+            if spelling:
+                yield name, spelling, self._replace(**{name: ""})
+
+
+def specification_of(text: bytes) -> Specification:
+    """Returns the parts of a specification that is accepted."""
+    found = _PARTS.fullmatch(text)
+    if found is None:
+        raise ValueError(f"not a conversion specification: {text!r}")
+    return Specification(*(it.decode() for it in found.groups()))

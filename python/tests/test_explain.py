@@ -1,0 +1,227 @@
+"""Tests of fmtcanon-explain: what it says of formats, by hand from the standard, and the form of its output."""
+
+import io
+import json
+import os
+import re
+import subprocess
+import sys
+import unittest
+from contextlib import redirect_stderr, redirect_stdout
+from pathlib import Path
+
+import fmtcanon
+from fmtcanon import Kind, Model
+from fmtcanon.explain.command import main
+from fmtcanon.explaining import explain
+from fmtcanon.rejections import HELP
+from fmtcanon.specification import specification_of
+
+TOP = Path(__file__).resolve().parents[2]
+
+
+def run(*words):
+    """The status of the command, and the lines that it writes to standard output."""
+    out, errors = (io.TextIOWrapper(io.BytesIO(), encoding="utf-8") for _ in range(2))
+    with redirect_stdout(out), redirect_stderr(errors):
+        try:
+            status = main(words)
+        except SystemExit as end:
+            status = end.code
+    out.flush()
+    return status, out.buffer.getvalue().decode("utf-8", "surrogateescape").splitlines()
+
+
+def asked(*words):
+    """The status of the command, and the object that it writes."""
+    status, lines = run("--output", "json", *words)
+    return status, json.loads("".join(lines))
+
+
+# What the parts of directives do, by C11 7.21.6.1: a directive, what is said of it, and what has no effect.
+DIRECTIVES = [
+    ("%d", "decimal", []),
+    ("%5d", "decimal, on the right of 5 columns", []),
+    ("%-5d", "decimal, on the left of 5 columns", []),
+    ("%05d", "decimal, with zeros up to 5 columns", []),
+    ("%+.3i", "decimal, at least 3 digits, with a sign always", []),
+    ("%.0x", "hexadecimal with `a` to `f`, no digit for 0", []),
+    ("%#x", "hexadecimal with `a` to `f`, `0x` before a number other than 0", []),
+    ("%#o", "octal, a leading `0`", []),
+    ("%b", "binary", []),
+    ("%.3s", "the string, 3 bytes of it at most", []),
+    ("%-20s", "the string, on the left of 20 columns", []),
+    ("%c", "the character with this number", []),
+    ("%f", "digits with 6 places after the point", []),
+    ("%.1f", "digits with 1 place after the point", []),
+    ("%.3g", "up to 3 significant digits in the style of `f` or `e`", []),
+    ("%p", "the pointer, as the C library writes it", []),
+    ("%n", "nothing: the number of bytes printed so far is stored", []),
+    ("%ls", "the wide string", []),
+    ("%*d", "decimal, on the right of as many columns as argument 1 says, on the left if it is negative", []),
+    ("%.*f", "digits with as many places as argument 1 says after the point", []),
+    ("%-05d", "decimal, on the left of 5 columns", ["`0` has no effect next to `-`"]),
+    ("%05.3d", "decimal, at least 3 digits, on the right of 5 columns", ["`0` has no effect with a precision"]),
+    ("%+u", "decimal", ["`+` has no effect on `u`"]),
+    ("%'d", "decimal", ["`'` has no effect in the POSIX locale"]),
+    ("% +d", "decimal, with a sign always", ["` ` has no effect next to `+`"]),
+    ("%lf", "digits with 6 places after the point", ["`l` has no effect on `f`"]),
+    ("%.6e", "one digit, the point, 6 places, and an exponent after `e`", ["`.6` is the default"]),
+    ("%1d", "decimal", ["`1` has no effect: what is printed is never shorter"]),
+    ("%--5d", "decimal, on the left of 5 columns", ["`-` is there more than once"]),
+]
+
+
+class Directives(unittest.TestCase):
+    def test_meanings(self):
+        for text, meaning, notes in DIRECTIVES:
+            [part] = explain(text.encode(), Model.LP64).parts
+            self.assertEqual((part.meaning, list(part.notes)), (meaning, notes), text)
+
+    def test_places_and_types(self):
+        status, found = asked("%-08.6lf of %5zu%%")
+        self.assertEqual((status, found["accepted"], found["format"]), (0, True, "%-08.6lf of %5zu%%"))
+        first, second = found["directives"]
+        self.assertEqual((first["start"], first["end"], first["text"], first["argument"]), (0, 8, "%-08.6lf", 1))
+        self.assertEqual(first["types"], {"lp64": "double", "ilp32": "double", "llp64": "double"})
+        self.assertEqual(len(first["notes"]), 3)
+        self.assertEqual((second["start"], second["end"], second["text"], second["argument"]), (12, 16, "%5zu", 2))
+        wanted = {"lp64": "unsigned long", "ilp32": "unsigned int", "llp64": "unsigned long long"}
+        self.assertEqual(second["types"], wanted)
+        canonical = {"lp64": "%-8f of %5lu%%", "ilp32": "%-8f of %5u%%", "llp64": "%-8f of %5llu%%"}
+        self.assertEqual((found["canonical"], found["bounds"]), (canonical, None))
+
+    def test_numbered_arguments(self):
+        status, found = asked("%2$*1$d")
+        [part] = found["directives"]
+        self.assertEqual((status, part["argument"], part["meaning"].split(", ")[1]), (0, 2, part_of_width()))
+        self.assertIsNone(found["canonical"])
+
+    def test_numbers_of_bytes(self):
+        for text, least, greatest in [("%d", 1, 11), ("%.3s %c%%", 3, 6), ("id=%s", 3, None), ("", 0, 0)]:
+            self.assertEqual(asked(text)[1]["bounds"], {"least": least, "greatest": greatest}, text)
+        self.assertEqual(asked("--model", "ilp32", "%ld")[1]["bounds"], {"least": 1, "greatest": 11})
+
+    def test_each_part_is_read(self):
+        rows = [("%2$-+ #0'*1$.*3$lld", ("2$", "-+ #0'", "*1$", ".*3$", "ll", "d")), ("%.s", ("", "", "", ".", "", "s"))]
+        for text, parts in rows:
+            self.assertEqual(tuple(specification_of(text.encode())), parts)
+
+
+def part_of_width():
+    return "on the right of as many columns as argument 1 says"
+
+
+class Lines(unittest.TestCase):
+    def test_carets(self):
+        """Carets are under the bytes of a directive, as they are shown."""
+        for text, shown in [("a%5dbc%%", "a%5dbc%%"), ("\t%d", "\\t%d"), ("ä%d", "ä%d"), ('"%d"', '\\"%d\\"')]:
+            status, lines = run("--", text)
+            column = shown.index("%")
+            self.assertEqual((status, lines[0]), (0, shown))
+            mark = lines[1][: len(shown)]
+            end = shown.index("d") + 1
+            self.assertEqual(mark.rstrip(), " " * column + "^" * (end - column), text)
+
+    def test_wide_characters(self):
+        """A character that takes two columns of a terminal moves the carets by two."""
+        _, lines = run("\u65e5%d")
+        self.assertEqual(lines[1][:4], "  ^^")
+
+    def test_long_formats(self):
+        """The words about a long format are below the carets."""
+        _, lines = run("x" * 50 + "%d")
+        self.assertEqual(lines[1:3], [" " * 50 + "^^", "    argument 1, int: decimal"])
+
+    def test_what_follows(self):
+        self.assertEqual(run("%i")[1][-2:], ["canonical text: %d", "it prints 1 to 11 bytes"])
+        self.assertEqual(run("%s")[1][-1], "it prints at least 0 bytes")
+
+    def test_colour(self):
+        for words, has in [(["--color", "always"], True), (["--color", "never"], False), ([], False)]:
+            self.assertEqual("\x1b[" in "".join(run(*words, "%d")[1]), has, words)
+
+    def test_literals(self):
+        self.assertEqual(run("--literal", r'"\x25i\n"')[1][0], r"%i\n")
+        self.assertEqual(run("--literal", "%d")[0], 2)
+
+
+class Rejections(unittest.TestCase):
+    def test_a_caret(self):
+        status, lines = run("%d and %#d")
+        said = "         ^ `#` has no meaning with this conversion. Write %d."
+        self.assertEqual((status, lines), (2, ["refused 13 AltUndefined at byte 9", "%d and %#d", said]))
+
+    def test_what_to_write(self):
+        """What is to be written is accepted; rows by hand."""
+        rows = [("%#d", "%d"), ("%05s", "%5s"), ("%'x", "%x"), ("%.3c", "%c"), ("%hs", "%s"), ("100%", "%%")]
+        rows += [("%5%", "%%"), ("%%%#d", "%d"), ("%d%-n", "%n"), ("%#lc", "%lc")]
+        for text, instead in rows:
+            status, found = asked("--", text)
+            self.assertEqual((status, found["accepted"], found["refusal"].get("write")), (2, False, instead), text)
+        self.assertNotIn("write", asked("%y")[1]["refusal"])
+
+    def test_each_kind(self):
+        names = {kind: fmtcanon._name(kind) for kind in Kind}
+        for kind, name in names.items():
+            for word in [str(int(kind)), name, name.lower()]:
+                self.assertEqual(run("--kind", word), (0, [f"{int(kind)} {name}: {HELP[kind]}"]))
+        for word in ["0", "23", "x", ""]:
+            self.assertEqual(run("--kind", word)[0], 2, word)
+
+    def test_refused_kinds(self):
+        """Formats that are rejected for each reason, by the tables of docs/REFUSALS.md for the whole language."""
+        text = (TOP / "docs/REFUSALS.md").read_text(encoding="utf-8").split("## In the whole language")[1]
+        rows = re.findall(r"^\| `(%[^`]+)` \| (\d+) at (\d+) \|", text, re.MULTILINE)
+        self.assertGreater(len(rows), 6)
+        for format, kind, at in rows:
+            status, found = asked("--", format)
+            refusal = found["refusal"]
+            self.assertEqual((status, refusal["kind"], refusal["at"]), (2, int(kind), int(at)), format)
+            self.assertEqual(refusal["help"], HELP[Kind(int(kind))])
+
+    def test_second_of_two(self):
+        status, lines = run("%d", "%y")
+        self.assertEqual((status, lines[0]), (2, "second: refused 3 Unexpected at byte 1"))
+
+
+class Pairs(unittest.TestCase):
+    def test_different(self):
+        status, lines = run("%d: %05d", "%d: %.5d")
+        self.assertEqual((status, lines[0]), (1, "different: for 0 and -1 they print"))
+        self.assertEqual([it.split("    ")[0] for it in lines[1:3]], ["  0: -0001", "  0: -00001"])
+        self.assertEqual(lines[3], "         ^")
+        _, found = asked("%d: %05d", "%d: %.5d")
+        self.assertEqual((found["verdict"], found["arguments"]), ("different", [0, -1]))
+        self.assertEqual(found["printed"], ["0: -0001", "0: -00001"])
+        self.assertEqual([it["text"] for it in found["directives"]], ["%05d", "%.5d"])
+
+    def test_same(self):
+        self.assertEqual(run("%5c", "    %c"), (0, ["same", "  %5c", "      %c", "canonical text:     %c"]))
+        self.assertEqual(asked("%.6f", "%f")[1]["verdict"], "same")
+
+    def test_types(self):
+        status, lines = run("%zu", "%lu", "--model", "ilp32")
+        self.assertEqual((status, lines[0]), (1, "types differ at argument 1, counted from 1"))
+        _, found = asked("%s: %d", "%2$s: %1$d")
+        self.assertEqual((found["verdict"], found["argument"]), ("types", 1))
+        self.assertEqual([it["text"] for it in found["directives"]], ["%s", "%1$d"])
+        self.assertIsNone(asked("%d", "%d%d")[1]["directives"][0])
+
+    def test_directives(self):
+        status, found = asked("%d%f", "%d%e")
+        self.assertEqual((status, found["verdict"], found["argument"]), (1, "directives", 2))
+
+    def test_numbered(self):
+        self.assertEqual(run("%s: %d", "%1$s/%2$d")[0], 0)
+
+
+class Words(unittest.TestCase):
+    def test_usage(self):
+        for words in [[], ["%d", "%d", "%d"], ["--kind", "5", "%d"], ["--model", "x", "%d"]]:
+            self.assertEqual(run(*words)[0], 2, words)
+
+    def test_help_fits(self):
+        command = [sys.executable, "-B", "-m", "fmtcanon.explain", "--help"]
+        done = subprocess.run(command, capture_output=True, text=True, check=True, env={**os.environ, "COLUMNS": "80"})
+        self.assertLessEqual(max(map(len, done.stdout.splitlines())), 79)
