@@ -172,15 +172,11 @@ def try_wheel(trials):
             (output[0], output[1].splitlines()[0]),
             (0, 'other.c:2:32: same: "%zu" and "%lu"'),
         )
-        output = shell(
-            [folder / "fmtcanon-replace", "--model", "lp64", "%zu", "%lu", "size.c"], env=environment, cwd=work
-        )
-        # pip has no libclang of this name, and the environment sees none of the system's modules.
-        trials.expect(
-            "fmtcanon-replace of the wheel",
-            output,
-            (2, "fmtcanon-replace: libclang is missing: the package python3-clang has it\n"),
-        )
+        # The environment sees none of the system's modules, so there is no libclang.
+        for command, words in [("replace", ["--model", "lp64", "%zu", "%lu", "size.c"]), ("check", ["size.c"])]:
+            status, output = shell([folder / f"fmtcanon-{command}", *words], env=environment, cwd=work)
+            said = output.startswith(f"fmtcanon-{command}: libclang is missing: ")
+            trials.expect(f"fmtcanon-{command} of the wheel: {output}", (status, said), (2, True))
         for command in [[folder / "fmtcanon"], [folder / "python", "-m", "fmtcanon"]]:
             trials.expect(
                 f"{command} of the wheel", shell([*command, "canon", "%i"], env=environment, cwd=work), (0, "%d\n")
