@@ -1,5 +1,6 @@
 //! The canonical text of a format of the whole language.
-ghost use Rattle.std.specs.Prelude.{◌≡◌, ◌≢◌, [], ◌++◌, IfErr, IfOk, List, MatchResult};
+ghost use Rattle.std.specs.Prelude.{◌≡◌, ◌≢◌, ◌≤◌, ◌+◌, [], ◌++◌, IfErr, IfOk, List, MatchResult, length};
+ghost use Rattle.std.specs.Vec.{vec_capacity};
 ghost use Rattle.pf_values.specs.meaning.Items.{HasItems, Item};
 ghost use Rattle.pf_values.specs.meaning.Text.{Text};
 ghost use Rattle.pf_canon.specs.Answers.{IsCanonicalFor};
@@ -26,12 +27,31 @@ pub fn canonical(alloc: Global, model: Model, text: &[u8]) -> Result<Vec<u8>, Te
     ensures { MatchResult result (λ c. IsWholeCanonicalFor model text.now c.items)
         (FaultForWholeCanonical model text.now) }
 {
-    canonical_with_room(alloc, model, text, 0)
+    build(alloc, model, text, 0)
 }
 
 /// Returns the canonical text, with room for `more` bytes after one that isn't empty, so that what a
 /// caller appends needs no allocation of its own.
 pub fn canonical_with_room(
+    alloc: Global,
+    model: Model,
+    text: &[u8],
+    more: usize,
+) -> Result<Vec<u8>, TextFault>
+    ensures answer { MatchResult result (λ c. IsWholeCanonicalFor model text.now c.items)
+        (FaultForWholeCanonical model text.now) }
+    ensures room { IfOk result (λ c. c.items ≢ [] → length c.items + more ≤ vec_capacity c) }
+{
+    let mut canonical = build(alloc, model, text, more)?;
+    // The room is there already.
+    if !canonical.is_empty() && canonical.reserve(more).is_err() {
+        return Err(TextFault::Memory);
+    }
+    Ok(canonical)
+}
+
+// Builds the canonical text, and allocates room for `more` bytes after it.
+fn build(
     alloc: Global,
     model: Model,
     text: &[u8],

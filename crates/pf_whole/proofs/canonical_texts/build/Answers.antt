@@ -1,5 +1,5 @@
 use Rattle.pf_whole.proofs.ProfileAnswers.{canonical_whole}
-use Rattle.pf_whole.proofs.canonical_texts.canonical_with_room.Goals as goal
+use Rattle.pf_whole.proofs.canonical_texts.build.Goals as goal
 
 pub returns-in-Ok : goal.returns-in-Ok
 returns-in-Ok c = canonical_whole c.args.model c.args.text.now c.in-Ok.canonical.items c.in-Ok.ensures
