@@ -1,7 +1,9 @@
 -- What holds of the bytes of a format that is given.
-use Rattle.std.proofs.Common.{◌≡◌, ℕ, ◌≤◌, List, ◌∷◌, ◌++◌, Option, None, Some, ap, arith, length, length-append, map, subst, sym, unwrap_or}
+use Rattle.std.proofs.Common.{◌≡◌, ℕ, ◌≤◌, List, ◌∷◌, ◌++◌, Option, None, Some, ap, arith, inl, inr, length, length-append, map, subst, sym, unwrap_or}
 use Rattle.std.specs.Prelude.{MatchOption, ⊤}
 use Rattle.pf_text.specs.declared.refusals.Side.TheVariants as sides
+use Rattle.pf_literals.specs.declared.faults.LiteralFault.{LiteralFault}
+use Rattle.pf_literals.specs.declared.faults.LiteralFault.TheVariants as literals
 use Rattle.pf_literals.specs.Answers.{HasNoOffset, IsOffsetOf}
 use Rattle.pf_literals.specs.Sources.{IsSourceOf}
 use Rattle.pf_literals.proofs.HasOffsetLemmas.{has_offset}
@@ -17,8 +19,10 @@ use Rattle.fmtcanon.specs.Languages.{Language, Profile, Numbered, RefusesText, U
 use Rattle.fmtcanon.specs.Answers.{IsFormatFault, IsPairFault, IsGivenFault, IsGivenPairFault, IsOneFault, IsRefusalOfFirst, IsFaultInTexts, IsFaultInText}
 use Rattle.fmtcanon.specs.Answers.{side_of}
 use Rattle.fmtcanon.specs.FormatArguments.{IsArgumentFault}
-use Rattle.fmtcanon.specs.Formats.{HoldsFormat, IsFormat, IsOffsetInText}
-use Rattle.fmtcanon.specs.Questions.{language_of_format}
+use Rattle.fmtcanon.specs.Faults.{of_literal}
+use Rattle.fmtcanon.specs.Formats.{HoldsFormat, IsBytesFault, IsFormat, IsOffsetInText}
+use Rattle.fmtcanon.specs.Questions.{language_of, language_of_format}
+use Rattle.fmtcanon.specs.declared.questions.PairQuestion.{PairQuestion}
 use Rattle.fmtcanon.specs.declared.outcome.Fault.{Fault}
 use Rattle.fmtcanon.specs.declared.outcome.Fault.TheVariants.{Refused, BadLiteral, BadWord, WrongCount, WrongType, Memory}
 use Rattle.fmtcanon.specs.declared.formats.GivenFormat.{GivenFormat}
@@ -90,7 +94,13 @@ given_fault IsFault given bytes (BadLiteral side refusal) reported of gives h is
 given_fault IsFault given bytes (BadWord index) reported of gives h is = subst (IsGivenFault IsFault given) (sym is) (bytes, gives, h)
 given_fault IsFault given bytes (WrongCount wanted had) reported of gives h is = subst (IsGivenFault IsFault given) (sym is) (bytes, gives, h)
 given_fault IsFault given bytes (WrongType index) reported of gives h is = subst (IsGivenFault IsFault given) (sym is) (bytes, gives, h)
-given_fault IsFault given bytes Memory reported of gives h is = subst (IsGivenFault IsFault given) (sym is) tt
+given_fault IsFault given bytes Memory reported of gives h is = subst (IsGivenFault IsFault given) (sym is) (inr (bytes, gives, h))
+
+-- literals give no bytes
+pub bytes_missing : (IsFault : Text → Fault → Type 0) (given : GivenFormat) (fault : LiteralFault) → IsBytesFault given fault
+    → IsGivenFault IsFault given (of_literal None fault)
+bytes_missing IsFault given (literals.Refused refusal) h = h
+bytes_missing IsFault given literals.Memory h = inl h
 
 -- in each language a refusal is within the bytes
 refusal_within : (language : Language) (model : Model) (bytes : Text) (refusal : Refusal)
@@ -125,18 +135,19 @@ pub one_of_bytes : (question : OneQuestion) (model : Model) (bytes : Text) (faul
 one_of_bytes (Any question) model bytes fault h = format_of_bytes (language_of_format question) model bytes fault h
 one_of_bytes (Printed words) model bytes fault h = arguments_of_bytes model (map (λ s. s.now) words.items) bytes fault h
 
-module _ (language : Language) (model : Model) (first second : GivenFormat) (first_bytes : Text) (g : IsFormat first first_bytes) where
+module _ (Needs : PairQuestion → Model → Text → Text → Type 0) (question : PairQuestion) (model : Model) (first second : GivenFormat)
+    (first_bytes : Text) (g : IsFormat first first_bytes) where
   -- the refusal of the first of two formats, at the offset in the text
-  pub first_refused : (fault reported : Fault) → IsRefusalOfFirst language model first_bytes fault → IsFaultInText first fault reported
-      → IsGivenPairFault language model first second reported
+  pub first_refused : (fault reported : Fault) → IsRefusalOfFirst (language_of question) model first_bytes fault → IsFaultInText first fault reported
+      → IsGivenPairFault Needs question model first second reported
   first_refused (Refused None refusal) reported h is = absurd h
   first_refused (Refused (Some sides.First) refusal) reported h (at, is, of_offset) =
-      subst (IsGivenPairFault language model first second) (sym is) (record {
+      subst (IsGivenPairFault Needs question model first second) (sym is) (record {
         bytes = first_bytes;
         gives = g;
         at = refusal.at;
         holds = h;
-        offset_is = of_offset first_bytes g (refusal_within language model first_bytes refusal h);
+        offset_is = of_offset first_bytes g (refusal_within (language_of question) model first_bytes refusal h);
       })
   first_refused (Refused (Some sides.Second) refusal) reported h is = absurd h
   first_refused (BadLiteral side refusal) reported h is = absurd h
@@ -146,24 +157,25 @@ module _ (language : Language) (model : Model) (first second : GivenFormat) (fir
   first_refused Memory reported h is = absurd h
 
   -- why two formats have no answer
-  pub pair_fault : (second_bytes : Text) → IsFormat second second_bytes → (fault reported : Fault) → IsPairFault language model first_bytes second_bytes fault
-      → IsFaultInTexts first second (side_of fault) fault reported → IsGivenPairFault language model first second reported
+  pub pair_fault : (second_bytes : Text) → IsFormat second second_bytes → (fault reported : Fault) → IsPairFault Needs question model first_bytes second_bytes fault
+      → IsFaultInTexts first second (side_of fault) fault reported → IsGivenPairFault Needs question model first second reported
   pair_fault second_bytes h (Refused None refusal) reported hinders is = absurd hinders
   pair_fault second_bytes h (Refused (Some sides.First) refusal) reported hinders is =
       first_refused (Refused (Some sides.First) refusal) reported hinders is
   pair_fault second_bytes h (Refused (Some sides.Second) refusal) reported hinders (at, is, of_offset) =
-      subst (IsGivenPairFault language model first second) (sym is) (
+      subst (IsGivenPairFault Needs question model first second) (sym is) (
         (first_bytes, g, hinders.0),
         record {
           bytes = second_bytes;
           gives = h;
           at = refusal.at;
           holds = hinders.1;
-          offset_is = of_offset second_bytes h (refusal_within language model second_bytes refusal hinders.1);
+          offset_is = of_offset second_bytes h (refusal_within (language_of question) model second_bytes refusal hinders.1);
         },
       )
   pair_fault second_bytes h (BadLiteral side refusal) reported hinders is = absurd hinders
   pair_fault second_bytes h (BadWord index) reported hinders is = absurd hinders
   pair_fault second_bytes h (WrongCount wanted given) reported hinders is = absurd hinders
   pair_fault second_bytes h (WrongType index) reported hinders is = absurd hinders
-  pair_fault second_bytes h Memory reported hinders is = subst (IsGivenPairFault language model first second) (sym is) tt
+  pair_fault second_bytes h Memory reported hinders is =
+      subst (IsGivenPairFault Needs question model first second) (sym is) (inr (inr (first_bytes, g, second_bytes, h, hinders)))

@@ -1,5 +1,5 @@
 -- Questions about two formats, in one data model after the other.
-use Rattle.std.proofs.Common.{◌≡◌, ℕ, suc, ◌+◌, ◌<◌, List, [], ◌∷◌, ◌++◌, length, get_or, take, drop, refl, sym, ap, ◌∙◌, subst, arith, Result, Ok, Err}
+use Rattle.std.proofs.Common.{◌≡◌, ℕ, suc, ◌+◌, ◌<◌, List, [], ◌∷◌, ◌++◌, length, get_or, take, drop, inl, inr, refl, sym, ap, ◌∙◌, subst, arith, Result, Ok, Err}
 use Rattle.std.specs.List.{AllByRecursion}
 use Rattle.std.specs.Prelude.{MatchOption, MatchResult, Option, None, Some}
 use Rattle.std.proofs.Math.Seq.{take-suc}
@@ -11,10 +11,10 @@ use Rattle.pf_values.specs.declared.models.Model.{Model}
 use Rattle.pf_values.specs.declared.models.Model.TheVariants.{Ilp32, Llp64}
 use Rattle.pf_values.specs.meaning.Text.{Text}
 use Rattle.pf_posix.proofs.Agreeing.{all_map, all_push}
-use Rattle.fmtcanon.specs.Answers.{IsFirstFault, IsGivenPairFault, IsGivenPairFaultIn, IsFaultInTexts, IsPairFault, IsPairFaultIn, side_of}
+use Rattle.fmtcanon.specs.Answers.{AcceptsBoth, IsFirstFault, IsGivenPairFault, IsGivenPairFaultIn, IsFaultInTexts, IsPairFault, IsPairFaultIn, NeedsMemory, lacks_in, side_of}
 use Rattle.fmtcanon.specs.Faults.{of_literal}
 use Rattle.fmtcanon.specs.Formats.{HoldsOf, IsBytesFault, IsFormat}
-use Rattle.fmtcanon.specs.Languages.{AcceptsText, Language}
+use Rattle.fmtcanon.specs.Languages.{AcceptsText}
 use Rattle.fmtcanon.specs.Models.{asked_models, first_model}
 use Rattle.fmtcanon.specs.PairAnswers.{IsPairAnswer}
 use Rattle.fmtcanon.specs.Questions.{language_of}
@@ -23,6 +23,7 @@ use Rattle.fmtcanon.specs.declared.formats.GivenFormat.{GivenFormat}
 use Rattle.fmtcanon.specs.declared.models.Models.{Models}
 use Rattle.fmtcanon.specs.declared.models.Models.TheVariants.{All, Both, One}
 use Rattle.fmtcanon.specs.declared.outcome.Fault.{Fault}
+use Rattle.fmtcanon.specs.declared.outcome.Fault.TheVariants.{Refused, BadLiteral, BadWord, WrongCount, WrongType, Memory}
 use Rattle.fmtcanon.specs.declared.questions.PairQuestion.{PairQuestion}
 use Rattle.fmtcanon.specs.declared.questions.PairQuestion.TheVariants.{Fits, FitsFewer, Same, WholeSame}
 use Rattle.fmtcanon.proofs.GivenLemmas.{pair_fault}
@@ -51,8 +52,7 @@ module _ (models : List Model) (i : ℕ) (d : Model) (few : i < length models) w
 
 -- what is answered about is accepted
 pub accepts_both : (question : PairQuestion) (model : Model) (first second out : Text) (ending : Ending)
-    → IsPairAnswer question model first second out ending
-    → AcceptsText (language_of question) model first × AcceptsText (language_of question) model second
+    → IsPairAnswer question model first second out ending → AcceptsBoth question model first second
 accepts_both Fits model first second out ending h =
     ((h.compares.types, h.compares.first_accepted), (h.compares.others, h.compares.second_accepted))
 accepts_both FitsFewer model first second out ending h =
@@ -60,29 +60,47 @@ accepts_both FitsFewer model first second out ending h =
 accepts_both Same model first second out ending h = ((h.is.first, h.is.accepted_first), (h.is.second, h.is.accepted_second))
 accepts_both WholeSame model first second out ending h = (h.is.is.first, h.is.is.second)
 
+-- and so is that for which memory is needed
+needed_accepts : (question : PairQuestion) (model : Model) (first second : Text) → NeedsMemory question model first second
+    → AcceptsBoth question model first second
+needed_accepts Fits model first second h = absurd h
+needed_accepts FitsFewer model first second h = absurd h
+needed_accepts Same model first second h = ((h.0.first.items, h.0.first.accepted), (h.0.second.items, h.0.second.accepted))
+needed_accepts WholeSame model first second h = (h.0, h.1)
+
+pub several_fault : (question : PairQuestion) (model : Model) (first second : Text) (fault : Fault)
+    → IsPairFault NeedsMemory question model first second fault → IsPairFault AcceptsBoth question model first second fault
+several_fault question model first second (Refused None refusal) h = absurd h
+several_fault question model first second (Refused (Some side) refusal) h = h
+several_fault question model first second (BadLiteral side refusal) h = absurd h
+several_fault question model first second (BadWord index) h = absurd h
+several_fault question model first second (WrongCount wanted given) h = absurd h
+several_fault question model first second (WrongType index) h = absurd h
+several_fault question model first second Memory h = needed_accepts question model first second h
+
 -- one data model
-pub one_model : {X : Type 0} (Says : X → Type 0) (language : Language) (model : Model) (first second : Text) (result : Result X Fault)
-    → MatchResult result Says (IsPairFault language model first second)
-    → MatchResult result Says (IsPairFaultIn language (model ∷ []) first second)
-one_model Says language model first second (Ok answer) h = h
-one_model Says language model first second (Err fault) h =
+pub one_model : {X : Type 0} (Says : X → Type 0) (question : PairQuestion) (model : Model) (first second : Text) (result : Result X Fault)
+    → MatchResult result Says (IsPairFault NeedsMemory question model first second)
+    → MatchResult result Says (IsPairFaultIn question (One model) first second)
+one_model Says question model first second (Ok answer) h = h
+one_model Says question model first second (Err fault) h =
     record { before = []; model = model; after = []; split = refl; accepted = tt; fault_is = h }
 
-module _ (language : Language) (first second : GivenFormat) where
-  -- a fault of texts is first_bytes of the formats that give them
+module _ (question : PairQuestion) (first second : GivenFormat) where
+  -- a fault of texts is one of the formats that give them
   pub pair_faults : (first_bytes second_bytes : Text) → IsFormat first first_bytes → IsFormat second second_bytes
-      → (models : List Model) (fault reported : Fault)
-      → IsPairFaultIn language models first_bytes second_bytes fault → IsFaultInTexts first second (side_of fault) fault reported
-      → IsGivenPairFaultIn language models first second reported
+      → (models : Models) (fault reported : Fault)
+      → IsPairFaultIn question models first_bytes second_bytes fault → IsFaultInTexts first second (side_of fault) fault reported
+      → IsGivenPairFaultIn question models first second reported
   pair_faults first_bytes second_bytes g h models fault reported k is =
       record {
         before = k.before;
         model = k.model;
         after = k.after;
         split = k.split;
-        accepted = all_map _ (λ model. HoldsOf first (AcceptsText language model) × HoldsOf second (AcceptsText language model))
+        accepted = all_map _ (λ model. HoldsOf first (AcceptsText (language_of question) model) × HoldsOf second (AcceptsText (language_of question) model))
             k.before (λ model a. ((first_bytes, g, a.0), (second_bytes, h, a.1))) k.accepted;
-        fault_is = pair_fault language k.model first second first_bytes g second_bytes h fault reported k.fault_is is;
+        fault_is = pair_fault (lacks_in models) question k.model first second first_bytes g second_bytes h fault reported k.fault_is is;
       }
 
   rest_of : (models : Models) → (rest : List Model) × (asked_models models ≡ first_model models ∷ rest)
@@ -91,38 +109,39 @@ module _ (language : Language) (first second : GivenFormat) where
   rest_of All = (Ilp32 ∷ Llp64 ∷ [], refl)
 
   -- a fault in the first data model
-  first_fault : (models : Models) (fault : Fault) → IsGivenPairFault language (first_model models) first second fault
-      → IsGivenPairFaultIn language (asked_models models) first second fault
+  first_fault : (models : Models) (fault : Fault) → IsGivenPairFault (lacks_in models) question (first_model models) first second fault
+      → IsGivenPairFaultIn question models first second fault
   first_fault models fault h =
       let rest = rest_of models in
       record { before = []; model = first_model models; after = rest.0; split = rest.1; accepted = tt; fault_is = h }
 
   -- a format that no literals give
-  literal_first : (model : Model) (fault : LiteralFault) → IsBytesFault first fault
-      → IsGivenPairFault language model first second (of_literal (Some sides.First) fault)
-  literal_first model (literals.Refused refusal) h = h
-  literal_first model literals.Memory h = tt
+  literal_first : (models : Models) (model : Model) (fault : LiteralFault) → IsBytesFault first fault
+      → IsGivenPairFault (lacks_in models) question model first second (of_literal (Some sides.First) fault)
+  literal_first models model (literals.Refused refusal) h = h
+  literal_first models model literals.Memory h = inl h
 
-  literal_second : (model : Model) (fault : LiteralFault) → HoldsOf first (AcceptsText language model) → IsBytesFault second fault
-      → IsGivenPairFault language model first second (of_literal (Some sides.Second) fault)
-  literal_second model (literals.Refused refusal) a h = (a, h)
-  literal_second model literals.Memory a h = tt
+  literal_second : (models : Models) (model : Model) (fault : LiteralFault) → HoldsOf first (AcceptsText (language_of question) model)
+      → IsBytesFault second fault → IsGivenPairFault (lacks_in models) question model first second (of_literal (Some sides.Second) fault)
+  literal_second models model (literals.Refused refusal) a h = (a, h)
+  literal_second models model literals.Memory a h = inr (inl h)
 
   pub first_missing : (models : Models) (fault : LiteralFault) (result : Fault) → IsBytesFault first fault
-      → result ≡ of_literal (Some sides.First) fault → IsGivenPairFaultIn language (asked_models models) first second result
+      → result ≡ of_literal (Some sides.First) fault → IsGivenPairFaultIn question models first second result
   first_missing models fault result h e =
-      subst (IsGivenPairFaultIn language (asked_models models) first second) (sym e)
-      (first_fault models (of_literal (Some sides.First) fault) (literal_first (first_model models) fault h))
+      subst (IsGivenPairFaultIn question models first second) (sym e)
+      (first_fault models (of_literal (Some sides.First) fault) (literal_first models (first_model models) fault h))
 
   pub second_missing : (models : Models) (model : Model) (first_bytes : Text) (refused : Option Fault) (fault : LiteralFault) (result : Fault)
       → model ≡ first_model models → IsFormat first first_bytes
-      → MatchOption refused (AcceptsText language model first_bytes) (λ f. (second : GivenFormat) → IsGivenPairFault language model first second f)
+      → MatchOption refused (AcceptsText (language_of question) model first_bytes)
+      (λ f. (models : Models) (second : GivenFormat) → IsGivenPairFault (lacks_in models) question model first second f)
       → IsBytesFault second fault → MatchOption refused (result ≡ of_literal (Some sides.Second) fault) (λ f. result ≡ f)
-      → IsGivenPairFaultIn language (asked_models models) first second result
+      → IsGivenPairFaultIn question models first second result
   second_missing models model first_bytes None fault result m g accepted h e =
-      let holds = subst (λ x. AcceptsText language x first_bytes) m accepted in
-      subst (IsGivenPairFaultIn language (asked_models models) first second) (sym e)
-      (first_fault models (of_literal (Some sides.Second) fault) (literal_second (first_model models) fault (first_bytes, g, holds) h))
+      let holds = subst (λ x. AcceptsText (language_of question) x first_bytes) m accepted in
+      subst (IsGivenPairFaultIn question models first second) (sym e)
+      (first_fault models (of_literal (Some sides.Second) fault) (literal_second models (first_model models) fault (first_bytes, g, holds) h))
   second_missing models model first_bytes (Some f) fault result m g refused h e =
-      subst (IsGivenPairFaultIn language (asked_models models) first second) (sym e)
-      (first_fault models f (subst (λ x. IsGivenPairFault language x first second f) m (refused second)))
+      subst (IsGivenPairFaultIn question models first second) (sym e)
+      (first_fault models f (subst (λ x. IsGivenPairFault (lacks_in models) question x first second f) m (refused models second)))

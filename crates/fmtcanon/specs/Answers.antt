@@ -1,9 +1,14 @@
 -- What a question is answered with, and why it is not. This project's own.
-use Rattle.std.specs.Prelude.{◌≡◌, ℕ, ◌≤◌, List, ◌∷◌, ◌++◌, length, Option, None, Some, map, ⊤}
+use Rattle.std.specs.Prelude.{◌≡◌, ℕ, ◌≤◌, List, ◌∷◌, ◌++◌, ◌⊎◌, length, Option, None, Some, map}
 use Rattle.std.specs.List.{AllByRecursion}
 use Rattle.pf_values.specs.declared.models.Model.{Model}
 use Rattle.pf_values.specs.meaning.Text.{Text}
+use Rattle.pf_values.specs.meaning.Printing.{AreEquivalent}
 use Rattle.pf_canon.specs.Answers.{IsCanonicalFor}
+use Rattle.pf_compare.specs.Answers.{HaveSameTypes}
+use Rattle.pf_posix.specs.Stretches.{IsWholeAccepted}
+use Rattle.pf_whole.specs.Answers.{HaveOneShape}
+use Rattle.pf_whole.specs.meaning.Traces.{AreWholeAlike}
 use Rattle.pf_text.specs.Refusals.{RefusesOne}
 use Rattle.pf_text.specs.declared.refusals.Side.{Side}
 use Rattle.pf_text.specs.declared.refusals.Side.TheVariants as sides
@@ -17,12 +22,16 @@ use Rattle.fmtcanon.specs.declared.questions.FormatQuestion.{FormatQuestion}
 use Rattle.fmtcanon.specs.declared.questions.FormatQuestion.TheVariants.{Types, WholeTypes, Canonical, WholeCanonical, Parts, Bounds}
 use Rattle.fmtcanon.specs.declared.questions.OneQuestion.{OneQuestion}
 use Rattle.fmtcanon.specs.declared.questions.OneQuestion.TheVariants.{Any, Printed}
+use Rattle.fmtcanon.specs.declared.models.Models.{Models}
+use Rattle.fmtcanon.specs.declared.models.Models.TheVariants as models
+use Rattle.fmtcanon.specs.declared.questions.PairQuestion.{PairQuestion}
+use Rattle.fmtcanon.specs.declared.questions.PairQuestion.TheVariants.{Fits, FitsFewer, Same, WholeSame}
 use Rattle.fmtcanon.specs.declared.questions.Question.{Question}
 use Rattle.fmtcanon.specs.declared.questions.Question.TheVariants.{One, Two}
 use Rattle.fmtcanon.specs.ArgumentLines.{HasArgumentLines}
 use Rattle.fmtcanon.specs.ByteCounts.{HasBoundsLine}
 use Rattle.fmtcanon.specs.FormatArguments.{IsArgumentFault, IsPrinted}
-use Rattle.fmtcanon.specs.Formats.{HoldsAt, HoldsOf, IsFormat, IsNoFormat, IsOffsetInText, written_in}
+use Rattle.fmtcanon.specs.Formats.{HoldsAt, HoldsOf, IsFormat, IsNoFormat, IsOffsetInText, MakesBytes, written_in}
 use Rattle.fmtcanon.specs.Languages.{Language, AcceptsText, RefusesText}
 use Rattle.fmtcanon.specs.Lines.{line}
 use Rattle.fmtcanon.specs.Models.{asked_models}
@@ -61,11 +70,12 @@ IsAnswer (Two question models first second) out ending = (first_bytes second_byt
     × IsFormat first first_bytes × IsFormat second second_bytes
     × IsPairAnswerIn question models first_bytes second_bytes out ending
 
--- why the bytes of a format have no answer: they are refused, or memory was
+-- Why the bytes of a format have no answer: they are refused. Memory can be refused only if they are
+-- accepted.
 abbrev pub IsFormatFault : Language → Model → Text → Fault → Type 0
 IsFormatFault language model format (Refused None refusal) =
     RefusesText language model format refusal.kind refusal.at
-IsFormatFault language model format Memory = ⊤
+IsFormatFault language model format Memory = AcceptsText language model format
 IsFormatFault language model format _ = ⊥
 
 -- the refusal of the first of two
@@ -74,12 +84,35 @@ IsRefusalOfFirst language model first (Refused (Some sides.First) refusal) =
     RefusesText language model first refusal.kind refusal.at
 IsRefusalOfFirst language model first _ = ⊥
 
--- why two have none: the refusal of the first, otherwise of the second
-abbrev pub IsPairFault : Language → Model → Text → Text → Fault → Type 0
-IsPairFault language model first second (Refused (Some side) refusal) =
-    RefusesOne (AcceptsText language model) (RefusesText language model) first second side refusal
-IsPairFault language model first second Memory = ⊤
-IsPairFault language model first second _ = ⊥
+-- both formats of a question are accepted
+abbrev pub AcceptsBoth : PairQuestion → Model → Text → Text → Type 0
+AcceptsBoth question model first second =
+    AcceptsText (language_of question) model first × AcceptsText (language_of question) model second
+
+-- When an answer in one data model needs memory: for arguments that tell two formats apart, whose types
+-- and calls are equal.
+abbrev pub NeedsMemory : PairQuestion → Model → Text → Text → Type 0
+NeedsMemory Fits model first second = ⊥
+NeedsMemory FitsFewer model first second = ⊥
+NeedsMemory Same model first second = HaveSameTypes model first second × (¬ AreEquivalent model first second)
+NeedsMemory WholeSame model first second = (a : IsWholeAccepted first) × (b : IsWholeAccepted second)
+    × HaveOneShape model a.stretches b.stretches × (¬ AreWholeAlike model first second)
+
+-- when an answer in the data models that are asked for does: if they are several, it is gathered there
+abbrev pub lacks_in : Models → PairQuestion → Model → Text → Text → Type 0
+lacks_in (models.One model) = NeedsMemory
+lacks_in models.Both = AcceptsBoth
+lacks_in models.All = AcceptsBoth
+
+-- Why two have none: the refusal of the first, otherwise of the second. Memory can be refused only if
+-- it is needed.
+abbrev pub IsPairFault : (PairQuestion → Model → Text → Text → Type 0) → PairQuestion → Model → Text → Text
+    → Fault → Type 0
+IsPairFault Needs question model first second (Refused (Some side) refusal) =
+    RefusesOne (AcceptsText (language_of question) model) (RefusesText (language_of question) model)
+    first second side refusal
+IsPairFault Needs question model first second Memory = Needs question model first second
+IsPairFault Needs question model first second _ = ⊥
 
 -- a fault in the first of some data models that has one
 pub record IsFirstFault (models : List Model) (Accepts : Model → Type 0)
@@ -92,10 +125,15 @@ pub record IsFirstFault (models : List Model) (Accepts : Model → Type 0)
   pub fault_is : IsFault model fault
 
 -- why two texts have no answer in some data models
-abbrev pub IsPairFaultIn : Language → List Model → Text → Text → Fault → Type 0
-IsPairFaultIn language models first second = IsFirstFault models
-    (λ model. AcceptsText language model first × AcceptsText language model second)
-    (λ model. IsPairFault language model first second)
+abbrev pub IsFirstPairFault : (PairQuestion → Model → Text → Text → Type 0) → PairQuestion → List Model
+    → Text → Text → Fault → Type 0
+IsFirstPairFault Needs question models first second = IsFirstFault models
+    (λ model. AcceptsBoth question model first second)
+    (λ model. IsPairFault Needs question model first second)
+
+-- in those that are asked for
+abbrev pub IsPairFaultIn : PairQuestion → Models → Text → Text → Fault → Type 0
+IsPairFaultIn question models = IsFirstPairFault (lacks_in models) question (asked_models models)
 
 -- Why a format that is given has none, by why its bytes have none: a refusal is reported at its offset in
 -- the text.
@@ -110,28 +148,33 @@ IsGivenFault IsFault given (WrongCount wanted had) =
     HoldsOf given (λ bytes. IsFault bytes (WrongCount wanted had))
 IsGivenFault IsFault given (WrongType index) =
     HoldsOf given (λ bytes. IsFault bytes (WrongType index))
-IsGivenFault IsFault given Memory = ⊤
+IsGivenFault IsFault given Memory =
+    MakesBytes given.notation ⊎ HoldsOf given (λ bytes. IsFault bytes Memory)
 
 -- Why two that are given have none: what is wrong with the first, otherwise with the second, if the
 -- first is accepted.
-abbrev pub IsGivenPairFault : Language → Model → GivenFormat → GivenFormat → Fault → Type 0
-IsGivenPairFault language model first second (Refused (Some sides.First) refusal) =
-    IsGivenFault (IsFormatFault language model) first (Refused None refusal)
-IsGivenPairFault language model first second (Refused (Some sides.Second) refusal) =
-    HoldsOf first (AcceptsText language model)
-    × IsGivenFault (IsFormatFault language model) second (Refused None refusal)
-IsGivenPairFault language model first second (BadLiteral (Some sides.First) refusal) =
+abbrev pub IsGivenPairFault : (PairQuestion → Model → Text → Text → Type 0) → PairQuestion → Model
+    → GivenFormat → GivenFormat → Fault → Type 0
+IsGivenPairFault Needs question model first second (Refused (Some sides.First) refusal) =
+    IsGivenFault (IsFormatFault (language_of question) model) first (Refused None refusal)
+IsGivenPairFault Needs question model first second (Refused (Some sides.Second) refusal) =
+    HoldsOf first (AcceptsText (language_of question) model)
+    × IsGivenFault (IsFormatFault (language_of question) model) second (Refused None refusal)
+IsGivenPairFault Needs question model first second (BadLiteral (Some sides.First) refusal) =
     IsNoFormat first refusal
-IsGivenPairFault language model first second (BadLiteral (Some sides.Second) refusal) =
-    HoldsOf first (AcceptsText language model) × IsNoFormat second refusal
-IsGivenPairFault language model first second Memory = ⊤
-IsGivenPairFault language model first second _ = ⊥
+IsGivenPairFault Needs question model first second (BadLiteral (Some sides.Second) refusal) =
+    HoldsOf first (AcceptsText (language_of question) model) × IsNoFormat second refusal
+IsGivenPairFault Needs question model first second Memory =
+    MakesBytes first.notation ⊎ MakesBytes second.notation
+    ⊎ HoldsOf first (λ bytes. HoldsOf second (Needs question model bytes))
+IsGivenPairFault Needs question model first second _ = ⊥
 
--- why two that are given have none in some data models
-abbrev pub IsGivenPairFaultIn : Language → List Model → GivenFormat → GivenFormat → Fault → Type 0
-IsGivenPairFaultIn language models first second = IsFirstFault models
-    (λ model. HoldsOf first (AcceptsText language model) × HoldsOf second (AcceptsText language model))
-    (λ model. IsGivenPairFault language model first second)
+-- why two that are given have none in the data models that are asked for
+abbrev pub IsGivenPairFaultIn : PairQuestion → Models → GivenFormat → GivenFormat → Fault → Type 0
+IsGivenPairFaultIn question models first second = IsFirstFault (asked_models models)
+    (λ model. HoldsOf first (AcceptsText (language_of question) model)
+    × HoldsOf second (AcceptsText (language_of question) model))
+    (λ model. IsGivenPairFault (lacks_in models) question model first second)
 
 -- why the bytes of a format have no answer to what is asked about them
 abbrev pub IsOneFault : OneQuestion → Model → Text → Fault → Type 0
@@ -145,7 +188,7 @@ abbrev pub IsQuestionFault : Question → Fault → Type 0
 IsQuestionFault (One question model format) fault =
     IsGivenFault (IsOneFault question model) format fault
 IsQuestionFault (Two question models first second) fault =
-    IsGivenPairFaultIn (language_of question) (asked_models models) first second fault
+    IsGivenPairFaultIn question models first second fault
 
 -- the side that is refused
 abbrev pub side_of : Fault → Option Side

@@ -1,5 +1,5 @@
 -- What a comparison prints. This project's own.
-use Rattle.std.specs.Prelude.{◌≡◌, ◌++◌, codes, decimal, flat_map}
+use Rattle.std.specs.Prelude.{◌≡◌, ◌++◌, codes, decimal, flat_map, ⊤}
 use Rattle.pf_values.specs.declared.models.Model.{Model}
 use Rattle.pf_values.specs.declared.types.ArgType.{ArgType}
 use Rattle.pf_values.specs.meaning.Arguments.{Argument, HasType}
@@ -31,6 +31,12 @@ abbrev pub verdict_lines : Verdict → Text
 verdict_lines Same = line (codes "same")
 verdict_lines (Types index) = line (codes "types differ at argument " ++ decimal index)
 verdict_lines (Args args) = line (codes "different") ++ flat_map argument_line args.items
+
+-- it has arguments for which the bytes differ
+abbrev pub HasArguments : Verdict → Type 0
+HasArguments Same = ⊥
+HasArguments (Types index) = ⊥
+HasArguments (Args args) = ⊤
 
 -- how a run with this verdict ends
 abbrev pub ending_of : Verdict → Ending

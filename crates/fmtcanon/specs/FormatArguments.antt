@@ -78,7 +78,7 @@ IsArgumentFault model format words (WrongType index) =
     (items : List Item) × (arguments : List Argument) × IsGiven format words items arguments
     × (length arguments ≡ length (types model items))
     × IsFirstWrongType model arguments (types model items) index
-IsArgumentFault model format words Memory = ⊤
+IsArgumentFault model format words Memory = IsAccepted format
 IsArgumentFault model format words _ = ⊥
 
 -- what a format prints for the arguments that words give, and nothing else (C11 7.21.6.1 p2, p3)

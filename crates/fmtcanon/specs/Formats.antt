@@ -42,10 +42,15 @@ IsFormat given bytes = HoldsFormat given.notation given.text.now bytes
 abbrev pub IsNoFormat : GivenFormat → LiteralRefusal → Type 0
 IsNoFormat given refusal = HoldsNoFormat given.notation given.text.now refusal
 
+-- the bytes of literals are made in memory
+abbrev pub MakesBytes : Notation → Type 0
+MakesBytes Bytes = ⊥
+MakesBytes Literals = ⊤
+
 -- why it has no bytes
 abbrev pub IsBytesFault : GivenFormat → LiteralFault → Type 0
 IsBytesFault given (Refused refusal) = IsNoFormat given refusal
-IsBytesFault given Memory = ⊤
+IsBytesFault given Memory = MakesBytes given.notation
 
 -- something holds of its bytes
 abbrev pub HoldsOf : GivenFormat → (Text → Type 0) → Type 0

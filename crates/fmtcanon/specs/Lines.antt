@@ -1,7 +1,14 @@
--- Lines. This project's own.
+-- Lines, and the bytes of an answer. This project's own.
 use Rattle.std.specs.Prelude.{◌++◌, codes}
 use Rattle.pf_values.specs.meaning.Text.{Text}
+use Rattle.fmtcanon.specs.declared.lines.Output.{Output}
+use Rattle.fmtcanon.specs.declared.lines.Output.TheVariants.{Line, Bytes}
 
 -- a text and a newline
 abbrev pub line : Text → Text
 line t = t ++ codes "\n"
+
+-- the bytes of an answer
+abbrev pub output_bytes : Output → Text
+output_bytes (Line line) = line.bytes
+output_bytes (Bytes bytes) = bytes.items

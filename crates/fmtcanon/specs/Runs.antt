@@ -1,17 +1,17 @@
 -- What a run leaves, by its outcome. This project's own.
-use Rattle.std.specs.Prelude.{◌≡◌, ℕ, List, Result, Ok, Err, true, ⊤}
+use Rattle.std.specs.Prelude.{◌≡◌, ◌⊎◌, ℕ, List, Result, Ok, Err, true, ⊤}
 use Rattle.pf_values.specs.declared.counted.Counted.{Counted}
 use Rattle.pf_values.specs.Counting.{Known, WritesAll, WritesFirst, is_flushed}
 use Rattle.pf_values.specs.meaning.Text.{Text}
 use Rattle.fmtcanon.specs.Answers.{IsAnswer, IsQuestionFault}
+use Rattle.fmtcanon.specs.Outcomes.{outcome_of_ending, outcome_of_fault}
 use Rattle.fmtcanon.specs.Streams.{CopyEnds}
 use Rattle.fmtcanon.specs.Records.{AllReplied, RecordsEnd}
 use Rattle.fmtcanon.specs.Tasks.{Asks, IsNoTaskOf}
 use Rattle.fmtcanon.specs.declared.answer.Ending.{Ending}
 use Rattle.fmtcanon.specs.declared.outcome.Fault.{Fault}
-use Rattle.fmtcanon.specs.declared.outcome.Fault.TheVariants as faults
 use Rattle.fmtcanon.specs.declared.outcome.Outcome.{Outcome}
-use Rattle.fmtcanon.specs.declared.outcome.Outcome.TheVariants.{Written, Failed, Usage, Misplaced, Write}
+use Rattle.fmtcanon.specs.declared.outcome.Outcome.TheVariants.{Memory, Misplaced, Usage, Write}
 use Rattle.fmtcanon.specs.declared.task.NoTask.{NoTask}
 use Rattle.fmtcanon.specs.declared.task.NoTask.TheVariants as reasons
 use Rattle.fmtcanon.specs.declared.questions.Question.{Question}
@@ -21,10 +21,10 @@ use Rattle.fmtcanon.specs.declared.task.Task.TheVariants.{Answer, Records, Strea
 module _ {W : Type 0} (contents : W → Known) (old new : Counted W) where
   -- all bytes went out and were flushed, and the run ends so; or the first of them and a call
   -- failed
-  abbrev pub WritingEnds : Text → Outcome → Outcome → Type 0
-  WritingEnds bytes end (Write count) = WritesFirst contents old new bytes count
-  WritingEnds bytes end outcome =
-      (outcome ≡ end) × WritesAll contents old new bytes × (is_flushed new ≡ true)
+  abbrev pub WritingEnds : Text → Ending → Outcome → Type 0
+  WritingEnds bytes ending outcome =
+      ((outcome ≡ outcome_of_ending ending) × WritesAll contents old new bytes × (is_flushed new ≡ true))
+      ⊎ ((count : ℕ) × (outcome ≡ Write count) × WritesFirst contents old new bytes count)
 
 module _ {W : Type 0} (contents : W → Known) (old new : Counted W) where
   -- All of an answer went out, and then it was flushed.
@@ -47,10 +47,10 @@ module _ {W : Type 0} (contents : W → Known) (old new : Counted W) where
 
   -- what the run of a question leaves
   abbrev pub AnswerEnds : Question → Outcome → Type 0
-  AnswerEnds question (Written ending) = AnswersAll question ending
-  AnswerEnds question (Failed fault) = AnswersNothing question fault
-  AnswerEnds question (Write count) = AnswersFirst question count
-  AnswerEnds question _ = ⊥
+  AnswerEnds question outcome =
+      ((ending : Ending) × (outcome ≡ outcome_of_ending ending) × AnswersAll question ending)
+      ⊎ ((fault : Fault) × (outcome ≡ outcome_of_fault fault) × AnswersNothing question fault)
+      ⊎ ((count : ℕ) × (outcome ≡ Write count) × AnswersFirst question count)
 
 -- neither the reader nor the writer was called
 abbrev pub CallsNeither : {R W : Type 0} → Counted R → Counted R → Counted W → Counted W → Type 0
@@ -85,7 +85,7 @@ module _ {R W : Type 0} (remaining : R → Known) (contents : W → Known)
   NoTaskEnds (reasons.Usage text) outcome =
       (outcome ≡ Usage text) × CallsNeither reader left old new
   NoTaskEnds reasons.Misplaced outcome = (outcome ≡ Misplaced) × CallsNeither reader left old new
-  NoTaskEnds reasons.Memory outcome = (outcome ≡ Failed faults.Memory) × CallsNeither reader left old new
+  NoTaskEnds reasons.Memory outcome = (outcome ≡ Memory) × CallsNeither reader left old new
 
   -- what the run of a task leaves, or of none
   abbrev pub FoundEnds : Result Task NoTask → Outcome → Type 0

@@ -1,5 +1,5 @@
 -- What is answered about formats of the whole language: a canonical text, and how two formats compare.
-use Rattle.std.specs.Prelude.{◌≡◌, ◌++◌, Option, None, Some, codes, decimal, flat_map}
+use Rattle.std.specs.Prelude.{◌≡◌, ◌++◌, Option, None, Some, codes, decimal, flat_map, ⊤}
 use Rattle.pf_values.specs.declared.models.Model.{Model}
 use Rattle.pf_values.specs.meaning.Text.{Text}
 use Rattle.pf_compare.specs.declared.owned_args.OwnedArg.{OwnedArg}
@@ -32,6 +32,13 @@ whole_verdict_lines (Types index) = line (codes "types differ at argument " ++ d
 whole_verdict_lines (Directives index) =
     line (codes "directives differ at argument " ++ decimal index)
 whole_verdict_lines (Args shown) = line (codes "different") ++ flat_map shown_line shown.items
+
+-- it has arguments for which the bytes differ
+abbrev pub HasWholeArguments : WholeVerdict → Type 0
+HasWholeArguments Same = ⊥
+HasWholeArguments (Types index) = ⊥
+HasWholeArguments (Directives index) = ⊥
+HasWholeArguments (Args shown) = ⊤
 
 -- how a run with this verdict ends
 abbrev pub whole_ending_of : WholeVerdict → Ending

@@ -1,6 +1,6 @@
 //! The answer to a question.
-ghost use Rattle.std.specs.Prelude.{◌≡◌, ◌≤◌, Err, IfErr, MatchResult, Ok, IfOk, MatchOption, Some, map};
-ghost use Rattle.fmtcanon.specs.Answers.{IsAnswer, IsQuestionFault, HasAnswer, HasCanonicalLine, HasOneAnswer, IsFormatFault, IsGivenFault, IsGivenPairFault, IsGivenPairFaultIn, IsFaultInTexts, IsFaultInText, IsOneFault, side_of};
+ghost use Rattle.std.specs.Prelude.{◌≡◌, ◌≤◌, IfErr, MatchResult, IfOk, MatchOption, Some, map};
+ghost use Rattle.fmtcanon.specs.Answers.{IsAnswer, IsQuestionFault, HasAnswer, HasCanonicalLine, HasOneAnswer, IsFormatFault, IsGivenFault, IsGivenPairFault, IsGivenPairFaultIn, IsFaultInTexts, IsFaultInText, IsOneFault, lacks_in, side_of};
 ghost use Rattle.fmtcanon.specs.declared.answer.Ending.TheVariants.{Done};
 ghost use Rattle.pf_text.specs.declared.refusals.Side.TheVariants as sides;
 ghost use Rattle.pf_values.specs.meaning.Text.{Text};
@@ -8,16 +8,17 @@ ghost use Rattle.fmtcanon.specs.Faults.{of_literal};
 ghost use Rattle.fmtcanon.specs.FormatArguments.{IsArgumentFault, IsPrinted};
 ghost use Rattle.fmtcanon.specs.Formats.{IsFormat};
 ghost use Rattle.fmtcanon.specs.Languages.{AcceptsText, Profile};
-ghost use Rattle.fmtcanon.specs.Lines.{line};
-ghost use Rattle.fmtcanon.specs.Models.{asked_models};
+ghost use Rattle.fmtcanon.specs.Lines.{line, output_bytes};
 ghost use Rattle.fmtcanon.specs.Outcomes.{status_of_ending};
 ghost use Rattle.fmtcanon.specs.PairAnswers.{IsPairAnswerIn};
 ghost use Rattle.fmtcanon.specs.Questions.{language_of, language_of_format};
 ghost use Rattle.fmtcanon.specs.declared.formats.GivenFormat.{GivenFormat};
+ghost use Rattle.fmtcanon.specs.declared.models.Models.{Models};
 
 use crate::arguments::arguments_for;
 use crate::byte_counts::bounds_line;
 use crate::formats::{GivenFormat, Notation};
+use crate::lines::Output;
 use crate::models::Models;
 use crate::outcome::Fault;
 use crate::pairs::{pair_answer, refusal_of_first};
@@ -60,7 +61,7 @@ impl Ending {
 #[derive(Drop)]
 pub struct Answer {
     /// What is written.
-    pub bytes: Vec<u8>,
+    pub output: Output,
     /// How the run ends.
     pub ending: Ending,
 }
@@ -68,31 +69,37 @@ pub struct Answer {
 /// Returns the answer to a question, or why it can't be answered.
 pub fn answer_to(alloc: Global, question: &Question<'_>) -> Result<Answer, Fault>
     ensures { MatchResult result
-        (λ answer. IsAnswer question.now answer.bytes.items answer.ending)
+        (λ answer. IsAnswer question.now (output_bytes answer.output) answer.ending)
         (IsQuestionFault question.now) }
 {
     match question {
-        Question::One(asked, model, format) => {
-            done(answer_about_one(alloc, asked, *model, format))
-        }
+        Question::One(asked, model, format) => answer_of_one(alloc, asked, *model, format),
         Question::Two(asked, models, first, second) => {
             answer_about_two(alloc, *asked, *models, first, second)
         }
     }
 }
 
-// These bytes as an answer, with no line on standard error.
-fn done(bytes: Result<Vec<u8>, Fault>) -> Result<Answer, Fault>
-    ensures { MatchResult result (λ answer. (answer.ending ≡ Done) × (bytes ≡ Ok answer.bytes))
-        (λ fault. bytes ≡ Err fault) }
+// Answers a question about one format that is given. A run that writes the answer ends with it.
+fn answer_of_one(
+    alloc: Global,
+    asked: &OneQuestion<'_>,
+    model: Model,
+    format: &GivenFormat<'_>,
+) -> Result<Answer, Fault>
+    ensures { MatchResult result (λ answer. (bytes : Text) × IsFormat format.now bytes
+        × HasOneAnswer asked.now format.now.notation model bytes (output_bytes answer.output)
+        × (answer.ending ≡ Done))
+        (IsGivenFault (IsOneFault asked.now model) format.now) }
 {
+    let bytes = answer_about_one(alloc, asked, model, format)?;
     Ok(Answer {
-        bytes: bytes?,
+        output: Output::Bytes(bytes),
         ending: Ending::Done,
     })
 }
 
-/// Answers a question about one format that is given.
+/// Returns the bytes that answer a question about one format that is given.
 pub fn answer_about_one(
     alloc: Global,
     asked: &OneQuestion<'_>,
@@ -158,8 +165,8 @@ pub fn answer_about_two(
 ) -> Result<Answer, Fault>
     ensures { MatchResult result (λ answer. (first_bytes second_bytes : Text)
         × IsFormat first.now first_bytes × IsFormat second.now second_bytes
-        × IsPairAnswerIn asked models first_bytes second_bytes answer.bytes.items answer.ending)
-        (IsGivenPairFaultIn (language_of asked) (asked_models models) first.now second.now) }
+        × IsPairAnswerIn asked models first_bytes second_bytes (output_bytes answer.output) answer.ending)
+        (IsGivenPairFaultIn asked models first.now second.now) }
 {
     let first_bytes = match first.bytes(alloc) {
         Ok(bytes) => bytes,
@@ -204,8 +211,8 @@ fn refused(
 ) -> Option<Fault>
     ensures { IsFormat first.now bytes.now
         → MatchOption result (AcceptsText (language_of asked) model bytes.now)
-        (λ fault. (second : GivenFormat)
-        → IsGivenPairFault (language_of asked) model first.now second fault) }
+        (λ fault. (models : Models) (second : GivenFormat)
+        → IsGivenPairFault (lacks_in models) asked model first.now second fault) }
 {
     match refusal_of_first(asked, model, bytes) {
         None => None,

@@ -8,7 +8,7 @@ ghost use Rattle.fmtcanon.specs.ArgumentWords.{SpellsArgument, SpellsMagnitude, 
 ghost use Rattle.fmtcanon.specs.FormatArguments.{AreArgumentsFor, IsArgumentFault, IsBadWord, IsWrongType, SpellArguments};
 
 use crate::outcome::Fault;
-use pf_text::signature;
+use crate::type_lines::types_of;
 use pf_values::{Arg, ArgType, CBytes, Model};
 use std::alloc::Global;
 
@@ -112,7 +112,7 @@ pub fn arguments_for<'a>(
         (λ args. AreArgumentsFor model format.now (map (λ s. s.now) words.now) args.items) }
     ensures err { IfErr result (IsArgumentFault model format.now (map (λ s. s.now) words.now)) }
 {
-    let wanted = signature(alloc, model, format)?;
+    let wanted = types_of(alloc, model, format)?;
     let given = read_words(alloc, words)?;
     if wanted.len() != given.len() {
         return Err(Fault::WrongCount {

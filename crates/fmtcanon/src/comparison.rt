@@ -1,13 +1,13 @@
 //! Two formats of the profile compared, as lines.
-ghost use Rattle.std.specs.Prelude.{◌≡◌, ◌++◌, IfOk, MatchResult, codes, decimal, flat_map};
-ghost use Rattle.fmtcanon.specs.Answers.{IsPairFault};
-ghost use Rattle.fmtcanon.specs.Comparisons.{IsComparisonAnswer, argument_line, ending_of, verdict_lines};
-ghost use Rattle.fmtcanon.specs.Languages.{Profile};
-ghost use Rattle.fmtcanon.specs.Lines.{line};
+ghost use Rattle.std.specs.Prelude.{◌≡◌, ◌++◌, IfOk, MatchResult, codes, flat_map};
+ghost use Rattle.fmtcanon.specs.Answers.{IsPairFault, NeedsMemory};
+ghost use Rattle.fmtcanon.specs.Comparisons.{HasArguments, IsComparisonAnswer, argument_line, ending_of, verdict_lines};
+ghost use Rattle.fmtcanon.specs.Lines.{line, output_bytes};
+ghost use Rattle.fmtcanon.specs.declared.questions.PairQuestion.TheVariants.{Same};
 
 use crate::answer::{Answer, Ending};
+use crate::lines::{Output, same_line, types_line};
 use crate::outcome::Fault;
-use crate::show_lines::push_decimal;
 use pf_compare::{OwnedArg, Verdict, compare};
 use pf_values::Model;
 use std::alloc::{AllocError, Global};
@@ -21,13 +21,14 @@ pub fn comparison_in(
     second: &[u8],
 ) -> Result<Answer, Fault>
     ensures { MatchResult result
-        (λ answer. IsComparisonAnswer model first.now second.now answer.bytes.items answer.ending)
-        (IsPairFault Profile model first.now second.now) }
+        (λ answer. IsComparisonAnswer model first.now second.now (output_bytes answer.output)
+        answer.ending)
+        (IsPairFault NeedsMemory Same model first.now second.now) }
 {
     let comparison = compare(alloc, model, first, second)?;
-    let bytes = verdict_lines(alloc, &comparison.verdict)?;
+    let output = verdict_lines(alloc, &comparison.verdict)?;
     Ok(Answer {
-        bytes,
+        output,
         ending: ending_of(&comparison.verdict),
     })
 }
@@ -42,13 +43,15 @@ fn ending_of(verdict: &Verdict) -> Ending
     }
 }
 
-fn verdict_lines(alloc: Global, verdict: &Verdict) -> Result<Vec<u8>, AllocError>
-    ensures { IfOk result (λ out. out.items ≡ verdict_lines verdict.now) }
+// Only arguments that tell two formats apart need memory.
+fn verdict_lines(alloc: Global, verdict: &Verdict) -> Result<Output, AllocError>
+    ensures { MatchResult result (λ out. output_bytes out ≡ verdict_lines verdict.now)
+        (λ _. HasArguments verdict.now) }
 {
     match verdict {
-        Verdict::Same => Vec::from_slice(alloc, b"same\n"),
-        Verdict::Types(index) => types_line(alloc, *index),
-        Verdict::Args(args) => witness_lines(alloc, args),
+        Verdict::Same => Ok(Output::Line(same_line())),
+        Verdict::Types(index) => Ok(Output::Line(types_line(*index))),
+        Verdict::Args(args) => Ok(Output::Bytes(witness_lines(alloc, args)?)),
     }
 }
 
@@ -61,16 +64,5 @@ fn witness_lines(alloc: Global, args: &[OwnedArg]) -> Result<Vec<u8>, AllocError
         arg.push_word(&mut out)?;
         out.push(b'\n')?;
     }
-    Ok(out)
-}
-
-/// Returns the line of the first argument at which types differ.
-pub fn types_line(alloc: Global, index: u64) -> Result<Vec<u8>, AllocError>
-    ensures { IfOk result
-        (λ out. out.items ≡ line (codes "types differ at argument " ++ decimal index)) }
-{
-    let mut out = Vec::from_slice(alloc, b"types differ at argument ")?;
-    push_decimal(&mut out, index)?;
-    out.push(b'\n')?;
     Ok(out)
 }

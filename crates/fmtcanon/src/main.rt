@@ -9,6 +9,7 @@ mod comparison;
 mod formats;
 mod input;
 mod laws;
+mod lines;
 mod models;
 mod options;
 mod outcome;
@@ -24,7 +25,7 @@ mod task;
 mod type_lines;
 mod whole;
 
-use outcome::{Fault, Outcome, report};
+use outcome::{Outcome, report};
 use pf_values::Counted;
 use run::run;
 use std::alloc::AllocError;
@@ -35,7 +36,7 @@ use std::{env, io};
 fn main(rt: HostRuntime) -> ExitCode {
     let outcome = match run_words(&rt) {
         Ok(outcome) => outcome,
-        Err(AllocError) => Outcome::Failed(Fault::Memory),
+        Err(AllocError) => Outcome::Memory,
     };
     report(&outcome, &mut Counted::new(rt.stderr()));
     ExitCode::from(outcome.status())

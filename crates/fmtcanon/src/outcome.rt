@@ -1,18 +1,16 @@
 //! How a run ended: its exit status, and its line on standard error.
-ghost use Rattle.std.specs.Prelude.{◌≡◌, ◌≤◌, ◌+◌, ◌++◌, None, Some, codes, decimal, length};
-ghost use Rattle.arrayvec.specs.ArrayString.{array_string_len};
+ghost use Rattle.std.specs.Prelude.{◌≡◌, ◌≤◌, ◌++◌, None, Some, codes, decimal, length};
 ghost use Rattle.pf_values.specs.Counting.{Writes};
 ghost use Rattle.pf_literals.specs.Kinds as literals;
 ghost use Rattle.pf_values.specs.RefusalKinds.{name};
 ghost use Rattle.fmtcanon.specs.Faults.{of_comparison, of_literal, of_text};
 ghost use Rattle.fmtcanon.specs.Lines.{line};
-ghost use Rattle.fmtcanon.specs.Outcomes.{status_of, status_of_fault};
+ghost use Rattle.fmtcanon.specs.Outcomes.{outcome_of_ending, outcome_of_fault, status_of, status_of_fault};
 ghost use Rattle.fmtcanon.specs.Reports.{WritesReport, fault_text, fault_words, literal_words, refusal_words, side_words, report_text};
 ghost use Rattle.fmtcanon.specs.declared.outcome.Fault.TheVariants.{Memory, Refused};
 
 use crate::answer::Ending;
-use arrayvec::ArrayString;
-use itoa::Buffer;
+use crate::lines::{Line, push_number};
 use pf_compare::CompareFault;
 use pf_literals::{LiteralFault, LiteralKind, LiteralRefusal};
 use pf_text::{Refusal, Side, TextFault};
@@ -21,15 +19,46 @@ use std::alloc::AllocError;
 use std::io::Write;
 
 /// How a run ended.
+///
+/// At `Refused`, `BadLiteral`, `BadWord`, `WrongCount`, `WrongType` and `Memory` nothing was written,
+/// except what `stream` had settled before, and over records the replies to the first of them.
 #[derive(Drop)]
 pub enum Outcome {
-    /// All was written. If formats were compared, the ending says how they compare.
-    Written(Ending),
-    /// There is no answer, or memory was refused. Nothing was written, except what `stream` had
-    /// settled before, and over records the replies to the first of them.
-    Failed(Fault),
+    /// All was written.
+    Done,
+    /// All was written: the formats mean the same, or take the same arguments.
+    Same,
+    /// All was written: the formats differ, in types or in bytes.
+    Different,
     /// All records were answered; the highest status of their answers.
     Answered(u8),
+    /// A format is refused.
+    Refused {
+        /// Which one, where there are two.
+        side: Option<Side>,
+        /// Why, and where.
+        refusal: Refusal,
+    },
+    /// The literals that give a format are wrong.
+    BadLiteral {
+        /// Which format, where there are two.
+        side: Option<Side>,
+        /// What is wrong, and where.
+        refusal: LiteralRefusal,
+    },
+    /// The word with this index gives no argument.
+    BadWord(u64),
+    /// There are more or fewer arguments than the format takes.
+    WrongCount {
+        /// How many it takes.
+        wanted: u64,
+        /// How many there are.
+        given: u64,
+    },
+    /// The argument with this index is not of its type.
+    WrongType(u64),
+    /// A growth was refused.
+    Memory,
     /// A record is left over that needs a second one, and all before it were answered.
     NoSecond,
     /// The arguments are not a command, or ask for help; this is the text of `clap`.
@@ -50,16 +79,45 @@ impl Outcome {
         ensures { result ≡ status_of self.now }
     {
         match self {
-            Outcome::Written(ending) => ending.status(),
-            Outcome::Failed(fault) => fault.status(),
+            Outcome::Done | Outcome::Same => 0,
+            Outcome::Different => 1,
             Outcome::Answered(status) => *status,
+            Outcome::Refused { .. } | Outcome::BadLiteral { .. } => 2,
+            Outcome::BadWord(_) | Outcome::WrongCount { .. } | Outcome::WrongType(_) => 3,
             Outcome::NoSecond | Outcome::Usage(_) | Outcome::Misplaced => 3,
-            Outcome::Read | Outcome::Write(_) => 4,
+            Outcome::Memory | Outcome::Read | Outcome::Write(_) => 4,
         }
     }
 }
 
-/// Why a run failed: a question has no answer, or memory was refused.
+impl From<Ending> for Outcome {
+    ghost from_gives = { λ ending outcome. outcome ≡ outcome_of_ending ending };
+
+    fn from(ending: Ending) -> Outcome {
+        match ending {
+            Ending::Done => Outcome::Done,
+            Ending::Same => Outcome::Same,
+            Ending::Different => Outcome::Different,
+        }
+    }
+}
+
+impl From<Fault> for Outcome {
+    ghost from_gives = { λ fault outcome. outcome ≡ outcome_of_fault fault };
+
+    fn from(fault: Fault) -> Outcome {
+        match fault {
+            Fault::Refused { side, refusal } => Outcome::Refused { side, refusal },
+            Fault::BadLiteral { side, refusal } => Outcome::BadLiteral { side, refusal },
+            Fault::BadWord(index) => Outcome::BadWord(index),
+            Fault::WrongCount { wanted, given } => Outcome::WrongCount { wanted, given },
+            Fault::WrongType(index) => Outcome::WrongType(index),
+            Fault::Memory => Outcome::Memory,
+        }
+    }
+}
+
+/// Why a question has no answer, or memory was refused.
 #[derive(Clone, Copy)]
 pub enum Fault {
     /// A format is refused.
@@ -130,6 +188,14 @@ impl From<AllocError> for Fault {
     }
 }
 
+impl From<Refusal> for Fault {
+    ghost from_gives = { λ refusal fault. fault ≡ Refused None refusal };
+
+    fn from(refusal: Refusal) -> Fault {
+        Fault::refused(None, refusal)
+    }
+}
+
 impl From<TextFault> for Fault {
     ghost from_gives = { λ error fault. fault ≡ of_text error };
 
@@ -160,10 +226,6 @@ impl From<LiteralFault> for Fault {
     }
 }
 
-/// A line. One of the longest is `second: refused 16 PrecisionUndefined at byte
-/// 18446744073709551615`.
-pub type Line = ArrayString<96>;
-
 /// Writes the line of an outcome that has one, or a text on the words as it is. A write that fails
 /// ends it.
 pub fn report<E: Write>(outcome: &Outcome, errors: &mut Counted<E>)
@@ -176,8 +238,15 @@ fn write_report<E: Write>(outcome: &Outcome, errors: &mut Counted<E>) -> Result<
     ensures { Writes E.contents errors.old errors.new (report_text outcome.now) result }
 {
     match outcome {
-        Outcome::Written(_) | Outcome::Answered(_) => write_bytes(errors, b""),
-        Outcome::Failed(fault) => write_line(errors, &fault_line(fault)),
+        Outcome::Done | Outcome::Same | Outcome::Different | Outcome::Answered(_) => {
+            write_bytes(errors, b"")
+        }
+        Outcome::Refused { side, refusal } => write_line(errors, &refusal_line(*side, refusal)),
+        Outcome::BadLiteral { side, refusal } => write_line(errors, &literal_line(*side, refusal)),
+        Outcome::BadWord(index) => write_line(errors, &bad_word_line(*index)),
+        Outcome::WrongCount { wanted, given } => write_line(errors, &count_line(*wanted, *given)),
+        Outcome::WrongType(index) => write_line(errors, &wrong_type_line(*index)),
+        Outcome::Memory => write_line(errors, &memory_line()),
         Outcome::NoSecond => write_bytes(errors, b"a second format is wanted\n"),
         Outcome::Usage(text) => write_bytes(errors, text.as_bytes()),
         Outcome::Misplaced => write_bytes(
@@ -202,9 +271,9 @@ pub fn fault_line(fault: &Fault) -> Line
     match fault {
         Fault::Refused { side, refusal } => refusal_line(*side, refusal),
         Fault::BadLiteral { side, refusal } => literal_line(*side, refusal),
-        Fault::BadWord(index) => bad_argument_line(*index, "not an argument"),
+        Fault::BadWord(index) => bad_word_line(*index),
         Fault::WrongCount { wanted, given } => count_line(*wanted, *given),
-        Fault::WrongType(index) => bad_argument_line(*index, "wrong type"),
+        Fault::WrongType(index) => wrong_type_line(*index),
         Fault::Memory => memory_line(),
     }
 }
@@ -261,6 +330,20 @@ fn fault_line_of(side: Option<Side>, what: &str, number: u8, name: &str, at: u64
     line
 }
 
+fn bad_word_line(index: u64) -> Line
+    ensures { result.bytes
+        ≡ line (codes "argument " ++ decimal index ++ codes ": " ++ codes "not an argument") }
+{
+    bad_argument_line(index, "not an argument")
+}
+
+fn wrong_type_line(index: u64) -> Line
+    ensures { result.bytes
+        ≡ line (codes "argument " ++ decimal index ++ codes ": " ++ codes "wrong type") }
+{
+    bad_argument_line(index, "wrong type")
+}
+
 // The line of an argument, with what is wrong with it.
 fn bad_argument_line(index: u64, fault: &str) -> Line
     requires { length fault.now ≤ 20 }
@@ -288,16 +371,6 @@ fn count_line(wanted: u64, given: u64) -> Line
     push_number(&mut line, given);
     line.push_str("\n");
     line
-}
-
-// The decimal digits of a number.
-fn push_number(line: &mut Line, number: u64)
-    requires { array_string_len line.old + 20 ≤ 96 }
-    ensures bytes { line.new.bytes ≡ line.old.bytes ++ decimal number }
-    ensures len { array_string_len line.new ≤ array_string_len line.old + 20 }
-{
-    let mut digits = Buffer::new();
-    line.push_str(digits.format(number));
 }
 
 // The words before a refusal, where there are two formats.

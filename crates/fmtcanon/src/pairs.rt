@@ -1,14 +1,14 @@
 //! Answers about two formats, in one data model after another.
 ghost use Rattle.std.specs.Prelude.{◌≡◌, ◌++◌, IfOk, MatchOption, MatchResult};
-ghost use Rattle.fmtcanon.specs.Answers.{IsPairFault, IsPairFaultIn, IsRefusalOfFirst};
+ghost use Rattle.fmtcanon.specs.Answers.{AcceptsBoth, IsFirstPairFault, IsPairFault, IsPairFaultIn, IsRefusalOfFirst, NeedsMemory};
 ghost use Rattle.fmtcanon.specs.Languages.{AcceptsText, Numbered};
-ghost use Rattle.fmtcanon.specs.Lines.{line};
-ghost use Rattle.fmtcanon.specs.Models.{asked_models};
+ghost use Rattle.fmtcanon.specs.Lines.{line, output_bytes};
 ghost use Rattle.fmtcanon.specs.PairAnswers.{IsAnswerInEach, IsPairAnswer, IsPairAnswerIn, ending_with};
 ghost use Rattle.fmtcanon.specs.Questions.{language_of};
 
 use crate::answer::{Answer, Ending};
 use crate::comparison::comparison_in;
+use crate::lines::Output;
 use crate::models::{Models, name_of};
 use crate::outcome::Fault;
 use crate::questions::PairQuestion;
@@ -28,8 +28,9 @@ pub fn pair_answer(
     second: &[u8],
 ) -> Result<Answer, Fault>
     ensures { MatchResult result
-        (λ answer. IsPairAnswerIn question models first.now second.now answer.bytes.items answer.ending)
-        (IsPairFaultIn (language_of question) (asked_models models) first.now second.now) }
+        (λ answer. IsPairAnswerIn question models first.now second.now (output_bytes answer.output)
+        answer.ending)
+        (IsPairFaultIn question models first.now second.now) }
 {
     match models {
         Models::One(model) => pair_answer_in(alloc, question, model, first, second),
@@ -47,17 +48,20 @@ fn pair_answer_in_each(
 ) -> Result<Answer, Fault>
     ensures { MatchResult result
         (λ answer. IsAnswerInEach (λ model. IsPairAnswer question model first.now second.now)
-        models.now answer.bytes.items answer.ending)
-        (IsPairFaultIn (language_of question) models.now first.now second.now) }
+        models.now (output_bytes answer.output) answer.ending)
+        (IsFirstPairFault AcceptsBoth question models.now first.now second.now) }
 {
     let mut bytes = Vec::new(alloc);
     let mut ending = Ending::Same;
     for model in models {
         let answer = pair_answer_in(alloc, question, *model, first, second)?;
-        push_verdict(&mut bytes, name_of(*model), &answer.bytes)?;
+        push_verdict(&mut bytes, name_of(*model), answer.output.as_bytes())?;
         ending = ending_with(ending, answer.ending);
     }
-    Ok(Answer { bytes, ending })
+    Ok(Answer {
+        output: Output::Bytes(bytes),
+        ending,
+    })
 }
 
 fn pair_answer_in(
@@ -68,12 +72,13 @@ fn pair_answer_in(
     second: &[u8],
 ) -> Result<Answer, Fault>
     ensures { MatchResult result
-        (λ answer. IsPairAnswer question model first.now second.now answer.bytes.items answer.ending)
-        (IsPairFault (language_of question) model first.now second.now) }
+        (λ answer. IsPairAnswer question model first.now second.now (output_bytes answer.output)
+        answer.ending)
+        (IsPairFault NeedsMemory question model first.now second.now) }
 {
     match question {
-        PairQuestion::Fits => fit_in(alloc, model, first, second),
-        PairQuestion::FitsFewer => fewer_in(alloc, model, first, second),
+        PairQuestion::Fits => fit_in(model, first, second),
+        PairQuestion::FitsFewer => fewer_in(model, first, second),
         PairQuestion::Same => comparison_in(alloc, model, first, second),
         PairQuestion::WholeSame => alike_in(alloc, model, first, second),
     }

@@ -56,7 +56,7 @@ impl Replies {
             (λ _. HasReplies self.new sent replies) }
     {
         match answer_to(alloc, question) {
-            Ok(answer) => self.push(answer.ending.status(), &answer.bytes),
+            Ok(answer) => self.push(answer.ending.status(), answer.output.as_bytes()),
             Err(fault) => match fault {
                 Fault::Memory => Err(AllocError),
                 _ => {

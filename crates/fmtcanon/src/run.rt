@@ -1,15 +1,15 @@
 //! A run of the program.
 ghost use Rattle.std.specs.Prelude.{◌≡◌, Ok, map};
 ghost use Rattle.pf_values.specs.declared.counted.Counted.{Counted};
+ghost use Rattle.fmtcanon.specs.Lines.{output_bytes};
 ghost use Rattle.fmtcanon.specs.Runs.{AnswerEnds, FoundEnds, MayRead, ProgramEnds, WritingEnds};
 ghost use Rattle.fmtcanon.specs.Streams.{CopyEnds};
 ghost use Rattle.fmtcanon.specs.Tasks.{Asks};
-ghost use Rattle.fmtcanon.specs.declared.outcome.Outcome.TheVariants.{Written};
 ghost use Rattle.fmtcanon.specs.declared.task.Task.{Task};
 
-use crate::answer::{Answer, Ending, answer_to};
+use crate::answer::{Answer, answer_to};
 use crate::input::Input;
-use crate::outcome::{Fault, Outcome};
+use crate::outcome::Outcome;
 use crate::questions::Question;
 use crate::records::answer_records;
 use crate::task::{NoTask, Task, task_of};
@@ -20,8 +20,8 @@ use std::io::{Read, Write};
 
 /// Runs the command that the words name; the program's name isn't among them. What a command reads
 /// comes from `input`, and what it writes goes to `writer`. Its last call is a flush before
-/// `Written`, by `stream` also before `Failed` and `Read`, and over records before all outcomes but
-/// `Write`. Any other `Failed`, `Usage` and `Misplaced` come before the first call of the writer.
+/// `Done`, `Same` and `Different`, by `stream` also before `Refused` and `Read`, and over records before
+/// all outcomes but `Write`. What else is refused or invalid comes before the first call of the writer.
 ///
 /// It may read only as `MayRead` says: it knows the input to be ready then, and at no other time.
 pub fn run<R: Read, W: Write, I: Input<R, W>>(
@@ -59,7 +59,7 @@ fn run_found<R: Read, W: Write, I: Input<R, W>>(
         Ok(Task::Stream(model)) => copy(model, input, writer),
         Err(NoTask::Usage(text)) => Outcome::Usage(text),
         Err(NoTask::Misplaced) => Outcome::Misplaced,
-        Err(NoTask::Memory) => Outcome::Failed(Fault::Memory),
+        Err(NoTask::Memory) => Outcome::Memory,
     }
 }
 
@@ -69,21 +69,22 @@ fn answer<W: Write>(alloc: Global, question: &Question<'_>, writer: &mut Counted
 {
     match answer_to(alloc, question) {
         Ok(answer) => write_answer(&answer, writer),
-        Err(fault) => Outcome::Failed(fault),
+        Err(fault) => Outcome::from(fault),
     }
 }
 
 // Writes an answer, and flushes.
 fn write_answer<W: Write>(answer: &Answer, writer: &mut Counted<W>) -> Outcome
-    ensures { WritingEnds W.contents writer.old writer.new answer.now.bytes.items
-        (Written answer.now.ending) result }
+    ensures { WritingEnds W.contents writer.old writer.new (output_bytes answer.now.output)
+        answer.now.ending result }
 {
-    if let Err(short) = write_bytes(writer, &answer.bytes) {
+    let bytes = answer.output.as_bytes();
+    if let Err(short) = write_bytes(writer, bytes) {
         return Outcome::Write(short.written as u128);
     }
     match writer.flush() {
-        Ok(()) => Outcome::Written(answer.ending),
-        Err(_) => Outcome::Write(answer.bytes.len() as u128),
+        Ok(()) => Outcome::from(answer.ending),
+        Err(_) => Outcome::Write(bytes.len() as u128),
     }
 }
 
@@ -101,15 +102,15 @@ pub fn copy<R: Read, W: Write, I: Input<R, W>>(
 {
     match input.copy_all(model, writer) {
         Ok(count) => match writer.flush() {
-            Ok(()) => Outcome::Written(Ending::Done),
+            Ok(()) => Outcome::Done,
             Err(_) => Outcome::Write(count),
         },
         Err(CopyFault::Refused(refusal)) => {
             let _ = writer.flush();
-            Outcome::Failed(Fault::Refused {
+            Outcome::Refused {
                 side: None,
                 refusal,
-            })
+            }
         }
         Err(CopyFault::Read) => {
             let _ = writer.flush();

@@ -15,7 +15,7 @@ use crate::outcome::Fault;
 use crate::type_lines::type_name;
 use itoa::Buffer;
 use pf_reduce::{Core, Reduced, reduce};
-use pf_text::{Piece, Pieces, spell};
+use pf_text::{Piece, Pieces, check, spell};
 use pf_values::{Directive, Model};
 use std::alloc::{AllocError, Global};
 
@@ -25,6 +25,7 @@ pub fn show_lines(alloc: Global, model: Model, format: &[u8]) -> Result<Vec<u8>,
     ensures { MatchResult result (λ out. HasShownLines model format.now out.items)
         (IsFormatFault Profile model format.now) }
 {
+    check(format)?;
     let mut out = Vec::new(alloc);
     for piece in Pieces::new(format) {
         let piece = match piece {

@@ -3,11 +3,12 @@ ghost use Rattle.std.specs.Prelude.{◌≡◌, IfOk, MatchResult, flat_map};
 ghost use Rattle.fmtcanon.specs.Answers.{IsFormatFault};
 ghost use Rattle.fmtcanon.specs.Languages.{Numbered, Profile};
 ghost use Rattle.fmtcanon.specs.ArgumentLines.{HasArgumentLines, argument_line, argument_name};
+ghost use Rattle.pf_text.specs.Signatures.{TakesTypes, types_of};
 ghost use Rattle.fmtcanon.specs.TypeLines.{HasTypeLines, type_line, type_name};
 
 use crate::outcome::Fault;
 use pf_posix::{ArgumentType, arguments_vec};
-use pf_text::signature;
+use pf_text::{Signature, check, signature};
 use pf_values::{ArgType, Model};
 use std::alloc::{AllocError, Global};
 
@@ -16,8 +17,17 @@ pub fn type_lines(alloc: Global, model: Model, format: &[u8]) -> Result<Vec<u8>,
     ensures { MatchResult result (λ out. HasTypeLines model format.now out.items)
         (IsFormatFault Profile model format.now) }
 {
-    let types = signature(alloc, model, format)?;
+    let types = types_of(alloc, model, format)?;
     Ok(lines_of_types(alloc, types.as_slice())?)
+}
+
+/// Returns the types of a format's arguments in a data model, or its refusal, which takes no memory.
+pub fn types_of(alloc: Global, model: Model, format: &[u8]) -> Result<Signature, Fault>
+    ensures { MatchResult result (λ signature. TakesTypes model format.now (types_of signature))
+        (IsFormatFault Profile model format.now) }
+{
+    check(format)?;
+    Ok(signature(alloc, model, format)?)
 }
 
 fn lines_of_types(alloc: Global, types: &[ArgType]) -> Result<Vec<u8>, AllocError>

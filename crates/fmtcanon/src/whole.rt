@@ -1,17 +1,17 @@
 //! Answers about formats of the whole language: their canonical texts, and how two of them compare.
-ghost use Rattle.std.specs.Prelude.{◌≡◌, ◌++◌, IfOk, MatchResult, codes, decimal, flat_map};
-ghost use Rattle.fmtcanon.specs.Answers.{IsFormatFault, IsPairFault};
+ghost use Rattle.std.specs.Prelude.{◌≡◌, ◌++◌, IfOk, MatchResult, codes, flat_map};
+ghost use Rattle.fmtcanon.specs.Answers.{IsFormatFault, IsPairFault, NeedsMemory};
 ghost use Rattle.fmtcanon.specs.ArgumentLines.{IsFitAnswer, fit_ending, fit_line};
 ghost use Rattle.pf_posix.specs.Laws.{ComparesArgumentTypes, ComparesBeginning};
-ghost use Rattle.fmtcanon.specs.Languages.{Numbered, Unnumbered};
-ghost use Rattle.fmtcanon.specs.Lines.{line};
-ghost use Rattle.fmtcanon.specs.WholeAnswers.{HasWholeCanonicalLine, IsAlikeAnswer, shown_line, whole_ending_of, whole_verdict_lines};
+ghost use Rattle.fmtcanon.specs.Languages.{Unnumbered};
+ghost use Rattle.fmtcanon.specs.Lines.{line, output_bytes};
+ghost use Rattle.fmtcanon.specs.WholeAnswers.{HasWholeArguments, HasWholeCanonicalLine, IsAlikeAnswer, shown_line, whole_ending_of, whole_verdict_lines};
+ghost use Rattle.fmtcanon.specs.declared.questions.PairQuestion.TheVariants.{Fits, FitsFewer, WholeSame};
 
 use crate::answer::{Answer, Ending, with_newline};
-use crate::comparison::types_line;
 use crate::formats::Notation;
+use crate::lines::{Line, Output, directives_line, fits_line, same_line, types_line};
 use crate::outcome::Fault;
-use crate::show_lines::push_decimal;
 use pf_compare::OwnedArg;
 use pf_posix::{fits, fits_fewer};
 use pf_values::Model;
@@ -35,51 +35,51 @@ pub fn whole_canonical_line(
 
 /// Says whether the second format takes just the arguments of the first; otherwise the first index at
 /// which they differ.
-pub fn fit_in(alloc: Global, model: Model, first: &[u8], second: &[u8]) -> Result<Answer, Fault>
+pub fn fit_in(model: Model, first: &[u8], second: &[u8]) -> Result<Answer, Fault>
     ensures { MatchResult result
         (λ answer. IsFitAnswer (ComparesArgumentTypes model first.now second.now)
-        answer.bytes.items answer.ending)
-        (IsPairFault Numbered model first.now second.now) }
+        (output_bytes answer.output) answer.ending)
+        (IsPairFault NeedsMemory Fits model first.now second.now) }
 {
     let index = match fits(model, first, second) {
         Ok(index) => index,
         Err((side, refusal)) => return Err(Fault::refused(Some(side), refusal)),
     };
-    Ok(fit_answer(alloc, index)?)
+    Ok(fit_answer(index))
 }
 
 /// Says whether the second format takes no other arguments than the first, from which it may leave out
 /// the last ones; otherwise the first index at which it takes another.
-pub fn fewer_in(alloc: Global, model: Model, first: &[u8], second: &[u8]) -> Result<Answer, Fault>
+pub fn fewer_in(model: Model, first: &[u8], second: &[u8]) -> Result<Answer, Fault>
     ensures { MatchResult result
         (λ answer. IsFitAnswer (ComparesBeginning model first.now second.now)
-        answer.bytes.items answer.ending)
-        (IsPairFault Numbered model first.now second.now) }
+        (output_bytes answer.output) answer.ending)
+        (IsPairFault NeedsMemory FitsFewer model first.now second.now) }
 {
     let index = match fits_fewer(model, first, second) {
         Ok(index) => index,
         Err((side, refusal)) => return Err(Fault::refused(Some(side), refusal)),
     };
-    Ok(fit_answer(alloc, index)?)
+    Ok(fit_answer(index))
 }
 
 // Returns the answer of the index at which the arguments of two formats differ.
-fn fit_answer(alloc: Global, index: Option<u64>) -> Result<Answer, AllocError>
-    ensures { IfOk result (λ answer. (answer.bytes.items ≡ fit_line index)
-        × (answer.ending ≡ fit_ending index)) }
+fn fit_answer(index: Option<u64>) -> Answer
+    ensures output { output_bytes result.output ≡ fit_line index }
+    ensures ending { result.ending ≡ fit_ending index }
 {
-    Ok(Answer {
-        bytes: fit_line(alloc, index)?,
+    Answer {
+        output: Output::Line(fit_line(index)),
         ending: fit_ending(index),
-    })
+    }
 }
 
-fn fit_line(alloc: Global, index: Option<u64>) -> Result<Vec<u8>, AllocError>
-    ensures { IfOk result (λ out. out.items ≡ fit_line index) }
+fn fit_line(index: Option<u64>) -> Line
+    ensures { result.bytes ≡ fit_line index }
 {
     match index {
-        None => Vec::from_slice(alloc, b"fits\n"),
-        Some(index) => types_line(alloc, index),
+        None => fits_line(),
+        Some(index) => types_line(index),
     }
 }
 
@@ -96,13 +96,14 @@ fn fit_ending(index: Option<u64>) -> Ending
 /// arguments for which they print different bytes.
 pub fn alike_in(alloc: Global, model: Model, first: &[u8], second: &[u8]) -> Result<Answer, Fault>
     ensures { MatchResult result
-        (λ answer. IsAlikeAnswer model first.now second.now answer.bytes.items answer.ending)
-        (IsPairFault Unnumbered model first.now second.now) }
+        (λ answer. IsAlikeAnswer model first.now second.now (output_bytes answer.output)
+        answer.ending)
+        (IsPairFault NeedsMemory WholeSame model first.now second.now) }
 {
     let verdict = compare(alloc, model, first, second)?;
-    let bytes = whole_verdict_lines(alloc, &verdict)?;
+    let output = whole_verdict_lines(alloc, &verdict)?;
     Ok(Answer {
-        bytes,
+        output,
         ending: whole_ending_of(&verdict),
     })
 }
@@ -118,26 +119,17 @@ fn whole_ending_of(verdict: &WholeVerdict) -> Ending
     }
 }
 
-fn whole_verdict_lines(alloc: Global, verdict: &WholeVerdict) -> Result<Vec<u8>, AllocError>
-    ensures { IfOk result (λ out. out.items ≡ whole_verdict_lines verdict.now) }
+// Only arguments that tell two formats apart need memory.
+fn whole_verdict_lines(alloc: Global, verdict: &WholeVerdict) -> Result<Output, AllocError>
+    ensures { MatchResult result (λ out. output_bytes out ≡ whole_verdict_lines verdict.now)
+        (λ _. HasWholeArguments verdict.now) }
 {
     match verdict {
-        WholeVerdict::Same => Vec::from_slice(alloc, b"same\n"),
-        WholeVerdict::Types(index) => types_line(alloc, *index),
-        WholeVerdict::Directives(index) => directives_line(alloc, *index),
-        WholeVerdict::Args(shown) => shown_lines(alloc, shown),
+        WholeVerdict::Same => Ok(Output::Line(same_line())),
+        WholeVerdict::Types(index) => Ok(Output::Line(types_line(*index))),
+        WholeVerdict::Directives(index) => Ok(Output::Line(directives_line(*index))),
+        WholeVerdict::Args(shown) => Ok(Output::Bytes(shown_lines(alloc, shown)?)),
     }
-}
-
-// Returns the line of the first argument with which a call begins that only one of the formats makes.
-fn directives_line(alloc: Global, index: u64) -> Result<Vec<u8>, AllocError>
-    ensures { IfOk result
-        (λ out. out.items ≡ line (codes "directives differ at argument " ++ decimal index)) }
-{
-    let mut out = Vec::from_slice(alloc, b"directives differ at argument ")?;
-    push_decimal(&mut out, index)?;
-    out.push(b'\n')?;
-    Ok(out)
 }
 
 fn shown_lines(alloc: Global, shown: &[Option<OwnedArg>]) -> Result<Vec<u8>, AllocError>

@@ -1,6 +1,6 @@
 use Rattle.std.proofs.Common.{inl, inr, refl, rules, subst, sym}
 use Rattle.fmtcanon.specs.Answers.{IsAnswer}
-use Rattle.fmtcanon.specs.declared.outcome.Outcome.TheVariants.{Written, Failed}
+use Rattle.fmtcanon.specs.Outcomes.{outcome_of_ending, outcome_of_fault}
 use Rattle.fmtcanon.proofs.ReplyLemmas.{reply_added}
 use Rattle.fmtcanon.proofs.replies.Replies.add.Goals as goal
 
@@ -10,11 +10,11 @@ returns-in-Ok c =
     let answer = c.in-Ok.answer in
     let is = subst (λ t. IsAnswer c.args.question.now t answer.ending) (sym c.deref.ensures.value) c.in-Ok.ensures in
     λ asked formats sent replies about h. reply_added asked formats sent replies _ _ h push.written c.args.question.now about c.deref.result.now
-    (Written answer.ending) (inl (answer.ending, is, refl)) c.status.result c.status.ensures.value c.push.result push.bytes push.greatest push.none push.same
+    (outcome_of_ending answer.ending) (inl (answer.ending, is, refl)) c.status.result c.status.ensures.value c.push.result push.bytes push.greatest push.none push.same
 
 pub returns-in_default : goal.returns-in_default
 returns-in_default c =
     let push = c.push-in_default.ensures in
     λ asked formats sent replies about h. reply_added asked formats sent replies _ _ h push.written c.args.question.now about _
-    (Failed c.in-Err.fault) (inr (c.in-Err.fault, c.in-Err.ensures, c.in_default.not-Memory, refl, search rules)) c.status-in_default.result
+    (outcome_of_fault c.in-Err.fault) (inr (c.in-Err.fault, c.in-Err.ensures, c.in_default.not-Memory, refl, search rules)) c.status-in_default.result
     c.status-in_default.ensures.value c.push-in_default.result push.bytes push.greatest push.none push.same

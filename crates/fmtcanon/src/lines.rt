@@ -1,0 +1,82 @@
+//! Lines on the stack, and what an answer is made of.
+ghost use Rattle.std.specs.Prelude.{◌≡◌, ◌≤◌, ◌+◌, ◌++◌, codes, decimal};
+ghost use Rattle.arrayvec.specs.ArrayString.{array_string_len};
+ghost use Rattle.fmtcanon.specs.Lines.{line, output_bytes};
+
+use arrayvec::ArrayString;
+use itoa::Buffer;
+
+/// A line. One of the longest is `second: refused 16 PrecisionUndefined at byte
+/// 18446744073709551615`.
+pub type Line = ArrayString<96>;
+
+/// The bytes of an answer.
+#[derive(Drop)]
+pub enum Output {
+    /// A line on the stack, so that memory can't be refused for it.
+    Line(Line),
+    /// Bytes in memory.
+    Bytes(Vec<u8>),
+}
+
+impl Output {
+    /// Returns the bytes.
+    pub fn as_bytes(&self) -> &[u8]
+        ensures { result.now ≡ output_bytes self.now }
+    {
+        match self {
+            Output::Line(line) => line.as_str().as_bytes(),
+            Output::Bytes(bytes) => bytes.as_slice(),
+        }
+    }
+}
+
+/// Adds the decimal digits of a number.
+pub fn push_number(line: &mut Line, number: u64)
+    requires { array_string_len line.old + 20 ≤ 96 }
+    ensures bytes { line.new.bytes ≡ line.old.bytes ++ decimal number }
+    ensures len { array_string_len line.new ≤ array_string_len line.old + 20 }
+{
+    let mut digits = Buffer::new();
+    line.push_str(digits.format(number));
+}
+
+/// Returns the line of the first argument at which types differ.
+pub fn types_line(index: u64) -> Line
+    ensures { result.bytes ≡ line (codes "types differ at argument " ++ decimal index) }
+{
+    let mut line = Line::new();
+    line.push_str("types differ at argument ");
+    push_number(&mut line, index);
+    line.push_str("\n");
+    line
+}
+
+/// Returns the line of the first argument with which a call begins that only one of the formats makes.
+pub fn directives_line(index: u64) -> Line
+    ensures { result.bytes ≡ line (codes "directives differ at argument " ++ decimal index) }
+{
+    let mut line = Line::new();
+    line.push_str("directives differ at argument ");
+    push_number(&mut line, index);
+    line.push_str("\n");
+    line
+}
+
+/// Returns the line that says that two formats are the same.
+pub fn same_line() -> Line
+    ensures { result.bytes ≡ line (codes "same") }
+{
+    let mut line = Line::new();
+    line.push_str("same\n");
+    line
+}
+
+/// Returns the line that says that the second format takes the arguments of the first.
+pub fn fits_line() -> Line
+    ensures { result.bytes ≡ line (codes "fits") }
+{
+    let mut line = Line::new();
+    line.push_str("fits\n");
+    line
+}
