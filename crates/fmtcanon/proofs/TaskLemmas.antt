@@ -12,7 +12,7 @@ use Rattle.fmtcanon.specs.declared.questions.Question.TheVariants.{One, Two}
 use Rattle.fmtcanon.specs.declared.questions.RecordQuestion.{RecordQuestion}
 use Rattle.fmtcanon.specs.declared.questions.RecordQuestion.TheVariants as of_records
 use Rattle.fmtcanon.specs.declared.task.NoTask.{NoTask}
-use Rattle.fmtcanon.specs.declared.task.NoTask.TheVariants.{Usage, Misplaced, Memory}
+use Rattle.fmtcanon.specs.declared.task.NoTask.TheVariants.{Usage, Missing, Misplaced, Memory}
 use Rattle.fmtcanon.specs.declared.task.Task.{Task}
 use Rattle.fmtcanon.specs.declared.task.Task.TheVariants.{Answer, Records, Stream}
 
@@ -28,6 +28,7 @@ module _ (command : Text) (rows : List Row) (asked : RecordQuestion) (is : IsAsk
   asks (Stream model) h words names = absurd h
 
   lacks : (fault : NoTask) → IsNoTaskOn asked rows fault → (words : List Text) → Names words command rows → IsNoTaskOf words fault
+  lacks Missing h words names = (command, rows, names, asked, is, h)
   lacks Misplaced h words names = (command, rows, names, asked, is, h)
   lacks (Usage message) h words names = absurd h
   lacks Memory h words names = absurd h

@@ -5,7 +5,7 @@ use Rattle.fmtcanon.specs.declared.answer.Ending.TheVariants as endings
 use Rattle.fmtcanon.specs.declared.outcome.Fault.{Fault}
 use Rattle.fmtcanon.specs.declared.outcome.Fault.TheVariants as faults
 use Rattle.fmtcanon.specs.declared.outcome.Outcome.{Outcome}
-use Rattle.fmtcanon.specs.declared.outcome.Outcome.TheVariants.{Done, Same, Different, Answered, Refused, BadLiteral, BadWord, WrongCount, WrongType, Memory, NoSecond, Usage, Misplaced, Read, Write}
+use Rattle.fmtcanon.specs.declared.outcome.Outcome.TheVariants.{Done, Same, Different, Answered, Refused, BadLiteral, BadWord, WrongCount, WrongType, Memory, NoSecond, Usage, Missing, Misplaced, Read, Write}
 
 -- the outcome of a run that writes all of an answer
 abbrev pub outcome_of_ending : Ending → Outcome
@@ -37,6 +37,7 @@ status_of (WrongCount wanted given) = 3
 status_of (WrongType index) = 3
 status_of NoSecond = 3
 status_of (Usage text) = 3
+status_of Missing = 3
 status_of Misplaced = 3
 status_of Memory = 4
 status_of Read = 4

@@ -12,7 +12,7 @@ use Rattle.pf_text.specs.declared.refusals.Side.TheVariants as sides
 use Rattle.fmtcanon.specs.Lines.{line}
 use Rattle.fmtcanon.specs.declared.outcome.Fault.{Fault}
 use Rattle.fmtcanon.specs.declared.outcome.Outcome.{Outcome}
-use Rattle.fmtcanon.specs.declared.outcome.Outcome.TheVariants.{Done, Same, Different, Answered, Refused, BadLiteral, BadWord, WrongCount, WrongType, Memory, NoSecond, Usage, Misplaced, Read, Write}
+use Rattle.fmtcanon.specs.declared.outcome.Outcome.TheVariants.{Done, Same, Different, Answered, Refused, BadLiteral, BadWord, WrongCount, WrongType, Memory, NoSecond, Usage, Missing, Misplaced, Read, Write}
 use Rattle.fmtcanon.specs.Outcomes.{outcome_of_fault}
 
 -- which format is refused, where there are two
@@ -52,8 +52,10 @@ report_text (WrongType index) =
 report_text Memory = line (codes "out of memory")
 report_text NoSecond = line (codes "a second format is wanted")
 report_text (Usage text) = string_bytes text
+report_text Missing =
+    codes "error: a format is missing; give it as an argument, or use '--null'\n\nFor more information, try '--help'.\n"
 report_text Misplaced =
-    codes "error: give the formats as arguments or use '--null', but not both\n\nFor more information, try '--help'.\n"
+    codes "error: '--null' takes no formats as arguments\n\nFor more information, try '--help'.\n"
 report_text Read = line (codes "read failed")
 report_text (Write written) = line (codes "write failed")
 

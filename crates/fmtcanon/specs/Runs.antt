@@ -11,7 +11,7 @@ use Rattle.fmtcanon.specs.Tasks.{Asks, IsNoTaskOf}
 use Rattle.fmtcanon.specs.declared.answer.Ending.{Ending}
 use Rattle.fmtcanon.specs.declared.outcome.Fault.{Fault}
 use Rattle.fmtcanon.specs.declared.outcome.Outcome.{Outcome}
-use Rattle.fmtcanon.specs.declared.outcome.Outcome.TheVariants.{Memory, Misplaced, Usage, Write}
+use Rattle.fmtcanon.specs.declared.outcome.Outcome.TheVariants.{Memory, Misplaced, Missing, Usage, Write}
 use Rattle.fmtcanon.specs.declared.task.NoTask.{NoTask}
 use Rattle.fmtcanon.specs.declared.task.NoTask.TheVariants as reasons
 use Rattle.fmtcanon.specs.declared.questions.Question.{Question}
@@ -84,6 +84,7 @@ module _ {R W : Type 0} (remaining : R → Known) (contents : W → Known)
   abbrev pub NoTaskEnds : NoTask → Outcome → Type 0
   NoTaskEnds (reasons.Usage text) outcome =
       (outcome ≡ Usage text) × CallsNeither reader left old new
+  NoTaskEnds reasons.Missing outcome = (outcome ≡ Missing) × CallsNeither reader left old new
   NoTaskEnds reasons.Misplaced outcome = (outcome ≡ Misplaced) × CallsNeither reader left old new
   NoTaskEnds reasons.Memory outcome = (outcome ≡ Memory) × CallsNeither reader left old new
 

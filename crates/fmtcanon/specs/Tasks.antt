@@ -8,7 +8,7 @@ use Rattle.clap.specs.declared.error.kind.ErrorKind.{ErrorKind}
 use Rattle.clap.specs.declared.error.kind.ErrorKind.TheVariants as kind
 use Rattle.pf_values.specs.meaning.Text.{Text}
 use Rattle.fmtcanon.specs.declared.task.NoTask.{NoTask}
-use Rattle.fmtcanon.specs.declared.task.NoTask.TheVariants.{Usage, Misplaced, Memory}
+use Rattle.fmtcanon.specs.declared.task.NoTask.TheVariants.{Usage, Missing, Misplaced, Memory}
 use Rattle.fmtcanon.specs.declared.task.Task.{Task}
 use Rattle.fmtcanon.specs.declared.task.Task.TheVariants.{Answer, Records, Stream}
 use Rattle.fmtcanon.specs.declared.questions.OneQuestion.TheVariants.{Any, Printed}
@@ -77,22 +77,26 @@ HasFault words =
     (app : App) × IsCommand app × (k : ErrorKind) × (k ≢ kind.OutOfMemory)
     × IsAmong k (fault_of app words)
 
--- the words have a wrong number of formats: some beside `--null`, or not as many as are wanted
+-- not as many formats are among the words as are wanted, and `--null` isn't
+abbrev pub IsMissing : RecordQuestion → List Row → Type 0
+IsMissing asked rows = (is_null rows ≡ false) × (length (formats_in rows) ≢ formats_wanted asked)
+
+-- formats are among the words besides `--null`
 abbrev pub IsMisplaced : RecordQuestion → List Row → Type 0
-IsMisplaced asked rows =
-    length (formats_in rows) ≢ (if is_null rows then 0 else formats_wanted asked)
+IsMisplaced asked rows = (is_null rows ≡ true) × (length (formats_in rows) ≢ 0)
 
--- the words name a command about formats, which are missing or misplaced
-abbrev pub MisplacesFormats : List Text → Type 0
-MisplacesFormats words =
+-- the words name a command about formats, of which this holds
+abbrev pub NameFormats : (RecordQuestion → List Row → Type 0) → List Text → Type 0
+NameFormats Holds words =
     (command : Text) × (rows : List Row) × Names words command rows
-    × (asked : RecordQuestion) × IsAsked command rows asked × IsMisplaced asked rows
+    × (asked : RecordQuestion) × IsAsked command rows asked × Holds asked rows
 
--- Why the words have no task. Clap finds a fault in them, and doesn't take them; or formats are missing
+-- Why the words have no task. Clap finds a fault in them, and doesn't take them; or a format is missing,
 -- or misplaced; or memory was refused, which may happen with any words.
 abbrev pub IsNoTaskOf : List Text → NoTask → Type 0
 IsNoTaskOf words (Usage message) = (¬ IsTaken words) × HasFault words
-IsNoTaskOf words Misplaced = MisplacesFormats words
+IsNoTaskOf words Missing = NameFormats IsMissing words
+IsNoTaskOf words Misplaced = NameFormats IsMisplaced words
 IsNoTaskOf words Memory = ⊤
 
 -- the task of a command that asks this about formats
@@ -103,13 +107,15 @@ IsTaskOn asked rows (Records of_each) =
     (of_each ≡ asked) × (is_null rows ≡ true) × (formats_in rows ≡ [])
 IsTaskOn asked rows (Stream model) = ⊥
 
--- why it has none: formats are misplaced, which takes no memory to say
+-- why it has none: a format is missing or misplaced, which takes no memory to say
 abbrev pub IsNoTaskOn : RecordQuestion → List Row → NoTask → Type 0
+IsNoTaskOn asked rows Missing = IsMissing asked rows
 IsNoTaskOn asked rows Misplaced = IsMisplaced asked rows
 IsNoTaskOn asked rows _ = ⊥
 
 -- that memory was refused is answered as such, and may be answered for anything else
 abbrev pub IsAnsweredBy : ErrorKind → NoTask → Type 0
 IsAnsweredBy k (Usage message) = k ≢ kind.OutOfMemory
+IsAnsweredBy k Missing = ⊥
 IsAnsweredBy k Misplaced = ⊥
 IsAnsweredBy k Memory = ⊤

@@ -40,6 +40,8 @@ pub struct Row<'a> {
     pub shape: Shape,
     /// The names of data models that `--model` accepts.
     pub models: &'a [&'a str],
+    /// What these are.
+    pub model_help: &'a str,
 }
 
 /// The command, as `clap` sees it.
@@ -65,13 +67,15 @@ fn definition_with<'a>(
             below: TYPES_HELP,
             shape: Shape::WholeRecords,
             models: one,
+            model_help: MODEL_HELP,
         },
         Row {
             name: "canon",
-            about: "Prints the canonical text, which all formats of the same meaning share",
+            about: "Prints the canonical text, which all formats of one meaning share",
             below: CANON_HELP,
             shape: Shape::WholeRecords,
             models: one,
+            model_help: MODEL_HELP,
         },
         Row {
             name: "show",
@@ -79,6 +83,7 @@ fn definition_with<'a>(
             below: SHOW_HELP,
             shape: Shape::Records,
             models: one,
+            model_help: MODEL_HELP,
         },
         Row {
             name: "format",
@@ -86,27 +91,31 @@ fn definition_with<'a>(
             below: FORMAT_HELP,
             shape: Shape::Format,
             models: one,
+            model_help: MODEL_HELP,
         },
         Row {
             name: "bounds",
-            about: "Prints the smallest and the largest number of bytes that a format prints",
+            about: "Prints how many bytes a format prints at least and at most",
             below: BOUNDS_HELP,
             shape: Shape::Records,
             models: one,
+            model_help: MODEL_HELP,
         },
         Row {
             name: "same",
-            about: "Says whether two formats are interchangeable, and if not, how they differ",
+            about: "Says whether two formats are interchangeable, or how they differ",
             below: SAME_HELP,
             shape: Shape::WholePairs,
             models: more,
+            model_help: MODELS_HELP,
         },
         Row {
             name: "fits",
-            about: "Says whether one format takes the arguments of another, as a translation must",
+            about: "Says whether one format takes the arguments of another",
             below: FITS_HELP,
             shape: Shape::FewerPairs,
             models: more,
+            model_help: MODELS_HELP,
         },
         Row {
             name: "stream",
@@ -114,6 +123,7 @@ fn definition_with<'a>(
             below: STREAM_HELP,
             shape: Shape::Nothing,
             models: one,
+            model_help: MODEL_HELP,
         },
     ];
     with_subcommands(alloc, &rows)
@@ -135,9 +145,7 @@ fn top<'a>(alloc: Global) -> Result<Command<'a>, AllocError>
     ensures { IfOk result (λ command. app_of command ≡ top_app) }
 {
     Command::new(alloc, "fmtcanon")
-        .about(
-            "Reads printf formats: canonical texts, argument types, and whether two are interchangeable",
-        )
+        .about("Reads printf formats: canonical texts, argument types, interchangeability")
         .version("1.0.0")
         .after_help(PROGRAM_HELP)
         .no_binary_name(true)
@@ -145,6 +153,17 @@ fn top<'a>(alloc: Global) -> Result<Command<'a>, AllocError>
         .disable_help_subcommand(true)
         .bin_name("fmtcanon")
 }
+
+// The data models.
+const MODEL_HELP: &str = "\
+Data model: lp64 (64-bit Unix; the default), ilp32
+(32 bits) or llp64 (64-bit Windows)";
+
+// The data models, one or more.
+const MODELS_HELP: &str = "\
+Data model: lp64 (64-bit Unix; the default), ilp32
+(32 bits) or llp64 (64-bit Windows); `both` is the first
+two, and `all` is the three";
 
 // Below the help of the program.
 const PROGRAM_HELP: &str = "\
@@ -157,11 +176,11 @@ Exit status:
   0  success; same: the formats are interchangeable; fits: the types agree
   1  same: the types or the bytes differ; fits: the types differ
   2  a format is rejected
-  3  usage error, invalid argument, or an unpaired record; also --help and --version
+  3  usage error, invalid argument or unpaired record; --help and --version
   4  a read or write failed, or out of memory
 
-The manual page fmtcanon(1) and docs/REFUSALS.md list the reasons for a rejection, and what to write
-instead.";
+fmtcanon-explain(1) and fmtcanon(1) say why a format is rejected, and what to
+write instead.";
 
 // Below the help of `types`.
 const TYPES_HELP: &str = "\
@@ -172,14 +191,17 @@ Example:
 
 If a format starts with `-`, put `--` before it: fmtcanon types -- '-%i'
 
---whole accepts `*`, floating conversions, wide characters, %p, %n and numbered arguments, too.
+--whole accepts `*`, floating conversions, wide characters, %p, %n and numbered
+arguments, too.
 
-With --null, formats are read from standard input, each terminated by NUL. Each reply is a status
-digit, a space, the output or the error line, and NUL. The exit status is the highest of them.
+With --null, formats are read from standard input, each ended by NUL. Each
+reply is a status digit, a space, the output or the error line, and NUL. The
+exit status is the highest of them.
 
-Exit status: 0 success, 2 rejected, 3 usage error, 4 a write failed or out of memory
-The manual page fmtcanon(1) and docs/REFUSALS.md list the reasons for a rejection, and what to write
-instead.";
+Exit status: 0 success, 2 rejected, 3 usage error, 4 a write failed or out of
+memory
+fmtcanon-explain(1) and fmtcanon(1) say why a format is rejected, and what to
+write instead.";
 
 // Below the help of `canon`.
 const CANON_HELP: &str = "\
@@ -191,14 +213,17 @@ Example:
 
 If a format starts with `-`, put `--` before it: fmtcanon canon -- '-%i'
 
---whole accepts `*`, floating conversions, wide characters, %p and %n, too, but no numbered arguments.
+--whole accepts `*`, floating conversions, wide characters, %p and %n, too, but
+no numbered arguments.
 
-With --null, formats are read from standard input, each terminated by NUL. Each reply is a status
-digit, a space, the output or the error line, and NUL. The exit status is the highest of them.
+With --null, formats are read from standard input, each ended by NUL. Each
+reply is a status digit, a space, the output or the error line, and NUL. The
+exit status is the highest of them.
 
-Exit status: 0 success, 2 rejected, 3 usage error, 4 a write failed or out of memory
-The manual page fmtcanon(1) and docs/REFUSALS.md list the reasons for a rejection, and what to write
-instead.";
+Exit status: 0 success, 2 rejected, 3 usage error, 4 a write failed or out of
+memory
+fmtcanon-explain(1) and fmtcanon(1) say why a format is rejected, and what to
+write instead.";
 
 // Below the help of `show`.
 const SHOW_HELP: &str = "\
@@ -208,15 +233,18 @@ Example:
 
 If a format starts with `-`, put `--` before it: fmtcanon show -- '-%i'
 
-A line `directive F: TYPE: SPACES ZEROS CORE TRAIL` means: for every argument, F prints that many
-spaces, that many zeros, what CORE prints, and that many spaces.
+A line `directive F: TYPE: SPACES ZEROS CORE TRAIL` means: for every argument,
+F prints that many spaces, that many zeros, what CORE prints, and that many
+spaces.
 
-With --null, formats are read from standard input, each terminated by NUL. Each reply is a status
-digit, a space, the output or the error line, and NUL. The exit status is the highest of them.
+With --null, formats are read from standard input, each ended by NUL. Each
+reply is a status digit, a space, the output or the error line, and NUL. The
+exit status is the highest of them.
 
-Exit status: 0 success, 2 rejected, 3 usage error, 4 a write failed or out of memory
-The manual page fmtcanon(1) and docs/REFUSALS.md list the reasons for a rejection, and what to write
-instead.";
+Exit status: 0 success, 2 rejected, 3 usage error, 4 a write failed or out of
+memory
+fmtcanon-explain(1) and fmtcanon(1) say why a format is rejected, and what to
+write instead.";
 
 // Below the help of `format`.
 const FORMAT_HELP: &str = "\
@@ -226,10 +254,10 @@ Example:
 If a format starts with `-`, put `--` before it: fmtcanon format -- '-%i' n:5
 A negative number is n:-5, and needs no `--`.
 
-Exit status: 0 success, 2 rejected, 3 usage error or invalid argument, 4 a write failed or out of
-memory
-The manual page fmtcanon(1) and docs/REFUSALS.md list the reasons for a rejection, and what to write
-instead.";
+Exit status: 0 success, 2 rejected, 3 usage error or invalid argument, 4 a
+write failed or out of memory
+fmtcanon-explain(1) and fmtcanon(1) say why a format is rejected, and what to
+write instead.";
 
 // Below the help of `bounds`.
 const BOUNDS_HELP: &str = "\
@@ -240,15 +268,18 @@ Example:
 
 If a format starts with `-`, put `--` before it: fmtcanon bounds -- '-%i'
 
-The numbers are exact. They cover all arguments of the format's types, and don't count the NUL that
-sprintf adds. If there is no largest number, as with a `%s` without a precision, it prints `unbounded`.
+The numbers are exact. They cover all arguments of the format's types, and
+don't count the NUL that sprintf adds. If there is no largest number, as with a
+`%s` without a precision, it prints `unbounded`.
 
-With --null, formats are read from standard input, each terminated by NUL. Each reply is a status
-digit, a space, the output or the error line, and NUL. The exit status is the highest of them.
+With --null, formats are read from standard input, each ended by NUL. Each
+reply is a status digit, a space, the output or the error line, and NUL. The
+exit status is the highest of them.
 
-Exit status: 0 success, 2 rejected, 3 usage error, 4 a write failed or out of memory
-The manual page fmtcanon(1) and docs/REFUSALS.md list the reasons for a rejection, and what to write
-instead.";
+Exit status: 0 success, 2 rejected, 3 usage error, 4 a write failed or out of
+memory
+fmtcanon-explain(1) and fmtcanon(1) say why a format is rejected, and what to
+write instead.";
 
 // Below the help of `same`.
 const SAME_HELP: &str = "\
@@ -260,21 +291,22 @@ Example:
 
 If a format starts with `-`, put `--` before it: fmtcanon same -- '-%i' '-%d'
 
-If the bytes differ, it prints arguments that show it, one per line, as `format` takes them. Arguments
-count from 0.
+If the bytes differ, it prints arguments that show it, one per line, as
+`format` takes them. Arguments count from 0.
 
---whole accepts `*`, floating conversions, wide characters, %p and %n, too, but no numbered arguments.
-What these print depends on the C library. So `directives differ` says where only one of the formats
-has such a directive, and `any` is an argument of one of them.
+--whole accepts `*`, floating conversions, wide characters, %p and %n, too, but
+no numbered arguments. What these print depends on the C library. So
+`directives differ` says where only one of the formats has such a directive,
+and `any` is an argument of one of them.
 
-With --null, pairs of formats are read from standard input, each format terminated by NUL. Each reply
-is a status digit, a space, the output or the error line, and NUL. The exit status is the highest of
-them.
+With --null, pairs of formats are read from standard input, each format ended
+by NUL. Each reply is a status digit, a space, the output or the error line,
+and NUL. The exit status is the highest of them.
 
-Exit status: 0 same, 1 different, 2 one of them is rejected, 3 usage error or an unpaired record, 4 a
-read or write failed or out of memory
-The manual page fmtcanon(1) and docs/REFUSALS.md list the reasons for a rejection, and what to write
-instead.";
+Exit status: 0 same, 1 different, 2 one of them is rejected, 3 usage error or
+an unpaired record, 4 a read or write failed or out of memory
+fmtcanon-explain(1) and fmtcanon(1) say why a format is rejected, and what to
+write instead.";
 
 // Below the help of `fits`.
 const FITS_HELP: &str = "\
@@ -286,29 +318,30 @@ Example:
 
 If a format starts with `-`, put `--` before it: fmtcanon fits -- '-%d' '-%i'
 
-It accepts the whole language, and compares the types of arguments only. `same` also compares the
-bytes.
+It accepts the whole language, and compares the types of arguments only. `same`
+also compares the bytes. Arguments count from 0.
 
-With --fewer, G may also take only the first of the arguments of F, since printf ignores arguments that
-are left over.
+With --fewer, G may also take only the first of the arguments of F, since
+printf ignores arguments that are left over.
 
-With --null, pairs of formats are read from standard input, each format terminated by NUL. Each reply
-is a status digit, a space, the output or the error line, and NUL. The exit status is the highest of
-them.
+With --null, pairs of formats are read from standard input, each format ended
+by NUL. Each reply is a status digit, a space, the output or the error line,
+and NUL. The exit status is the highest of them.
 
-Exit status: 0 fits, 1 the types differ, 2 one of them is rejected, 3 usage error or an unpaired
-record, 4 a read or write failed or out of memory
-The manual page fmtcanon(1) and docs/REFUSALS.md list the reasons for a rejection, and what to write
-instead.";
+Exit status: 0 fits, 1 the types differ, 2 one of them is rejected, 3 usage
+error or an unpaired record, 4 a read or write failed or out of memory
+fmtcanon-explain(1) and fmtcanon(1) say why a format is rejected, and what to
+write instead.";
 
 // Below the help of `stream`.
 const STREAM_HELP: &str = "\
 Example:
   printf %s 'Total: %i' | fmtcanon stream
 
-It writes as it reads, so bytes may already be on standard output when the format is rejected. A
-format that starts with `-` needs no `--`.
+It writes as it reads, so bytes may already be on standard output when the
+format is rejected. A format that starts with `-` needs no `--`.
 
-Exit status: 0 success, 2 rejected, 3 usage error, 4 a read or write failed or out of memory
-The manual page fmtcanon(1) and docs/REFUSALS.md list the reasons for a rejection, and what to write
-instead.";
+Exit status: 0 success, 2 rejected, 3 usage error, 4 a read or write failed or
+out of memory
+fmtcanon-explain(1) and fmtcanon(1) say why a format is rejected, and what to
+write instead.";

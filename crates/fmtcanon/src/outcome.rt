@@ -63,7 +63,9 @@ pub enum Outcome {
     NoSecond,
     /// The arguments are not a command, or ask for help; this is the text of `clap`.
     Usage(String),
-    /// Formats are missing, or given besides the option `--null`, and nothing was written.
+    /// A format is missing, and nothing was written.
+    Missing,
+    /// Formats are given besides the option `--null`, and nothing was written.
     Misplaced,
     /// A read failed.
     Read,
@@ -84,7 +86,7 @@ impl Outcome {
             Outcome::Answered(status) => *status,
             Outcome::Refused { .. } | Outcome::BadLiteral { .. } => 2,
             Outcome::BadWord(_) | Outcome::WrongCount { .. } | Outcome::WrongType(_) => 3,
-            Outcome::NoSecond | Outcome::Usage(_) | Outcome::Misplaced => 3,
+            Outcome::NoSecond | Outcome::Usage(_) | Outcome::Missing | Outcome::Misplaced => 3,
             Outcome::Memory | Outcome::Read | Outcome::Write(_) => 4,
         }
     }
@@ -249,9 +251,13 @@ fn write_report<E: Write>(outcome: &Outcome, errors: &mut Counted<E>) -> Result<
         Outcome::Memory => write_line(errors, &memory_line()),
         Outcome::NoSecond => write_bytes(errors, b"a second format is wanted\n"),
         Outcome::Usage(text) => write_bytes(errors, text.as_bytes()),
+        Outcome::Missing => write_bytes(
+            errors,
+            b"error: a format is missing; give it as an argument, or use '--null'\n\nFor more information, try '--help'.\n",
+        ),
         Outcome::Misplaced => write_bytes(
             errors,
-            b"error: give the formats as arguments or use '--null', but not both\n\nFor more information, try '--help'.\n",
+            b"error: '--null' takes no formats as arguments\n\nFor more information, try '--help'.\n",
         ),
         Outcome::Read => write_bytes(errors, b"read failed\n"),
         Outcome::Write(_) => write_bytes(errors, b"write failed\n"),

@@ -58,6 +58,7 @@ fn run_found<R: Read, W: Write, I: Input<R, W>>(
         Ok(Task::Records(asked)) => answer_records(alloc, asked, input, writer),
         Ok(Task::Stream(model)) => copy(model, input, writer),
         Err(NoTask::Usage(text)) => Outcome::Usage(text),
+        Err(NoTask::Missing) => Outcome::Missing,
         Err(NoTask::Misplaced) => Outcome::Misplaced,
         Err(NoTask::Memory) => Outcome::Memory,
     }

@@ -35,7 +35,9 @@ fn on_nothing<'a>(alloc: Global, row: &Row<'a>) -> Result<Command<'a>, AllocErro
         .value_name("MODEL")
         .default_value("lp64")
         .value_parser(row.models)
-        .help("The data model");
+        .hide_default_value(true)
+        .hide_possible_values(true)
+        .help(row.model_help);
     Command::new(alloc, row.name)
         .about(row.about)
         .after_help(row.below)
@@ -51,7 +53,7 @@ fn on_literals<'a>(alloc: Global, row: &Row<'a>) -> Result<Command<'a>, AllocErr
     let option = Arg::new(alloc, "literal")
         .long("literal")
         .action(ArgAction::SetTrue)
-        .help("Formats are string literals of C source, with their quotes");
+        .help("Formats are C string literals, with their quotes");
     on_nothing(alloc, row)?.arg(option)
 }
 
@@ -75,8 +77,8 @@ fn on_records<'a>(alloc: Global, row: &Row<'a>) -> Result<Command<'a>, AllocErro
         .long("null")
         .short('z')
         .action(ArgAction::SetTrue)
-        .help("Reads formats from standard input, each terminated by NUL");
-    let format = Arg::new(alloc, "F").help("A printf format");
+        .help("Reads formats from standard input, each ended by NUL");
+    let format = Arg::new(alloc, "F").help("A printf format; required without --null");
     on_literals(alloc, row)?.arg(null)?.arg(format)
 }
 
@@ -86,7 +88,7 @@ fn on_pairs<'a>(alloc: Global, row: &Row<'a>) -> Result<Command<'a>, AllocError>
         (λ command. (app_of command ≡ on_pairs (row_of row.now).name (row_of row.now).models)
         × ((fields_of command).has_globals ≡ false)) }
 {
-    let format = Arg::new(alloc, "G").help("Another printf format");
+    let format = Arg::new(alloc, "G").help("Another printf format; required without --null");
     on_records(alloc, row)?.arg(format)
 }
 
@@ -100,7 +102,7 @@ fn taking_whole<'a>(alloc: Global, command: Command<'a>) -> Result<Command<'a>, 
         alloc,
         command,
         "whole",
-        "Accepts the whole language of printf",
+        "Also accepts %f, %p, %n, %ls and *, as below",
     )
 }
 

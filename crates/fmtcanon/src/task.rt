@@ -33,7 +33,9 @@ pub enum Task<'a> {
 pub enum NoTask {
     /// What is wrong with the words, or what `clap` answers in place of a command, help included.
     Usage(String),
-    /// Formats are missing, or given besides the option `--null`.
+    /// A format is missing.
+    Missing,
+    /// Formats are given besides the option `--null`.
     Misplaced,
     /// A growth was refused.
     Memory,
@@ -98,7 +100,7 @@ fn formats_task<'a>(inner: &ArgMatches<'a>, asked: RecordQuestion) -> Result<Tas
     }
     match question_in(inner, asked) {
         Some(question) => Ok(Task::Answer(question)),
-        None => Err(NoTask::Misplaced),
+        None => Err(NoTask::Missing),
     }
 }
 

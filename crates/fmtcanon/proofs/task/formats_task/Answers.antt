@@ -1,9 +1,6 @@
-use Rattle.std.proofs.Common.{◌≢◌, Bool, Option, codes, length, refl, subst, sym}
-use Rattle.std.specs.Prelude.{if◌then◌else◌}
+use Rattle.std.proofs.Common.{Option, codes, refl, sym}
 use Rattle.pf_values.specs.meaning.Text.{Text}
-use Rattle.fmtcanon.specs.Questions.{formats_wanted}
 use Rattle.fmtcanon.specs.Options.{rows_in}
-use Rattle.fmtcanon.specs.Tasks.{formats_in}
 use Rattle.fmtcanon.proofs.TaskLemmas.{none_there, some_there}
 use Rattle.fmtcanon.proofs.command_line.ModelLemmas.{value_of_row}
 use Rattle.fmtcanon.proofs.task.formats_task.Goals as goal
@@ -23,4 +20,4 @@ pub returns-in-Some-clause-err : goal.returns-in-Some-clause-err
 returns-in-Some-clause-err c =
     let rows = rows_in c.args.inner.now in
     let there = some_there rows c.in-Some.field-0.now (value_of_row same (codes "F") c.args.inner.now c.get_str.result _ c.get_str.ensures c.in-Some.is) in
-    (subst (λ (b : Bool). length (formats_in rows) ≢ (if b then 0 else formats_wanted c.args.asked)) c.if-is_set.ensures there)
+    (sym c.if-is_set.ensures, there)

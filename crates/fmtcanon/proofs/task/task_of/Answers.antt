@@ -14,7 +14,7 @@ use Rattle.fmtcanon.specs.Words.{IsCommand}
 use Rattle.fmtcanon.specs.Options.{rows_in}
 use Rattle.fmtcanon.specs.Tasks.{IsAnsweredBy, IsNoTaskOf, Names}
 use Rattle.fmtcanon.specs.declared.task.NoTask.{NoTask}
-use Rattle.fmtcanon.specs.declared.task.NoTask.TheVariants.{Usage, Misplaced, Memory}
+use Rattle.fmtcanon.specs.declared.task.NoTask.TheVariants.{Usage, Missing, Misplaced, Memory}
 use Rattle.fmtcanon.proofs.command_line.WordLemmas.{free_command, simple_command, subcommand_given}
 use Rattle.std.proofs.lemmas.Result.{IfErr-weaker, IfOk-weaker}
 use Rattle.fmtcanon.proofs.task.task_of.Goals as goal
@@ -22,6 +22,7 @@ use Rattle.fmtcanon.proofs.task.task_of.Goals as goal
 answered : (app : App) (words : List Text) (k : ErrorKind) (r : NoTask) → IsCommand app → (takes app words ≡ true → k ≡ kind.OutOfMemory)
     → (k ≡ kind.OutOfMemory) ⊎ IsAmong k (fault_of app words) → IsAnsweredBy k r → IsNoTaskOf words r
 answered app words k (Usage m) is f g h = (λ taken. h (f (taken app is)), (app, is, k, h, elim g [ inl none ↦ absurd (h none) | inr among ↦ among ]))
+answered app words k Missing is f g h = absurd h
 answered app words k Misplaced is f g h = absurd h
 answered app words k Memory is f g h = tt
 
