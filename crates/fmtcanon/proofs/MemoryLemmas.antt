@@ -47,7 +47,7 @@ module _ (model : Model) (first second : Text) where
         λ alike. subst HasArguments (sym is ∙ h.same.1 alike) has,
       )
 
-  IsDifferent : answers.WholeVerdict → Type 0
+  abbrev IsDifferent : answers.WholeVerdict → Type 0
   IsDifferent (answers.Different shown) = ⊤
   IsDifferent _ = ⊥
 
