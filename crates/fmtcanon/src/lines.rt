@@ -32,7 +32,7 @@ impl Output {
 }
 
 /// Adds the decimal digits of a number.
-pub fn push_number(line: &mut Line, number: u64)
+pub(crate) fn push_number(line: &mut Line, number: u64)
     requires { array_string_len line.old + 20 ≤ 96 }
     ensures bytes { line.new.bytes ≡ line.old.bytes ++ decimal number }
     ensures len { array_string_len line.new ≤ array_string_len line.old + 20 }

@@ -1,5 +1,9 @@
 //! The program: it runs the command of its words over the standard streams.
 #![tactic(auto)]
+ghost use Rattle.std.specs.Prelude.{◌≡◌};
+ghost use Rattle.std.specs.Process.{exit_status};
+ghost use Rattle.fmtcanon.specs.Outcomes.{status_of};
+ghost use Rattle.fmtcanon.specs.Reports.{WritesReport, report_text};
 
 mod answer;
 mod arguments;
@@ -29,7 +33,7 @@ use outcome::{Outcome, report};
 use pf_values::Counted;
 use run::run;
 use std::alloc::AllocError;
-use std::io::{BufReader, BufWriter, ErrorKind};
+use std::io::{BufReader, BufWriter, ErrorKind, Write};
 use std::process::ExitCode;
 use std::{env, io};
 
@@ -38,7 +42,15 @@ fn main(rt: HostRuntime) -> ExitCode {
         Ok(outcome) => outcome,
         Err(AllocError) => Outcome::Memory,
     };
-    report(&outcome, &mut Counted::new(rt.stderr()));
+    end(&outcome, &mut Counted::new(rt.stderr()))
+}
+
+// Reports an outcome, and returns the status with which the process ends.
+fn end<E: Write>(outcome: &Outcome, errors: &mut Counted<E>) -> ExitCode
+    ensures status { exit_status result ≡ status_of outcome.now }
+    ensures report { WritesReport E.contents errors.old errors.new (report_text outcome.now) }
+{
+    report(outcome, errors);
     ExitCode::from(outcome.status())
 }
 
