@@ -162,7 +162,7 @@ def tested_counts():
     yield r"(\d+) ways to fail take turns", [len(short_streams.STEPS) * len(short_streams.FAULTS)]
     yield r"what gcc's programs print \| (\d+) \|", [len(changes.CHANGES)]
     left = {name for name, _, _ in replacing.LEFT}
-    yield r"programs that would print something else, (\d+) of which it can't see \| (\d+) \|", [
+    yield r"programs that would print something else, (\d+) that it can't see \| (\d+) \|", [
         len(replacing.NOT_SEEN),
         len(left) + len(replacing.NOT_SEEN),
     ]
@@ -313,7 +313,7 @@ def documents():
 
 
 def repository_paths():
-    """Each file and folder of the repository, but for what is made."""
+    """Each file and folder of the repository, except what is made."""
     for path in TOP.rglob("*"):
         inside = path.relative_to(TOP)
         if not {"out", ".git", "__pycache__"} & set(inside.parts):
@@ -428,7 +428,7 @@ def try_edits(trials):
 
 
 def try_definitions(trials):
-    """No name is defined in the specs/ of two crates, but for a few with a reason each."""
+    """No name is defined in the specs/ of two crates, except a few with a reason each."""
     found = definition_names.clashes()
     trials.expect(
         "names that definitions of two crates have",

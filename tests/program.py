@@ -29,7 +29,7 @@ DOCUMENTS = [
 
 
 def try_rows(program, trials):
-    """The program answers as that model does."""
+    """The program replies as that model does."""
     for row in model_rows():
         status, stdout, stderr = run(program, row["words"], row.get("stdin", "").encode("latin-1"))
         wanted_out = row["stdout"].encode("latin-1")
@@ -86,7 +86,7 @@ def try_first_command(trials):
 
 
 def try_usage(program, trials):
-    """Help and faults of the words, to the byte, on standard error alone."""
+    """Help and usage errors, to the byte, on standard error alone."""
     found = 0
     for words, text in usage_texts():
         found += 1
@@ -165,7 +165,7 @@ def try_refusals(program, trials):
         line = f"refused {number} {names[number]} at byte {at}\n".encode()
         status, _, stderr = run(program, ["stream"], format)
         trials.expect(f"stream refuses {format}", (status, stderr), (2, line))
-        # A word can't hold a zero byte.
+        # An argument can't hold NUL.
         if b"\0" not in format:
             trials.expect(f"types refuses {format}", run(program, ["types", "--", format]), (2, b"", line))
         status, _, stderr = run(program, ["types", "--", instead])
@@ -173,7 +173,7 @@ def try_refusals(program, trials):
 
 
 def try_words(program, trials):
-    """Words that are no text, and many words."""
+    """Arguments that are not text, and many words."""
     status, stdout, stderr = run(program, ["canon", b"\xff"])
     trials.expect("a word that is not UTF-8", (status, stdout), (3, b""))
     trials.expect("a line says so", re.fullmatch(rb"error: .*\n", stderr) is not None, True)
