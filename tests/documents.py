@@ -21,6 +21,7 @@ import bounds_peers  # noqa: E402
 import changes  # noqa: E402
 import definition_names  # noqa: E402
 import fewer_peers  # noqa: E402
+import grammar  # noqa: E402
 import library  # noqa: E402
 import linear  # noqa: E402
 import literals  # noqa: E402
@@ -477,6 +478,7 @@ def try_all(trials):
     try_edits(trials)
     try_definitions(trials)
     try_numbers(trials)
+    grammar.try_grammar(trials)
     reach.try_reach(trials)
     try_words(trials)
     try_versions(trials)
