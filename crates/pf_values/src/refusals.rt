@@ -43,7 +43,7 @@ pub enum RefusalKind {
     LengthUndefined,
     /// A byte past the largest length of a format.
     TooLong,
-    /// A flag, a field width or a precision with `n`, which the standard leaves undefined.
+    /// `n` with `-`, `+`, a space or a field width, which the standard leaves undefined.
     CountUndefined,
     /// Numbered specifications and others in one format.
     Mixed,
