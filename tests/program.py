@@ -23,6 +23,7 @@ DOCUMENTS = [
     ("docs/CHEATSHEET.md", None),
     ("docs/USING.md", None),
     ("docs/REFUSALS.md", None),
+    ("docs/DEFINITIONS.md", None),
     ("docs/TRANSLATIONS.md", "Check one translation"),
     ("docs/REFACTORING.md", "One question"),
 ]
