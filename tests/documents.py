@@ -15,7 +15,9 @@ from pathlib import Path
 
 sys.dont_write_bytecode = True
 sys.path.insert(0, str(Path(__file__).resolve().parent))
+sys.path.append(str(Path(__file__).resolve().parent.parent / "bench"))
 
+import charts  # noqa: E402
 import whole_types  # noqa: E402
 import bounds_peers  # noqa: E402
 import changes  # noqa: E402
@@ -472,6 +474,11 @@ def try_quoted(trials):
     trials.expect("documents show definitions", found >= 3, True)
 
 
+def try_chart(trials):
+    """The chart of docs/PERFORMANCE.md is drawn from its table."""
+    trials.expect("docs/ratios.svg", charts.RATIOS.read_text(encoding="utf-8"), charts.bars())
+
+
 def try_remarks(trials):
     """A remark after a command begins with `#`, so that the line can be copied."""
     command = re.compile(r"^    (?=(?:sudo|pip|python3|rt|make|cd|cc|bench/run)\b)\S[^\n]*\S {2,}(?!#)\S.*$", re.MULTILINE)
@@ -488,6 +495,7 @@ def try_all(trials):
     try_graph(trials)
     try_callers(trials)
     try_quoted(trials)
+    try_chart(trials)
     try_edits(trials)
     try_definitions(trials)
     try_numbers(trials)

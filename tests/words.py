@@ -82,7 +82,8 @@ LIMITS = {
     # With the table of questions, the picture, and what other tools answer.
     "README.md": 1250,
     "docs/INSTALL.md": 400,
-    "docs/CHEATSHEET.md": 450,
+    # With tables of types and kinds.
+    "docs/CHEATSHEET.md": 520,
     "docs/USING.md": 2050,
     "docs/TRANSLATIONS.md": 1100,
     "docs/EXPLAINING.md": 350,
@@ -90,7 +91,8 @@ LIMITS = {
     "docs/REFACTORING.md": 1400,
     # With a part for each kind, the table of flags, and the grammar.
     "docs/REFUSALS.md": 2000,
-    "docs/C.md": 1300,
+    # With an example of each error.
+    "docs/C.md": 1350,
     "docs/PYTHON.md": 950,
     # With the theorem as it is written, the assumptions as a table, and the words of the last line of a check.
     "docs/VERIFICATION.md": 2600,
