@@ -91,7 +91,7 @@ enum fmtcanon_models {
 
 /* Why a format is rejected. The result is minus the kind. fmtcanon_kind_name() returns the names that
  * the program prints. The profile never yields 19 to 22, and the whole language never 5 and 9 to 12. Of its
- * calls, only those without numbered arguments, fmtcanon_whole_canonical() and its like, yield 6. */
+ * calls, only the fmtcanon_whole_*() calls yield 6. */
 enum fmtcanon_kind {
     FMTCANON_NUL_BYTE = 1,             /* a NUL, which a C string can't contain */
     FMTCANON_TRUNCATED = 2,            /* the text ends inside a conversion specification */

@@ -68,7 +68,7 @@ install: places built
 	    install -m 644 completions/fmtcanon-commands.fish $(DESTDIR)$(FISHDIR)/fmtcanon-$$name.fish || exit 1; done
 	install -m 644 completions/_fmtcanon-commands $(DESTDIR)$(ZSHDIR)
 	install -m 644 LICENSE README.md CHANGELOG.md SECURITY.md $(DESTDIR)$(DOCDIR)
-	install -m 644 docs/*.md $(DESTDIR)$(DOCDIR)/docs
+	install -m 644 docs/*.md docs/*.svg $(DESTDIR)$(DOCDIR)/docs
 	install -m 644 docs/internals/*.md $(DESTDIR)$(DOCDIR)/docs/internals
 	install -m 644 examples/*.c $(DESTDIR)$(DOCDIR)/examples
 	install -m 644 examples/ci/* $(DESTDIR)$(DOCDIR)/examples/ci

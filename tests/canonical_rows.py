@@ -33,7 +33,7 @@ def answer_or_refusal(module, call, *texts, **options):
 
 
 def canonical_length(module, model, text):
-    """What the library answers as the length of the canonical text, or the kind and the place of its refusal."""
+    """What the library returns as the length of the canonical text, or the kind and the place of its refusal."""
     found = called(module, {"call": "canonical_length", "model": int(model), "texts": [text], "room": None, "out": ""})
     at, kind, _ = found["error"]
     return found["result"] if found["result"] >= 0 else [kind, at]
@@ -134,14 +134,14 @@ def try_every_two_texts(module, trials):
 
 
 def try_differences(module, trials):
-    """Texts that differ at one byte, or of which one ends, are told apart, wherever it stands; and of two refusals the
-    first is answered.
+    """Texts that differ at one byte, wherever it is, or at the end of one are told apart. If both are refused, the first
+    refusal is returned.
     """
     (row,) = rows_of("differences.jsonl")
     text, items, spellings = row["text"], row["items"], row["spellings"]
     replaced = [text[:at] + "#" + text[at + 1 :] for at in range(len(text))]
     trials.expect("a mark for each byte", len(items), len(text))
-    # Literal bytes before them, since several bytes are compared at once.
+    # Literal bytes before them, since several bytes are compared together.
     for front in ["x" * count for count in (0, 1, 14, 15, 16, 33)]:
         for first, second in itertools.product(spellings, repeat=2):
             trials.expect(f"{front}{first} and {second}", same_or_refusal(module, front + first, front + second), True)

@@ -396,7 +396,7 @@ def try_sizes(folder, work, trials):
             (seconds <= most, "1 message judged" in report or "1 not judged" in report),
             (True, True),
         )
-    # Letters of which a message is made, its megabytes, and the memory that it may take.
+    # Letters that a message is made of, its megabytes, and the memory that it may take.
     texts = [
         ("x", 20, 400),
         ("\u0436", 20, 400),

@@ -15,7 +15,7 @@ from catalog_edges import FIRST, HEADER, catalog, checked, fault_lines, message
 from harness import TIMEOUT, TOP
 from translations import binary, check_po
 
-# A charset, and bytes that aren't of it, the first of which is named.
+# A charset, and bytes that aren't of it: the first is named.
 NOT_OF_IT = [
     ("UTF-8", b"\xe9", "e9"),
     ("UTF-8", b"\xed\xb3\xa9", "ed"),

@@ -27,7 +27,7 @@ COMPILERS = {
     "ILP32 with 64-bit time_t": (["gcc", "-m32", *LARGE], "gcc-multilib"),
     "LLP64": ([WINDOWS], "gcc-mingw-w64-x86-64"),
 }
-# A line of which gcc says more: it has a type of its own for a bit-field of 40 bits.
+# A line about which gcc says more: it has a type of its own for a bit-field of 40 bits.
 BIT_FIELD = '  printf("%lu\\n", (p->b40));'
 # What replaces the length modifiers of all integers.
 MODIFIERS = ["", "hh", "l", "ll", "z", "t", "j"]
@@ -78,13 +78,13 @@ class Tool:
         return file
 
     def put_commands(self, *commands):
-        """Writes a compile_commands.json of lists of words, the last of which is the file."""
+        """Writes a compile_commands.json of lists of words: the last word is the file."""
         entries = [{"directory": str(self.work), "file": it[-1], "arguments": it} for it in commands]
         self.put("compile_commands.json", json.dumps(entries))
 
 
 def compiled(words, file, work):
-    """The lines of a file of which a compiler says that the type of an argument is wrong, and its errors."""
+    """The lines of a file for which a compiler says that the type of an argument is wrong, and its errors."""
     words = [*words, "-fsyntax-only", "-Wformat", "-fdiagnostics-format=json", str(file)]
     done = subprocess.run(
         words, cwd=work, env={**os.environ, "LC_ALL": "C"}, capture_output=True, text=True, check=False, timeout=TIMEOUT
@@ -404,7 +404,7 @@ def try_not_fixed(tool, trials):
         is_same = (tool.work / "left.c").read_text(encoding="utf-8") == text
         is_said = f"; not written: {why}" in output or not why
         trials.expect(f"{body}: {output} {fault}", (is_same, is_said), (True, True))
-    # Two commands for one file, of which one makes the type another.
+    # Two commands for one file: one makes the type another.
     body = "#ifdef WIDE\ntypedef size_t mine;\n#else\ntypedef unsigned long mine;\n#endif\n"
     body += 'void f(mine n) { printf("%lu", n); }\n'
     tool.put("left.c", SAYS + body)

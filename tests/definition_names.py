@@ -12,7 +12,7 @@ EXCEPTIONS = {}
 
 
 def definitions(path):
-    """The names that a file of specs/ defines, but for the fields of records and the constructors of data."""
+    """The names that a file of specs/ defines, except the fields of records and the constructors of data."""
     inside = None
     for line in path.read_text(encoding="utf-8").splitlines():
         indent = len(line) - len(line.lstrip())

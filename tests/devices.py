@@ -4,7 +4,7 @@
 Usage: tests/devices.py PROGRAM
 
 Standard output: closed; the device that is always full; a pipe whose reader has left, before or after the first bytes;
-a pipe that is full and doesn't wait; a directory; standard error closed or full beside it. Standard input, for
+a pipe that is full and doesn't wait; a directory; standard error closed or full next to it. Standard input, for
 `stream`: closed; a directory; opened for writing; a pipe that doesn't wait and has nothing; one byte at a time; a pipe
 that stays open; a terminal; a file. For the other commands: a pipe that stays open, which they don't read. How many
 reads and writes there are.
@@ -176,9 +176,9 @@ NOT_ASKED = [
 ]
 # How long a run may take that has nothing to wait for, in seconds.
 SOON = 10
-# The program reads and writes so many bytes at once, or fewer.
+# The program reads and writes this number of bytes in one call, or fewer.
 BLOCK = 8192
-# Formats whose answers have so many bytes, below, at and above a block.
+# Formats whose answers have this number of bytes, below, at and above a block.
 SIZES = [1, 100, BLOCK - 1, BLOCK, BLOCK + 1, 3 * BLOCK, 100_000, 1_000_000]
 
 # Records, and how many writes reply to them: the command, how many bytes are read a call, and the writes. The third
@@ -508,7 +508,7 @@ def try_inputs(program, trials):
 
 
 def try_bytes(program, trials):
-    """Input that comes a byte at a time gives what it gives at once."""
+    """Input that comes a byte at a time gives what it gives in one piece."""
     for stdin, text, line in [(b"a%.0sb%5d", b"ab%.0s%5d", b""), STREAM_REFUSED]:
         with subprocess.Popen(
             [program, "stream"], stdin=subprocess.PIPE, stdout=subprocess.PIPE, stderr=subprocess.PIPE, bufsize=0

@@ -15,12 +15,15 @@ from pathlib import Path
 
 sys.dont_write_bytecode = True
 sys.path.insert(0, str(Path(__file__).resolve().parent))
+sys.path.append(str(Path(__file__).resolve().parent.parent / "bench"))
 
+import charts  # noqa: E402
 import whole_types  # noqa: E402
 import bounds_peers  # noqa: E402
 import changes  # noqa: E402
 import definition_names  # noqa: E402
 import fewer_peers  # noqa: E402
+import grammar  # noqa: E402
 import library  # noqa: E402
 import linear  # noqa: E402
 import literals  # noqa: E402
@@ -45,7 +48,7 @@ FOREIGN_NAMES = set(
     """
     cents errno intmax_t ptrdiff_t strerror uintmax_t I64
     xargs git sort msgfmt pipefail SOURCE_DATE_EPOCH fix plant PKG_CONFIG_PATH PYTHONPATH ldconfig pkg config cflags libs pkgconfig sudo iconv
-    axiom axioms
+    axiom axioms abort incremental nat trusted
     AllocFailed WHAT strsim dac8208d650f15bf ed8637e01fc3206ec782c5daf8d913b1fcd4ddf4efb850537416d13256281534 the_type write_all
     NAME PATH allow holes lemma is_left_justified expect assert_eq tidy XDG_CACHE_HOME
 """.split()
@@ -159,10 +162,10 @@ def tested_counts():
     yield from limits()
     given = data_rows("records.jsonl")
     yield r"rows, (\d+) of them of a model; conversations; .* (\d+) rows", [len(given) - HAND_RECORDS, len(given)]
-    yield r"(\d+) ways to fail take turns", [len(short_streams.STEPS) * len(short_streams.FAULTS)]
+    yield r"(\d+) kinds of failure in rotation", [len(short_streams.STEPS) * len(short_streams.FAULTS)]
     yield r"what gcc's programs print \| (\d+) \|", [len(changes.CHANGES)]
     left = {name for name, _, _ in replacing.LEFT}
-    yield r"programs that would print something else, (\d+) of which it can't see \| (\d+) \|", [
+    yield r"programs that would print something else, (\d+) that it can't see \| (\d+) \|", [
         len(replacing.NOT_SEEN),
         len(left) + len(replacing.NOT_SEEN),
     ]
@@ -206,7 +209,7 @@ PLAIN_NUMBERS = [
     r"16 shapes",
     r"a record of 100 million bytes",
     r"\| \d+ runs and comparisons",
-    r"take turns \| \d+ runs",
+    r"in rotation \| \d+ runs",
     r"every 2 of",
     r"spells in 2 ways",
     r"`parse_printf_format`",
@@ -313,7 +316,7 @@ def documents():
 
 
 def repository_paths():
-    """Each file and folder of the repository, but for what is made."""
+    """Each file and folder of the repository, except what is made."""
     for path in TOP.rglob("*"):
         inside = path.relative_to(TOP)
         if not {"out", ".git", "__pycache__"} & set(inside.parts):
@@ -428,7 +431,7 @@ def try_edits(trials):
 
 
 def try_definitions(trials):
-    """No name is defined in the specs/ of two crates, but for a few with a reason each."""
+    """No name is defined in the specs/ of two crates, except a few with a reason each."""
     found = definition_names.clashes()
     trials.expect(
         "names that definitions of two crates have",
@@ -459,6 +462,23 @@ def try_callers(trials):
                 trials.expect(f"{document}: the code has this: {item[:60]}", found, True)
 
 
+def try_quoted(trials):
+    """A file of specs/ has each definition that a document shows in antt, as it is shown."""
+    sources = [path.read_text(encoding="utf-8") for path in TOP.glob("crates/*/specs/**/*.antt")]
+    found = 0
+    for document, text in documents():
+        for language, block in fences(text):
+            for part in re.split(r"\n\n(?=\S)", block.strip()) if language == "antt" else []:
+                found += 1
+                trials.expect(f"{document}: as in specs/: {part[:60]}", any(part in it for it in sources), True)
+    trials.expect("documents show definitions", found >= 3, True)
+
+
+def try_chart(trials):
+    """The chart of docs/PERFORMANCE.md is drawn from its table."""
+    trials.expect("docs/ratios.svg", charts.RATIOS.read_text(encoding="utf-8"), charts.bars())
+
+
 def try_remarks(trials):
     """A remark after a command begins with `#`, so that the line can be copied."""
     command = re.compile(r"^    (?=(?:sudo|pip|python3|rt|make|cd|cc|bench/run)\b)\S[^\n]*\S {2,}(?!#)\S.*$", re.MULTILINE)
@@ -474,9 +494,12 @@ def try_all(trials):
     try_map(trials)
     try_graph(trials)
     try_callers(trials)
+    try_quoted(trials)
+    try_chart(trials)
     try_edits(trials)
     try_definitions(trials)
     try_numbers(trials)
+    grammar.try_grammar(trials)
     reach.try_reach(trials)
     try_words(trials)
     try_versions(trials)

@@ -59,7 +59,7 @@ PROGRAMS = [
     ("outcomes", WRAPPED, "calls {}, pairs of texts {}, data models {}, rooms {}".format(*OUTCOMES)),
     ("whole", ["-pthread"], "the whole language is as the header says"),
 ]
-# Of so many formats, one is given to the program, too.
+# Of this number of formats, one is given to the program, too.
 STEP = 16
 
 
@@ -179,7 +179,7 @@ def lines_of(words, **options):
 
 
 def try_exports(folder, trials):
-    """The library gives its functions and no other name, and wants nothing but the C library."""
+    """The library gives its functions and no other name, and needs nothing but the C library."""
     wanted = sorted(name for name, _ in header_calls())
     for words in [
         ["nm", "-D", "--defined-only", folder / "libfmtcanon.so"],
@@ -190,7 +190,7 @@ def try_exports(folder, trials):
     headers = lines_of(["objdump", "-p", folder / "libfmtcanon.so"])[1]
     trials.expect("the name that programs ask for", re.findall(r"SONAME\s+(\S+)", headers), [SONAME])
     trials.expect("libraries that it wants", re.findall(r"NEEDED\s+(\S+)", headers), ["libc.so.6"])
-    # The first processors of x86-64 have none of these. (They read tzcnt as bsf, which is the same but for 0.)
+    # The first processors of x86-64 have none of these. (They read tzcnt as bsf, which is the same except for 0.)
     code = lines_of(["objdump", "-d", "--no-show-raw-insn", folder / "libfmtcanon.so"])[1]
     newer = re.findall(r"\t(v[a-z]{3}\w+|popcnt|pshufb|pcmpistri|pmovmskb256|lzcnt|andn|bextr|crc32\w*)\s", code)
     trials.expect("instructions that x86-64 has not", sorted(set(newer)), [])
@@ -338,7 +338,7 @@ def same_lines(module, one, other, model, whole=False):
 
 
 def try_program_rows(module, trials):
-    """The rows that the program is held to hold for the library, too: of each data model, of both and of all."""
+    """The rows against which the program is checked hold for the library, too: of each data model, of both and of all."""
     found, commands = {"lp64": 0, "ilp32": 0, "llp64": 0, "both": 0, "all": 0}, {}
     for line in ROWS.read_text(encoding="utf-8").splitlines():
         row = json.loads(line)

@@ -99,7 +99,7 @@ def sources():
 
 
 def texts():
-    """Texts without a zero byte, with all bytes and what is hard to write."""
+    """Texts without NUL, with all bytes and what is hard to write."""
     for byte in range(1, 256):
         yield bytes([byte])
         yield bytes([byte]) + b"7f"
@@ -169,7 +169,7 @@ def try_encoded(module, compiler, trials, work):
     """The literal of a text is compiled without a word, and to just the text."""
     listed = list(texts())
     literals = [module.encode_literal(text) for text in listed]
-    # Many sources have bytes that are no UTF-8 in comments and literals; gcc takes them as they are.
+    # Many sources have bytes that are not UTF-8 in comments and literals; gcc takes them as they are.
     found, said = compiled([*compiler, *STRICT], literals, work)
     trials.expect(f"{compiler}: literals are compiled without a warning", (found is not None, said), (True, ""))
     for text, bytes_found in zip(listed, found or []):

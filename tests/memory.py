@@ -3,7 +3,7 @@
 
 Usage: tests/memory.py PROGRAM
 
-Address spaces: each command in spaces that grow by a page at a time, until it answers. Allocations: each allocation of
+Address spaces: each command in spaces that grow by a page at a time, until it succeeds. Allocations: each allocation of
 each command refused, one a run, and each of a run over records. What is held: over few records and over many of each
 command, and in a conversation with a gigabyte of replies. A program that leaks 64 bytes a record is measured the same
 way, and has to be found.
@@ -62,7 +62,7 @@ def is_not_started(got):
 
 
 def least_space(program, fails):
-    """The least address space, in pages, in which a run doesn't fail so."""
+    """The smallest address space, in pages, in which a run doesn't fail so."""
     low, high = 1, 1 << 16
     while low < high:
         middle = (low + high) // 2
@@ -74,7 +74,7 @@ def least_space(program, fails):
 
 
 def try_spaces(program, trials):
-    """In each space in which the program starts it answers, or says that memory is out and has written nothing."""
+    """In each space in which the program starts it succeeds, or says that memory is out and has written nothing."""
     loader, start = least_space(program, is_killed), least_space(program, is_not_started)
     print(f"the system kills the program in less than {loader * 4} KiB, and its loader fails in less than {start * 4}")
     few = range(1, start, 8)
@@ -96,7 +96,7 @@ def try_spaces(program, trials):
 
 
 def growth_ends(program, words, stdin, library, answer, count):
-    """How each run ends in which one growth is refused, or all from it on: as ever, out of memory or otherwise."""
+    """How each run ends in which one allocation is refused, or all from it on: as ever, out of memory or otherwise."""
     names = {answer: "as ever", (4, b"", b"out of memory\n"): "out of memory"}
     for flags in [{}, {"ALL": "1"}]:
         environment = {**os.environ, "LD_PRELOAD": library, **flags}
@@ -108,9 +108,9 @@ def growth_ends(program, words, stdin, library, answer, count):
 
 
 def try_growths(program, trials):
-    """Where growths are refused from one on, whichever it is, memory is out, and nothing was written.
+    """If allocations are refused from one on, whichever it is, memory is out, and nothing was written.
 
-    Where it is one alone, too, but for the room of the list of the words, which std asks for ahead, and then again as
+    Where it is one alone, too, except for the room of the list of the words, which std asks for ahead, and then again as
     the words come; and where `clap` finds a fault, for what it takes to look for a tip. Then the end is as ever.
     """
     rows = [(words, stdin, (status, text, b"")) for words, stdin, status, text in ANSWERED]

@@ -39,7 +39,7 @@ from refused import Record  # noqa: E402
 from schedule import run_all  # noqa: E402
 from work import files_below, open_work, say  # noqa: E402
 
-# The gate tries one in so many mutants of each crate, and one at least.
+# The gate tries one in this number of mutants of each crate, and one at least.
 ONE_IN = 20
 
 
@@ -93,7 +93,7 @@ def seed_of(top):
 
 
 def try_all(wanted, needed, jobs, refused, ended=lambda work: 0):
-    """Proves the crates that are needed, tries the wanted mutants of each, and calls `ended` with the folders of the
+    """Proves the crates that are needed, tries the chosen mutants of each, and calls `ended` with the folders of the
     proofs. Returns how many mutants were refused and how many not, with what `ended` found wrong.
     """
     with open_work(Crates()) as work:

@@ -143,7 +143,7 @@ def argument_of(argument, kind):
     if isinstance(argument, bytes):
         return literal(argument.decode("ascii"))
     type_of_c = "int" if kind == "star" else kind
-    # The least number of a type has no literal of its own, and the greatest one wants the suffix.
+    # The smallest number of a type has no literal of its own, and the largest one needs the suffix.
     return f"({type_of_c})({argument + 1} - 1)" if argument < 0 else f"({type_of_c}){argument}u"
 
 

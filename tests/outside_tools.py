@@ -1,5 +1,5 @@
 #!/usr/bin/env python3
-"""Tries the C library and the examples with tools that the gate doesn't want.
+"""Tries the C library and the examples with tools that the gate doesn't need.
 
 Usage: tests/outside_tools.py PROGRAM FOLDER
 
@@ -100,7 +100,7 @@ def try_compilers(folder, tools, module, trials, work):
 
 
 def try_valgrind(folder, tools, module, trials, work):
-    """No byte is read or written that isn't the caller's, and none stays behind."""
+    """No byte is read or written that isn't the caller's, and none is left."""
     if tools.has("valgrind", "valgrind"):
         words = ["valgrind", "-q", "--error-exitcode=9", "--leak-check=full", "--show-leak-kinds=all"]
         lines = try_compiler(["gcc", "-std=c99", "-g"], folder, trials, work, words)
@@ -108,7 +108,7 @@ def try_valgrind(folder, tools, module, trials, work):
 
 
 def try_second(folder, module, trials, work):
-    """The library as the other compiler builds it answers the same."""
+    """The library as the other compiler builds it returns the same."""
     words = compile_with(["gcc", "-std=c99"], TOP / "tests/library/answers.c", work / "second", folder / "second.a")
     trials.expect("answers.c with second.a", words, (0, ""))
     if words[0] == 0:

@@ -77,7 +77,7 @@ def try_commands(where, inside, trials):
 
 
 def is_left(root):
-    """What an installation left behind."""
+    """What an installation left."""
     found = [path for path in root.rglob("*fmtcanon*") if "/proc/" not in str(path)]
     return sorted(str(path.relative_to(root)) for path in found)
 

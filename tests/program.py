@@ -23,13 +23,14 @@ DOCUMENTS = [
     ("docs/CHEATSHEET.md", None),
     ("docs/USING.md", None),
     ("docs/REFUSALS.md", None),
+    ("docs/DEFINITIONS.md", None),
     ("docs/TRANSLATIONS.md", "Check one translation"),
     ("docs/REFACTORING.md", "One question"),
 ]
 
 
 def try_rows(program, trials):
-    """The program answers as that model does."""
+    """The program replies as that model does."""
     for row in model_rows():
         status, stdout, stderr = run(program, row["words"], row.get("stdin", "").encode("latin-1"))
         wanted_out = row["stdout"].encode("latin-1")
@@ -86,7 +87,7 @@ def try_first_command(trials):
 
 
 def try_usage(program, trials):
-    """Help and faults of the words, to the byte, on standard error alone."""
+    """Help and usage errors, to the byte, on standard error alone."""
     found = 0
     for words, text in usage_texts():
         found += 1
@@ -97,6 +98,7 @@ def try_usage(program, trials):
 
 WHOLE = "## In the whole language\n"
 LITERALS = "## String literals\n"
+REFUSALS = (TOP / "docs/REFUSALS.md").read_text(encoding="utf-8")
 LITERAL_KINDS = ["NoLiteral", "Unterminated", "BadEscape", "EscapeTooLarge", "ZeroByte", "Trigraph"]
 
 
@@ -104,7 +106,7 @@ def literal_rows():
     """The rows of REFUSALS.md on string literals: the literal, the number and the place of its fault, and what to write
     instead.
     """
-    part = (TOP / "docs/REFUSALS.md").read_text(encoding="utf-8").split(LITERALS)[1]
+    part = REFUSALS.split(LITERALS)[1]
     return re.findall(r"^\| `(.+?)` \| (\d) at (\d+) \| `(.+?)` \|", part, flags=re.MULTILINE)
 
 
@@ -123,7 +125,7 @@ def try_literals(program, trials):
 
 def try_whole(program, trials):
     """Each row of REFUSALS.md on the whole language is refused there, and the one to write instead is accepted."""
-    part = (TOP / "docs/REFUSALS.md").read_text(encoding="utf-8").split(WHOLE)[1].split(LITERALS)[0]
+    part = REFUSALS.split(WHOLE)[1].split(LITERALS)[0]
     rows = re.findall(r"^\| `(.+?)` \| (\d+) at (\d+) \| `(.+?)` \|", part, flags=re.MULTILINE)
     kinds = {int(number) for _, number, _, _ in rows}
     trials.expect("kinds of the whole language alone in REFUSALS.md", kinds >= {19, 20, 21, 22}, True)
@@ -139,19 +141,62 @@ def try_whole(program, trials):
         trials.expect(f"{instead} is accepted, in the place of {format}", (status, stderr), (0, b""))
 
 
+def as_bytes(shown):
+    """A format as REFUSALS.md shows it."""
+    return shown.replace("\\0", "\0").encode()
+
+
 def refusal_rows():
-    """The rows of REFUSALS.md: the format, the number and the place of its refusal, and the format to write instead."""
-    text = (TOP / "docs/REFUSALS.md").read_text(encoding="utf-8").split(WHOLE)[0]
-    for line in text.splitlines():
-        if not line.startswith("| ") or line.startswith(("| Format ", "| No. ")):
-            continue
-        kind, row = re.search(r"^\| (\d+) \| (\w+) \|", line), re.search(
-            r" `([^`]+)` \| (\d+) at (\d+) \| `([^`]+)` \|", line
-        )
-        if row is None:
-            raise ValueError(f"no example in the row {line!r}")
-        formats = [cell.replace("\\0", "\0").encode() for cell in (row.group(1), row.group(4))]
-        yield kind and kind.groups(), formats[0], row.group(2), row.group(3), formats[1]
+    """What REFUSALS.md says of formats: the number and name of the kind where a part says what it means, the format,
+    the number and the place of its refusal, and the format to write instead.
+    """
+    written, _, kinds = REFUSALS.split(WHOLE)[0].partition("## Flags and conversions\n")
+    row = r"^\| `([^`]+)` \| (\d+) at (\d+) \| `([^`]+)` \|"
+    for format, number, at, instead in re.findall(row, written, re.MULTILINE):
+        yield None, as_bytes(format), number, at, as_bytes(instead)
+    example = r"^### (\d+) (\w+)\n\n.*\n\n`([^`]+)` is rejected at byte (\d+), and `([^`]+)` is accepted\.$"
+    for number, name, format, at, instead in re.findall(example, kinds, re.MULTILINE):
+        yield (number, name), as_bytes(format), number, at, as_bytes(instead)
+
+
+def try_headings(trials):
+    """REFUSALS.md has a part for each kind, in the order of their numbers."""
+    header = (TOP / "include/fmtcanon.h").read_text(encoding="utf-8")
+    part = header.split("enum fmtcanon_kind {")[1].split("};")[0]
+    names = [(number, name.replace("_", "").lower()) for name, number in re.findall(r"FMTCANON_(\w+) = (\d+)", part)]
+    shown = re.findall(r"^### (\d+) (\w+)$", REFUSALS, re.MULTILINE)
+    trials.expect("kinds with a part of REFUSALS.md", [(number, name.lower()) for number, name in shown], names)
+
+
+def flag_cells():
+    """The table of flags and conversions in REFUSALS.md: what is written before a conversion, the conversion, and the
+    cell.
+    """
+    part = REFUSALS.split("## Flags and conversions\n")[1].split("\n## ")[0]
+    head, _, *rows = [re.split(r" *\| *", line.strip("| ")) for line in part.splitlines() if line.startswith("|")]
+    written = {"space": " ", "a width": "8", "a precision": ".3"}
+    for mark, *cells in rows:
+        for conversions, cell in zip(head, cells):
+            for conversion in conversions.strip("`").split():
+                yield written.get(mark, mark.strip("`")), conversion, cell
+
+
+def try_flags(program, trials):
+    """Each cell of the table of flags and conversions is what the program says."""
+    count = 0
+    for mark, conversion, cell in flag_cells():
+        count += 1
+        format = f"%{mark}{conversion}"
+        status, _, stderr = run(program, ["types", "--whole", "--", format])
+        refused = re.match(rb"refused (\d+) ", stderr)
+        got = refused[1].decode() if refused else "accepted"
+        if not refused:
+            # A flag is compared in a field, where `-` and `0` show.
+            width = "" if mark in ("8", ".3") else "8"
+            pair = [f"%{mark}{width}{conversion}", f"%{width}{conversion}"]
+            got = {0: "ignored", 1: "yes"}.get(run(program, ["same", "--whole", "--", *pair])[0], "refused")
+        trials.expect(f"{format} in the table of flags: {status}", got, cell)
+    trials.expect("cells of the table of flags", count, 8 * 23)
 
 
 def try_refusals(program, trials):
@@ -165,7 +210,7 @@ def try_refusals(program, trials):
         line = f"refused {number} {names[number]} at byte {at}\n".encode()
         status, _, stderr = run(program, ["stream"], format)
         trials.expect(f"stream refuses {format}", (status, stderr), (2, line))
-        # A word can't hold a zero byte.
+        # An argument can't hold NUL.
         if b"\0" not in format:
             trials.expect(f"types refuses {format}", run(program, ["types", "--", format]), (2, b"", line))
         status, _, stderr = run(program, ["types", "--", instead])
@@ -173,7 +218,7 @@ def try_refusals(program, trials):
 
 
 def try_words(program, trials):
-    """Words that are no text, and many words."""
+    """Arguments that are not text, and many words."""
     status, stdout, stderr = run(program, ["canon", b"\xff"])
     trials.expect("a word that is not UTF-8", (status, stdout), (3, b""))
     trials.expect("a line says so", re.fullmatch(rb"error: .*\n", stderr) is not None, True)
@@ -256,6 +301,8 @@ def try_all(program, trials):
     try_first_command(trials)
     try_usage(program, trials)
     try_refusals(program, trials)
+    try_headings(trials)
+    try_flags(program, trials)
     try_profile_as_whole(program, trials)
     try_whole(program, trials)
     try_literals(program, trials)

@@ -113,7 +113,7 @@ def try_page(program, trials):
 
 
 def completed(words):
-    """What bash completes after these words, the last of which is begun."""
+    """What bash completes after these words, the last one unfinished."""
     script = 'source "$0"; COMP_WORDS=("$@"); COMP_CWORD=$(($# - 1)); _fmtcanon; printf "%s\\n" "${COMPREPLY[@]}"'
     file = TOP / "completions/fmtcanon.bash"
     done = subprocess.run(

@@ -27,13 +27,13 @@ LONG = 100_000_000
 RECORDS = b"%5c\0%*d\0%i\0"
 REPLIES = [b"0     %c\0", b"2 refused 5 Star at byte 1\0", b"0 %d\0"]
 WHOLE = b"".join(REPLIES)
-# A run over so many records, and a record of so many bytes, whose reads and writes are counted.
+# A run over this number of records, and a record of this number of bytes, whose reads and writes are counted.
 COUNTED = 1_000
 COUNTED_BYTES = 1_000_000
 
 
 def reply_to(process, sent):
-    """The bytes up to a zero byte that come after these were sent; fewer where the program ends."""
+    """The bytes up to a NUL that come after these were sent; fewer where the program ends."""
     process.stdin.write(sent)
     reply = b""
     while not reply.endswith(b"\0"):
@@ -65,7 +65,7 @@ def try_conversation(program, trials):
 
 
 def try_many(program, trials):
-    """A million records, and one of 100 million bytes with and without a zero byte after it."""
+    """A million records, and one of 100 million bytes with and without NUL after it."""
     got = run(program, ["canon", "-z"], b"x\0" * MANY)
     trials.expect("a million records of one byte", got == (0, b"0 x\0" * MANY, b""), True)
     long = b"y" * LONG
@@ -81,7 +81,7 @@ def try_many(program, trials):
 
 
 def try_calls(program, trials):
-    """What comes in one read is read at once, and its replies go out in one write, whatever the command."""
+    """What comes in one read is read in one call, and its replies go out in one write, whatever the command."""
     with tempfile.TemporaryDirectory() as work:
         trials.expect("calls.c", library_of("calls", work)[1], True)
         reads, writes = calls_of(program, ["canon", "-z"], RECORDS, work)

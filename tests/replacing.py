@@ -65,7 +65,7 @@ CALLS = {
     "as an argument of a macro": ("#define TWICE(x) x; x\n", 'TWICE(printf("%i\\n", 5));', [], None),
 }
 SHOW = "#define SHOW(...) printf(__VA_ARGS__)\n"
-# Sources of functions: what stands before the function, its body, the flags of the command, and the report of line 3.
+# Sources of functions: what comes before the function, its body, the flags of the command, and the report of line 3.
 SOURCES = [
     ("", 'printf("%i\\n", 1);', [], "replaced"),
     ("", 'printf("%i" "\\n", 1);', [], "replaced"),

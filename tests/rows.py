@@ -26,7 +26,7 @@ FLAGS = "-+ #0'"
 LENGTHS = ["", "hh", "h", "l", "ll", "j", "z", "t"]
 CONVERSIONS = "diuoxXbcs"
 GREATEST = 4095
-# Linux takes no longer word, with the zero byte at its end.
+# Linux takes no longer word, with the NUL at its end.
 LONGEST_WORD = 131_072
 
 
@@ -72,7 +72,7 @@ def try_streams(program, trials, name):
 
 
 def try_usages(program, trials):
-    """Help and faults of the words go to standard error alone."""
+    """Help and usage errors go to standard error alone."""
     for words, begins in rows_of("usages.jsonl"):
         status, stdout, stderr = run(program, words)
         trials.expect(words, (status, stdout, stderr[: len(begins)]), (3, b"", begins.encode()))
@@ -99,11 +99,11 @@ def library_refusal(module, text):
 
 
 def try_text(program, module, trials, text, wanted):
-    """Each way to read a text answers so."""
+    """Each way to read a text gives this."""
     name = text if len(text) < 99 else text[:20] + b".." + text[-20:]
     trials.expect(f"the library on {name}", library_refusal(module, text), wanted)
     trials.expect(f"stream on {name}", refusal_of(run(program, ["stream"], text)), wanted)
-    # A word can't hold a zero byte.
+    # An argument can't hold NUL.
     if b"\0" not in text and len(text) < LONGEST_WORD:
         trials.expect(f"show on {name}", refusal_of(answer(program, "show", "lp64", text)), wanted)
 
@@ -159,7 +159,7 @@ def try_flags(program, module, trials):
 
 
 def values(bits, is_unsigned):
-    """0, 1, -1, and the least and the greatest number of so many bits; an unsigned type has those of the same bits."""
+    """0, 1, -1, and the smallest and the largest number of this many bits; an unsigned type has those of the same bits."""
     half = 1 << bits - 1
     return [0, 1, 2 * half - 1, half, half - 1] if is_unsigned else [0, 1, -1, -half, half - 1]
 
@@ -188,7 +188,7 @@ def try_texts(program, trials, model, format, numbers, texts):
     trials.expect(f"{model} {format} of {words}", printed(program, model, whole, words), "\n".join(texts).encode())
 
 
-# The modifiers under which another data model prints what LP64 prints under this one, but for those that name other
+# The modifiers under which another data model prints what LP64 prints under this one, except those that name other
 # bits there.
 ALIKE = {
     "ilp32": {"": ["", "l", "z", "t"], "hh": ["hh"], "h": ["h"], "ll": ["ll", "j"], "j": ["ll", "j"]},
@@ -403,7 +403,7 @@ def try_verdicts(program, trials):
 
 
 def try_every_two(program, trials):
-    """Formats are the same just where their canonical texts are one; else they are told apart."""
+    """Formats are the same just where their canonical texts are one; otherwise they are told apart."""
     rows = rows_of("canonical_pairs.jsonl")
     for (first, canonical), (second, other) in itertools.product(rows, rows):
         found = verdict_of(program, "lp64", first, second)
@@ -453,7 +453,7 @@ def grid_numbers(digits, more):
 
 
 def digits_of(program, model, format, words):
-    """The most digits that a conversion prints; of a string as many bytes as the greatest precision but one has."""
+    """The most digits that a conversion prints; of a string as many bytes as the second largest precision has."""
     if format[-1] in "cs":
         return {"c": 2, "s": GREATEST - 1}[format[-1]]
     return max(len(text.lstrip(b"-")) for text in texts_of(program, model, format, words))
@@ -595,7 +595,7 @@ def called(module, row):
 
 
 def try_calls(module, trials):
-    """Each call answers as its row says, and leaves all else as it was."""
+    """Each call returns what its row says, and leaves everything else as it was."""
     for row in rows_of("calls.jsonl"):
         wanted = {key: row[key] for key in ("result", "out", "error", "comparison")}
         trials.expect(f"{row['call']} {row['model']} {row['texts']}", called(module, row), wanted)

@@ -43,7 +43,7 @@ class Narrow:
         self.program, self.library, self.trials = program, library, trials
         ways = list(itertools.product(STEPS, FAULTS))
         self.turns = itertools.cycle([ways] if tries_each else [[way] for way in ways])
-        # How often a run that is cheap is made, so that it takes more than one of the ways.
+        # How often a fast run is made, so that it takes more than one of the ways.
         self.rounds = 1 if tries_each else len(STEPS)
         self.asked = []
 
@@ -145,7 +145,7 @@ def refusal(number, place):
 
 
 def try_front(narrow, text, length, answer, written, settled):
-    """A text that ends after so many bytes, or fails there: a refusal before that comes first."""
+    """A text that ends after this number of bytes, or fails there: a refusal before that comes first."""
     ended = (0, written, b"") if answer is None else (2, written, refusal(*answer))
     is_refused_before = answer is not None and answer[1] < length
     failed = (2, settled, refusal(*answer)) if is_refused_before else (READ_FAILED[0], settled, READ_FAILED[1])

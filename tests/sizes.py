@@ -33,7 +33,7 @@ MEGABYTE = 700_000
 LARGE = 20_000_000
 LONG_RECORD = 400_000_000
 PIECE = 1 << 20
-# The most directives that a word has room for, whose greatest length Linux has as MAX_ARG_STRLEN.
+# The most directives that a word has room for, whose largest length Linux has as MAX_ARG_STRLEN.
 WORD = ((1 << 17) - 1) // 2
 # Linux gives arguments no more room than this, whatever the limit of the stack.
 MOST_ROOM = 6 << 20
@@ -117,7 +117,7 @@ def of_directives():
 
 
 def of_arguments():
-    """Rows of many arguments, of which the last one differs or is wrong."""
+    """Rows of many arguments: the last one differs or is wrong."""
     front = "%d" * (FIRST_EQUAL - 1)
     answer = b"different\n" + b"n:0\n" * (FIRST_EQUAL - 1) + b"n:-1\n"
     yield ["same", front + "%05d", front + "%.5d"], b"", (1, answer), 0.03

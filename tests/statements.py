@@ -105,7 +105,7 @@ def with_statement(text, headline):
 
 
 def edited(crate, edit):
-    """Yields the files of a crate in which the callers stand on statements of edited definitions."""
+    """Yields the files of a crate in which the callers use statements of edited definitions."""
     root = (crate / "src/lib.rt").read_text(encoding="utf-8")
     yield "src/lib.rt", root + "".join(f"pub mod {it.name};\n" for it in HEADLINES)
     yield "specs/Lib.antt", "".join(f"pub mod {it.specs}\n" for it in HEADLINES)

@@ -159,7 +159,7 @@ found 3 fatal errors
 ]
 # They can't be read, with the line where it is known.
 UNREADABLE = [("torn.po", 1), ("rule.po", 0), ("nothing.po", 0), ('msgid "a"', 0), (".", 0)]
-# Texts that are no catalog, with the line.
+# Texts that are not catalogs, with the line.
 NO_CATALOGS = [
     ('msgid "a"\n"b"\nmsgid "c"\nmsgstr "d"\n', 1),
     ('msgstr "d"\n', 1),

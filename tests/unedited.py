@@ -30,7 +30,7 @@ EXCEPTIONS = {
 
 
 def sources_of(crate):
-    """The texts of a crate's files, but for those of tests, by their path."""
+    """The texts of a crate's files, except those of tests, by their path."""
     files = [it for it in (crate / "src").rglob("*.rt") if "tests" not in it.relative_to(crate).with_suffix("").parts]
     return {str(it.relative_to(crate)): it.read_text(encoding="utf-8") for it in sorted(files)}
 

@@ -83,14 +83,14 @@ NAMED = {
 WARNINGS = ["-Wformat", "-Wformat-signedness"]
 # With these two options gcc warns of pointers of another type for `p`, and knows `wchar_t *` from `int *`.
 PEDANTIC, SHORT = ["-Wpedantic"], ["-fshort-wchar"]
-# The type of a specification, and another type of which gcc doesn't warn there: one type of C by two names, and
+# The type of a specification, and another type about which gcc doesn't warn there: one type of C by two names, and
 # pointers
 # to characters for one another. `parse_printf_format` tells these apart, except `unsigned int` for `%lc`.
 SILENT = {("UINT", "WIDE_CHAR"), ("WIDE_CHAR", "UINT"), ("STRING", "POINTER_TO_SCHAR")}
 SILENT |= {("POINTER_TO_VOID", "STRING"), ("POINTER_TO_VOID", "POINTER_TO_SCHAR")}
 POINTERS = {name for name, named in NAMED.items() if named.endswith("*")}
 MOST = 64
-# The greatest number of an argument here.
+# The highest number of an argument here.
 GREATEST = 4095
 MANY = 10_000_000
 # A specification or `%%`, for formats that are accepted.

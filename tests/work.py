@@ -1,4 +1,4 @@
-"""The folders in which crates are proved beside `rt ci`, which leaves nothing that a later check can go on from.
+"""The folders in which crates are proved next to `rt ci`, which leaves nothing that a later check can go on from.
 
 A crate's folder has the sources of the crate and of those below it, their libraries, and what its last check left
 there. rt's own stamps say which of that is still true, so nothing else is remembered. A run locks the folders that it
@@ -22,7 +22,7 @@ PRINTING = threading.Lock()
 
 
 def say(text):
-    """Prints whole lines, also beside other threads."""
+    """Prints whole lines, also while other threads print."""
     with PRINTING:
         print(text, flush=True)
 

@@ -18,7 +18,7 @@ rest_of_two [] h = absurd (omega arith)
 rest_of_two (x ∷ []) h = absurd (omega arith)
 rest_of_two (x ∷ y ∷ t) h = ap (λ (u : Text). x ∷ y ∷ u) (sym (take_rest (x ∷ y ∷ t) 2))
 
--- a `-` is no digit
+-- a `-` isn't a digit
 no_minus : (digits rest : Text) (n : ℕ) → SpellsMagnitude digits n → digits ≡ 45 ∷ rest → ⊥
 no_minus digits rest n h e =
     let read = read_only digits n h in

@@ -85,7 +85,8 @@ values-glyphs : (ds : List ℕ) → AllByRecursion (λ d. d < 10) ds → values 
 values-glyphs [] h = refl
 values-glyphs (d ∷ ds) h = let e = glyph_alone d h.0 in ap₂ (λ (x : ℕ) (xs : List ℕ). x ∷ xs) (omega arith) (values-glyphs ds h.1)
 
--- what spells a number is digits, of which there are so many, and the number is what they read as
+-- a text that spells a number consists of this many digits, and the number is the one they are read
+-- as
 pub record IsRead (bytes : Text) (n : ℕ) : Type 0 where
   pub bytes_are : All IsDigitByte bytes
   pub some : 1 ≤ length bytes

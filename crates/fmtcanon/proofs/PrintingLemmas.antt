@@ -1,4 +1,5 @@
--- Where words give a format its arguments, nothing but want of memory hinders it from printing.
+-- If arguments of the command line give a format its arguments, it is printed unless memory is
+-- refused.
 use Rattle.std.proofs.Common.{◌≡◌, ◌∙◌, ℕ, zero, suc, List, [], ◌∷◌, Some, ap, length, map, refl, slice_get, subst, sym}
 use Rattle.std.proofs.lemmas.List.{length-map}
 use Rattle.pf_text.proofs.Texts.{Reads-unique}

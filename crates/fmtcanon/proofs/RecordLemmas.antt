@@ -91,7 +91,7 @@ module _ (asked : RecordQuestion) where
           go {replies} (Err Memory) are said = absurd said
           go {replies} (Err (Write count)) are said = (replies, [], are, said)
 
-      -- it is kept, since a second one is wanted
+      -- it is kept, since a second one is needed
       pub kept : AddsReply asked (h.first ++ text ∷ []) h.said.sent h.replies a.replies mid (Ok false) → new.replies ≡ mid
           → HasFirst new.partial asked (h.first ++ text ∷ []) → HasAsked asked contents new start now (whole ++ text ∷ [])
       kept adds same held = record {
@@ -133,7 +133,7 @@ module _ (asked : RecordQuestion) where
       part_is = ap (λ part. part ++ bytes) h.part_is ∙ sym longer_is;
     }
 
-    -- a record came at once, as nothing of it had come before
+    -- a record came in one piece, as nothing of it had come before
     module _ (none : r.part.items ≡ []) (bytes : Text) (new : RecordRun) (w : Counted W) (same : new.part ≡ r.part) where
       it_is : bytes ≡ rest ++ bytes
       it_is = ap (λ t. t ++ bytes) (sym (h.part_is ∙ none))
@@ -159,7 +159,7 @@ module _ (asked : RecordQuestion) where
   pub none_left : (p : PartialQuestion) (first : List Text) → HasFirst p asked first → p.has_first ≡ false → first ≡ []
   none_left p first h is = h.first_is ∙ ap (λ b. first_of b p.first.items) is
 
-  -- at the end an empty rest is no record
+  -- at the end an empty rest isn't a record
   pub last_none : {W : Type 0} (contents : W → Known) (r : RecordRun) (start now : Counted W) (whole : List Text) (rest : Text)
       → rest ≡ [] → HasRepliedTo asked contents r start now whole rest
       → HasRepliedTo asked contents r start now (whole ++ last_record rest) []

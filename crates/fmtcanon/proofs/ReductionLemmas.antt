@@ -1,4 +1,4 @@
--- A directive has one reduction: as items it is a canonical text, of which equivalent ones are equal.
+-- A directive has one reduction: as items it is a canonical text, and equivalent ones are equal.
 use Rattle.std.proofs.Common.{◌≡◌, ◌≢◌, ℕ, zero, suc, List, [], ◌∷◌, ◌++◌, length, map, replicate, refl, sym, ap, ap₂, ◌∙◌, subst, arith, Result}
 use Rattle.std.specs.Prelude.{IfOk, flat_map}
 use Rattle.std.proofs.lemmas.List.{length-replicate}
@@ -161,7 +161,7 @@ one_reduction model s r q h g =
     let padding = same_runs space zero_digit other_byte r.spaces r.zeros q.spaces q.zeros parts.before in
     same_reduced r q padding.0 padding.1 (same_core model r.core q.core h.normal g.normal parts.core) (same_count r.trail q.trail space parts.behind)
 
--- the line of a directive, of which a reduction is known
+-- the line of a directive whose reduction is known
 pub shown_directive : (model : Model) {E : Type 0} (shown : Shown) (s : Specification) (old new : Text) (result : Result (Unit {0}) E) → shown ≡ Specified s
     → IfOk result (λ x. (r : Reduced) × IsReducedTo model s r × (new ≡ old ++ reduced_line model s r))
     → IfOk result (λ x. (part : Text) × IsLineOf model shown part × (new ≡ old ++ part))

@@ -9,7 +9,7 @@ use Rattle.fmtcanon_c.specs.declared.byte_counts.TheConstants.{MOST, UNBOUNDED}
 use Rattle.fmtcanon_c.specs.declared.interface.CError.{CError}
 use Rattle.fmtcanon_c.specs.Errors.{IsRefusedBy}
 
--- a number, or the greatest that has room
+-- a number, or the largest that has room
 abbrev pub limited : ℕ → ℕ
 limited n = min n MOST
 

@@ -28,7 +28,7 @@ literal_kind_in_header EscapeTooLarge = 204
 literal_kind_in_header ZeroByte = 205
 literal_kind_in_header Trigraph = 206
 
--- the codes that are no refusal are those of the header
+-- the codes that are not refusals are those of the header
 pub record AreErrorsOfHeader : Type 0 where
   pub memory : NO_MEMORY ≡ error_nomemory
   pub model : NO_MODEL ≡ error_model

@@ -13,7 +13,7 @@ use Rattle.fmtcanon_c.specs.declared.interface.TheConstants.{LITERAL_KINDS, NO_M
 use Rattle.fmtcanon_c.specs.Buffers.{put}
 use Rattle.fmtcanon_c.specs.Calls.{IsOut}
 
--- a text is no source, and the error says why and where
+-- a text is not a source, and the error says why and where
 pub record IsNoSource (t : Text) (code : ℤ) (error : CError) : Type 0 where
   pub kind : LiteralKind
   pub fault : IsFaultAt t kind error.at
@@ -21,8 +21,8 @@ pub record IsNoSource (t : Text) (code : ℤ) (error : CError) : Type 0 where
   pub kind_is : error.kind ≡ LITERAL_KINDS + literal_kind_number kind
   pub side_is : error.side ≡ 0
 
--- the bytes of a source and a zero are put, where the buffer has room for them, and their number is
--- answered; or the text is no source; or memory is out
+-- The bytes of a source and a NUL are put, if the buffer has room for them, and their number is
+-- returned; or the text is not a source; or it is out of memory.
 abbrev pub PutsDecoded : Text → Text → CError → ℤ → Text → CError → Type 0
 PutsDecoded t out error code out_now error_now =
     ((bytes : Bytes) × IsSourceOf t bytes × (code ≡ pos (length bytes))
@@ -37,12 +37,12 @@ PutsEncoded t out code out_now =
     ((code ≡ pos (length (encoding t))) × (out_now ≡ put (encoding t ++ 0 ∷ []) out))
     ⊎ ((code ≡ NO_MEMORY) × (out_now ≡ out))
 
--- a place as an answer; a text that a caller owes has none from 2^63 on
+-- an offset as a result; by its preconditions a caller gives no text with one of 2^63 or more
 abbrev pub IsPlaceCode : ℕ → ℤ → Type 0
 IsPlaceCode at code =
     ((at < 2 ^ 63) × (code ≡ pos at)) ⊎ ((2 ^ 63 ≤ at) × (code ≡ NO_PLACE))
 
--- the place of a byte, or of the last closing quote behind them; or there is none
+-- the offset of a byte, or of the last closing quote after them; or there is none
 abbrev pub AnswersPlace : Text → ℕ → ℤ → Type 0
 AnswersPlace t index code =
     ((at : ℕ) × IsOffsetOf t index at × IsPlaceCode at code)

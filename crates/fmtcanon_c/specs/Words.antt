@@ -9,7 +9,7 @@ use Rattle.pf_compare.specs.declared.owned_args.OwnedArg.{OwnedArg}
 abbrev pub ended_word : OwnedArg → Text
 ended_word arg = argument_word (argument_of_owned arg) ++ 0 ∷ []
 
--- the words of arguments, each with a zero after it
+-- the words of arguments, each terminated by NUL
 abbrev pub ended_words : List OwnedArg → Text
 ended_words args = flat_map ended_word args
 

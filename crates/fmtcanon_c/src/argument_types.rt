@@ -174,8 +174,8 @@ fn put_numbers(out: &mut [u8], types: &[ArgumentType])
     }
 }
 
-/// 1 where the second format takes just the arguments of the first, 0 where it doesn't, else the
-/// code of the refusal of one. It takes no memory.
+/// Returns 1 if the second format takes just the arguments of the first, 0 if not, or minus the
+/// kind of the rejected one. Allocates nothing.
 #[unsafe(no_mangle)]
 pub extern "C" fn fmtcanon_fits(model: i32, first: &[u8], second: &[u8], error: &mut CError) -> i64
     ensures { InModel model (λ m. AnswersFit m first.now second.now error.old result error.new)
@@ -197,8 +197,8 @@ fn fits_in(model: Model, first: &[u8], second: &[u8], error: &mut CError) -> i64
     }
 }
 
-/// 1 where the second format takes the arguments of the first, or those at their beginning, 0 where it
-/// doesn't, else the code of the refusal of one. It takes no memory.
+/// Returns 1 if the second format takes the arguments of the first, or those at their beginning, 0 if
+/// not, or minus the kind of the rejected one. Allocates nothing.
 #[unsafe(no_mangle)]
 pub extern "C" fn fmtcanon_fits_fewer(
     model: i32,
@@ -225,9 +225,9 @@ fn fits_fewer_in(model: Model, first: &[u8], second: &[u8], error: &mut CError) 
     }
 }
 
-/// The data models in which the second format takes just the arguments of the first, as
-/// `fmtcanon_same_models` gives them, else the code of the refusal of one in the first data model in
-/// which one is refused. It takes no memory.
+/// Returns the data models in which the second format takes just the arguments of the first, as
+/// `fmtcanon_same_models` gives them. If one format is rejected in a data model, returns minus its
+/// kind in the first such data model. Allocates nothing.
 #[unsafe(no_mangle)]
 pub extern "C" fn fmtcanon_fits_models(first: &[u8], second: &[u8], error: &mut CError) -> i64
     ensures { AnswersFitModels first.now second.now error.old result error.new }
@@ -270,9 +270,9 @@ fn is_fit(model: Model, first: &[u8], second: &[u8]) -> Result<bool, (Side, Refu
     }
 }
 
-/// The data models in which the second format takes the arguments of the first, or those at their
-/// beginning, as `fmtcanon_same_models` gives them, else the code of the refusal of one in the first data model in
-/// which one is refused. It takes no memory.
+/// Returns the data models in which the second format takes the arguments of the first, or those at their
+/// beginning, as `fmtcanon_same_models` gives them. If one format is rejected in a data model, returns minus its
+/// kind in the first such data model. Allocates nothing.
 #[unsafe(no_mangle)]
 pub extern "C" fn fmtcanon_fits_fewer_models(first: &[u8], second: &[u8], error: &mut CError) -> i64
     ensures { AnswersFewerModels first.now second.now error.old result error.new }

@@ -11,7 +11,7 @@ use pf_values::Model;
 /// `FMTCANON_UNBOUNDED`
 pub(crate) const UNBOUNDED: u64 = 18_446_744_073_709_551_615;
 
-/// The greatest number that is put.
+/// The largest number that is put.
 pub(crate) const MOST: u64 = 18_446_744_073_709_551_614;
 
 /// `fmtcanon_bounds`: how many bytes a format prints.
@@ -25,7 +25,7 @@ pub struct CBounds {
 }
 
 /// Puts the smallest and the largest number of bytes that a format prints, over all arguments of its
-/// types. 0, or the code of an error. It takes no memory.
+/// types. Returns 0, or the code of an error. Allocates nothing.
 #[unsafe(no_mangle)]
 pub extern "C" fn fmtcanon_bounds(
     model: i32,

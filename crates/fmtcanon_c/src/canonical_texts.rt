@@ -10,7 +10,7 @@ use pf_text::{Side, TextFault, check};
 use pf_values::Model;
 use std::alloc::Global;
 
-/// 0 where the text is accepted, else the code of its refusal.
+/// Returns 0 if the text is accepted, otherwise minus the kind of its refusal.
 #[unsafe(no_mangle)]
 pub extern "C" fn fmtcanon_check(text: &[u8], error: &mut CError) -> i64
     ensures { Checks text.now error.old result error.new }
@@ -21,7 +21,8 @@ pub extern "C" fn fmtcanon_check(text: &[u8], error: &mut CError) -> i64
     }
 }
 
-/// 1 where an accepted text is canonical, 0 where it isn't, else the code of its refusal.
+/// Returns 1 if the text is canonical, 0 if it is accepted and not canonical, otherwise minus the
+/// kind of its refusal.
 #[unsafe(no_mangle)]
 pub extern "C" fn fmtcanon_is_canonical(model: i32, text: &[u8], error: &mut CError) -> i64
     ensures { InModel model (λ m. AnswersCanonical m text.now error.old result error.new)
@@ -128,8 +129,8 @@ fn put_long_canonical(
     }
 }
 
-/// The length of the canonical text, or the code of an error: that of no memory where the length is
-/// 2^63 or more. It takes no memory.
+/// Returns the length of the canonical text, or the code of an error: the code for out of memory if
+/// the length is 2^63 or more. Allocates nothing.
 #[unsafe(no_mangle)]
 pub extern "C" fn fmtcanon_canonical_length(model: i32, text: &[u8], error: &mut CError) -> i64
     ensures { InModel model (λ m. AnswersLength m text.now error.old result error.new)

@@ -15,8 +15,8 @@ use pf_text::{Refusal, Side};
 use pf_values::Model;
 use std::alloc::{AllocError, Global};
 
-/// 1 where two formats have equal types and print equal bytes for all arguments, 0 where they
-/// don't, else the code of the refusal of one. It takes no memory.
+/// Returns 1 if two formats have equal types and print equal bytes for all arguments, 0 if not, or
+/// minus the kind of the rejected one. Allocates nothing.
 #[unsafe(no_mangle)]
 pub extern "C" fn fmtcanon_same(model: i32, first: &[u8], second: &[u8], error: &mut CError) -> i64
     ensures { InModel model (λ m. AnswersSame m first.now second.now error.old result error.new)
@@ -38,9 +38,9 @@ fn same_in(model: Model, first: &[u8], second: &[u8], error: &mut CError) -> i64
     }
 }
 
-/// The data models in which two formats have equal types and print equal bytes for all arguments: 1
-/// for the first of all, 2 for the second and so on, added; else the code of the refusal of one. It
-/// takes no memory.
+/// Returns a bit mask of the data models in which two formats have equal types and print equal
+/// bytes for all arguments: 1 for the first of all, 2 for the second and so on. If one is rejected,
+/// returns minus its kind. Allocates nothing.
 #[unsafe(no_mangle)]
 pub extern "C" fn fmtcanon_same_models(first: &[u8], second: &[u8], error: &mut CError) -> i64
     ensures { AnswersModels first.now second.now error.old result error.new }
@@ -174,7 +174,7 @@ fn verdict_numbers(verdict: &Verdict) -> (u32, u64)
     }
 }
 
-/// The words of the arguments that a verdict gives, each with a zero after it.
+/// The words of the arguments that a verdict gives, each terminated by NUL.
 pub(crate) fn words_of(alloc: Global, verdict: &Verdict) -> Result<Vec<u8>, AllocError>
     ensures { MatchResult result (λ out. out.items ≡ words_of verdict.now)
         (λ _. HasSeparatingArguments verdict.now) }

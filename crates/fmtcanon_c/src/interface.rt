@@ -20,8 +20,7 @@ pub(crate) const NO_MODEL: i64 = -101;
 /// `FMTCANON_ERROR_NOPLACE`
 pub(crate) const NO_PLACE: i64 = -102;
 
-/// What is added to the number of a kind of faults of literals, so that it is no number of a kind of
-/// refusals of formats.
+/// Added to the number of a literal kind, to keep it apart from the kinds of refusals.
 pub(crate) const LITERAL_KINDS: u32 = 200;
 
 /// `fmtcanon_error`: where and why a text is refused.
@@ -62,8 +61,8 @@ pub(crate) fn side_number(side: Side) -> u32
     }
 }
 
-/// Puts the name of a kind of refusals into a buffer, with a zero after it, where it has room. The
-/// length of the name, or 0 for a number that is no kind's.
+/// Puts the name of a kind of refusals into a buffer, terminated by NUL, if it has room. Returns
+/// the length of the name, or 0 for a number without a kind.
 #[unsafe(no_mangle)]
 pub extern "C" fn fmtcanon_kind_name(kind: u32, out: &mut [u8]) -> u64
     ensures { PutsName kind out.old result out.new }
@@ -163,8 +162,8 @@ pub(crate) fn put_bytes(out: &mut [u8], bytes: &[u8])
     }
 }
 
-/// Puts bytes and a null character after them at the front of a buffer that has room for them, and leaves
-/// any other as it is.
+/// Puts bytes and a NUL after them at the front of a buffer that has room for them, and leaves any other
+/// as it is.
 pub(crate) fn put_string(out: &mut [u8], bytes: &[u8])
     ensures { out.new ≡ put (bytes.now ++ 0 ∷ []) out.old }
 {
@@ -175,7 +174,7 @@ pub(crate) fn put_string(out: &mut [u8], bytes: &[u8])
     }
 }
 
-/// The version: 65,536 for each major one, 256 for each minor one, and the patch.
+/// Returns the version: 65,536 for each major one, 256 for each minor one, and the patch.
 #[unsafe(no_mangle)]
 pub extern "C" fn fmtcanon_version() -> u32
     ensures { result ≡ 65536 }

@@ -44,8 +44,8 @@ pub extern "C" fn fmtcanon_encode_literal(alloc: Global, text: &[u8], out: &mut 
 }
 
 /// Returns the offset in a source at which the element begins that gives the byte with this index;
-/// for the number of bytes, the offset of the last closing quote; otherwise the code of no place. It
-/// takes no memory.
+/// for the number of bytes, the offset of the last closing quote; otherwise the code for no offset.
+/// Allocates nothing.
 #[unsafe(no_mangle)]
 pub extern "C" fn fmtcanon_source_offset(source: &[u8], index: u64) -> i64
     ensures { AnswersPlace source.now index result }

@@ -20,7 +20,7 @@ use pf_whole::{WholeVerdict, compare, same_text};
 use std::alloc::{AllocError, Global};
 
 /// Returns 1 if two formats of the whole language have equal types, print equal bytes for all arguments
-/// and make the same calls, 0 if they don't, or the code of the refusal of one. It takes no memory.
+/// and make the same calls, 0 if they don't, or minus the kind of the rejected one. Allocates nothing.
 #[unsafe(no_mangle)]
 pub extern "C" fn fmtcanon_whole_same(
     model: i32,
@@ -47,9 +47,9 @@ fn alike_in(model: Model, first: &[u8], second: &[u8], error: &mut CError) -> i6
     }
 }
 
-/// Returns the data models in which two formats of the whole language have equal types, print equal bytes
-/// for all arguments and make the same calls: 1 for the first of all, 2 for the second and so on, added;
-/// or the code of the refusal of one. It takes no memory.
+/// Returns a bit mask of the data models in which two formats of the whole language have equal types,
+/// print equal bytes for all arguments and make the same calls: 1 for the first of all, 2 for the second
+/// and so on. If one is rejected, returns minus its kind. Allocates nothing.
 #[unsafe(no_mangle)]
 pub extern "C" fn fmtcanon_whole_same_models(first: &[u8], second: &[u8], error: &mut CError) -> i64
     ensures { AnswersAlikeModels first.now second.now error.old result error.new }

@@ -50,7 +50,7 @@ fn put_whole_canonical(
 }
 
 /// Returns the length of the canonical text of a format of the whole language, or the code of an error:
-/// that of no memory if the length is 2^63 or more. It takes no memory.
+/// the code for out of memory if the length is 2^63 or more. Allocates nothing.
 #[unsafe(no_mangle)]
 pub extern "C" fn fmtcanon_whole_canonical_length(
     model: i32,

@@ -32,7 +32,7 @@ count-gt base k n h g =
           absurd (omega (arith, below, number_digits_of base n h))
     ]
 
--- the least of the signed numbers, and the greatest of the others
+-- the smallest of the signed numbers, and the largest of the others
 abbrev pub extreme : Bool → Bits → ℤ
 extreme true bits = negsuc (2 ^ (bit_count bits - 1) - 1)
 extreme false bits = pos (2 ^ bit_count bits - 1)
@@ -113,7 +113,7 @@ in_row model v = each_row model (λ r. (FitsIn true (bit_count r.bits) v → IsI
     ((λ h. let a = h.0 in let b = h.1 in (omega (arith, ints), omega (arith, ints))), λ h. let a = h.0 in let b = h.1 in (omega (arith, ints), omega (arith, ints)))
     (λ h. h, λ h. h) (λ h. h, λ h. h) (λ h. h, λ h. h)
 
--- of the type that is wanted
+-- of the expected type
 pub value_typed : (model : Model) (k : Kind) (length : Length) (v : ℤ) → IsFalse (prints_text k) → FitsIn (prints_signed k) (bit_count (bits_under model length)) v
     → HasType model (Number v) (type_of_kind model k length)
 value_typed model kinds.Signed length v e h = (in_row model v length).0 h

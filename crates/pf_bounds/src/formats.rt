@@ -10,8 +10,9 @@ use crate::sums::Bounds;
 use pf_text::{Piece, Pieces, Refusal};
 use pf_values::Model;
 
-/// The smallest and the largest number of bytes that a format prints in this data model, over all
-/// arguments of its types (C11 7.21.6.1). It takes no memory.
+/// Returns the smallest and the largest number of bytes that a format prints in this data model,
+/// over all arguments of its types (C11 7.21.6.1). `Err` if the format is refused. Allocates
+/// nothing.
 pub fn bounds(model: Model, text: &[u8]) -> Result<Bounds, Refusal>
     ensures { MatchResult result (λ b. AreBounds model text.now b.least b.greatest)
         (λ refusal. IsRefusedAt text.now refusal.kind refusal.at) }

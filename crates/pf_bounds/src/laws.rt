@@ -9,14 +9,14 @@ ghost use Rattle.pf_values.specs.meaning.Printing.{AreEquivalent, PrintsAll};
 ghost use Rattle.pf_values.specs.meaning.Text.{Text};
 ghost use Rattle.pf_bounds.specs.Bounds.{AreBounds, IsBetween, sum_of};
 
-/// A text has one smallest and one largest number of bytes, or no largest.
+/// Proves that a text has one smallest and one largest number of bytes, or no largest.
 pub fn bounds_once()
     ensures { (model : model_of_data) (t : Text) (least fewer : ℕ) (greatest more : Option ℕ)
         → AreBounds model t least greatest → AreBounds model t fewer more
         → (least ≡ fewer) × (greatest ≡ more) }
 {}
 
-/// What a text prints for arguments of its types is no shorter and no longer.
+/// Proves that the bytes that a text prints for arguments of its types lie between its two bounds.
 pub fn printed_between()
     ensures { (model : model_of_data) (t out : Text) (least : ℕ) (greatest : Option ℕ)
         (items : List Item) (args : List Argument) → AreBounds model t least greatest
@@ -24,7 +24,7 @@ pub fn printed_between()
         → IsBetween least greatest (length out) }
 {}
 
-/// Two texts one after another print the sums.
+/// Proves that two texts one after another print the sums.
 pub fn bounds_of_both()
     ensures { (model : model_of_data) (t u : Text) (least fewer : ℕ) (greatest more : Option ℕ)
         → AreBounds model t least greatest → AreBounds model u fewer more
@@ -32,7 +32,7 @@ pub fn bounds_of_both()
         → AreBounds model (t ++ u) (least + fewer) (sum_of greatest more) }
 {}
 
-/// Equivalent texts have the same bounds.
+/// Proves that equivalent texts have the same bounds.
 pub fn equivalent_bounds()
     ensures { (model : model_of_data) (t u : Text) (least : ℕ) (greatest : Option ℕ)
         → AreEquivalent model t u → IsAccepted u → AreBounds model t least greatest

@@ -203,7 +203,7 @@ stops_by model faults.Read s start left taken given h = (h.0, h.1)
 stops_by model (faults.Refused refusal) s start left taken given h = (h.0, h.1)
 
 module _ {B : Type 0} (kept failed : B → B → Type 0) where
-  -- an answer that is no fault of the reader
+  -- a result that isn't a fault of the reader
   pub counts_kept : (r : Result (Unit {0}) StreamFault) (old new : B) → IsNoReadFault r → kept old new → CountsDrain kept failed r old new
   counts_kept (Ok done) old new told h = h
   counts_kept (Err faults.Read) old new told h = absurd told

@@ -152,7 +152,7 @@ module _ (model : Model) (f f_left g g_left : Known) where
       (given ++ (other ++ h.rest)) e c k)) in
       end_both model d.text h.text false (λ is. absurd (cc), λ e. absurd (unlike e)) f f_left g g_left d.whole h.whole
 
-  -- both ended at once
+  -- both ended together
   pub same_ends : (one two : ByteTransducer) (t u given : Text) → IsFilled one → IsFilled two → pending_in one ≡ [] → pending_in two ≡ []
       → History model one f f_left t given → History model two g g_left u given → EndsBoth model f f_left g g_left true
   same_ends one two t u given one_filled two_filled none no_more h k =
@@ -164,7 +164,7 @@ module _ (model : Model) (f f_left g g_left : Known) where
       (record { reader = a.reader; end = a.end; accepted = a.accepted; canonical = (_, c) })
       (record { reader = b.reader; end = b.end; accepted = b.accepted; canonical = (_, d) })
 
--- so many bytes more were given on both sides
+-- the same number of bytes more were given on both sides
 pub in_step_on : (model : Model) (first one second two : ByteTransducer) (a b f g : Known) (x y : Text) (count : ℕ) → IsFrontOf (pending_in first) x
     → IsFrontOf (pending_in second) y → HaveCommon x y (Some count) → count ≢ 0 → (k : IsFilledInStep model first a second b f g)
     → History model one f a k.t (k.given ++ take count (pending_in first)) → History model two g b k.u (k.given ++ take count (pending_in second))

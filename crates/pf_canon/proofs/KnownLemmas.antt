@@ -1,4 +1,4 @@
--- Texts of which it is known whether they are canonical.
+-- Texts that are known to be canonical, or known not to be.
 use Rattle.std.proofs.Common.{◌≡◌, ◌≢◌, ℕ, ◌+◌, ◌-◌, ◌≤◌, Bool, true, false, Some, None, List, [], ◌∷◌, ◌++◌, length, take, drop, refl, sym, ◌∙◌, subst, inl, inr, arith}
 use Rattle.std.specs.Prelude.{IsTrue, MatchOption, Option, ◌↔◌, ⊤}
 use Rattle.std.specs.List.{AllByRecursion}

@@ -68,7 +68,7 @@ pub none_both : (t u : Text) → t ++ u ≡ [] → (t ≡ []) × (u ≡ [])
 none_both [] u e = (refl, e)
 none_both (byte ∷ t) u e = absurd (cc)
 
--- so many bytes of two texts are left out, of the first as many as it has
+-- a number of bytes of two texts is left out, from the first as many as it has
 pub drop_both : (count first : ℕ) (t u : Text) → first ≡ min count (length t) → drop first t ++ drop (count - first) u ≡ drop count (t ++ u)
 drop_both count first t u e = elim (cases_lt count (length t)) [
   | inl less ↦

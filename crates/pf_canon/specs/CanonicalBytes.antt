@@ -81,7 +81,7 @@ IsLean model taken given =
 abbrev pub IsReadFor : Model → Text → Text → Type 0
 IsReadFor model taken given = (taken ≡ []) ⊎ IsLean model taken given
 
--- Of a text that is not at its end `taken` was taken, and what it settles was given but for
+-- The text is not at its end. `taken` was taken, and all that it settles was given, except
 -- `pending`.
 pub record IsReading (model : Model) (r : Transducer) (pending : Text) (start left : Known)
     (taken given : Text) : Type 0 where
@@ -93,7 +93,7 @@ pub record IsReading (model : Model) (r : Transducer) (pending : Text) (start le
   pub lean : pending ≢ [] → IsLean model taken given
   pub read : IsReadFor model taken given
 
--- All was taken, and the canonical text was given but for `pending`.
+-- All was taken, and the canonical text was given, except `pending`.
 pub record IsEnding (model : Model) (pending : Text) (start left : Known)
     (taken given : Text) : Type 0 where
   pub reader : Consumes start left taken

@@ -25,8 +25,8 @@ pub record AreCommon (t u : Text) (count : ℕ) : Type 0 where
   pub second : count ≤ length u
   pub same : take count t ≡ take count u
 
--- Two texts begin with so many equal bytes, some unless both are empty. Or they begin with unequal
--- ones, or just one of them is empty.
+-- Two texts begin with this many equal bytes, some unless both are empty. Or they begin with
+-- unequal ones, or just one of them is empty.
 abbrev pub HaveCommon : Text → Text → Option ℕ → Type 0
 HaveCommon t u (Some count) =
     (count ≤ length t) × (count ≤ length u) × (take count t ≡ take count u)

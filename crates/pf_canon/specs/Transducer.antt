@@ -168,8 +168,8 @@ pub record TakesVerbatim (model : Model) (t out text : Text) (len : ℕ)
   pub items : List Item
   pub through : IsThrough model new (t ++ take len text) items (out ++ take len text)
 
--- The scanner took the text up to and with the byte at the offset `at`, of which it made this step.
--- Nothing is settled by that yet.
+-- The scanner took the text up to the byte at the offset `at`, inclusive, for which it made this
+-- step. Nothing is settled by that yet.
 pub record HasScannedByte (model : Model) (r : Transducer) (t : Text) (items : List Item)
     (out text : Text) (at : ℕ) (step : Step) : Type 0 where
   pub before : Transducer

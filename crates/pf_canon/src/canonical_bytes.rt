@@ -26,7 +26,7 @@ pub struct CanonBytes<R> {
 }
 
 impl<R: Read + Drop> CanonBytes<R> {
-    /// Nothing was read.
+    /// Returns the bytes before anything was read.
     pub fn new(model: Model, reader: Counted<R>) -> CanonBytes<R>
         ensures reader { reader_of result ≡ reader }
         ensures history { StreamHistory model R.remaining result
@@ -38,7 +38,7 @@ impl<R: Read + Drop> CanonBytes<R> {
         }
     }
 
-    /// The reader, after the bytes that were taken.
+    /// Returns the reader, after the bytes that were taken.
     pub fn into_reader(self) -> Counted<R>
         ensures { result ≡ reader_of self }
     {

@@ -69,7 +69,8 @@ pub(crate) fn known_at_front(model: Model, text: &[u8]) -> Option<(bool, usize)>
     }
 }
 
-/// How many bytes has the directive at the front of a text, if it is known to be its own canonical text; else 0.
+/// Returns the length of the directive at the front of a text, if it is known to be its own canonical text;
+/// otherwise 0.
 #[inline(always)]
 pub(crate) fn kept_len(model: Model, text: &[u8]) -> usize
     ensures within { result ≤ length text.now }
@@ -81,7 +82,7 @@ pub(crate) fn kept_len(model: Model, text: &[u8]) -> usize
     }
 }
 
-// How many bytes has a directive, if nothing changes in this data model; else 0.
+// The length of a directive, if nothing changes in this data model; otherwise 0.
 #[inline(always)]
 fn own_len(model: Model, directive: &ChangedDirective) -> usize
     ensures { (result ≡ 0) ⊎ ((result ≡ directive.now.spelled.len)
@@ -94,7 +95,7 @@ fn own_len(model: Model, directive: &ChangedDirective) -> usize
     0
 }
 
-// `known_at_front` of a directive of which it isn't known what changes.
+// `known_at_front` of a directive whose changes aren't known.
 #[inline(never)]
 fn normal_at_front(model: Model, text: &[u8]) -> Option<(bool, usize)>
     ensures { IfSome result (λ known. IsKnownFront model text.now known.0 known.1) }

@@ -29,7 +29,7 @@ pub(crate) fn common_bytes(x: &[u8], y: &[u8]) -> usize
     common_to_end::<LANES>(x, y, most, at)
 }
 
-// `common_bytes` of texts of which one is shorter than a vector.
+// `common_bytes` of texts, one of them shorter than a vector.
 #[inline(always)]
 fn common_of_few(x: &[u8], y: &[u8], most: usize) -> usize
     requires few { most < LANES }

@@ -18,10 +18,10 @@ use pf_text::{Refusal, Side, check};
 use pf_values::{Counted, Model};
 use std::io::Read;
 
-/// Whether the formats that two readers hand out up to their ends have equal types in this data
-/// model, and print equal bytes for all arguments. A difference doesn't stop the reading. Where a
-/// text is refused or its reader fails, the first text's fault is returned if it has one, and then
-/// the second text is not read further. It takes no memory.
+/// Returns whether the formats that two readers hand out up to their ends have equal types in this
+/// data model, and print equal bytes for all arguments. A difference doesn't stop the reading.
+/// `Err` if a text is refused or its reader fails: then the first text's fault is returned if it
+/// has one, and the second text is not read further. Allocates nothing.
 pub fn same_stream<R: Read, S: Read>(
     model: Model,
     first: &mut Counted<R>,
@@ -38,9 +38,9 @@ pub fn same_stream<R: Read, S: Read>(
     same_bytes(model, first, second)
 }
 
-/// Whether two formats have equal types in this data model, and print equal bytes for all
-/// arguments. Where a text is refused, the first text's refusal is returned if it has one. It takes
-/// no memory.
+/// Returns whether two formats have equal types in this data model, and print equal bytes for all
+/// arguments. `Err` if a text is refused: with the first text's refusal if it has one. Allocates
+/// nothing.
 pub fn same_text(model: Model, first: &[u8], second: &[u8]) -> Result<bool, (Side, Refusal)>
     ensures { MatchResult result (AreTextsSame model first.now second.now) (TextStops first.now second.now) }
 {

@@ -31,7 +31,8 @@ pub(crate) struct CopyProgress {
 }
 
 /// Writes the canonical text, in this data model, of what the reader hands out up to its end. It
-/// reads a block at a time, and doesn't flush.
+/// reads a block at a time, and doesn't flush. `Err` if the text is refused, or if the reader or
+/// the writer fails.
 pub fn canonical_stream<R: Read, W: Write>(
     model: Model,
     r: &mut Counted<R>,
@@ -53,6 +54,7 @@ pub fn canonical_stream<R: Read, W: Write>(
 }
 
 /// Writes the canonical text as `canonical_stream` does, and returns how many bytes it has written.
+/// `Err` as there.
 pub fn copy_canonical<R: Read, W: Write>(
     model: Model,
     r: &mut Counted<R>,

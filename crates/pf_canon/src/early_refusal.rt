@@ -1,4 +1,4 @@
-//! Texts of which one is refused in the item in which they differ.
+//! Pairs of texts, one of them refused in the item in which they differ.
 ghost use Rattle.std.specs.Prelude.{◌≤◌, ◌<◌, List, length, take, IfSome};
 ghost use Rattle.pf_values.specs.declared.limits.TheConstants.{MAX_TEXT_LEN};
 ghost use Rattle.pf_values.specs.meaning.Items.{Item, Reads};

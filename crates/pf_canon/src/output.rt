@@ -1,4 +1,5 @@
-//! What one item settles, to be put into a sink at once, or to be given in slices or byte by byte.
+//! The output that one item settles, to be put into a sink whole, or to be given in slices or byte
+//! by byte.
 ghost use Rattle.std.specs.Prelude.{◌≡◌, ◌*◌, ◌<◌, ℕ, drop, flat_map, length, replicate, ◌+◌, ◌^◌};
 ghost use Rattle.pf_values.specs.meaning.Canonical.{item_spelling};
 ghost use Rattle.pf_text.specs.CanonicalRuns.{silents};

@@ -1,5 +1,5 @@
-//! A fast way to see whether a text is canonical. It answers only what it is sure of: other texts are
-//! left to the transducer, which also finds out why one is refused.
+//! A fast way to see whether a text is canonical. It decides only the cases that it is sure of: other
+//! texts are left to the transducer, which also finds out why one is refused.
 ghost use Rattle.std.specs.Prelude.{◌≡◌, false, ◌↔◌, IsTrue, MatchOption, ⊤};
 ghost use Rattle.pf_values.specs.declared.models.Model.{Model};
 ghost use Rattle.pf_values.specs.meaning.Canonical.{IsCanonicalText};
@@ -32,7 +32,7 @@ pub(crate) fn known_canonical(model: Model, text: &[u8]) -> Option<bool>
     Some(true)
 }
 
-// The answer for a text that isn't canonical, of which this is the rest: it is accepted if that is.
+// Decides a text that isn't canonical, by this rest of it: it is accepted if the rest is.
 #[inline(never)]
 fn known_other(rest: &[u8]) -> Option<bool>
     ensures { MatchOption result ⊤ (λ is. (is ≡ false) × IsAccepted rest.now) }

@@ -18,7 +18,7 @@ pub struct ShortText {
 }
 
 impl ShortText {
-    /// Room in which nothing was put.
+    /// Returns room in which nothing was put.
     #[inline(always)]
     pub fn new() -> ShortText
         ensures { IsUnused result }
@@ -31,7 +31,7 @@ impl ShortText {
         }
     }
 
-    /// The bytes that were put.
+    /// Returns the bytes that were put.
     #[inline(always)]
     pub fn as_slice(&self) -> &[u8]
         ensures { result.now ≡ short_text self.now }
@@ -40,7 +40,7 @@ impl ShortText {
     }
 
     /// Puts the canonical text of a format. False if it may have more than 128 bytes; then only some of
-    /// it are there.
+    /// it are there. `Err` if the format is refused.
     pub fn put(&mut self, front: &VerbatimFront, text: &[u8]) -> Result<bool, Refusal>
         requires unused { IsUnused self.old }
         requires front { IsVerbatimFront text.now front.now }

@@ -38,7 +38,7 @@ pub(crate) fn put_repeated<S: Sink>(sink: &mut S, block: &[u8], times: u16)
     if times == 0 {
         return;
     }
-    // As many puts of one length as there are, which a sink that counts adds up at once.
+    // As many puts of one length as there are, which a sink that counts adds up in one step.
     let mut left = times / BLOCK;
     while left > 0 {
         sink.put(&block[..usize::from(BLOCK)]);
@@ -78,7 +78,7 @@ pub(crate) trait TextBuffer {
         ensures none { OnErr result (bytes_of self.new ≡ bytes_of self.old) };
 }
 
-/// There is room until a growth is refused.
+/// There is room until memory is refused.
 impl<A: Allocator> TextBuffer for Vec<u8, A> {
     ghost bytes_of = { λ v. v.items };
 
@@ -87,7 +87,7 @@ impl<A: Allocator> TextBuffer for Vec<u8, A> {
         self.as_slice()
     }
 
-    // No bytes need no growth.
+    // No bytes need no allocation.
     fn append(&mut self, bytes: &[u8]) -> Result<(), AllocError> {
         if bytes.is_empty() {
             return Ok(());

@@ -213,7 +213,7 @@ impl Transducer {
         verbatim_len + 4 * count
     }
 
-    // The chunk that ends with the byte at `at`, of which the scanner made this step.
+    // The chunk that ends with the byte at `at`, for which the scanner made this step.
     #[inline(always)]
     fn end_chunk(&mut self, text: &[u8], verbatim_len: usize, at: usize, step: &Step) -> Chunk
         requires verbatim_len { verbatim_len ≤ at }

@@ -24,7 +24,7 @@ pub struct VerbatimFront {
 }
 
 impl VerbatimFront {
-    /// The verbatim bytes at the front of a format.
+    /// Returns the verbatim bytes at the front of a format.
     #[inline(always)]
     pub fn of(model: DataModel, text: &[u8]) -> VerbatimFront
         ensures model { front_model result ≡ model }
@@ -52,8 +52,9 @@ impl VerbatimFront {
         VerbatimFront { len, ..*self }
     }
 
-    /// Whether all bytes of the format are verbatim, as they are in most. Then it is accepted, and its
-    /// own canonical text. False for a refused text, and for some formats that are canonical, too.
+    /// Returns whether all bytes of the format are verbatim, as they are in most. Then it is accepted,
+    /// and its own canonical text. False for a refused text, and for some formats that are canonical,
+    /// too.
     #[inline(always)]
     pub fn is_all(&self, text: &[u8]) -> bool
         requires { IsVerbatimFront text.now self.now }

@@ -221,7 +221,7 @@ pub prefix_unlike_zeros : (p : SignOrPrefix) (x t : Text) (n : ℕ) → sign_or_
     → sign_or_prefix_text p ++ x ≢ replicate n zero_digit ++ t
 prefix_unlike_zeros p x t n h l = not_where_zeros (sign_or_prefix_text p) x t n (past_zeros p h) l
 
--- letters and digits are no spaces
+-- letters and digits are not spaces
 above_space : (b : ℕ) → space < b → b ≢ space
 above_space b h = λ e. absurd (omega (arith, h, e))
 

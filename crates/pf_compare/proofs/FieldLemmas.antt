@@ -22,7 +22,7 @@ lacks_run c (suc n) b h = (h, lacks_run c n b h)
 other_byte : (b c : ℕ) → b ≢ c → nat_eq b c ≡ false
 other_byte b c h = grind (arith, nat_tests)
 
--- the bytes of a text that are no spaces
+-- the bytes of a text that are not spaces
 abbrev kept : Bool → ℕ → Text → Text
 kept true b t = t
 kept false b t = b ∷ t
@@ -103,14 +103,14 @@ told_apart x a b c d h e false (inr same) =
     let after : b ≡ d = omega (arith, same, e) in
     ap (λ n. between_spaces n x b) same ∙ ap (between_spaces c x) after
 
--- what is told of the texts that two directives print
+-- a statement about the texts that two directives print
 pub told_of_texts : (model : Model) (s t : Specification) (argument : Argument) (x y : Text)
     → ((out : Text) → Prints model s argument out → out ≡ x) → ((out : Text) → Prints model t argument out → out ≡ y)
     → (told : Bool) → DoTextsDiffer x y told → PredictsDifference model s t argument told
 told_of_texts model s t argument x y h g true other p q a b = λ same. other (sym (h p a) ∙ same ∙ g q b)
 told_of_texts model s t argument x y h g false same p q a b = h p a ∙ same ∙ sym (g q b)
 
--- what is told of two texts is told of two others that are equal exactly if they are
+-- a statement about two texts holds for two others that are equal exactly if they are
 pub told_through : (p q x y : Text) (told : Bool) → (p ≡ q → x ≡ y) → (x ≡ y → p ≡ q) → DoTextsDiffer p q told → DoTextsDiffer x y told
 told_through p q x y true h g other = λ same. other (g same)
 told_through p q x y false h g same = h same

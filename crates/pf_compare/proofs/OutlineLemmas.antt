@@ -130,7 +130,7 @@ whole_lacks_space : (k : Kind) (x : IntegerParts) → IsUnderKind k x → Lacks 
 whole_lacks_space k x h =
     number_lacks_space (sign_or_prefix_text x.prefix) x.zeros (number_of (base_under k)) (has_capitals k) x.magnitude h.no_space
 
--- a sign or prefix beside zeros
+-- a sign or prefix next to zeros
 zeros_beside : (j k : Kind) (x y : IntegerParts) → sign_or_prefix_text x.prefix ≢ sign_or_prefix_text y.prefix
     → (sign_or_prefix_text y.prefix ≡ []) × (length (sign_or_prefix_text x.prefix) ≤ y.zeros)
     → whole j x ≢ whole k y

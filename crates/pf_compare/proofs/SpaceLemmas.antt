@@ -142,7 +142,7 @@ spaced_alike s (negsuc n) e h = ap (field s) (same_sign s (negsuc n) (minus_sign
 spaced_alike s (pos n) e (inl h) = absurd cc
 spaced_alike s (pos n) e (inr h) = room_alike s n e h
 
--- what the values of two directives that are one beside the flag ` ` print
+-- the texts that the values of two directives print which are equal except for the flag ` `
 module _ (s t : Specification) (range : EqualPrintRange) (e : kind_of s.conv ≡ kinds.Signed) (same : with_space s ≡ with_space t)
     (room : (n : ℕ) → n < range.below → LeavesRoomForSpace s (count_of 10 n)) where
   conv_same : s.conv ≡ t.conv

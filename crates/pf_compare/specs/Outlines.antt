@@ -43,7 +43,7 @@ pub record HasOutlineText (o : Outline) (parts : IntegerParts) (text : Text → 
   pub no_space : Lacks space (sign_or_prefix_text o.parts.prefix)
   pub drawn_is : (t : Text) → length t ≡ parts.digit_count → outline_text o t ≡ text t
 
--- the parts of a number have its digits under a kind, and their prefix is no space
+-- the parts of a number have its digits under a kind, and their prefix isn't a space
 pub record IsUnderKind (kind : Kind) (parts : IntegerParts) : Type 0 where
   pub count : parts.digit_count ≡ length (kind_digits kind parts.magnitude)
   pub no_space : Lacks space (sign_or_prefix_text parts.prefix)

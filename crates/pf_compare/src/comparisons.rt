@@ -27,8 +27,8 @@ use std::alloc::{AllocError, Global};
 use thiserror::Error;
 
 /// Compares two formats in a data model. Equivalent ones are `Same`. Otherwise they differ in their
-/// types, or the first probe is given for which they print different bytes. A refused text is
-/// answered by its refusal, the first before the second. Memory is taken only for arguments: where
+/// types, or the first probe is given for which they print different bytes. `Err` if a text is
+/// refused, the first before the second, or if memory is refused. Allocates only for arguments: if
 /// both are accepted, have the same types, and are not equivalent.
 pub fn compare(
     alloc: Global,
@@ -264,8 +264,9 @@ impl From<AllocError> for CompareFault {
     }
 }
 
-/// Whether two formats are accepted, take these arguments in a data model, and print different
-/// bytes for them. Memory is taken only for a format that takes the arguments and prints something.
+/// Returns whether two formats are accepted, take these arguments in a data model, and print
+/// different bytes for them. `Err` if memory is refused. Allocates only for a format that takes the
+/// arguments and prints something.
 pub fn confirms(
     alloc: Global,
     model: Model,

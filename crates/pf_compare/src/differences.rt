@@ -1,4 +1,4 @@
-//! Where two formats differ: in which directive alone, and in the type of which argument; whether two
+//! Where two formats differ: in which single directive, and in the type of one argument; whether two
 //! directives have the same parts.
 ghost use Rattle.std.specs.Prelude.{◌≡◌, ◌≢◌, ◌≤◌, ◌∷◌, [], ◌++◌, IfSome, IsFalse, IsTrue, List, MatchBool, MatchOption, Some, length, map};
 ghost use Rattle.pf_values.specs.declared.conversions.Conv.{Conv};
@@ -35,7 +35,7 @@ pub(crate) enum ItemDifference {
     Unknown,
 }
 
-/// In which items two formats differ. It takes no memory.
+/// In which items two formats differ. Allocates nothing.
 pub(crate) fn item_difference(first: &[u8], second: &[u8]) -> ItemDifference
     ensures { DifferInItems first.now second.now result }
 {
@@ -239,8 +239,8 @@ fn arg_count(piece: &Piece<'_>) -> usize
     }
 }
 
-/// The first index at which the argument types of two accepted formats differ, if they do. It takes
-/// no memory.
+/// Returns the first index at which the argument types of two accepted formats differ, or `None` if
+/// they are equal. Allocates nothing.
 pub(crate) fn first_type_difference(model: Model, first: &[u8], second: &[u8]) -> Option<u64>
     requires first { IsAccepted first.now }
     requires second { IsAccepted second.now }

@@ -5,15 +5,15 @@ ghost use Rattle.pf_values.specs.meaning.Headline.{HasOneCanonical, HaveOneMeani
 ghost use Rattle.pf_values.specs.meaning.Items.{IsAccepted};
 ghost use Rattle.pf_values.specs.meaning.Text.{Text};
 
-/// Each accepted format has exactly one canonical text, which has its types, prints its bytes, and is
-/// its own canonical text.
+/// Proves that each accepted format has exactly one canonical text, which has its types, prints its
+/// bytes, and is its own canonical text.
 pub fn one_canonical_text()
     ensures { (model : Model) (t : Text) → IsAccepted t → HasOneCanonical model t }
 {}
 
-/// The headline. Two accepted formats have equal argument types and print equal bytes for every list
-/// of such arguments exactly if their canonical texts are equal byte for byte. Each has exactly one,
-/// which has its types, prints its bytes, and is its own canonical text.
+/// Proves the headline. Two accepted formats have equal argument types and print equal bytes for
+/// every list of such arguments exactly if their canonical texts are equal byte for byte. Each has
+/// exactly one, which has its types, prints its bytes, and is its own canonical text.
 pub fn headline()
     ensures { (model : Model) (t u : Text) → IsAccepted t → IsAccepted u → HaveOneMeaning model t u }
 {}

@@ -260,7 +260,7 @@ fn outlines_differ(
 }
 
 // Whether two numbers of one length without their spaces are different bytes. A sign or prefix of one
-// and zeros of the other differ; a sign or prefix beside digits isn't told.
+// and zeros of the other differ; a sign or prefix in one and digits in the other can't be decided.
 fn parts_differ(
     first: &IntegerParts,
     first_kind: Kind,
@@ -370,7 +370,7 @@ fn glyphs_differ(first: u64, first_capitals: bool, second: u64, second_capitals:
     first_capitals != second_capitals
 }
 
-// The greatest power of 10 below 2^64 has this exponent.
+// The largest power of 10 below 2^64 has this exponent.
 const MOST_DIGITS: u16 = 19;
 
 /// The values for which two directives print the same: negative ones, and those below a limit.

@@ -245,7 +245,7 @@ pub(crate) fn predicted_candidate(
 }
 
 // How many candidates to try before the directives are reduced: all if they can't print the same or
-// trying is cheap, none if they are likely to, for example if `+` hides the flag ` `. Otherwise 0 and
+// trying is fast, none if they are likely to, for example if `+` hides the flag ` `. Otherwise 0 and
 // 1 tell most directives apart, and -1 does if the sign of a number replaces a zero.
 fn predicted_count(
     first: &Directive,

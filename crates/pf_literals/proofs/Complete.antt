@@ -1,4 +1,4 @@
--- A source is read as its bytes, and a text that is none as its fault.
+-- A source is read as its bytes, and a text that is not a source yields its fault.
 use Rattle.std.proofs.Common.{◌≡◌, ◌≢◌, ℕ, suc, ◌+◌, ◌-◌, true, false, List, [], ◌∷◌, ◌++◌, length, map, refl, sym, ap, ap₂, ◌∙◌, arith, inl, inr}
 use Rattle.std.proofs.Common.{length-append}
 use Rattle.std.specs.Prelude.{◌==◌, flat_map, Option, Some, None}
@@ -71,7 +71,7 @@ read_from-elements (element ∷ elements) rest at h =
     ∙ prefixed-prefixed (value element ∷ []) (map value elements) (at ∷ []) (element_offsets next elements) _
     ∙ ap (λ n. prefixed (map value (element ∷ elements)) (element_offsets at (element ∷ elements)) (read_from Inside 0 n rest)) long
 
--- behind a quote nothing matters
+-- after a quote nothing matters
 begins_quote : (byte : ℕ) (before rest : Bytes) → begins_no_trigraph byte (before ++ (quote ∷ [])) ≡ begins_no_trigraph byte (before ++ (quote ∷ rest))
 begins_quote byte [] [] = refl
 begins_quote byte [] (c ∷ rest) = refl
@@ -107,7 +107,7 @@ module _ (context : Context) (out : (t : Bytes) → token_at context t ≡ token
   read_from-opens : (rest : Bytes) (at : ℕ) → read_from context 0 at (quote ∷ rest) ≡ read_from Inside 0 (at + 1) rest
   read_from-opens rest at = ap (here at rest) (out (quote ∷ rest))
 
--- behind a literal and its white space
+-- after a literal and its white space
 pub read_from-behind : (elements : List Element) (white rest : Bytes) (at : ℕ) → AreElements elements (quote ∷ []) → AreWhite white
     → read_from Inside 0 at (flat_map written elements ++ (quote ∷ white) ++ rest)
     ≡ prefixed (map value elements) (element_offsets at elements)
@@ -159,7 +159,7 @@ closed_some : (literals : List StringLiteral) (at end : ℕ) → literals ≢ []
 closed_some [] at end some = absurd (some refl)
 closed_some (l ∷ literals) at end some = closed_there literals (at + 1 + length (flat_map written l.elements)) (at + length (literal_text l)) end
 
--- what comes behind white space and literals
+-- the text after white space and literals
 pub read_from-front : (front rest : Bytes) (literals : List StringLiteral) → AreWhite front → AllByRecursion IsStringLiteral literals
     → read_from Before 0 0 (front ++ flat_map literal_text literals ++ rest)
     ≡ prefixed (literal_bytes literals) (offsets (length front) literals)

@@ -35,7 +35,7 @@ some_bytes out more rest some e =
     let part = length-append out more in
     omega (arith, none, long, part, some)
 
--- memory wants for a part
+-- memory for a part may be refused
 pub hindered : (t : Bytes) (out offsets more others : List ℕ) (old : SourceReading) (cursor : Cursor) (fault : LiteralFault)
     → source_reading t ≡ prefixed out offsets old
     → old ≡ prefixed more others (reading_left t cursor) → 0 < length more → IsDecodingFault t cursor fault → FaultForDecode t fault

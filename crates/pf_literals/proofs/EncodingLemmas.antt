@@ -40,12 +40,12 @@ spelled-part after t len few verbatim some =
     ∙ spelled-some after (take len t) (drop len t) verbatim (omega (arith, long, some))
     ∙ ap (λ n. take len t ++ spelled false (drop n t)) (sym long)
 
--- a run at the front, and what is behind it
+-- a run at the front, and the text after it
 pub encoded_verbatim : (t : Bytes) (verbatim : ℕ) → verbatim ≤ length t → IsVerbatim (take verbatim t)
     → spelled false t ≡ take verbatim t ++ spelled false (drop verbatim t)
 encoded_verbatim t verbatim few is = ap (spelled false) (sym (take-append-drop verbatim t)) ∙ spelled-verbatim (take verbatim t) (drop verbatim t) is
 
--- a quote, the run, what is behind it, and a quote
+-- a quote, the run, the text after it, and a quote
 pub encoded : (t : Bytes) (verbatim : ℕ) (none a b c d : Bytes) → verbatim ≤ length t → IsVerbatim (take verbatim t) → none ≡ [] → a ≡ none ++ (quote ∷ [])
     → b ≡ a ++ take verbatim t
     → c ≡ b ++ spelled false (drop verbatim t) → d ≡ c ++ (quote ∷ []) → d ≡ encoding t

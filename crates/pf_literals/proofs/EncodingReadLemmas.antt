@@ -71,7 +71,7 @@ for_byte after byte some few = go (after && byte == question) refl where
   go true e = record { element_is = refl; value_is = sym (eqb-true byte 63 (and_parts _ _ e).1) }
   go false e = for_letter byte some few (simple_letter byte) refl
 
--- what is written behind a `?` doesn't begin with one
+-- the text that is written after a `?` doesn't begin with one
 record HasOtherHead (t : Bytes) : Type 0 where
   head : ℕ
   more : Bytes

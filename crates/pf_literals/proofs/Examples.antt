@@ -1,4 +1,4 @@
--- Sources with their bytes and offsets, texts that are no source, and literals of texts, each by the whole definition, as the reader
+-- Sources with their bytes and offsets, texts that are not sources, and literals of texts, each by the whole definition, as the reader
 -- and the definitions compute. docs/DEFINITIONS.md goes through them.
 use Rattle.std.proofs.Common.{◌≡◌, ◌∷◌, [], List, ℕ, codes, refl}
 use Rattle.pf_literals.specs.declared.faults.LiteralKind.TheVariants.{NoLiteral, Unterminated, BadEscape, EscapeTooLarge, ZeroByte, Trigraph}

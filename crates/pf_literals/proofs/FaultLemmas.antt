@@ -153,7 +153,7 @@ refused_longer t more kind at f less =
       offset = f.offset;
     }
 
--- a text that ends in a literal is closed by a quote, behind a digit where one is wanted
+-- a text that ends in a literal is closed by a quote, after a digit if one is needed
 all_push : (literals : List StringLiteral) (l : StringLiteral) → AllByRecursion IsStringLiteral literals → IsStringLiteral l
     → AllByRecursion IsStringLiteral (literals ++ l ∷ [])
 all_push [] l each is = (is, tt)

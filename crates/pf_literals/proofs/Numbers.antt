@@ -103,7 +103,7 @@ module _ (notation : Notation) where
   end_full : (count number : ℕ) → is_full notation count ≡ true → numeric_at_end notation count number ≡ finished_numeric notation count number
   end_full count number full = let none = and_right (number == 0) (not (is_full notation count)) (not_from_true _ full) in rw none refl
 
-  -- The text, of whose digits so many have been read.
+  -- The text, with this number of its digits read.
   module _ (text : Bytes) (count number : ℕ) (so_far : numeric_token notation 0 0 text ≡ numeric_token notation count number (drop count text)) where
     pub stops_full : is_full notation count ≡ true → numeric_token notation 0 0 text ≡ finished_numeric notation count number
     stops_full full = so_far ∙ go (drop count text) where

@@ -21,7 +21,7 @@ pub range_at : (at n i : ℕ) → i < n → Some (at + i) ≡ slice_get (range_w
 range_at at n i less =
     sym (slice_get-get_or (range_with_len at n) i 0 (omega (arith, length-range_with_len at n)) ∙ ap Some (get_or-range_with_len at n i 0 less))
 
--- behind a list, and at its front
+-- after a list, and at its front
 get_behind : (xs ys : List ℕ) (n : ℕ) → slice_get (xs ++ ys) (length xs + n) ≡ slice_get ys n
 get_behind [] ys n = let same : 0 + n ≡ n = omega arith in ap (slice_get ys) same
 get_behind (x ∷ xs) ys n = let same : suc (length xs) + n ≡ suc (length xs + n) = omega arith in ap (slice_get (x ∷ (xs ++ ys))) same ∙ get_behind xs ys n
@@ -52,7 +52,7 @@ pub no_offset : (t : Bytes) (index at : ℕ) (kind : LiteralKind) → source_rea
 no_offset t index at kind e there (found, close, h, is) = let whole = sym e ∙ (offsets_read t found close h).1 in absurd (cc)
 
 module _ (t : Bytes) (bytes found : List ℕ) (old : SourceReading) (so_far : source_reading t ≡ prefixed bytes found old) where
-  -- a fault behind
+  -- a fault further on
   pub none_behind : (index at : ℕ) (kind : LiteralKind) → old ≡ Fault kind at → HasNoOffset t index
   none_behind index at kind e = no_offset t index at kind (so_far ∙ ap (prefixed bytes found) e)
 

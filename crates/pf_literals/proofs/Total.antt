@@ -106,7 +106,7 @@ both zero [] few = nothing
 both zero (byte ∷ rest) few = absurd (omega arith)
 both (suc n) t few = from_both n (both n) t (omega (arith, few))
 
--- a source, or where and why it is none
+-- a source, or where and why it is not one
 abbrev pub IsSettled : Bytes → Type 0
 IsSettled t = ((literals : List StringLiteral) × IsSource t literals) ⊎ ((kind : LiteralKind) × (at : ℕ) × IsFaultAt t kind at)
 

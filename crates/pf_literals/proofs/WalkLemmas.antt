@@ -77,7 +77,7 @@ turn-fits Before text = outside-fits text
 turn-fits Inside text = token_inside-fits text
 turn-fits (Behind close) text = outside-fits text
 
--- bytes that are passed over, of a text that has so many
+-- bytes that are passed over, of a text that has at least as many
 read_from-past : (context : Context) (n at : ℕ) (rest : Bytes) → n ≤ length rest → read_from context n at rest ≡ read_from context 0 (at + n) (drop n rest)
 read_from-past context n at rest few =
     let long = length-take-le n rest few in

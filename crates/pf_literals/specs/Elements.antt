@@ -17,7 +17,7 @@ quote = 34
 abbrev pub backslash : ℕ
 backslash = 92
 
--- `?`, of which two begin a trigraph (C11 5.2.1.1 p1)
+-- `?`: two of them begin a trigraph (C11 5.2.1.1 p1)
 abbrev pub question : ℕ
 question = 63
 
@@ -69,7 +69,7 @@ abbrev pub digit_value : ℕ → ℕ
 digit_value byte =
     if nat_le byte 57 then byte - 48 else if nat_le byte 70 then byte - 55 else byte - 87
 
--- the number of some digits behind others, which are of this number
+-- the number of some digits after others, which denote `number`
 abbrev pub escape_number_after : Notation → ℕ → Bytes → ℕ
 escape_number_after notation number [] = number
 escape_number_after notation number (digit ∷ digits) =
@@ -84,7 +84,7 @@ abbrev pub is_full : Notation → ℕ → Bool
 is_full Octal count = count == 3
 is_full Hexadecimal count = false
 
--- an escape sequence may have so many digits
+-- an escape sequence may have `count` digits
 abbrev pub AllowsDigitCount : Notation → ℕ → Type 0
 AllowsDigitCount Octal count = count ≤ 3
 AllowsDigitCount Hexadecimal count = Unit {0}
@@ -111,7 +111,7 @@ value (Plain byte) = byte
 value (Simple letter byte) = byte
 value (Numeric notation digits) = escape_number notation digits
 
--- a byte that may be an element as itself (C11 6.4.5 p1); a zero byte would end the string
+-- a byte that may be an element as itself (C11 6.4.5 p1); NUL would end the string
 pub record IsPlainByte (byte : ℕ) : Type 0 where
   pub no_quote : byte ≢ quote
   pub no_backslash : byte ≢ backslash
@@ -141,7 +141,7 @@ abbrev pub ends_trigraph : Bytes → Bool
 ends_trigraph (second ∷ third ∷ rest) = second == question && is_third third
 ends_trigraph _ = false
 
--- after so many digits, the text continues with one more
+-- after `count` digits, the text continues with one more
 abbrev pub has_more_digits : Notation → ℕ → Bytes → Bool
 has_more_digits notation count [] = false
 has_more_digits notation count (byte ∷ rest) = not (is_full notation count) && is_escape_digit notation byte
@@ -158,7 +158,7 @@ may_precede (Plain byte) rest = begins_no_trigraph byte rest
 may_precede (Simple letter byte) rest = begins_no_trigraph letter rest
 may_precede (Numeric notation digits) rest = not (has_more_digits notation (length digits) rest)
 
--- elements one after another, and a text behind them
+-- elements one after another, and a text after them
 abbrev pub AreElements : List Element → Bytes → Type 0
 AreElements [] rest = Unit {0}
 AreElements (element ∷ elements) rest =

@@ -3,7 +3,7 @@ use Rattle.std.specs.Prelude.{ℕ, ◌+◌, ◌/◌, ◌%◌, Bool, ◌&&◌, �
 use Rattle.pf_literals.specs.declared.notations.Notation.TheVariants.{Octal}
 use Rattle.pf_literals.specs.Elements.{Bytes, Element, Plain, Simple, Numeric, question, quote, written}
 
--- the letter of a byte that has a simple escape sequence, but for `'` and `?`
+-- the letter of a byte that has a simple escape sequence, except `'` and `?`
 abbrev pub simple_letter : ℕ → Option ℕ
 simple_letter byte =
     if byte == 34 then Some 34 else
@@ -21,7 +21,7 @@ simple_letter byte =
 abbrev pub is_printed : ℕ → Bool
 is_printed byte = (nat_le 32 byte && nat_le byte 126) || nat_le 128 byte
 
--- three octal digits, which no digit behind them can join
+-- three octal digits, which no digit after them can join
 abbrev pub octal_digits : ℕ → Bytes
 octal_digits byte = (byte / 64 + 48) ∷ (byte / 8 % 8 + 48) ∷ (byte % 8 + 48) ∷ []
 
@@ -30,14 +30,14 @@ element_by (Some letter) byte = Simple letter byte
 element_by None byte =
     if is_printed byte then Plain byte else Numeric Octal (octal_digits byte)
 
--- the element for a byte, behind a `?` or not: a second `?` side by side has a `\`, so that there is
+-- the element for a byte, after a `?` or not: a second `?` side by side has a `\`, so that there is
 -- no trigraph
 abbrev pub element_for : Bool → ℕ → Element
 element_for after byte =
     if after && byte == question then Simple question question else
     element_by (simple_letter byte) byte
 
--- the elements for some bytes, behind a `?` or not
+-- the elements for some bytes, after a `?` or not
 abbrev pub elements_for : Bool → Bytes → List Element
 elements_for after [] = []
 elements_for after (byte ∷ bytes) =

@@ -1,4 +1,4 @@
--- Where and why a text is no source.
+-- Where and why a text is not a source.
 use Rattle.std.specs.Prelude.{◌≡◌, ◌≢◌, ℕ, ◌+◌, ◌<◌, true, false, List, [], ◌∷◌, ◌++◌, length, flat_map, Option, Some, None, ◌⊎◌}
 use Rattle.std.specs.List.{AllByRecursion}
 use Rattle.pf_literals.specs.declared.faults.LiteralKind.{LiteralKind}
@@ -8,7 +8,7 @@ use Rattle.pf_literals.specs.declared.notations.Notation.TheVariants.{Octal, Hex
 use Rattle.pf_literals.specs.Elements.{AreEscapeDigits, AreElements, Bytes, Element, backslash, escape, has_more_digits, hexadecimal_letter, is_escape_digit, is_full, is_line_end, is_third, escape_number, question, quote, simple_byte, written}
 use Rattle.pf_literals.specs.Sources.{AreWhite, IsStringLiteral, StringLiteral, is_white, literal_text}
 
--- `\` and nothing, or `\x` and nothing, or with zeros and nothing behind them: more digits may
+-- `\` and nothing, or `\x` and nothing, or with zeros and nothing after them: more digits may
 -- follow, and make it a number from 1 on.
 pub record IsUnfinishedEscape (rest : Bytes) : Type 0 where
   pub notation : Notation
@@ -24,8 +24,8 @@ pub record IsFinishedEscape (notation : Notation) (digits rest : Bytes) : Type 0
   pub last : (is_full notation (length digits) ≡ true) ⊎ (rest ≢ [])
   pub no_more : has_more_digits notation (length digits) rest ≡ false
 
--- `\` and a byte that no escape sequence begins with, or `\x` and a byte that is no digit
--- (C11 6.4.4.4 p1)
+-- `\` and a byte that begins no escape sequence, or `\x` and a byte that isn't a digit (C11 6.4.4.4
+-- p1)
 abbrev pub IsNoEscape : Bytes → Type 0
 IsNoEscape rest = (byte : ℕ) × (after : Bytes) × (
     ((rest ≡ backslash ∷ byte ∷ after) × (simple_byte byte ≡ None)
@@ -38,7 +38,7 @@ IsEscapeTooLarge rest = (notation : Notation) × (digits : Bytes) × (after : By
     × AreEscapeDigits notation digits × (255 < escape_number notation digits)
     × (rest ≡ escape notation digits ++ after)
 
--- a zero byte, or an escape sequence of the number 0
+-- NUL, or an escape sequence of the number 0
 abbrev pub IsZero : Bytes → Type 0
 IsZero rest = (after : Bytes) × (
     (rest ≡ 0 ∷ after)
@@ -85,8 +85,8 @@ IsFaultCause literals (Some elements) rest kind on = IsElementFault rest kind on
 IsFaultCause literals None rest kind on =
     (kind ≡ NoLiteral) × (on ≡ 0) × (((rest ≡ []) × (literals ≡ [])) ⊎ IsStrayByte rest)
 
--- The text is no source. Its front is good: white space, whole literals, and elements of a literal
--- that is open, if there is one. What follows isn't, for this cause.
+-- The text is not a source. Its front is good: white space, whole literals, and elements of a
+-- literal that is open, if there is one. The rest isn't, for this cause.
 pub record IsFaultAt (t : Bytes) (kind : LiteralKind) (at : ℕ) : Type 0 where
   pub front : Bytes
   pub literals : List StringLiteral

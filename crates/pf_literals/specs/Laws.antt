@@ -16,6 +16,6 @@ IsReadOrRefused t =
 abbrev pub CanGoOn : Bytes → Type 0
 CanGoOn t = (more bytes : Bytes) × IsSourceOf (t ++ more) bytes
 
--- a text that a C string can hold: bytes, none of which is zero
+-- a text that a C string can hold: bytes without NUL
 abbrev pub AreCStringBytes : Bytes → Type 0
 AreCStringBytes t = AllByRecursion (λ byte. (0 < byte) × (byte < 256)) t

@@ -13,7 +13,7 @@ is_white byte =
 abbrev pub AreWhite : Bytes → Type 0
 AreWhite bytes = AllByRecursion (λ byte. is_white byte ≡ true) bytes
 
--- a string literal, by its elements, and the white space behind it
+-- a string literal, by its elements, and the white space after it
 pub record StringLiteral : Type 0 where
   pub elements : List Element
   pub behind : Bytes
@@ -26,8 +26,8 @@ literal_text l = quote ∷ flat_map written l.elements ++ quote ∷ l.behind
 abbrev pub IsStringLiteral : StringLiteral → Type 0
 IsStringLiteral l = AreElements l.elements (quote ∷ []) × AreWhite l.behind
 
--- One or more literals, with white space or none before, between and behind them. Literals side
--- by side are one string (C11 6.4.5 p5).
+-- One or more literals, with white space or none before, between and after them. Literals side by
+-- side are one string (C11 6.4.5 p5).
 pub record IsSource (t : Bytes) (literals : List StringLiteral) : Type 0 where
   pub front : Bytes
   pub front_white : AreWhite front

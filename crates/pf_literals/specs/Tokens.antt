@@ -15,7 +15,7 @@ abbrev pub before_digits : Notation → ℕ
 before_digits Octal = 1
 before_digits Hexadecimal = 2
 
--- a numeric escape sequence with all its digits, which are so many
+-- a numeric escape sequence with all its `count` digits
 abbrev pub finished_numeric : Notation → ℕ → ℕ → Token
 finished_numeric notation count number =
     if count == 0 then Invalid BadEscape 0 else
@@ -29,7 +29,7 @@ numeric_at_end notation count number =
     then Invalid Unterminated (before_digits notation + count)
     else finished_numeric notation count number
 
--- a numeric escape sequence of which so many digits were read, of this number
+-- a numeric escape sequence after `count` of its digits, which denote `number`
 abbrev pub numeric_token : Notation → ℕ → ℕ → Bytes → Token
 numeric_token notation count number [] = numeric_at_end notation count number
 numeric_token notation count number (byte ∷ rest) =

@@ -25,7 +25,7 @@ abbrev pub part_offsets : SourcePart → List ℕ
 part_offsets (Verbatim verbatim at) = range_with_len at (length verbatim.now)
 part_offsets (Byte value at) = at ∷ []
 
--- what comes next, between a cursor before it and behind it
+-- the next element, between a cursor before it and after it
 abbrev pub IsNextPart : Bytes → Cursor → NextPart → Cursor → Type 0
 IsNextPart t old (nexts.Given part) new =
     reading_left t old ≡ prefixed (part_bytes part) (part_offsets part) (reading_left t new)
@@ -44,7 +44,7 @@ AdvancesCursor t old (nexts.Given part) new =
     × PartEndsBy part (length t)
 AdvancesCursor t old _ new = Unit {0}
 
--- the fault of decoding from a cursor on: the refusal, or want of memory where there is none
+-- the fault of decoding from a cursor on: the refusal, or out of memory if there is none
 abbrev pub IsDecodingFault : Bytes → Cursor → LiteralFault → Type 0
 IsDecodingFault t cursor (Refused refusal) = reading_left t cursor ≡ Fault refusal.kind refusal.at
 IsDecodingFault t cursor Memory = HasNoFault (reading_left t cursor)

@@ -25,7 +25,7 @@ pub(crate) enum NextPart<'a> {
     Given(SourcePart<'a>),
     /// The end, and where the last literal closes.
     End(usize),
-    /// The text is no source.
+    /// The text is not a source.
     Refused(LiteralRefusal),
 }
 

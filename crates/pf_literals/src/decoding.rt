@@ -8,9 +8,9 @@ use crate::cursor::{Cursor, NextPart, SourcePart};
 use crate::faults::LiteralFault;
 use std::alloc::{AllocError, Allocator, Global};
 
-/// The bytes that a source of string literals denotes (C11 6.4.5, paragraphs 4 to 6), without
-/// the null character after them. Their room is taken by one growth of the source's length, and none is
-/// taken where there are no bytes.
+/// Returns the bytes that a source of string literals denotes (C11 6.4.5, paragraphs 4 to 6), without
+/// the NUL after them. It allocates once, as many bytes as the source has, and nothing if there are no
+/// bytes. `Err` if the text is not a source, or if memory is refused.
 pub fn decode(alloc: Global, source: &[u8]) -> Result<Vec<u8>, LiteralFault>
     ensures { MatchResult result
         (λ v. IsSourceOf source.now v.items) (FaultForDecode source.now) }
@@ -64,7 +64,7 @@ fn append<A: Allocator>(
     }
 }
 
-// Why there are no bytes where a growth was refused: the rest of the text may be refused, too.
+// Why there are no bytes if memory was refused: the rest of the text may be refused, too.
 fn fault_of(cursor: Cursor, source: &[u8]) -> LiteralFault
     ensures { IsDecodingFault source.now cursor result }
 {

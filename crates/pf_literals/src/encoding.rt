@@ -6,16 +6,16 @@ use crate::encoded_parts::EncodedPart;
 use crate::search::verbatim_len;
 use std::alloc::{AllocError, Allocator, Global};
 
-/// The one string literal of some bytes. A null character is written as `\000`; `decode` refuses such a
-/// literal, since a C string would end there. The room for it is taken by one growth of its
-/// length.
+/// Returns the one string literal of some bytes. NUL is written as `\000`; `decode` refuses such a
+/// literal, since a C string would end there. It allocates once, the literal's length. `Err` if memory
+/// is refused.
 pub fn encode(alloc: Global, text: &[u8]) -> Result<Vec<u8>, AllocError>
     ensures { IfOk result (λ v. v.items ≡ encoding text.now) }
 {
     encode_in(alloc, text)
 }
 
-/// How many bytes the literal of a text has, with its quotes.
+/// Returns how many bytes the literal of a text has, with its quotes.
 pub fn encoded_len(text: &[u8]) -> u128
     ensures { result ≡ length (encoding text.now) }
 {

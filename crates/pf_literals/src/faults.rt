@@ -1,10 +1,10 @@
-//! Why a text is no source, and why it has no bytes.
+//! Why a text is not a source, and why it has no bytes.
 ghost use Rattle.std.specs.Prelude.{◌≡◌};
 ghost use Rattle.pf_literals.specs.Kinds.{literal_kind_name, literal_kind_number};
 
 use thiserror::Error;
 
-/// The kind, and the byte at which a text is refused that is no source, counted from 0.
+/// The kind, and the offset from 0 where the text stops being a source.
 #[derive(Clone, Copy, Debug, PartialEq, Eq, Error)]
 #[error("no source ({kind:?}) at byte {at}")]
 pub struct LiteralRefusal {
@@ -17,15 +17,15 @@ pub struct LiteralRefusal {
 /// Why there are no bytes of a source.
 #[derive(Clone, Copy, Debug, PartialEq, Eq, Error)]
 pub enum LiteralFault {
-    /// The text is no source.
+    /// The text is not a source.
     #[error("{0}")]
     Refused(LiteralRefusal),
-    /// A growth was refused.
+    /// Memory was refused.
     #[error("out of memory")]
     Memory,
 }
 
-/// Why a text is no source of string literals. Each kind has a number and a name of its own.
+/// Why a text is not a source of string literals. Each kind has a number and a name of its own.
 #[derive(Clone, Copy, Debug, PartialEq, Eq)]
 pub enum LiteralKind {
     /// A byte outside of a literal that is neither white space nor `"`, or the end of a text that
@@ -37,7 +37,7 @@ pub enum LiteralKind {
     BadEscape,
     /// A numeric escape sequence of a number above 255.
     EscapeTooLarge,
-    /// A zero byte in a literal, as such or by an escape sequence: a C string would end there.
+    /// NUL in a literal, as such or by an escape sequence: a C string would end there.
     ZeroByte,
     /// `??` and a third byte that make a trigraph, for which not all compilers put another byte.
     Trigraph,
@@ -54,7 +54,7 @@ impl LiteralKind {
         LiteralKind::Trigraph,
     ];
 
-    /// The number of the kind, from 1 to 6.
+    /// Returns the number of the kind, from 1 to 6.
     pub fn number(self) -> u8
         ensures { result ≡ literal_kind_number self }
     {
@@ -68,7 +68,7 @@ impl LiteralKind {
         }
     }
 
-    /// The name of the kind, in ASCII.
+    /// Returns the name of the kind, in ASCII.
     pub fn name(self) -> &'static str
         ensures { result.now ≡ literal_kind_name self }
     {

@@ -11,66 +11,66 @@ ghost use Rattle.pf_literals.specs.Kinds.{literal_kind_number};
 ghost use Rattle.pf_literals.specs.Laws.{CanGoOn, IsReadOrRefused, AreCStringBytes};
 ghost use Rattle.pf_literals.specs.Sources.{HasOffsets, IsSourceOf};
 
-/// The table of kinds is in the order of their numbers.
+/// Proves that the table of kinds is in the order of their numbers.
 pub fn kinds_in_order()
     ensures { (kind : LiteralKind) → slice_get kinds (literal_kind_number kind - 1) ≡ Some kind }
 {}
 
-/// A source has one list of bytes.
+/// Proves that a source has one list of bytes.
 pub fn bytes_once()
     ensures { (t bytes others : Bytes) → IsSourceOf t bytes → IsSourceOf t others
         → bytes ≡ others }
 {}
 
-/// A source has one list of offsets of its bytes, and one offset of its last quote.
+/// Proves that a source has one list of offsets of its bytes, and one offset of its last quote.
 pub fn offsets_once()
     ensures { (t found others : Bytes) (close last : ℕ) → HasOffsets t found close
         → HasOffsets t others last → (found ≡ others) × (close ≡ last) }
 {}
 
-/// Each byte of a source has an offset, and so does the last closing quote after them; each is less than the
-/// length of the source.
+/// Proves that each byte of a source has an offset, and so does the last closing quote after them; each is
+/// less than the length of the source.
 pub fn offsets_there()
     ensures there { (t bytes : Bytes) (index : ℕ) → IsSourceOf t bytes → index ≤ length bytes
         → (at : ℕ) × IsOffsetOf t index at }
     ensures within { (t : Bytes) (index at : ℕ) → IsOffsetOf t index at → at < length t }
 {}
 
-/// A text that is no source is refused for one reason and at one offset.
+/// Proves that a text that is not a source is refused for one reason and at one offset.
 pub fn refused_once()
     ensures { (t : Bytes) (kind other : LiteralKind) (p q : ℕ) → IsFaultAt t kind p
         → IsFaultAt t other q → (kind ≡ other) × (p ≡ q) }
 {}
 
-/// A text is a source, or it is refused.
+/// Proves that a text is a source, or it is refused.
 pub fn read_or_refused()
     ensures { (t : Bytes) → IsReadOrRefused t }
 {}
 
-/// No text is both a source and refused.
+/// Proves that no text is both a source and refused.
 pub fn never_both()
     ensures { (t bytes : Bytes) (kind : LiteralKind) (at : ℕ) → IsSourceOf t bytes
         → IsFaultAt t kind at → ⊥ }
 {}
 
-/// A text that is refused before its end is refused so whatever bytes follow.
+/// Proves that a text that is refused before its end is refused so whatever bytes follow.
 pub fn refused_for_good()
     ensures { (t more : Bytes) (kind : LiteralKind) (at : ℕ) → IsFaultAt t kind at
         → at < length t → IsFaultAt (t ++ more) kind at }
 {}
 
-/// A text that is refused at its end is a source with some more bytes.
+/// Proves that a text that is refused at its end is a source with some more bytes.
 pub fn end_goes_on()
     ensures { (t : Bytes) (kind : LiteralKind) (at : ℕ) → IsFaultAt t kind at
         → at ≡ length t → CanGoOn t }
 {}
 
-/// A text without a zero byte is the bytes of its encoding.
+/// Proves that a text without NUL is the bytes of its encoding.
 pub fn encoded_is_read()
     ensures { (t : Bytes) → AreCStringBytes t → IsSourceOf (encoding t) t }
 {}
 
-/// The encoding of the bytes of an encoding is that encoding.
+/// Proves that the encoding of the bytes of an encoding is that encoding.
 pub fn encoded_once()
     ensures { (t bytes : Bytes) → AreCStringBytes t → IsSourceOf (encoding t) bytes
         → encoding bytes ≡ encoding t }

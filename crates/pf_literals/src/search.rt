@@ -45,7 +45,7 @@ fn search(text: &[u8]) -> usize
     verbatim_len_from(text, at)
 }
 
-// The search behind bytes that are known to be verbatim.
+// The search after bytes that are known to be verbatim.
 fn verbatim_len_from(text: &[u8], seen: usize) -> usize
     requires room { LANES ≤ length text.now }
     requires within { seen ≤ length text.now }

@@ -16,7 +16,7 @@ pub(crate) enum Spelling {
 }
 
 impl Spelling {
-    /// How a byte is written, behind a `?` or not.
+    /// How a byte is written, after a `?` or not.
     pub(crate) fn of(after: bool, byte: u8) -> Spelling
         ensures { spelling_bytes result ≡ written (element_for after byte) }
     {

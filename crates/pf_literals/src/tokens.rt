@@ -14,7 +14,7 @@ pub(crate) enum Context {
     Before,
     /// In a literal.
     Inside,
-    /// Behind a literal, which closed at this byte.
+    /// After a literal, which closed at this byte.
     Behind(usize),
 }
 

@@ -125,7 +125,7 @@ agreed_push seen f h follows e =
       numberings [] h follows = tt
       numberings (g ∷ seen) h follows = h
 
--- what agrees with another behind it does so alone
+-- lists that agree after a common front agree without it
 one_front : (seen more : List Fetch) → AllByRecursion (λ g. numbering_by g.number ≡ numbering_of (seen ++ more)) (seen ++ more)
     → AllByRecursion (λ g. numbering_by g.number ≡ numbering_of seen) seen
 one_front [] more h = tt

@@ -1,4 +1,4 @@
--- Where two lists differ, of which slices hold the first types.
+-- Where two lists differ. Slices hold their first types.
 use Rattle.std.proofs.Common.{◌≡◌, ◌≢◌, ℕ, zero, suc, ◌+◌, ◌<◌, ◌≤◌, List, [], ◌∷◌, length, get_or, refl, sym, ap, ◌∙◌, arith, subst, inl, inr}
 use Rattle.std.specs.Prelude.{Option, Some, None, ◌⊎◌, slice_get}
 use Rattle.std.proofs.lemmas.Bool.{cases_eq}

@@ -388,7 +388,7 @@ module _ (model : Model) (t : Text) (types : List ArgumentType) (given : HasArgu
         done_are = refl;
       }
 
-  -- behind the last byte
+  -- after the last byte
   module _ (walk : DirectiveWalk) (done : List DirectiveSpan) (h : IsWalkedTo model t walk done) (over : length t ≤ walk.at) where
     is_between : (state : PosixState) → verdict_after h.seen (trace_at_end state walk.at) ≡ Takes h.all → (state ≡ Between) × (Takes h.seen ≡ Takes h.all)
     is_between Between e = (refl, e)

@@ -1,4 +1,4 @@
--- Examples of the definitions, each of which computes. docs/DEFINITIONS.md goes through them.
+-- Examples of the definitions. Each of them computes. docs/DEFINITIONS.md goes through them.
 use Rattle.std.proofs.Common.{◌≡◌, ℕ, false, [], ◌∷◌, codes, refl, subst, arith, inl, inr}
 use Rattle.std.specs.Prelude.{Some, None}
 use Rattle.pf_values.specs.declared.flags.Flag.TheVariants.{Alt}
@@ -39,7 +39,7 @@ counted_in_llp64 = refl
 stars_first : (model : Model) → verdict model (codes "%*.*f") ≡ Takes (fetch None int_type ∷ fetch None int_type ∷ fetch None Double ∷ [])
 stars_first model = refl
 
--- the least number of two that hold: `#` before the flags of `n`
+-- the smaller number of two that hold: `#` before the flags of `n`
 alt_before_count : undefined_as (flag_set (Alt ∷ [])) false false (Integer lengths.None) Count ≡ Some AltUndefined
 alt_before_count = refl
 
@@ -79,7 +79,7 @@ gap model = missing model _ (fetch (Some 2) int_type ∷ []) (told_taken model _
 count_with_a_width : (model : Model) → IsPosixRefusedAt model (codes "%5n") CountUndefined 2
 count_with_a_width model = refused model _ CountUndefined 2 refl
 
--- bytes that aren't allowed where they are: a zero byte and `%` have kinds of their own
+-- bytes that aren't allowed where they are: NUL and `%` have kinds of their own
 zero_inside : (model : Model) → IsPosixRefusedAt model (37 ∷ 0 ∷ []) NulByte 1
 zero_inside model = refused model _ NulByte 1 refl
 

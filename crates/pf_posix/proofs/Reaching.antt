@@ -71,7 +71,7 @@ module _ (model : Model) (numbering : Numbering) (position : Option ℕ) (set : 
   modified_run (Integer lengths.Z) some = letter_run 122 (Integer lengths.Z) (omega arith) refl
   modified_run (Integer lengths.T) some = letter_run 116 (Integer lengths.T) (omega arith) refl
 
-  -- the conversion behind a modifier, and behind none
+  -- the conversion after a modifier, and without one
   module _ (conversion : Conversion) where
     abbrev c : ℕ
     c = conversion_letter conversion

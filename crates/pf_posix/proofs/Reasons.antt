@@ -65,7 +65,7 @@ unequal : (byte k : ℕ) → (byte == k) ≡ false → byte ≢ k
 unequal byte k e = grind (arith, nat_tests)
 
 module _ (model : Model) (numbering : Numbering) (state : PosixState) (byte : ℕ) where
-  -- why a byte is refused that is neither zero nor `%`, but for where it is allowed
+  -- why a byte is refused that is neither NUL nor `%`, apart from where it is allowed
   abbrev pub Reason : RefusalKind → Type 0
   Reason kind = ((kind ≡ Mixed) × IsMixed state numbering byte) ⊎ IsNumberTooLarge state byte kind ⊎ (is_undefined_kind kind ≡ true) ⊎ (kind ≡ Unexpected)
 

@@ -109,7 +109,7 @@ first_tests d low high = (grind (arith, nat_tests), grind (arith, nat_tests), gr
 small : (n : ℕ) → n ≤ MAX_NUMBER → nat_lt MAX_NUMBER n ≡ false
 small n h = grind (arith, nat_tests)
 
--- digits behind a first one, in a state that holds a number
+-- digits after a first one, in a state that holds a number
 module _ (model : Model) (slot : WidthOrPrecision) (numbering : Numbering) (own : List Fetch) (state : ℕ → PosixState)
     (step : (n byte : ℕ) → is_digit byte ≡ true → posix_step model numbering (state n) byte ≡ with_digit slot state n (byte - 48)) where
   more_digits : (ds : List ℕ) (n : ℕ) → AllByRecursion (λ d. d < 10) ds → number_from_digits_after 10 n ds ≤ MAX_NUMBER
@@ -188,7 +188,7 @@ module _ (model : Model) (numbering : Numbering) where
     go Unnumbered h = rw f refl
     go Undecided h = rw f refl
 
--- the state behind `%`, the number of the argument and flags
+-- the state after `%`, the number of the argument and flags
 abbrev pub at_flags : Option ℕ → List Flag → PosixState
 at_flags None [] = Opened
 at_flags None (flag ∷ flags) = Flags (record { position = None; flags = flag_set (flag ∷ flags); width = false; precision = false })
@@ -216,7 +216,8 @@ module _ (model : Model) (numbering : Numbering) where
         ∙ ap (λ q. run model (went numbering [] q) (map flag_byte flags)) one
         ∙ more_flags model numbering flags (flags_parts None (with_flag no_flags flag))
 
-  -- what may follow flags, but for the first digit of a number that may be that of the argument
+  -- the bytes that may follow flags, except the first digit of a number that may be that of the
+  -- argument
   pub flags_step : (position : Option ℕ) (flags : List Flag) (byte : ℕ) → Follows numbering (Some (numbering_by position)) → is_first_digit byte ≡ false
       → (byte == 37) ≡ false → posix_step model numbering (at_flags position flags) byte ≡ among_flags model (flags_parts position (flag_set flags)) byte
   flags_step None [] byte follows f p = plain_percent model numbering byte follows f p
@@ -389,7 +390,7 @@ module _ (model : Model) (numbering : Numbering) (before : Text) (parts : Partia
       let st = starred model r.behind slot r.from own parts r.star text number s in
       record { behind = st.behind; to = st.to; run_is = run-append model _ before text ∙ ap (λ p. run model p text) r.run_is ∙ st.run_is; later = st.later }
 
--- a point behind a width
+-- a point after a width
 pub ready_point : (model : Model) (numbering : Numbering) (t : Text) (parts : PartialSpecification) (own : List Fetch)
     → Reached model numbering Width t parts own → Ready model numbering Precision (t ++ 46 ∷ []) (record parts { precision = true }) own
 ready_point model numbering t parts own r =
@@ -444,7 +445,7 @@ module _ (model : Model) (numbering : Numbering) (position : Option ℕ) (set : 
     go (Some (Fetched number)) s = star_reached model numbering h.before (width_parts (Some (Fetched number))) [] Width h.text number
         (ready_width model numbering position set follows h.before h.before_is) s
 
-  -- behind all numbers
+  -- after all numbers
   pub record Finished (t : Text) (parts : PartialSpecification) (own : List Fetch) : Type 0 where
     pub behind : Numbering
     pub to : PosixState

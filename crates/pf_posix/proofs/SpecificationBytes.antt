@@ -25,7 +25,7 @@ pub record Covers (P : ℕ → Type 0) : Type 0 where
   pub flag : (f : Flag) → P (flag_byte f)
 
 module _ (P : ℕ → Type 0) (c : Covers P) where
-  -- a text is `%` and bytes of which it holds
+  -- a text is `%` and bytes for which this holds
   pub record IsCovered (t : Text) : Type 0 where
     pub rest : Text
     pub whole : t ≡ 37 ∷ rest

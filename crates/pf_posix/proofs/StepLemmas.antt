@@ -107,7 +107,7 @@ module _ (model : Model) (t : Text) (seen : List Fetch) (old : FetchTrace) (h : 
 pub ordered_start : (model : Model) (t : Text) → IsOrdered model t [] (fetch_trace model t)
 ordered_start model t = record { verdict_is = refl; unnumbered = tt }
 
--- lists that differ behind a common front
+-- lists that differ after a common front
 pub differ_behind : (xs ys zs : List ArgumentType) → slice_get ys 0 ≢ slice_get zs 0 → IsFirstDifference (xs ++ ys) (xs ++ zs) (Some (length xs))
 differ_behind [] ys zs other = (other, λ k less. absurd (omega arith))
 differ_behind (x ∷ xs) ys zs other = let rest = differ_behind xs ys zs other in (rest.0, λ k less. at k less rest.1) where
@@ -218,7 +218,7 @@ other_pair unnumbered.End unnumbered.End e = cc
 other_pair unnumbered.End unnumbered.Other e = inr refl
 other_pair unnumbered.Other q e = inl refl
 
--- two texts of which the same was seen
+-- two texts in which the same was seen
 module _ (model : Model) (first second : Text) (a b : List Fetch) (one other one2 other2 : Reader) (n m : NextFetch)
     (ha : IsOrdered model first a (trace_left model first one)) (hb : IsOrdered model second b (trace_left model second other))
     (same : wanted_types a ≡ wanted_types b)

@@ -33,7 +33,7 @@ use Rattle.pf_posix.proofs.WalkLemmas.{literal}
 bool_no : {b : Bool} → b ≡ true → b ≡ false → ⊥
 bool_no h g = let no : true ≡ false = sym h ∙ g in cc
 
--- what is left of a text behind its first item, which is before the stretches of the rest
+-- the rest of a text after its first item, which is before the stretches of the rest
 record Rest (item : Item) (more : Text) (left : Stretches) : Type 0 where
   later : Stretches
   reads : ReadsWhole more later

@@ -81,7 +81,7 @@ get_listed fs place (suc n) (suc k) less =
     let same : place + 1 + k ≡ place + suc k = omega arith in
     get_listed fs (place + 1) n k (omega arith) ∙ ap (λ p. Some (unwrap_or (wanted_at p fs) int_type)) same
 
--- each number is at most the greatest, and that is one of them
+-- each number is at most the highest, and that is one of them
 below_greatest : (fs : List Fetch) (m : ℕ) → greatest fs ≤ m → AllByRecursion (λ f. (n : ℕ) → f.number ≡ Some n → n ≤ m) fs
 below_greatest [] m few = tt
 below_greatest (f ∷ fs) m few = ((λ n e. own f.number n e (omega arith)), below_greatest fs m (omega arith)) where
@@ -98,7 +98,7 @@ greatest_fetched (f ∷ fs) place e = elim (cases_lt (greatest fs) (unwrap_or f.
   own None e = absurd (omega arith)
   own (Some n) e = ap Some e
 
--- and a gap is below the greatest
+-- and a gap is below the highest
 pub gap_is : (fs : List Fetch) (p : ℕ) → p < greatest fs → ¬ IsFetched p fs → HasGap fs
 gap_is fs p less none =
     let last = greatest_fetched fs (greatest fs - 1) (omega (arith, less)) in

@@ -1,5 +1,5 @@
 -- Texts that are read as if a specification without numbers came before: a `$` after a first number is
--- refused as Mixed there, and all else is read as ever.
+-- refused as Mixed there, and everything else is read as ever.
 use Rattle.std.proofs.Common.{◌≡◌, ◌≢◌, ℕ, ◌+◌, ◌<◌, ◌≤◌, Bool, true, false, List, [], ◌∷◌, ◌++◌, length, get_or, refl, sym, ap, ◌∙◌, arith, subst, inl, inr}
 use Rattle.std.proofs.Common.{Ok, Err}
 use Rattle.std.specs.Prelude.{Option, Some, None, nat_le, ◌==◌, ◌⊎◌, if◌then◌else◌}
@@ -64,7 +64,7 @@ abbrev is_dollar_after : PosixState → ℕ → Bool
 is_dollar_after (First n) byte = byte == 36
 is_dollar_after _ byte = false
 
--- but for that, it is no matter whether there was a specification before
+-- apart from that, it doesn't matter whether there was a specification before
 same_step : (model : Model) (numbering : Numbering) (state : PosixState) (byte : ℕ) → (numbering ≡ Undecided) ⊎ (numbering ≡ Unnumbered)
     → is_dollar_after state byte ≡ false
     → posix_step model numbering state byte ≡ posix_step model Unnumbered state byte

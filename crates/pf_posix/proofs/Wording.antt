@@ -39,7 +39,7 @@ use Rattle.pf_posix.proofs.Reaching.{Came, came, spelled_ends}
 use Rattle.pf_posix.proofs.Reasons.{IsOther, Reason, Went, Why, undefined_kind, why}
 use Rattle.pf_posix.proofs.Running.{Progress, run, run-append, stand, went}
 
--- a byte that is no part of a specification
+-- a byte that isn't part of a specification
 record IsStrange (byte : ℕ) (kind : RefusalKind) : Type 0 where
   flag : flag_of byte ≡ None
   digit : is_digit byte ≡ false
@@ -178,7 +178,7 @@ by_slot : (slot : WidthOrPrecision) → too_large slot ≢ Unexpected
 by_slot Width e = cc
 by_slot Precision e = cc
 
--- a byte that isn't allowed in a place is refused there behind specifications of any numbering
+-- a byte that isn't allowed where it is, is refused there after specifications of any numbering
 record StaysRefused (model : Model) (numbering : Numbering) (state : PosixState) (byte : ℕ) : Type 0 where
   kind : RefusalKind
   refused : posix_step model numbering state byte ≡ Err kind
@@ -207,7 +207,7 @@ module _ (model : Model) (byte : ℕ) where
     numberings_stay a Numbered e = record { kind = stray byte Mixed; refused = mixed; one_kind = stray_kind Mixed refl _ _ refl refl }
     numberings_stay a b e = record { kind = Unexpected; refused = plain b (λ s. cc) ∙ sym (plain a (λ s. cc)) ∙ e; one_kind = refl }
 
-  -- behind `%`
+  -- after `%`
   module _ (p : (byte == 37) ≡ false) where
     opened_first : is_first_digit byte ≡ true → (s : Numbering) → posix_step model s Opened byte ≡ Ok (First (byte - 48), None)
     opened_first f Numbered = rw (p, f) refl
@@ -227,7 +227,7 @@ module _ (model : Model) (byte : ℕ) where
     go false p false f = let mixed : posix_step model Numbered Opened byte ≡ Err (stray byte Mixed) = rw (p, f) refl in numberings_stay Opened _ mixed
         (opened_plain p f) a b e
 
-  -- behind the first number
+  -- after the first number
   first : (n : ℕ) (a b : Numbering) → posix_step model a (First n) byte ≡ Err Unexpected → StaysRefused model b (First n) byte
   first n a b e = go (is_digit byte) refl (byte == 36) refl where
     go : (c : Bool) → is_digit byte ≡ c → (d : Bool) → (byte == 36) ≡ d → StaysRefused model b (First n) byte

@@ -46,7 +46,7 @@ precision_star precise (Some earlier) last = last
 precision_star true None last = last
 precision_star false None last = None
 
--- the walk behind an argument that was fetched, inside a specification and at its end
+-- the walk after an argument that was fetched, inside a specification and at its end
 abbrev pub walk_in : DirectiveWalk → Fetch → DirectiveWalk
 walk_in walk f = record walk {
   fetched = walk.fetched + 1;

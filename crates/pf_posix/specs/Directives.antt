@@ -38,8 +38,8 @@ directive_between model begin end next s = record {
   kind = conversion_type model s.modifier s.conversion;
 }
 
--- the specifications of a text that is read as items, which begins at an offset, and before which so
--- many arguments were fetched
+-- the specifications of a text that is read as items: it begins at an offset, and this many
+-- arguments were fetched before it
 abbrev pub directives_from : Model → ℕ → ℕ → (t : Text) (items : List PosixItem) → ReadsPosix t items
     → List DirectiveSpan
 directives_from model at next t [] reads = []

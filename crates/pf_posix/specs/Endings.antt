@@ -9,7 +9,7 @@ use Rattle.pf_values.specs.declared.refusals.RefusalKind.TheVariants.{Mixed, Num
 use Rattle.pf_posix.specs.Readings.{Fault, Fetches, FetchTrace, Whole, trace_from}
 use Rattle.pf_posix.specs.Stages.{Between}
 
--- the trace of a text behind specifications that aren't numbered
+-- the trace of a text after specifications that aren't numbered
 abbrev pub unnumbered_trace : Model → Text → FetchTrace
 unnumbered_trace model t = trace_from model Unnumbered Between 0 t
 

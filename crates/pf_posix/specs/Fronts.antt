@@ -16,7 +16,7 @@ use Rattle.pf_posix.specs.Spelling.{SpellsUpToFlags, SpellsUpToWidth, SpellsUpTo
 use Rattle.pf_posix.specs.Stages.{PosixState, Between, Opened, First, Flags, Digits, Star, StarDigits, Placed, Point, Modified}
 use Rattle.pf_posix.specs.Types.{fetch, star_fetches}
 
--- what comes before a width, or before a precision and behind its point (C11 7.21.6.1 p4)
+-- the text before a width, or before a precision and after its point (C11 7.21.6.1 p4)
 abbrev pub IsBefore : WidthOrPrecision → Text → PartialSpecification → List Fetch → Type 0
 IsBefore Width t parts own = SpellsUpToFlags t parts.position parts.flags × (parts.width ≡ true)
     × (parts.precision ≡ false) × (own ≡ [])
@@ -39,7 +39,7 @@ SpellsDigits Width t n = SpellsPositive t n
 SpellsDigits Precision t n = (ds : List ℕ) × AreDigits 10 n ds × (ds ≢ []) × (n ≤ MAX_NUMBER)
     × (t ≡ map (digit_glyph false) ds)
 
--- digits right behind `%` may be a width or the number of an argument, others are a width
+-- digits right after `%` may be a width or the number of an argument, others are a width
 abbrev pub IsNotFirst : WidthOrPrecision → Text → Type 0
 IsNotFirst Width before = before ≢ percent ∷ []
 IsNotFirst Precision before = ⊤

@@ -1,4 +1,4 @@
--- What the laws say, and what the calls answer.
+-- The statements of the laws, and the results of the calls.
 use Rattle.std.specs.Prelude.{◌≡◌, ◌≢◌, ℕ, ◌<◌, List, [], ◌∷◌, ◌++◌, length, slice_get, ◌⊎◌, Option, Some, None}
 use Rattle.pf_values.specs.declared.models.Model.{Model}
 use Rattle.pf_values.specs.meaning.Text.{Text}
@@ -24,7 +24,7 @@ filled [] more = []
 filled (o ∷ old) [] = o ∷ old
 filled (o ∷ old) (x ∷ more) = x ∷ filled old more
 
--- a text has so many types, and the first of them are at the front of a slice, as many as there is
+-- a text has `count` types, and the first of them are at the front of a slice, as many as there is
 -- room for; the rest of the slice is as it was
 pub record HasCount (model : Model) (t : Text) (old new : List ArgumentType)
     (count : ℕ) : Type 0 where
@@ -33,8 +33,8 @@ pub record HasCount (model : Model) (t : Text) (old new : List ArgumentType)
   pub count_is : count ≡ length types
   pub front : new ≡ filled old types
 
--- two lists are equal, or an index is the least at which they differ, which may be the length of the
--- shorter one
+-- two lists are equal, or this is the first index at which they differ, which may be the length of
+-- the shorter one
 abbrev pub IsFirstDifference : List ArgumentType → List ArgumentType → Option ℕ → Type 0
 IsFirstDifference types others None = types ≡ others
 IsFirstDifference types others (Some index) =
@@ -49,8 +49,8 @@ pub record ComparesArgumentTypes (model : Model) (first second : Text) (index : 
   pub second_accepted : HasArguments model second others
   pub difference : IsFirstDifference types others index
 
--- the second list is a beginning of the first, or an index is the least at which it has a type that
--- the first doesn't have there
+-- the second list is a beginning of the first, or this is the first index at which it has a type
+-- that the first doesn't have there
 abbrev pub IsFirstExcess : List ArgumentType → List ArgumentType → Option ℕ → Type 0
 IsFirstExcess types others None = (more : List ArgumentType) × (types ≡ others ++ more)
 IsFirstExcess types others (Some index) =
@@ -70,7 +70,7 @@ abbrev pub FaultForFits : Model → Text → Text → Side × Refusal → Type 0
 FaultForFits model first second fault =
     RefusesOne (IsPosixAccepted model) (IsPosixRefusedAt model) first second fault.0 fault.1
 
--- why there is no list of types: want of memory only where a text is accepted and takes arguments
+-- why there is no list of types: `Memory` only if a text is accepted and takes arguments
 abbrev pub FaultForArguments : Model → Text → TextFault → Type 0
 FaultForArguments model t (faults.Refused refusal) = IsPosixRefusedAt model t refusal.kind refusal.at
 FaultForArguments model t faults.Memory =

@@ -32,7 +32,7 @@ moved numbering at (Ok (state, None)) rest = rest numbering state
 moved numbering at (Ok (state, Some f)) rest = Fetches f at (rest (numbering_by f.number) state)
 moved numbering at (Err kind) rest = Fault kind at
 
--- the trace of a text from a byte on, in a state and behind specifications of a numbering
+-- the trace of a text from a byte on, in a state and after specifications of a numbering
 abbrev pub trace_from : Model → Numbering → PosixState → ℕ → Text → FetchTrace
 trace_from model numbering state at [] = trace_at_end state at
 trace_from model numbering state at (byte ∷ t) =
@@ -43,7 +43,7 @@ trace_from model numbering state at (byte ∷ t) =
 abbrev pub fetch_trace : Model → Text → FetchTrace
 fetch_trace model t = trace_from model Undecided Between 0 t
 
--- two fetches want one argument with two types
+-- two fetches give one argument two types
 abbrev pub differs_at : Option ℕ → Option ℕ → Fetch → Fetch → Bool
 differs_at (Some n) (Some m) f g = n == m && not (number_of_type f.wanted == number_of_type g.wanted)
 differs_at _ _ f g = false
@@ -61,7 +61,7 @@ pub data Verdict : Type 0 where
   Takes : (fetched : List Fetch) → Verdict
   Refused : (kind : RefusalKind) (at : ℕ) → Verdict
 
--- the verdict on a trace behind some fetches
+-- the verdict on a trace after some fetches
 abbrev pub verdict_after : List Fetch → FetchTrace → Verdict
 verdict_after seen Whole = Takes seen
 verdict_after seen (Fault kind at) = Refused kind at
@@ -72,7 +72,7 @@ verdict_after seen (Fetches f at rest) =
 abbrev pub verdict : Model → Text → Verdict
 verdict model t = verdict_after [] (fetch_trace model t)
 
--- the types that are wanted, in order
+-- the types that are fetched, in order
 abbrev pub wanted_types : List Fetch → List ArgumentType
 wanted_types fetched = map (λ f. f.wanted) fetched
 
@@ -87,7 +87,7 @@ wanted_at index [] = None
 wanted_at index (f ∷ fetched) =
     if is_number f.number (index + 1) then Some f.wanted else wanted_at index fetched
 
--- the greatest number of an argument that is fetched
+-- the highest number of an argument that is fetched
 abbrev pub greatest : List Fetch → ℕ
 greatest [] = 0
 greatest (f ∷ fetched) = max (unwrap_or f.number 0) (greatest fetched)

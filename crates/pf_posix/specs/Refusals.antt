@@ -1,5 +1,5 @@
--- Where and why a text is refused. This project's own, but for the parts of a specification: the
--- standards leave a wrong one undefined (C11 7.21.6.1 p9, POSIX fprintf).
+-- Where and why a text is refused. This project's own, except for the parts of a specification: the
+-- standards leave an invalid one undefined (C11 7.21.6.1 p9, POSIX fprintf).
 use Rattle.std.specs.Prelude.{◌≡◌, ◌≢◌, ℕ, ◌+◌, ◌-◌, ◌*◌, ◌<◌, ◌≤◌, true, false, List, [], ◌∷◌, ◌++◌, length, Option, Some, None, ◌⊎◌, MatchBool, ◌==◌, ⊤}
 use Rattle.std.specs.List.{AllByRecursion}
 use Rattle.pf_values.specs.declared.limits.TheConstants.{MAX_NUMBER, MAX_TEXT_LEN}
@@ -122,7 +122,7 @@ abbrev pub PassesLimit : ℕ → ℕ → Type 0
 PassesLimit n byte = (is_digit byte ≡ true) × (MAX_NUMBER < 10 * n + (byte - zero_digit))
 
 -- The byte is such a digit of a width, of a precision, or of the number of an argument. A number right
--- behind `%` is refused as a width.
+-- after `%` is refused as a width.
 abbrev pub IsNumberTooLarge : PosixState → ℕ → RefusalKind → Type 0
 IsNumberTooLarge (First n) byte kind = PassesLimit n byte × (kind ≡ WidthTooLarge)
 IsNumberTooLarge (Digits slot parts n) byte kind = PassesLimit n byte × (kind ≡ too_large slot)
@@ -140,7 +140,7 @@ abbrev pub CompletesUndefined : Numbering → Text → ℕ → RefusalKind → T
 CompletesUndefined numbering part byte kind =
     (end : CompletesSpecification numbering part byte) × (undefined_of end.s ≡ Some kind)
 
--- the byte is the `$` behind the number of the argument of a `*`, which it fetches
+-- the byte is the `$` after the number of the argument of a `*`, which it fetches
 abbrev pub FetchesStar : PosixState → ℕ → Fetch → Type 0
 FetchesStar (StarDigits slot parts n) byte f = (byte ≡ dollar) × (f ≡ fetch (Some n) int_type)
 FetchesStar _ byte f = ⊥
@@ -173,13 +173,13 @@ IsWrong model fetches part state byte kind =
     × ¬ AllByRecursion (IsOneType f) fetches)
     ⊎ ((kind ≡ Unexpected) × IsUnexpected (numbering_of fetches) part state byte)
 
--- why a byte is refused behind a front: a zero byte everywhere, `%` inside a specification
+-- why a byte is refused after a front: NUL everywhere, `%` inside a specification
 abbrev pub IsPosixRefusedByte : Model → List Fetch → Text → PosixState → ℕ → RefusalKind → Type 0
 IsPosixRefusedByte model fetches part state byte kind = MatchBool (byte == 0) (kind ≡ NulByte)
     (MatchBool (byte == percent) ((kind ≡ BadPercent) × IsPastPercent state)
     (IsWrong model fetches part state byte kind))
 
--- why a text is refused behind a good front of so many bytes
+-- why a text is refused after a good front of `at` bytes
 abbrev pub IsPosixRefusalCause : Model → List Fetch → Text → PosixState → ℕ → Text → RefusalKind → Type 0
 IsPosixRefusalCause model fetches part state at [] kind =
     ((kind ≡ Truncated) × (state ≢ Between))
@@ -187,7 +187,7 @@ IsPosixRefusalCause model fetches part state at [] kind =
 IsPosixRefusalCause model fetches part state at (byte ∷ rest) kind =
     MatchBool (at == MAX_TEXT_LEN) (kind ≡ TooLong) (IsPosixRefusedByte model fetches part state byte kind)
 
--- the text is refused behind a good front
+-- the text is refused after a good front
 pub record IsPosixRefusedAt (model : Model) (t : Text) (kind : RefusalKind)
     (at : ℕ) : Type 0 where
   pub front : Text

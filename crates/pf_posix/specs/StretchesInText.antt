@@ -27,7 +27,7 @@ IsFound t at left (found.Opaque directive stop) = (bytes : Text) × (later : Str
     × SpellsOpaque bytes (parts_of_opaque directive) × ReadsWhole (drop stop t) later
     × (drop at t ≡ bytes ++ drop stop t) × (left ≡ Before [] (parts_of_opaque directive) later)
 
--- where that ends, which is behind the offset
+-- where that ends, which is after the offset
 abbrev pub EndsBehind : Text → ℕ → Found → Type 0
 EndsBehind t at (found.Items stop) = (at < stop) × (stop ≤ length t)
 EndsBehind t at (found.Opaque directive stop) = (at < stop) × (stop ≤ length t)

@@ -27,7 +27,7 @@ widened type = Profile type
 abbrev pub int_type : ArgumentType
 int_type = Profile profile.Int
 
--- a pointer to a signed type, of which there are three
+-- a pointer to one of the three signed types
 abbrev pub pointer_to : ArgType → ArgumentType
 pointer_to profile.Long = PointerToLong
 pointer_to profile.LongLong = PointerToLongLong

@@ -12,8 +12,8 @@ use Rattle.pf_posix.specs.Stages.{posix_state_of}
 abbrev pub trace_left : Model → Text → Reader → FetchTrace
 trace_left model t reader = trace_from model reader.numbering (posix_state_of reader.automaton) reader.at (drop reader.at t)
 
--- what comes next, between a reader before it and behind it; an argument is fetched at the byte
--- before the reader
+-- the next step, between a reader before it and after it; an argument is fetched at the byte before
+-- the reader
 abbrev pub IsNextFetch : Model → Text → Reader → NextFetch → Reader → Type 0
 IsNextFetch model t old (nexts.Fetched f) new =
     (at : ℕ) × (new.at ≡ at + 1) × (trace_left model t old ≡ Fetches f at (trace_left model t new))

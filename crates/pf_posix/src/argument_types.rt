@@ -19,8 +19,8 @@ use std::alloc::{AllocError, Global};
 
 /// Returns how many arguments a format of the whole language takes in a data model (C11 7.21.6.1,
 /// paragraphs 3 to 9; POSIX fprintf on numbered arguments). Their types, as many as `out` has room
-/// for, are put at its front, and the rest of `out` is as it was. If the format is refused, `out` has
-/// the same length, and its contents are unspecified.
+/// for, are put at its front, and the rest of `out` is as it was. `Err` if the format is refused:
+/// then `out` has the same length, and its contents are unspecified.
 #[inline(always)]
 pub fn arguments(model: Model, text: &[u8], out: &mut [ArgumentType]) -> Result<u64, Refusal>
     ensures types { MatchResult result
@@ -66,7 +66,7 @@ fn read_by_bytes(model: Model, text: &[u8], out: &mut [ArgumentType]) -> Result<
     }
 }
 
-// The types of a format that isn't numbered, of which some were read, which are at the front of `out`.
+// The types of a format that isn't numbered. Those read so far are at the front of `out`.
 #[inline(never)]
 fn in_order(
     model: Model,
@@ -98,7 +98,7 @@ fn in_order(
     }
 }
 
-// The types of a numbered format, of which the first argument was read.
+// The types of a numbered format after its first argument was read.
 #[inline(never)]
 fn by_number(
     model: Model,
@@ -123,9 +123,9 @@ fn by_number(
     Ok(count as u64)
 }
 
-/// The types of the arguments that a format of the whole language takes in a data model, as
-/// `arguments` has them. The format is read twice: the room is taken by one growth, of their
-/// number, and none is taken where it takes no argument.
+/// Returns the types of the arguments that a format of the whole language takes in a data model, as
+/// `arguments` defines them. The format is read twice, and it allocates once, for as many types as
+/// there are: nothing if there are none. `Err` if the format is refused, or if memory is refused.
 pub fn arguments_vec(
     alloc: Global,
     model: Model,
@@ -148,7 +148,7 @@ pub fn arguments_vec(
     }
 }
 
-/// Returns a vector of `count` copies of `blank`. For 0 it takes no memory.
+/// Returns a vector of `count` copies of `blank`. For 0 it allocates nothing.
 pub(crate) fn room_for<T: Copy + Drop>(
     alloc: Global,
     blank: T,

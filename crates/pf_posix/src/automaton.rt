@@ -101,7 +101,7 @@ impl Automaton {
         self.fetch
     }
 
-    /// Takes one more byte, behind specifications that are numbered or aren't. After a refusal the
+    /// Takes one more byte, after specifications that are numbered or aren't. After a refusal the
     /// automaton is of no use.
     #[inline(always)]
     pub(crate) fn step(
@@ -281,7 +281,7 @@ impl Automaton {
         }
     }
 
-    // Takes the `$` behind the number of a `*`, which fetches an argument.
+    // Takes the `$` after the number of a `*`, which fetches an argument.
     #[inline(always)]
     fn fetches(&mut self, number: Option<u16>) -> Result<Move, RefusalKind>
         ensures { posix_step_by result self.new

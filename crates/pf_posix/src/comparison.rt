@@ -12,10 +12,10 @@ use crate::types::ArgumentType;
 use pf_text::{Refusal, Side};
 use pf_values::{ArgType, Model};
 
-/// Whether the second format takes just the arguments of the first (C11 7.21.6.1, paragraph 3;
-/// POSIX fprintf on numbered arguments): `None` where the lists of their types are equal, else the
-/// least index from 0 at which they differ, which is the length of the shorter one where that is a
-/// prefix of the other. Where both are refused, the refusal is that of the first.
+/// Returns where the second format takes other arguments than the first (C11 7.21.6.1, paragraph 3;
+/// POSIX fprintf on numbered arguments): `None` if the lists of their types are equal, otherwise
+/// the first index from 0 at which they differ. If one list is a prefix of the other, that is the
+/// shorter one's length. `Err` if one is refused, the first before the second.
 pub fn fits(model: Model, first: &[u8], second: &[u8]) -> Result<Option<u64>, (Side, Refusal)>
     ensures { MatchResult result (ComparesArgumentTypes model first.now second.now)
         (FaultForFits model first.now second.now) }
@@ -30,10 +30,10 @@ pub fn fits(model: Model, first: &[u8], second: &[u8]) -> Result<Option<u64>, (S
     }
 }
 
-/// Whether the arguments of the first format serve the second, which may leave some over at the end
-/// (C11 7.21.6.1, paragraph 2): `None` where the types of the second are a beginning of those of the
-/// first, else the least index from 0 at which the second has a type that the first doesn't have
-/// there. Where both are refused, the refusal is that of the first.
+/// Returns where the second format takes an argument that the first doesn't have, which may leave
+/// some over at the end (C11 7.21.6.1, paragraph 2): `None` if the types of the second are a
+/// beginning of those of the first, otherwise the first index from 0 at which the second has a type
+/// that the first doesn't have there. `Err` if one is refused, the first before the second.
 pub fn fits_fewer(model: Model, first: &[u8], second: &[u8]) -> Result<Option<u64>, (Side, Refusal)>
     ensures { MatchResult result (ComparesBeginning model first.now second.now)
         (FaultForFits model first.now second.now) }

@@ -39,11 +39,11 @@ pub struct DirectiveSpan {
     pub kind: ArgumentType,
 }
 
-/// Lists the conversion specifications of a format of the whole language in a data model, in the
-/// order of the text (C11 7.21.6.1, paragraphs 3 to 5; POSIX fprintf on numbered arguments), and
-/// returns their number; `%%` does not count as one. It writes them to `out` from the front, as far as
-/// there is room, and leaves the rest of `out` as it was. It refuses the same formats as `arguments`,
-/// and then changes nothing in `out`.
+/// Lists the conversion specifications of a format of the whole language in a data model, in the order
+/// of the text (C11 7.21.6.1, paragraphs 3 to 5; POSIX fprintf on numbered arguments), and returns
+/// their number; `%%` does not count as one. It writes them to `out` from the front, as far as there
+/// is room, and leaves the rest of `out` as it was. `Err` for the formats that `arguments` refuses:
+/// then nothing in `out` changes.
 pub fn directives(model: Model, text: &[u8], out: &mut [DirectiveSpan]) -> Result<u64, Refusal>
     ensures directives { MatchResult result
         (λ count. HasDirectiveCount model text.now out.old out.new count)
@@ -58,7 +58,7 @@ pub fn directives(model: Model, text: &[u8], out: &mut [DirectiveSpan]) -> Resul
 
 /// Lists the conversion specifications of a format of the whole language in a data model, as
 /// `directives` does. It reads the format twice, and allocates once, for exactly their number. If there
-/// are no specifications, it allocates nothing.
+/// are no specifications, it allocates nothing. `Err` if the format or memory is refused.
 pub fn directives_vec(
     alloc: Global,
     model: Model,
@@ -162,7 +162,7 @@ impl DirectiveWalk {
         }
     }
 
-    // Starts a new item where one has ended that is no specification.
+    // Starts a new item after one that isn't a specification.
     fn pass_literal(&mut self)
         ensures between { posix_state_of self.old.automaton ≡ Between
             → self.new ≡ record self.old { begin = self.old.at } }
@@ -199,7 +199,7 @@ impl DirectiveWalk {
         None
     }
 
-    // Counts an argument, behind which these were fetched by the `*`s of the item.
+    // Counts an argument. The `*`s of the item fetched these before it.
     fn count_fetch(&mut self, fetch: Fetch, earlier_star: Option<u64>, star: Option<u64>)
         requires { self.old.fetched < self.old.at }
         ensures { self.new ≡ record self.old {

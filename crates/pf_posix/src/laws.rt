@@ -19,102 +19,104 @@ ghost use Rattle.pf_posix.specs.Refusals.{IsPosixRefusedAt};
 ghost use Rattle.pf_posix.specs.Types.{widened};
 ghost use Rattle.pf_posix.specs.Unnumbered.{AcceptsUnnumbered, IsJudged, IsReadOnce, IsWholeRefusedAt, TypesAreKept};
 
-/// A text is accepted, or refused.
+/// Proves that a text is accepted, or refused.
 pub fn accepted_or_refused()
     ensures { (model : model_of_data) (t : Text) → IsAcceptedOrRefused model t }
 {}
 
-/// No text is both accepted and refused.
+/// Proves that no text is both accepted and refused.
 pub fn never_both()
     ensures { (model : model_of_data) (t : Text) (types : List ArgumentType)
         (kind : RefusalKind) (at : ℕ) → HasArguments model t types
         → IsPosixRefusedAt model t kind at → ⊥ }
 {}
 
-/// An accepted text has one list of types.
+/// Proves that an accepted text has one list of types.
 pub fn types_once()
     ensures { (model : model_of_data) (t : Text) (types others : List ArgumentType)
         → HasArguments model t types → HasArguments model t others → types ≡ others }
 {}
 
-/// An accepted text has one list of conversion specifications.
+/// Proves that an accepted text has one list of conversion specifications.
 pub fn directives_once()
     ensures { (model : model_of_data) (t : Text) (directives others : List DirectiveSpan)
         → HasDirectives model t directives → HasDirectives model t others → directives ≡ others }
 {}
 
-/// A text is refused for one reason at one offset.
+/// Proves that a text is refused for one reason at one offset.
 pub fn refused_once()
     ensures { (model : model_of_data) (t : Text) (kind other : RefusalKind) (p q : ℕ)
         → IsPosixRefusedAt model t kind p → IsPosixRefusedAt model t other q → (kind ≡ other) × (p ≡ q) }
 {}
 
-/// A text that is refused before its end is refused so whatever bytes follow.
+/// Proves that a text that is refused before its end is refused so whatever bytes follow.
 pub fn refused_for_good()
     ensures { (model : model_of_data) (t more : Text) (kind : RefusalKind) (at : ℕ)
         → IsPosixRefusedAt model t kind at → at < length t → IsPosixRefusedAt model (t ++ more) kind at }
 {}
 
-/// What the profile accepts is accepted here, with the same types.
+/// Proves that a text that the profile accepts is accepted here, with the same types.
 pub fn profile_types()
     ensures { (model : model_of_data) (t : Text) (items : List Item) → HasItems t items
         → HasArguments model t (map widened (types model items)) }
 {}
 
-/// Two texts of the profile that are equivalent take the same arguments here.
+/// Proves that two texts of the profile that are equivalent take the same arguments here.
 pub fn same_fits()
     ensures { (model : model_of_data) (t u : Text) → IsAccepted t → IsAccepted u
         → AreEquivalent model t u → ComparesArgumentTypes model t u None }
 {}
 
-/// A text that takes just the arguments of another takes no others.
+/// Proves that a text that takes just the arguments of another takes no others.
 pub fn fits_is_fewer()
     ensures { (model : model_of_data) (t u : Text) → ComparesArgumentTypes model t u None
         → ComparesBeginning model t u None }
 {}
 
-/// Two texts of which each takes no other arguments than the other take the same ones.
+/// Proves that if each of two texts takes no other arguments than the other, they take the same
+/// ones.
 pub fn fewer_both_ways()
     ensures { (model : model_of_data) (t u : Text) → ComparesBeginning model t u None
         → ComparesBeginning model u t None → ComparesArgumentTypes model t u None }
 {}
 
-/// There is one answer to where a text takes an argument that another doesn't take.
+/// Proves that there is one index at most where a text takes an argument that another doesn't take.
 pub fn fewer_once()
     ensures { (model : model_of_data) (t u : Text) (index other : Option ℕ)
         → ComparesBeginning model t u index → ComparesBeginning model t u other → index ≡ other }
 {}
 
-/// A text is read as one list of stretches and opaque directives at most.
+/// Proves that a text is read as one list of stretches and opaque directives at most.
 pub fn read_once()
     ensures { (t : Text) → IsReadOnce t }
 {}
 
-/// A text is accepted as stretches and opaque directives exactly if it is read with no numbered
-/// specification, and it is within the limit.
+/// Proves that a text is accepted as stretches and opaque directives exactly if it is read with no
+/// numbered specification, and it is within the limit.
 pub fn accepts_unnumbered()
     ensures { (t : Text) → AcceptsUnnumbered t }
 {}
 
-/// What is accepted so has arguments of the types of its stretches and opaque directives.
+/// Proves that a text accepted in this way has arguments of the types of its stretches and opaque
+/// directives.
 pub fn types_are_kept()
     ensures { (model : model_of_data) → TypesAreKept model }
 {}
 
-/// Where arguments may have no numbers, a text is accepted or refused, and never both.
+/// Proves that, if arguments may have no numbers, a text is accepted or refused, and never both.
 pub fn judged_unnumbered()
     ensures { (model : model_of_data) (t : Text) → IsJudged model t }
 {}
 
-/// Where arguments may have no numbers, a text is refused for one reason at one offset.
+/// Proves that, if arguments may have no numbers, a text is refused for one reason at one offset.
 pub fn refused_unnumbered_once()
     ensures { (model : model_of_data) (t : Text) (kind other : RefusalKind) (p q : ℕ)
         → IsWholeRefusedAt model t kind p → IsWholeRefusedAt model t other q
         → (kind ≡ other) × (p ≡ q) }
 {}
 
-/// No text is refused for what the profile alone lacks; nor for the number of an argument, if
-/// arguments may have numbers.
+/// Proves that no text is refused for what the profile alone lacks; nor for the number of an
+/// argument, if arguments may have numbers.
 pub fn kinds_of_refusals()
     ensures numbered { (model : model_of_data) (t : Text) (kind : RefusalKind) (at : ℕ)
         → IsPosixRefusedAt model t kind at → (is_profile_alone kind ≡ false) × (kind ≢ Numbered) }
@@ -122,7 +124,7 @@ pub fn kinds_of_refusals()
         → IsWholeRefusedAt model t kind at → is_profile_alone kind ≡ false }
 {}
 
-/// `ArgumentType::ALL` has each type exactly once.
+/// Proves that `ArgumentType::ALL` has each type exactly once.
 pub fn table_has_each_once()
     ensures { HasEachOnce every_type }
 {}

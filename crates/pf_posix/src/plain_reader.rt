@@ -30,8 +30,8 @@ pub(crate) struct PlainFront {
     pub(crate) count: usize,
 }
 
-/// Reads the front of a format whose arguments have no numbers and are no `*`, and puts their types at
-/// the front of `out`, as many as there is room for.
+/// Reads the front of a format whose arguments have no numbers and that has no `*`, and puts their
+/// types at the front of `out`, as many as there is room for.
 #[inline(never)]
 pub(crate) fn plain_front(model: Model, text: &[u8], out: &mut [ArgumentType]) -> PlainFront
     ensures { IsFrontRead model text.now out.old out.new result }

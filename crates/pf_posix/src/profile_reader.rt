@@ -1,4 +1,4 @@
-//! The end of a specification of the profile. It answers only what it is sure of: `plain_reader` reads
+//! The end of a specification of the profile. It decides only what it is sure of: `plain_reader` reads
 //! the others.
 ghost use Rattle.std.specs.Prelude.{◌≡◌, ◌<◌, ◌≤◌, ◌&&◌, false, IfSome, IsFalse, IsTrue, None, Some, length};
 ghost use Rattle.pf_values.specs.declared.flags.Flag.TheVariants.{Alt, Group, Zero};

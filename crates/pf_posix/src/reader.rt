@@ -54,7 +54,7 @@ impl Reader {
         }
     }
 
-    /// A reader before the first byte, as if behind a specification that isn't numbered.
+    /// A reader before the first byte, as if after a specification that isn't numbered.
     #[inline(always)]
     pub(crate) fn unnumbered() -> Reader
         ensures start { result.at ≡ 0 }
@@ -77,7 +77,7 @@ impl Reader {
         }
     }
 
-    /// The offset behind the byte at which the last argument was fetched.
+    /// The offset after the byte at which the last argument was fetched.
     #[inline(always)]
     pub(crate) fn at(&self) -> usize
         ensures { result ≡ self.now.at }

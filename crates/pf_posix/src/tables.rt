@@ -19,7 +19,7 @@ use pf_values::{ArgType, Model, RefusalKind};
 /// As many arguments as a numbered format can have.
 pub(crate) const ROOM: usize = 4095;
 
-/// The type of each fetched argument, at its index, and the greatest number of them.
+/// The type of each fetched argument, at its index, and the largest number of them.
 #[derive(Drop)]
 pub(crate) struct Table {
     types: [Option<ArgumentType>; ROOM],

@@ -8,10 +8,10 @@ use crate::reader::{NextFetch, Reader};
 use pf_text::Refusal;
 use pf_values::{Model, RefusalKind};
 
-/// Checks whether a format of the whole language is accepted in a data model if no argument may have
-/// a number (C11 7.21.6.1, paragraphs 3 to 9; POSIX fprintf). A `$` directly after the first number of
-/// a specification is refused as `Numbered`. All else is refused as by `arguments`, at the same byte.
-/// No memory is taken.
+/// Checks whether a format of the whole language is accepted in a data model if no argument may have a
+/// number (C11 7.21.6.1, paragraphs 3 to 9; POSIX fprintf). `Err` if it isn't: a `$` directly after
+/// the first number of a specification is refused as `Numbered`, and everything else as by
+/// `arguments`, at the same byte. Allocates nothing.
 pub fn check_unnumbered(model: Model, text: &[u8]) -> Result<(), Refusal>
     ensures { MatchResult result (λ _. IsWholeAccepted text.now)
         (λ refusal. IsWholeRefusedAt model text.now refusal.kind refusal.at) }

@@ -25,7 +25,7 @@ use Rattle.pf_reduce.proofs.CarriedIntegers.{kept_bits, width_is}
 use Rattle.pf_reduce.proofs.NormalCores.{no_precision_1, precision_within, some_width, width_within}
 use Rattle.pf_reduce.proofs.Precisions.{written_is}
 
--- flags beside which no sign is printed
+-- flags with which no sign is printed
 record HasNoSign (flags : FlagSet) : Type 0 where
   group : has flags Group ≡ false
   plus : has flags Plus ≡ false

@@ -77,7 +77,7 @@ own_number model s q flags p h text flags_are p_is none width left =
 pub unfilled_precision : (s : Specification) (front : ℕ) → has s.flags Zero ≡ false → effective_precision s front ≡ precision_of s
 unfilled_precision s front h = rw h refl
 
--- the width stays, where it is at most so many bytes, and idle only where it is none
+-- the width stays if it is at most this many bytes, and is idle only if it is missing
 pub own_field : (w most least a b : ℕ) → a ≡ min w most → w ≤ most → (0 < w → least < w)
     → (a ≤ least → b ≡ 0) → (least < a → b ≡ a) → b ≡ w
 own_field zero most least a b e few more idle kept = idle (omega (arith, e))

@@ -11,7 +11,7 @@ use Rattle.pf_reduce.specs.Padded.{IsUnseen}
 abbrev in_field : ℕ → Bool → ℕ → ℕ → Text → Text
 in_field spaces left width trail body = replicate spaces space ++ (field_of left width body ++ replicate trail space)
 
--- how many spaces come before so many bytes, and after
+-- how many spaces come before a body of this length, and after
 abbrev before : ℕ → Bool → ℕ → ℕ → ℕ
 before spaces left width len = spaces + (if left then 0 else width - len)
 

@@ -15,7 +15,7 @@ in_field : (w : ℕ) (negative : Bool) (number : Text) → length number < w
 in_field w true number h = refl
 in_field w false number h = space_in_field w number h
 
--- on the right, where the field has room for a sign, the flag space is no matter
+-- on the right, where the field has room for a sign, the flag space doesn't matter
 pub space_or_none : (p : Padding) (negative : Bool) (number : Text) → p.left ≡ false → length number < p.width
     → with_padding p (sign_text signs.Space negative ++ number) ≡ with_padding p (sign_text signs.None negative ++ number)
 space_or_none p negative number right room = rw right (ap (λ t. replicate p.spaces space ++ (replicate p.zeros zero_digit ++ (t ++ replicate p.trail space)))

@@ -210,7 +210,8 @@ longer sign v h =
     let sizes = sign_lengths sign (is_negative v) in
     omega (arith, sizes.0)
 
--- with precision 0 the side isn't seen, unless there is a `+`, up to a width of one byte beside the sign
+-- with precision 0 the side isn't seen, unless there is a `+`, up to a width of one byte next to the
+-- sign
 unseen_at_0 : (sign : Sign) (w : ℕ) (v : ℤ) → sign ≢ signs.Plus → w ≤ sign_length sign + 1 → IsUnseen w (signed_text sign 0 v)
 unseen_at_0 signs.None w (pos zero) e h = inr refl
 unseen_at_0 signs.Space w (pos zero) e h = inr refl

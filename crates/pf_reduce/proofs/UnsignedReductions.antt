@@ -143,7 +143,7 @@ module _ (model : Model) (s : Specification) (defined : IsDefined s) (raises : i
       (omega (arith, least, wider, narrow.width, d_is)) least (omega (arith, least, wider, narrow.width, d_is)) in
       record { normal = normal; reduced = octal_reduced model s b p e alt (refl, normal) (omega (arith, field.constant, narrow.constant, w)) in_field }
 
-  -- else that is constant
+  -- otherwise that is constant
   pub octal_after_hoisted : (z : ℕ) (c q : Padding) → z ≡ 1 + (p - 1 - d) → HasHoistedZeros b z c → IsRightIfUnseen c 1 q
       → IsReducedAs model s q no_flags (kept_precision (p - z))
   octal_after_hoisted z c q z_is past right =

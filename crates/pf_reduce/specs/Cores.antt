@@ -12,7 +12,7 @@ use Rattle.pf_reduce.specs.declared.padding.Padding.{Padding}
 use Rattle.pf_reduce.specs.declared.results.Core.TheVariants.{Normal}
 use Rattle.pf_reduce.specs.declared.results.Reduced.{Reduced}
 
--- a precision of 1 is none (C11 7.21.6.1 p8)
+-- a precision of 1 counts as no precision (C11 7.21.6.1 p8)
 abbrev pub kept_precision : ℕ → Option ℕ
 kept_precision (suc zero) = None
 kept_precision precision = Some precision

@@ -23,8 +23,8 @@ pub enum Change {
     Padded(u16),
 }
 
-/// What changes in the spelling of a directive. `None` if that is something else, or isn't known at once:
-/// then call `reduce`.
+/// Returns what changes in the spelling of a directive. `None` if that is something else, or isn't known
+/// yet: then call `reduce`.
 #[inline(always)]
 pub fn change_of(model: Model, directive: &Directive) -> Option<Change>
     ensures { IfSome result (IsChange model directive.now) }

@@ -18,8 +18,8 @@ const ROWS: [u8; 3 * LENGTHS] = [
     2, 0, 1, 2, 3, 3, 3, 3,
 ];
 
-// For values of 8, 16, 32 and 64 bits, printed by `d`, `i`, `u`, `o`, `x`, `X`, `b`, `c` and `s`, of which the last two
-// have no digits.
+// For values of 8, 16, 32 and 64 bits, printed by `d`, `i`, `u`, `o`, `x`, `X`, `b`, `c` and `s`. The last two have no
+// digits.
 #[rattlefmt::skip]
 const MOST_DIGITS: [u8; 4 * CONVERSIONS] = [
     3, 3, 3, 3, 2, 2, 8, 0, 0,

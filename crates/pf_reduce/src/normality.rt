@@ -20,7 +20,8 @@ ghost use Rattle.pf_values.specs.meaning.Flags.{no_flags};
 use crate::numbers::{longest, max_digits, precision, sign_len, width};
 use pf_values::{Alternative, Directive, Flag, FlagSet, Kind, Model};
 
-/// Whether a directive is normal in this data model. `reduce` leaves a normal directive as it is.
+/// Returns whether a directive is normal in this data model. `reduce` leaves a normal directive as
+/// it is.
 pub fn is_normal(model: Model, directive: &Directive) -> bool
     ensures { IsTrue result ↔ IsNormal model directive.now }
 {

@@ -8,9 +8,9 @@ use crate::results::{Core, Reduced};
 use crate::texts::{reduce_char, reduce_string};
 use pf_values::{Directive, Kind, Model};
 
-/// The padding and the normal core that print what the directive prints (C11 7.21.6.1, paragraphs 4
-/// to 8), for each argument of its type in this data model. A normal directive is its own core, and
-/// `%.0s` is `Silent`.
+/// Returns the padding and the normal core that print what the directive prints (C11 7.21.6.1,
+/// paragraphs 4 to 8), for each argument of its type in this data model. A normal directive is its
+/// own core, and `%.0s` is `Silent`.
 pub fn reduce(model: Model, directive: &Directive) -> Reduced
     ensures same { IsReducedTo model directive.now result }
     ensures kept { IsNormal model directive.now

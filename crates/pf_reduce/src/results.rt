@@ -50,14 +50,14 @@ impl Normal {
     ghost use Rattle.std.specs.Prelude.{◌≡◌};
     ghost use Rattle.pf_values.specs.meaning.Normal.{IsNormal};
 
-    /// The data model in which it is normal.
+    /// Returns the data model in which it is normal.
     pub fn model(&self) -> DataModel
         ensures { result ≡ self.now.model }
     {
         self.model
     }
 
-    /// The directive.
+    /// Returns the directive.
     pub fn directive(&self) -> Directive
         ensures value { result ≡ self.now.specification }
         ensures normal { IsNormal self.now.model self.now.specification }

@@ -67,7 +67,7 @@ get_before [] type i h = absurd (omega arith)
 get_before (t ∷ types) type zero h = refl
 get_before (t ∷ types) type (suc i) h = get_before types type i (omega arith)
 
--- the argument with this number, if there is one, is not of the type that is wanted there
+-- the argument with this number, if there is one, is not of the type expected there
 abbrev IsWrongAt : Model → List Arg → List ArgType → ℕ → Type 0
 IsWrongAt model args types index =
     (type : ArgType) → slice_get types index ≡ Some type → IsOfTypeAt model args index type → ⊥

@@ -24,7 +24,7 @@ pub Prints-string : (model : Model) (s : Specification) (bytes text : Text) → 
 Prints-string model s bytes text e h =
     (text, subst (λ k. PrintsKind model k s (String bytes) text) (sym e) h, refl)
 
--- an argument that is no number is a string
+-- an argument that isn't a number is a string
 pub is_string : (arg : Arg) → ((n : ℤ) → argument_of arg ≡ Number n → ⊥) → ((x : CBytes) → arg ≡ variants.Str x → ⊥) → ⊥
 is_string (variants.Str x) h g = g x refl
 is_string (variants.Int n) h g = h n refl

@@ -1,4 +1,4 @@
--- How arguments match the types that are wanted.
+-- How arguments match the types of a format.
 use Rattle.std.specs.Prelude.{◌≡◌, ℕ, ◌≤◌, List, length, map, take, slice_get, Some}
 use Rattle.std.specs.List.{AllZip}
 use Rattle.pf_values.specs.declared.arguments.Arg.{Arg}
@@ -16,8 +16,8 @@ abbrev pub IsOfTypeAt : Model → List Arg → ℕ → ArgType → Type 0
 IsOfTypeAt model args index type =
     (arg : Arg) × (slice_get args index ≡ Some arg) × IsOfType model arg type
 
--- So many types are wanted. The first arguments are of them, and the next one is not, unless those
--- are all. This project's own.
+-- These are the types of a format. The first `matched` arguments are of them, and the next one is
+-- not, unless those are all. This project's own.
 pub record HasChecked (model : Model) (check : ArgumentCheck) (args : List Arg)
     (types : List ArgType) : Type 0 where
   pub wanted_is : check.wanted ≡ length types

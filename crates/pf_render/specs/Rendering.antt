@@ -48,8 +48,8 @@ pub record DifferFirstAt {A : Type 0} (xs ys : List A) (index : ℕ) : Type 0 wh
   pub same : take index xs ≡ take index ys
   pub differ : slice_get xs index ≢ slice_get ys index
 
--- an accepted text takes as many arguments, and this is the first one that is not of the type
--- wanted there (C11 7.21.6.1 p9)
+-- an accepted text takes as many arguments, and this is the first one that is not of its type (C11
+-- 7.21.6.1 p9)
 pub record HasWrongType (model : Model) (t : Text) (args : List Arg) (index : ℕ) : Type 0 where
   pub types : List ArgType
   pub takes : TakesTypes model t types
@@ -69,8 +69,8 @@ FaultForRender model t args (faults.WrongCount wanted given) =
 FaultForRender model t args (faults.WrongType index) = HasWrongType model t args index
 FaultForRender model t args (faults.Write written) = ⊥
 
--- what a call leaves in a writer, and answers: all that is printed, nothing, or exactly the first
--- bytes
+-- the state in which a call leaves a writer, and its result: all that is printed, nothing, or
+-- exactly the first bytes
 module _ (model : Model) {W : Type 0} (contents : W → Known) (old new : Counted W) (t : Text)
     (args : List Arg) where
   -- what a fault leaves: nothing went out, or where a write failed, exactly the first bytes
@@ -80,7 +80,7 @@ module _ (model : Model) {W : Type 0} (contents : W → Known) (old new : Counte
       × (written < length out))
   StopsWith fault = FaultForRender model t args fault × (new ≡ old)
 
-  -- what a call leaves and answers: all that is printed went out, or there is a fault
+  -- the state and the result: all that is printed went out, or there is a fault
   abbrev pub RendersInto : Result (Unit {0}) RenderFault → Type 0
   RendersInto (Ok done) = RendersTo model t args (λ out. WritesAll contents old new out)
   RendersInto (Err fault) = StopsWith fault

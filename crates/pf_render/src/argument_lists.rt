@@ -39,7 +39,7 @@ pub(crate) fn check_arguments(
 }
 
 // How many arguments the directives so far take (`wanted`), and how many of the given arguments
-// have the wanted types, up to the first one that has another (`matched`).
+// have the expected types, up to the first one that has another (`matched`).
 #[derive(Clone, Copy)]
 struct ArgumentCheck {
     wanted: usize,

@@ -15,8 +15,8 @@ use pf_values::{Arg, Counted, Directive, Kind, Model, ShortWrite};
 use std::io::Write;
 
 /// Writes what the directive prints for an argument of its type in this data model (C11 7.21.6.1).
-/// Where the writer fails, or takes none of some bytes, exactly the first `written` bytes of it
-/// went out, fewer than all. It doesn't flush, and takes no memory.
+/// `Err` if the writer fails, or takes none of some bytes: then exactly the first `written` bytes
+/// went out, fewer than all. It doesn't flush, and allocates nothing.
 pub fn render_one<W: Write>(
     model: Model,
     directive: &Directive,
@@ -52,7 +52,7 @@ pub(crate) fn write_argument<W: Write>(
     }
 }
 
-// The number that an argument is, where it is no string.
+// The number that an argument is, if it isn't a string.
 fn number_of(argument: Arg<'_>) -> i128
     requires { (bytes : Text) → argument_of argument ≢ String bytes }
     ensures { argument_of argument.entry ≡ Number result }
@@ -63,7 +63,7 @@ fn number_of(argument: Arg<'_>) -> i128
     }
 }
 
-// The bytes of the string that an argument is, where it is no number.
+// The bytes of the string that an argument is, if it isn't a number.
 fn string_of<'a>(argument: Arg<'a>) -> &'a [u8]
     requires { (number : ℤ) → argument_of argument ≢ Number number }
     ensures { argument_of argument.entry ≡ String result.now }

@@ -1,4 +1,4 @@
-//! The parts of a format, one of which is written at a time.
+//! The parts of a format, written one at a time.
 ghost use Rattle.std.specs.Prelude.{◌≡◌, length};
 ghost use Rattle.pf_values.specs.declared.models.Model.{Model};
 ghost use Rattle.pf_values.specs.meaning.Items.{types};
@@ -13,7 +13,7 @@ use pf_values::Directive;
 pub(crate) struct FormatPart<'a> {
     /// The directive, if the part is one.
     pub(crate) directive: Option<Directive>,
-    /// The bytes that are printed where the part is no directive.
+    /// The bytes that are printed if the part isn't a directive.
     pub(crate) literal: &'a [u8],
 }
 

@@ -7,7 +7,9 @@ use crate::formats::render;
 use pf_values::{Arg, Counted, Model};
 use std::alloc::{Allocator, Global};
 
-/// What a format prints for arguments of its types in this data model (C11 7.21.6.1).
+/// Returns the bytes that a format prints for arguments of its types in this data model (C11
+/// 7.21.6.1). `Err` if the format is refused, if the arguments are not those that it takes, or if
+/// memory is refused.
 pub fn render_vec(
     alloc: Global,
     model: Model,

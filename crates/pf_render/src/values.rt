@@ -16,7 +16,8 @@ pub struct Value {
 }
 
 impl Value {
-    /// The value of the number in the range that the length modifier and the conversion name.
+    /// Returns the value of the number in the range that the length modifier and the conversion
+    /// name.
     #[inline(always)]
     pub fn of(model: Model, directive: &Directive, number: i128) -> Value
         requires integer { IsFalse (is_text directive.now.conv) }

@@ -56,7 +56,7 @@ abbrev pub at_width : List Flag → Option ℕ → State
 at_width flags None = at_flags flags
 at_width flags (Some n) = Width (flag_set flags) n
 
--- a flag or a byte that is none, after `%` and flags
+-- a flag or a byte that isn't a flag, after `%` and flags
 pub next-at_flags : (flags : List Flag) (byte : ℕ) → (byte == 37) ≡ false → next (at_flags flags) byte ≡ after_flags (flag_set flags) byte
 next-at_flags [] byte h = rw h refl
 next-at_flags (flag ∷ flags) byte h = refl

@@ -53,7 +53,7 @@ truncated_behind t q e inside small =
     let h = behind t [] [] Between q nothing e in
     truncated_at t h.part q.1 q.0 h.splits h.at inside small
 
--- `%5` and a zero byte: 1 at 2
+-- `%5` and NUL: 1 at 2
 zero_byte : IsRefusedAt (codes "%5" ++ 0 ∷ []) NulByte 2
 zero_byte = refused_behind (codes "%5") 0 [] _ NulByte refl refl (omega arith)
 

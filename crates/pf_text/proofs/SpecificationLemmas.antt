@@ -86,7 +86,7 @@ goes_on P push t bytes n m g h =
     subst (P (t ++ bytes)) (sym g.value) (subst (λ u. P (t ++ u) (number_from_digits_after 10 n g.digits)) (sym g.spelled)
     (more_digits P push g.digits t n g.below h))
 
--- bytes, and those behind them
+-- bytes, and those after them
 pub bytes_join : (t : Text) (start at stop : ℕ) (bytes more : Text) → HasBytes t start at bytes → HasBytes t at stop more
     → HasBytes t start stop (bytes ++ more)
 bytes_join t start at stop bytes more h g =

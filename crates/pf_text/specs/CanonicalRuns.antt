@@ -22,7 +22,7 @@ use Rattle.pf_text.specs.Marks.{AreMarksOf}
 abbrev pub AreRunsOf : CanonicalRuns → Text → Type 0
 AreRunsOf runs text = IfSome runs.marks (λ marks. (length text ≤ MAX_MARKED) × AreMarksOf marks text)
 
--- `%.0s` so many times
+-- `%.0s`, `count` times
 abbrev pub silents : ℕ → List Item
 silents count = replicate count (Directive silent)
 
@@ -77,7 +77,7 @@ pub record PassesCanonicalRun (model : Model) (t : Text) (items : List Item) (fo
 abbrev pub BeginsSilent : Text → Type 0
 BeginsSilent t = (4 ≤ length t) × (take 4 t ≡ spelling_of silent)
 
--- after a text that is read, so many `%.0s` at the front of what follows were taken, and no more
+-- after a text that is read, `count` times `%.0s` at the front of the rest were taken, and no more
 -- could be
 pub record PassesSilents (t : Text) (items : List Item) (following : Text) (count : ℕ)
     (new : Scanner) : Type 0 where

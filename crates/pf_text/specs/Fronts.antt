@@ -12,8 +12,8 @@ use Rattle.pf_values.specs.meaning.Text.{Text, percent, point}
 use Rattle.pf_text.specs.Stages.{State}
 use Rattle.pf_text.specs.Stages.{Between, Opened, Flags, Width, Point, Precision, Modifier}
 
--- A specification without its conversion: `%`, flags, a width, a precision and a modifier, of which
--- all but the `%` may be missing (C11 7.21.6.1 p4).
+-- A specification without its conversion: `%`, and any of flags, a width, a precision and a
+-- modifier (C11 7.21.6.1 p4).
 pub record IsFront (part : Text) (set : FlagSet) (width precision : Option ℕ)
     (length : Length) : Type 0 where
   pub flags : List Flag

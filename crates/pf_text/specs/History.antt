@@ -92,8 +92,7 @@ pub record Passes (t : Text) (items : List Item) (following : Text) (len : ℕ)
   pub literal : AllByRecursion IsLiteral (take len following)
   pub longest : EndsRun (t ++ take len following) (drop len following)
 
--- after a text that is read, so many bytes at the front of what follows were taken, which are a
--- directive
+-- after a text that is read, the first `len` bytes of the rest were taken, which are a directive
 pub record TakesDirective (t : Text) (items : List Item) (following : Text) (len : ℕ)
     (new : Scanner) (d : Specification) : Type 0 where
   pub after : IsAfter new (t ++ take len following) (items ++ Directive d ∷ [])

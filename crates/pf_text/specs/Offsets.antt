@@ -11,7 +11,7 @@ pub record HasBytes (t : Text) (start stop : ℕ) (bytes : Text) : Type 0 where
   pub within : stop ≤ length t
   pub whole : take stop t ≡ take start t ++ bytes
 
--- these bytes are decimal digits, and a number with them behind its own digits is that other one
+-- these bytes are decimal digits, and a number with them after its own digits is `longer`
 pub record ContinuesNumber (number : ℕ) (bytes : Text) (longer : ℕ) : Type 0 where
   pub digits : List ℕ
   pub below : AllByRecursion (λ d. d < 10) digits

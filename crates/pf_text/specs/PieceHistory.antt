@@ -54,7 +54,7 @@ pub record IsInside (pieces : Pieces) (t read : Text) (items : List Item) : Type
   pub split : t ≡ read ++ fed ++ pieces.rest.now
   pub scanned : IsAfter pieces.scanner (read ++ fed) items
 
--- and now it has also taken the first byte of the rest, of which it made this step
+-- and now it has also taken the first byte of the rest, for which it made this step
 pub record IsFed (pieces : Pieces) (step : Step) (t read : Text) (items : List Item) : Type 0 where
   pub fed : Text
   pub byte : ℕ

@@ -10,8 +10,8 @@ use pf_values::{ArgType, Model};
 use smallvec::SmallVec;
 use std::alloc::{Allocator, Global};
 
-/// The types of the arguments that a format takes in this data model. Memory can be refused only
-/// where there are more than eight of them.
+/// Returns the types of the arguments that a format takes in this data model. `Err` if the format
+/// is refused, or if memory is, which may happen only if there are more than eight of them.
 pub fn signature(alloc: Global, model: Model, text: &[u8]) -> Result<Signature, TextFault>
     ensures { MatchResult result (λ signature. TakesTypes model text.now (types_of signature))
         (FaultForSignature model text.now) }
@@ -27,7 +27,7 @@ pub fn signature(alloc: Global, model: Model, text: &[u8]) -> Result<Signature, 
     }
 }
 
-// Adds the types of the arguments, and returns whether they were known. It takes no memory.
+// Adds the types of the arguments, and returns whether they were known. Allocates nothing.
 fn push_known_types<const N: usize, A: Allocator + Copy>(
     found: &mut SmallVec<ArgType, N, A>,
     model: Model,

@@ -48,7 +48,7 @@ pub struct CanonicalRuns {
 }
 
 impl CanonicalRuns {
-    /// Those of this text.
+    /// Returns the runs of this text.
     #[inline(always)]
     pub fn of(text: &[u8]) -> CanonicalRuns
         ensures { AreRunsOf result text.now }
@@ -64,7 +64,8 @@ impl CanonicalRuns {
         }
     }
 
-    /// Where the run ends that begins at an offset, of items as those of `canonical_run_len`.
+    /// Returns where the run ends that begins at an offset, of items as those of
+    /// `canonical_run_len`.
     #[inline(always)]
     pub fn end(self, text: &[u8], from: usize) -> usize
         requires runs { AreRunsOf self text.now }

@@ -18,31 +18,31 @@ use crate::refusals::Refusal;
 use crate::scanner::{Scanner, Step};
 use std::alloc::{AllocError, Global};
 
-/// A text has at most one list of items.
+/// Proves that a text has at most one list of items.
 pub fn reads_once()
     ensures { (t : Text) (items others : List Item) → Reads t items → Reads t others
         → items ≡ others }
 {}
 
-/// A text is refused for one reason and at one offset.
+/// Proves that a text is refused for one reason and at one offset.
 pub fn refused_once()
     ensures { (t : Text) (kind other : RefusalKind) (p q : ℕ) → IsRefusedAt t kind p
         → IsRefusedAt t other q → (kind ≡ other) × (p ≡ q) }
 {}
 
-/// The profile refuses no text for a kind with a number above 18.
+/// Proves that the profile refuses no text for a kind with a number above 18.
 pub fn kinds_of_refusals()
     ensures { (t : Text) (kind : RefusalKind) (at : ℕ) → IsRefusedAt t kind at → number kind ≤ 18 }
 {}
 
-/// The spelling of a defined specification is read back as it.
+/// Proves that the spelling of a defined specification is read back as that specification.
 pub fn spelled_is_read()
     ensures { (s : Specification) → IsDefined s → Spells (spelling_of s) s }
 {}
 
-/// Repeated calls of `next` give the pieces of the items of the text, in order, and then
-/// `None`, if it is accepted. Else they give those before the item in which it is refused, and then
-/// the refusal. The answer is the pieces, and how they end.
+/// Proves that repeated calls of `next` give the pieces of the items of the text, in order, and then
+/// `None`, if it is accepted. Otherwise they give those before the item in which it is refused, and then
+/// the refusal. It returns the pieces, and how they end. `Err` if memory is refused.
 pub fn whole_run_of_pieces<'a>(
     alloc: Global,
     text: &'a [u8],
@@ -63,9 +63,10 @@ pub fn whole_run_of_pieces<'a>(
     Ok((given, Ok(())))
 }
 
-/// Calls of `feed` for the bytes of a text, in order, and then one of `finish`, return steps that
-/// end the items of the text, in order, if it is accepted. Else these end the items before the one
-/// in which it is refused, and the refusal follows. The answer is the steps, and how they end.
+/// Proves that calls of `feed` for the bytes of a text, in order, and then one of `finish` return steps
+/// that end the items of the text, in order, if it is accepted. Otherwise these end the items before
+/// the one in which it is refused, and the refusal follows. It returns the steps, and how they end.
+/// `Err` if memory is refused.
 pub fn whole_run_of_steps(
     alloc: Global,
     text: &[u8],

@@ -34,7 +34,7 @@ impl Marks {
         }
     }
 
-    /// The first marked offset from `at` on.
+    /// Returns the first marked offset from `at` on, or `None` if there is none.
     #[inline(always)]
     pub fn next_from(self, at: usize) -> Option<usize>
         requires { at < 64 }

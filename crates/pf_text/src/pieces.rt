@@ -28,7 +28,8 @@ impl Piece<'_> {
     ghost use Rattle.pf_values.specs.meaning.Items.{types};
     ghost use Rattle.pf_text.specs.PieceHistory.{items_of};
 
-    /// The type of the argument that the piece takes in this data model, if it takes one.
+    /// Returns the type of the argument that the piece takes in this data model, or `None` if it
+    /// takes none.
     #[inline]
     pub fn arg_type(&self, model: Model) -> Option<ArgType>
         ensures { option_to_list result ≡ types model (items_of self.now) }
@@ -53,7 +54,7 @@ pub struct Pieces<'a> {
 impl<'a> Pieces<'a> {
     ghost use Rattle.pf_text.specs.PieceHistory.{NextIsPiece, HasGiven, IsFed, IsInside};
 
-    /// All the pieces of a text.
+    /// Returns all the pieces of a text.
     pub fn new(text: &'a [u8]) -> Pieces<'a>
         ensures { HasGiven result text.now [] [] }
     {
@@ -115,7 +116,7 @@ impl<'a> Pieces<'a> {
     }
 
     // Moves on past the first byte of the rest, for which the scanner returned this step. Returns
-    // the piece that ends there, if one does. That is no literal byte, since `take_literal_run`
+    // the piece that ends there, if one does. That isn't a literal byte, since `take_literal_run`
     // comes before.
     #[inline(always)]
     fn advance(&mut self, step: Step) -> Option<Piece<'a>>
@@ -190,7 +191,7 @@ impl<'a> Iterator for Pieces<'a> {
     }
 }
 
-/// Whether the text is accepted, or where and why it is refused.
+/// Checks whether the text is accepted. `Err` if not, with where and why it is refused.
 #[inline(always)]
 pub fn check(text: &[u8]) -> Result<(), Refusal>
     ensures { MatchResult result (λ _. IsAccepted text.now)

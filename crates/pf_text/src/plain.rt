@@ -1,5 +1,5 @@
-//! A fast way to see that a text is accepted. It answers only what it is sure of: a text of which it
-//! doesn't know that it is accepted is left to the reader, which also finds out why it is refused.
+//! A fast way to see that a text is accepted. It decides only what it is sure of: any other text is
+//! left to the reader, which also finds out why it is refused.
 ghost use Rattle.std.specs.Prelude.{◌≡◌, ◌+◌, ◌*◌, ◌^◌, ◌<◌, ◌≤◌, List, [], ◌∷◌, drop, length, take, IsTrue};
 ghost use Rattle.pf_values.specs.meaning.Items.{IsAccepted, Item, Reads};
 ghost use Rattle.pf_values.specs.meaning.Text.{percent};
@@ -12,8 +12,8 @@ use crate::specification::directive_of_parts;
 use crate::spelled_directives::spelled_after_percent;
 use pf_values::limits::MAX_TEXT_LEN;
 
-/// Whether the text is known to be accepted. False if it is refused, and for a text of which `check` has
-/// to find out.
+/// Returns whether the text is known to be accepted. False if it is refused, or if `check` has to find
+/// out.
 #[inline(always)]
 pub fn is_plainly_accepted(text: &[u8]) -> bool
     ensures { IsTrue result → IsAccepted text.now }

@@ -1,4 +1,4 @@
-//! A fast way to the argument types of a text. It answers only what it is sure of, as the one in
+//! A fast way to the argument types of a text. It decides only what it is sure of, as the one in
 //! `plain`.
 ghost use Rattle.std.specs.Prelude.{◌≡◌, ◌+◌, ◌^◌, ◌<◌, ◌≤◌, [], ◌∷◌, ◌++◌, drop, length, take, None, MatchOption, ⊤};
 ghost use Rattle.std.specs.Option.{option_to_list};

@@ -22,7 +22,7 @@ pub enum TextFault {
     /// The text is refused.
     #[error("{0}")]
     Refused(Refusal),
-    /// A growth was refused.
+    /// Memory was refused.
     #[error("out of memory")]
     Memory,
 }

@@ -39,7 +39,7 @@ pub struct Scanner {
 }
 
 impl Scanner {
-    /// A reader that has taken nothing.
+    /// Returns a reader that has taken nothing.
     pub fn new() -> Scanner
         ensures { IsAfter result [] [] }
     {
@@ -50,7 +50,7 @@ impl Scanner {
         }
     }
 
-    /// A reader that has taken a text of whole items, of `len` bytes.
+    /// Returns a reader that has taken a text of whole items, of `len` bytes.
     pub fn after_items(len: usize) -> Scanner
         ensures { (t : Text) (items : List Item) → Reads t items → length t ≡ len
             → len ≤ MAX_TEXT_LEN → IsAfter result t items }
@@ -60,8 +60,8 @@ impl Scanner {
         scanner
     }
 
-    /// Takes one more byte, and returns the item that it ends, if it ends one. A refused byte isn't
-    /// taken, and from then on every call returns that refusal.
+    /// Takes one more byte, and returns the item that it ends, if it ends one. `Err` if the byte is
+    /// refused: it isn't taken, and from then on every call returns that refusal.
     #[inline(always)]
     pub fn feed(&mut self, byte: u8) -> Result<Step, Refusal>
         // One more byte of a text is taken, or is refused however the text goes on.
@@ -141,8 +141,8 @@ impl Scanner {
         self.automaton.is_between()
     }
 
-    /// Forgets what was read of the items before, none of which counts between items. So a loop
-    /// over items keeps none of it from one item to the next.
+    /// Forgets what was read of the items before: none of it counts between items. So a loop over
+    /// items keeps none of it from one item to the next.
     #[inline(always)]
     pub(crate) fn restart(&mut self)
         ensures { (t : Text) (items : List Item) → IsAfter self.old t items → Reads t items
@@ -234,8 +234,8 @@ impl Scanner {
         count
     }
 
-    /// Whether whole items of up to `most` bytes may be taken by `pass_items`: not inside an item, after a
-    /// refusal, and where the text could become too long.
+    /// Returns whether whole items of up to `most` bytes may be taken by `pass_items`: not inside an item,
+    /// after a refusal, and where the text could become too long.
     #[inline(always)]
     pub fn may_pass(&self, most: usize) -> bool
         ensures { (t : Text) (items : List Item) → IsAfter self.now t items → IsTrue result
@@ -258,10 +258,10 @@ impl Scanner {
         self.offset = self.offset.wrapping_add(len as u64);
     }
 
-    /// Takes a whole directive at the front of `text`, and returns how many bytes it has, too.
-    /// One call of `feed` for each of them would do the same. Where there is no whole and defined
-    /// directive, inside an item, and after a refusal, it takes none. It may take none where there
-    /// is one, and so its caller goes on with `feed`.
+    /// Takes a whole directive at the front of `text`, and returns how many bytes it has, too. One
+    /// call of `feed` for each of them would do the same. `None` if there is no whole and defined
+    /// directive, inside an item, and after a refusal: then it takes nothing. It may be `None` even
+    /// if there is one, and so its caller goes on with `feed`.
     #[inline(always)]
     pub fn pass_directive(&mut self, text: &[u8]) -> Option<(Directive, usize)>
         ensures within { MatchOption result (self.new ≡ self.old)
@@ -311,8 +311,8 @@ impl Scanner {
         refusal_at(kind, self.offset)
     }
 
-    /// Whether the text so far is whole. If not, it is refused as truncated, unless a byte of it
-    /// was refused.
+    /// Checks whether the text so far is whole. `Err` if not: it is refused as truncated, unless a
+    /// byte of it was refused.
     pub fn finish(&self) -> Result<(), Refusal>
         ensures finished { (t : Text) (items : List Item) → IsAfter self.now t items
             → Finishes t items result }
@@ -327,7 +327,7 @@ impl Scanner {
         Err(self.refusal(RefusalKind::Truncated))
     }
 
-    /// How many bytes were taken.
+    /// Returns how many bytes were taken.
     pub fn offset(&self) -> u64
         ensures { result ≡ offset_of self.now }
     {

@@ -15,7 +15,8 @@ const HALF: usize = 8;
 // after it.
 const NEAR: usize = 64;
 
-/// How many literal bytes begin `text`: those before its first `%` and before its first zero byte.
+/// Returns how many literal bytes begin `text`: those before its first `%` and before its first
+/// NUL.
 // It sees no reader, so that a reader's state can lie in registers, and is never inlined, so that
 // the program has the search once.
 #[inline(never)]
@@ -83,7 +84,7 @@ fn ends_literal_run(byte: u8) -> bool
     byte == b'%' || byte == 0
 }
 
-// `literal_len` of a text of which all but the last few bytes are known to be literal: the last
+// `literal_len` of a text whose bytes are all known to be literal, except the last few: the last
 // vector overlaps these.
 #[inline(always)]
 fn len_at_end(text: &[u8], seen: usize) -> usize

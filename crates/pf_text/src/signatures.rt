@@ -12,28 +12,29 @@ pub struct Signature {
 }
 
 impl Signature {
-    /// How many arguments there are.
+    /// Returns how many arguments there are.
     pub fn len(&self) -> usize
         ensures { result ≡ length (types_of self.now) }
     {
         self.types.len()
     }
 
-    /// Whether there are none.
+    /// Returns whether there are none.
     pub fn is_empty(&self) -> bool
         ensures { IsTrue result ↔ (types_of self.now ≡ []) }
     {
         self.types.is_empty()
     }
 
-    /// The type of the argument with this number, counted from 0.
+    /// Returns the type of the argument with this number, counted from 0, or `None` after the last
+    /// one.
     pub fn get(&self, index: usize) -> Option<ArgType>
         ensures { result ≡ slice_get (types_of self.now) index }
     {
         self.as_slice().get(index).copied()
     }
 
-    /// The types.
+    /// Returns the types.
     pub fn as_slice(&self) -> &[ArgType]
         ensures { result.now ≡ types_of self.now }
     {

@@ -20,8 +20,8 @@ use crate::letters::{conv_of, flag_of, modifier_of};
 use pf_values::limits::MAX_NUMBER;
 use pf_values::{Conv, Directive, Flag, FlagSet, Length};
 
-/// The directive at the front of a text, and how many bytes it has. None where the text begins
-/// otherwise, or its specification is cut off or refused.
+/// Returns the directive at the front of a text, and how many bytes it has. `None` if the text
+/// begins otherwise, or its specification is cut off or refused.
 #[inline(always)]
 pub fn directive_at_front(text: &[u8]) -> Option<(Directive, usize)>
     ensures { MatchOption result ⊤ (λ front. (0 < front.1) × (front.1 ≤ length text.now)

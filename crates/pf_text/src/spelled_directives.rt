@@ -20,8 +20,8 @@ pub struct SpelledDirective {
     pub len: usize,
 }
 
-/// The directive at the front of a text, if it is spelled as `spell` spells it, and has no flag except
-/// `-` or `0`.
+/// Returns the directive at the front of a text, or `None` unless it is spelled as `spell` spells it,
+/// and has no flag except `-` or `0`.
 #[inline(always)]
 pub fn spelled_at_front(text: &[u8]) -> Option<SpelledDirective>
     ensures { IfSome result (IsSpelledFront text.now) }

@@ -12,8 +12,8 @@ use pf_values::{Directive, Flag, FlagSet, Length};
 /// The bytes of a spelling.
 pub type Spelling = ArrayVec<u8, 20>;
 
-/// The spelling of a directive: each flag once, in the order `-`, `+`, space, `#`, `0`, `'`, and
-/// numbers without zeros in front. A precision of 0 is `.0`. One of the longest is `%-+
+/// Returns the spelling of a directive: each flag once, in the order `-`, `+`, space, `#`, `0`,
+/// `'`, and numbers without zeros in front. A precision of 0 is `.0`. One of the longest is `%-+
 /// 0'4095.4095lld`.
 #[inline(always)]
 pub fn spell(directive: &Directive) -> Spelling

@@ -22,12 +22,12 @@ use Rattle.pf_values.specs.meaning.Conversions.{
 use Rattle.pf_values.specs.meaning.DataModel.{FitsIn, most_digits, most_digits_of}
 use Rattle.pf_values.proofs.Printed.{count_of}
 
--- the greatest value of so many bits has its digits in a base
+-- the largest value of this many bits has its digits in a base
 unsigned : (base count bits : ℕ) (v : ℤ) → 2 ≤ base → 2 ^ bits ≤ base ^ count → FitsIn false bits v → count_of base (nat_abs v) ≤ count
 unsigned base count bits (pos n) b most h = length-digits_of-le base count n b (let lt = h.1 in omega (arith, ints))
 unsigned base count bits (negsuc n) b most h = absurd (omega (arith, ints))
 
--- the least value has the greatest size
+-- the smallest value has the largest size
 signed : (base count bits : ℕ) (v : ℤ) → 2 ≤ base → 2 ^ (bits - 1) < base ^ count → FitsIn true bits v → count_of base (nat_abs v) ≤ count
 signed base count bits (pos n) b most h = length-digits_of-le base count n b (let lt = h.1 in omega (arith, ints))
 signed base count bits (negsuc n) b most h = length-digits_of-le base count (suc n) b (let ge = h.0 in omega (arith, ints))

@@ -1,4 +1,4 @@
--- Examples of the definitions, each of which computes. docs/DEFINITIONS.md goes through them.
+-- Examples of the definitions. Each of them computes. docs/DEFINITIONS.md goes through them.
 use Rattle.std.proofs.Common.{◌≡◌, ℕ, ◌^◌, List, [], ◌∷◌, codes, refl, Option, Some, None, length, pos, negsuc}
 use Rattle.std.specs.Fmt.{digits}
 use Rattle.pf_values.specs.declared.conversions.Conv.{Conv}
@@ -112,6 +112,6 @@ short_string = refl
 wide_char : refused_as (spec [] None None lengths.L C) ≡ Some Wide
 wide_char = refl
 
--- the least number counts: `%#lc` is wide
+-- the smallest number counts: `%#lc` is wide
 least_number : refused_as (spec (Alt ∷ []) None None lengths.L C) ≡ Some Wide
 least_number = refl

@@ -16,7 +16,7 @@ wrapped modulus (negsuc n) = modulus - 1 - n % modulus
 abbrev pub signed_from : ℕ → ℕ → ℤ
 signed_from half n = if nat_lt n half then pos n else negsuc (2 * half - 1 - n)
 
--- the value in the range of so many bits, signed or not
+-- the value in the range of this many bits, signed or not
 abbrev pub converted_number : Bool → Bits → ℤ → ℤ
 converted_number false bits n = pos (wrapped (2 ^ bit_count bits) n)
 converted_number true bits n = signed_from (2 ^ (bit_count bits - 1)) (wrapped (2 ^ bit_count bits) n)

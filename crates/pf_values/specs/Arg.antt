@@ -8,7 +8,7 @@ use Rattle.pf_values.specs.declared.types.ArgType.TheVariants.{Int, UInt, Long, 
 use Rattle.pf_values.specs.meaning.Arguments.{Argument, Number, String}
 use Rattle.pf_values.specs.meaning.Text.{Text}
 
--- the bytes of a string, without the null character that ends it in C (C11 7.1.1 p1)
+-- the bytes of a string, without the NUL that ends it in C (C11 7.1.1 p1)
 abbrev pub bytes_of : CBytes → Text
 bytes_of s = s.bytes.now
 

@@ -7,12 +7,12 @@ use Rattle.pf_values.specs.declared.types.ArgType.TheVariants.{Int, UInt, Long, 
 use Rattle.pf_values.specs.meaning.Arguments.{Argument, Number, String}
 use Rattle.pf_values.specs.meaning.DataModel.{Bits, bit_count, type_bits}
 
--- the greatest number of so many bits, and 3, which tells base two from the others
+-- the largest number of `bits` bits, and 3, which tells base two from the others
 abbrev pub unsigned_candidates : Bits → List Argument
 unsigned_candidates bits =
     map Number (pos 0 ∷ pos 1 ∷ pos 2 ∷ pos (2 ^ bit_count bits - 1) ∷ pos 3 ∷ [])
 
--- the least and the greatest number of so many bits last
+-- the smallest and the largest number of `bits` bits last
 abbrev pub signed_candidates : Bits → List Argument
 signed_candidates bits = map Number (pos 0 ∷ pos 1 ∷ negsuc 0
     ∷ negsuc (2 ^ (bit_count bits - 1) - 1) ∷ pos (2 ^ (bit_count bits - 1) - 1) ∷ [])

@@ -23,7 +23,7 @@ module _ {T : Type 0} where
   abbrev pub is_flushed : Counted T → Bool
   is_flushed c = c.is_flushed
 
--- the greatest count, above which none goes
+-- the largest count: none goes above it
 abbrev pub max_count : ℕ
 max_count = 2 ^ 64 - 1
 

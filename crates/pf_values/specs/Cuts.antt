@@ -24,7 +24,7 @@ error_kind_of cut = cut.kind
 abbrev pub flush_fails_of : Cut → Bool
 flush_fails_of cut = cut.flush_fails
 
--- what a write leaves as it was: the size of the buffer, and what `new` was given beside it
+-- the part that a write leaves as it was: the size of the buffer, and the other arguments of `new`
 pub record KeepsSettings (old new : Cut) : Type 0 where
   pub size : length new.buffer.now ≡ length old.buffer.now
   pub step : step_of new ≡ step_of old

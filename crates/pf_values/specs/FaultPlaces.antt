@@ -7,12 +7,12 @@ abbrev pub is_due : Option ℕ → Bool
 is_due None = false
 is_due (Some before) = before == 0
 
--- so many bytes, and none past the fault
+-- `count` bytes, and none past the fault
 abbrev pub up_to_fault : Option ℕ → ℕ → ℕ
 up_to_fault None count = count
 up_to_fault (Some before) count = min before count
 
--- where the reader is to fail, counted from so many bytes further on
+-- where the reader is to fail, counted from `count` bytes further on
 abbrev pub fault_after_bytes : Option ℕ → ℕ → Option ℕ
 fault_after_bytes fault count = option_map (λ before. before - count) fault
 

@@ -6,7 +6,7 @@ use Rattle.pf_values.specs.meaning.Items.{Item, Directive, Reads}
 use Rattle.pf_values.specs.meaning.Normal.{silent}
 use Rattle.pf_values.specs.meaning.Text.{Text}
 
--- the last item, if there is one, is no silent directive
+-- the last item, if there is one, isn't a silent directive
 abbrev pub EndsInNoSilent : List Item → Type 0
 EndsInNoSilent items = (before : List Item) → items ≢ before ++ Directive silent ∷ []
 

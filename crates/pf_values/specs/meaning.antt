@@ -1,4 +1,5 @@
--- What has to be believed: all that the headline and a refusal rest on, and nothing else.
+-- The definitions that a reader has to believe: the headline and each refusal depend on these, and
+-- on no others.
 pub mod Text
 pub mod Flags
 pub mod Lengths

@@ -4,7 +4,7 @@ ghost use Rattle.std.specs.Prelude.{◌≡◌, ◌<◌, ◌↔◌, IfSome, IsNon
 use crate::models;
 use crate::types::ArgType;
 
-/// Bytes without a zero byte: those of a C string before its null character.
+/// Bytes without NUL: those of a C string before its end.
 #[derive(Clone, Copy, Debug)]
 pub struct CBytes<'a> {
     bytes: &'a [u8],
@@ -14,7 +14,7 @@ pub struct CBytes<'a> {
 impl<'a> CBytes<'a> {
     ghost use Rattle.pf_values.specs.Arg.{bytes_of};
 
-    /// The bytes, or `None` if a zero byte is among them.
+    /// Returns the bytes, or `None` if a NUL is among them.
     pub fn new(bytes: &'a [u8]) -> Option<CBytes<'a>>
         ensures value { IfSome result (λ s. bytes_of s ≡ bytes.now) }
         ensures zero { IsNone result ↔ Contains bytes.now 0 }
@@ -25,7 +25,7 @@ impl<'a> CBytes<'a> {
         Some(CBytes { bytes })
     }
 
-    /// The bytes.
+    /// Returns the bytes.
     pub fn bytes(self) -> &'a [u8]
         ensures { result.now ≡ bytes_of self.entry }
     {
@@ -58,7 +58,7 @@ impl<'a> Arg<'a> {
     ghost use Rattle.pf_values.specs.meaning.Arguments.{HasType, Number, String};
     ghost use Rattle.pf_values.specs.meaning.Text.{Text};
 
-    /// The type of the argument.
+    /// Returns the type of the argument.
     pub fn arg_type(self) -> ArgType
         ensures value { result ≡ type_of self.entry }
         ensures typed { HasType Lp64 (argument_of self.entry) result }
@@ -74,8 +74,8 @@ impl<'a> Arg<'a> {
         }
     }
 
-    /// Whether the argument is in the range of its type in this data model (C11 6.2.5). In LP64
-    /// each one is, and a string is in any.
+    /// Returns whether the argument is in the range of its type in this data model (C11 6.2.5). In
+    /// LP64 each one is, and a string is in any.
     pub fn fits(self, model: models::Model) -> bool
         ensures { IsTrue result ↔ HasType model (argument_of self.entry) (type_of self.entry) }
     {
@@ -85,7 +85,7 @@ impl<'a> Arg<'a> {
         }
     }
 
-    /// The number of an integer argument; `None` for a string.
+    /// Returns the number of an integer argument, or `None` for a string.
     pub fn number(self) -> Option<i128>
         ensures { MatchOption result ((bytes : Text) × (argument_of self.entry ≡ String bytes))
             (λ n. argument_of self.entry ≡ Number n) }

@@ -34,7 +34,7 @@ pub enum Alternative {
 }
 
 impl Base {
-    /// The base as a number.
+    /// Returns the base as a number.
     pub fn number(self) -> u64
         ensures value { result ≡ number_of self }
         ensures range { (2 ≤ result) × (result ≤ 16) }
@@ -47,7 +47,7 @@ impl Base {
         }
     }
 
-    /// What the flag `#` does.
+    /// Returns what the flag `#` does.
     pub fn alternative(self) -> Alternative
         ensures { result ≡ alternative_of self }
     {
@@ -68,8 +68,8 @@ impl Base {
         }
     }
 
-    /// The letters that the flag `#` puts before a number, in lower case or as capitals; none where
-    /// it puts none (C11 7.21.6.1, paragraph 6).
+    /// Returns the letters that the flag `#` puts before a number, in lower case or as capitals;
+    /// none if it puts none (C11 7.21.6.1, paragraph 6).
     pub fn prefix(self, capitals: bool) -> &'static [u8]
         ensures value { result.now ≡ prefix_of self capitals }
         ensures short { length result.now ≤ 2 }

@@ -86,7 +86,7 @@ impl Conv {
         }
     }
 
-    /// The conversion that a normal directive has for it: `i` is another name for `d`
+    /// Returns the conversion that a normal directive uses instead: `i` is another name for `d`
     /// (C11 7.21.6.1, paragraph 8).
     pub fn representative(self) -> Conv
         ensures { result ≡ kept_conv self }
@@ -97,8 +97,8 @@ impl Conv {
         }
     }
 
-    /// The type of its argument under a length modifier in this data model (C11 7.21.6.1, paragraphs 7
-    /// and 8).
+    /// Returns the type of its argument under a length modifier in this data model (C11 7.21.6.1,
+    /// paragraphs 7 and 8).
     #[inline(always)]
     pub fn arg_type(self, model: Model, length: Length) -> ArgType
         ensures { result ≡ type_under model self length }
@@ -111,7 +111,7 @@ impl Conv {
         }
     }
 
-    /// What it prints.
+    /// Returns what it prints.
     #[inline(always)]
     pub fn kind(self) -> Kind
         ensures { result ≡ kind_of self }
@@ -130,21 +130,21 @@ impl Conv {
 }
 
 impl Kind {
-    /// Whether it is one byte or a string.
+    /// Returns whether it is one byte or a string.
     pub fn is_text(self) -> bool
         ensures { result ≡ prints_text self }
     {
         matches!(self, Kind::Char | Kind::String)
     }
 
-    /// Whether it is one byte.
+    /// Returns whether it is one byte.
     pub fn is_char(self) -> bool
         ensures { result ≡ prints_char self }
     {
         matches!(self, Kind::Char)
     }
 
-    /// Whether it is a number in a base whose digits the flag `'` groups (POSIX `fprintf`).
+    /// Returns whether it is a number in a base whose digits the flag `'` groups (POSIX `fprintf`).
     pub fn is_grouped(self) -> bool
         ensures { result ≡ prints_grouped self }
     {
@@ -155,14 +155,14 @@ impl Kind {
         }
     }
 
-    /// Whether the flag `#` is defined for it (C11 7.21.6.1, paragraph 6).
+    /// Returns whether the flag `#` is defined for it (C11 7.21.6.1, paragraph 6).
     pub fn has_alternative_form(self) -> bool
         ensures { result ≡ is_defined (alternative_under self) }
     {
         !matches!(self.alternative(), Alternative::Undefined)
     }
 
-    /// The base of the digits, ten where there is a sign; a byte and a string have none.
+    /// Returns the base of the digits, ten for numbers with a sign; a byte and a string have none.
     pub fn base(self) -> Base
         ensures { result ≡ base_under self }
     {
@@ -172,7 +172,7 @@ impl Kind {
         }
     }
 
-    /// Whether the digits from ten on are capitals.
+    /// Returns whether the digits from ten on are capitals.
     pub fn has_capitals(self) -> bool
         ensures { result ≡ has_capitals self }
     {
@@ -182,7 +182,7 @@ impl Kind {
         }
     }
 
-    /// What the flag `#` does to it (C11 7.21.6.1, paragraph 6).
+    /// Returns what the flag `#` does to it (C11 7.21.6.1, paragraph 6).
     pub fn alternative(self) -> Alternative
         ensures { result ≡ alternative_under self }
     {

@@ -18,8 +18,8 @@ use std::io::{Read, Write};
 /// A reader or a writer over `T`, with how many of its calls failed.
 ///
 /// Each `read`, `write` and `flush` makes one such call of `T`, and repeats none, also not one that
-/// was interrupted. A failure is a call that answered an error, or a write of some bytes that took
-/// none. A count goes no further than the greatest `u64`.
+/// was interrupted. A failure is a call that returned an error, or a write of some bytes that took
+/// none. A count goes no further than the largest `u64`.
 #[derive(Debug, Drop)]
 pub struct Counted<T> {
     device: T,
@@ -31,7 +31,7 @@ pub struct Counted<T> {
 }
 
 impl<T> Counted<T> {
-    /// The device, with no call and no failure yet.
+    /// Wraps the device, with no call and no failure yet.
     pub fn new(device: T) -> Counted<T>
         ensures device { device_of result ≡ device }
         ensures calls { calls_of result ≡ 0 }
@@ -46,14 +46,14 @@ impl<T> Counted<T> {
         }
     }
 
-    /// How many calls of the device failed.
+    /// Returns how many calls of the device failed.
     pub fn failures(&self) -> u64
         ensures { result ≡ failures_of self.now }
     {
         self.failures
     }
 
-    /// The device.
+    /// Returns the device.
     pub fn into_inner(self) -> T
         ensures { result ≡ device_of self }
     {

@@ -1,5 +1,5 @@
-//! A writer and a reader over memory, which fail where their caller wants it. They take no memory
-//! of their own.
+//! A writer and a reader over memory, which fail where their caller says. They allocate nothing of
+//! their own.
 
 mod cut;
 mod feed;

@@ -65,9 +65,9 @@ impl Model for Directive {
 }
 
 impl Directive {
-    /// The directive of these parts, or the kind of least number that refuses them: a number above
-    /// the limit, or what C11 7.21.6.1 (paragraphs 4 to 9) and POSIX leave undefined. A width of 0
-    /// stands for no width.
+    /// Returns the directive of these parts. `Err` with the kind of smallest number that refuses
+    /// them: for a number above the limit, or what C11 7.21.6.1 (paragraphs 4 to 9) and POSIX leave
+    /// undefined. A width of 0 means no width.
     pub fn new(
         flags: FlagSet,
         width: Option<u16>,
@@ -98,8 +98,8 @@ impl Directive {
         })
     }
 
-    /// The directive of parts that are known to be defined, where nothing is left to refuse. A width
-    /// of 0 stands for no width.
+    /// Returns the directive of parts that are known to be defined, so that nothing is left to
+    /// refuse. A width of 0 means no width.
     #[inline(always)]
     pub fn of_defined(
         flags: FlagSet,
@@ -120,7 +120,7 @@ impl Directive {
         }
     }
 
-    /// The flags.
+    /// Returns the flags.
     pub fn flags(&self) -> FlagSet
         ensures value { result ≡ self.now.flags }
         ensures defined { IsDefined self.now }
@@ -128,7 +128,7 @@ impl Directive {
         self.flags
     }
 
-    /// The field width, from 1 to the limit.
+    /// Returns the field width, from 1 to the limit, or `None` if none is given.
     pub fn width(&self) -> Option<u16>
         ensures value { result ≡ self.now.width }
         ensures defined { IsDefined self.now }
@@ -136,7 +136,7 @@ impl Directive {
         self.width
     }
 
-    /// The precision, from 0 to the limit.
+    /// Returns the precision, from 0 to the limit, or `None` if none is given.
     pub fn precision(&self) -> Option<u16>
         ensures value { result ≡ self.now.precision }
         ensures defined { IsDefined self.now }
@@ -144,7 +144,7 @@ impl Directive {
         self.precision
     }
 
-    /// The length modifier.
+    /// Returns the length modifier.
     pub fn length(&self) -> Length
         ensures value { result ≡ self.now.length }
         ensures defined { IsDefined self.now }
@@ -152,7 +152,7 @@ impl Directive {
         self.length
     }
 
-    /// The conversion.
+    /// Returns the conversion.
     pub fn conv(&self) -> Conv
         ensures value { result ≡ self.now.conv }
         ensures defined { IsDefined self.now }
@@ -160,7 +160,7 @@ impl Directive {
         self.conv
     }
 
-    /// Whether the flag `0` counts: beside `-` or a precision it doesn't (C11 7.21.6.1,
+    /// Returns whether the flag `0` counts: with `-` or a precision it doesn't (C11 7.21.6.1,
     /// paragraph 6).
     pub fn is_zero_filled(&self) -> bool
         ensures { result ≡ is_zero_filled self.now }
@@ -169,8 +169,8 @@ impl Directive {
         flags.has(Flag::Zero) && !flags.has(Flag::Minus) && self.precision.is_none()
     }
 
-    /// The precision of a number beside a sign or prefix of `front` bytes: as it is given, or 1;
-    /// where the flag `0` counts, what is left of the width (C11 7.21.6.1, paragraphs 6 and 8).
+    /// Returns the precision of a number after a sign or prefix of `front` bytes: as it is given,
+    /// or 1; if the flag `0` counts, what is left of the width (C11 7.21.6.1, paragraphs 6 and 8).
     pub fn effective_precision(&self, front: u16) -> u16
         ensures value { result ≡ effective_precision self.now front }
         ensures limit { result ≤ MAX_NUMBER }
@@ -184,15 +184,15 @@ impl Directive {
         }
     }
 
-    /// The type of the argument that it takes in this data model (C11 7.21.6.1, paragraphs 7 and
-    /// 8).
+    /// Returns the type of the argument that it takes in this data model (C11 7.21.6.1, paragraphs
+    /// 7 and 8).
     pub fn arg_type(&self, model: DataModel) -> ArgType
         ensures { result ≡ arg_type model self.now }
     {
         self.conv.arg_type(model, self.length)
     }
 
-    /// The bits of the value that it prints; 0 for `c` and `s`.
+    /// Returns the bits of the value that it prints; 0 for `c` and `s`.
     pub fn bits(&self, model: DataModel) -> u8
         ensures { result ≡ value_bits model self.now }
     {
@@ -202,7 +202,7 @@ impl Directive {
         length_row(model, self.length).bits
     }
 
-    /// The most digits that its value has, the sign not counted; 0 for `c` and `s`.
+    /// Returns the most digits that its value has, the sign not counted; 0 for `c` and `s`.
     #[inline(always)]
     pub fn max_digits(&self, model: DataModel) -> u8
         ensures { result ≡ digits_at_most model self.now }

@@ -15,7 +15,7 @@ pub enum Flag {
     Alt,
     /// `0`: zeros up to the field width.
     Zero,
-    /// `'`: groups of thousands, of which the POSIX locale has none.
+    /// `'`: groups of thousands. The POSIX locale has none.
     Group,
 }
 
@@ -57,7 +57,7 @@ pub struct FlagSet {
 }
 
 impl FlagSet {
-    /// The set without flags.
+    /// Returns the set without flags.
     pub fn empty() -> FlagSet
         ensures { result ≡ no_flags }
     {
@@ -71,7 +71,7 @@ impl FlagSet {
         }
     }
 
-    /// The set with one flag more.
+    /// Returns the set with one flag more.
     pub fn with(self, flag: Flag) -> FlagSet
         ensures { result ≡ with_flag self flag }
     {
@@ -87,7 +87,7 @@ impl FlagSet {
         flags
     }
 
-    /// Whether the flag is in the set.
+    /// Returns whether the flag is in the set.
     pub fn has(self, flag: Flag) -> bool
         ensures { result ≡ has self flag }
     {

@@ -9,12 +9,12 @@ ghost use Rattle.pf_values.specs.declared.models.TheConstants.Model.{ALL as mode
 ghost use Rattle.pf_values.specs.declared.refusals.TheConstants.RefusalKind.{ALL as refusals};
 ghost use Rattle.pf_values.specs.Laws.{PrintsOnce, HasEachOnce};
 
-/// Each directive and argument of its type print exactly one text, in each data model.
+/// Proves that each directive and argument of its type print exactly one text, in each data model.
 pub fn prints_once()
     ensures { (model : Model) → PrintsOnce model }
 {}
 
-/// Each table `ALL` has each value of its type exactly once.
+/// Proves that each table `ALL` has each value of its type exactly once.
 pub fn tables_have_each_once()
     ensures conversions { HasEachOnce conversions }
     ensures lengths { HasEachOnce lengths }
@@ -23,8 +23,8 @@ pub fn tables_have_each_once()
     ensures refusals { HasEachOnce refusals }
 {}
 
-/// The data models of `Model::ALL` have this order, which says which ones `both` and `all` are, and
-/// which number and which bit each has in C.
+/// Proves that the data models of `Model::ALL` have this order, which says which ones `both` and
+/// `all` are, and which number and which bit each has in C.
 pub fn models_in_order()
     ensures { models ≡ Lp64 ∷ Ilp32 ∷ Llp64 ∷ [] }
 {}

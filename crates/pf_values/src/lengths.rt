@@ -57,8 +57,8 @@ impl Length {
         }
     }
 
-    /// The length modifier that a normal directive has for it: one that names the same types in
-    /// this data model (C11 7.21.6.1, paragraph 7).
+    /// Returns the length modifier that a normal directive uses instead: one that names the same
+    /// types in this data model (C11 7.21.6.1, paragraph 7).
     pub fn representative(self, model: Model) -> Length
         ensures { result ≡ kept_length model self }
     {

@@ -1,6 +1,6 @@
 //! The limits of this project.
 
-/// The greatest field width and the greatest precision.
+/// The largest field width and the largest precision.
 pub const MAX_NUMBER: u16 = 4095;
 
 /// The most bytes of a format: 2^62.

@@ -26,7 +26,7 @@ impl Model {
     /// All data models.
     pub const ALL: [Model; 3] = [Model::Lp64, Model::Ilp32, Model::Llp64];
 
-    /// The bits of a long.
+    /// Returns the bits of a long.
     #[inline(always)]
     pub fn long_bits(self) -> u8
         ensures { result ≡ bit_count (long_bits self) }

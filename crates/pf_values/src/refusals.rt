@@ -41,13 +41,13 @@ pub enum RefusalKind {
     PrecisionUndefined,
     /// A length modifier that the standard doesn't define for the conversion.
     LengthUndefined,
-    /// A byte past the greatest length of a format.
+    /// A byte past the largest length of a format.
     TooLong,
-    /// A flag, a field width or a precision with `n`, which the standard leaves undefined.
+    /// `n` with `-`, `+`, a space or a field width, which the standard leaves undefined.
     CountUndefined,
     /// Numbered specifications and others in one format.
     Mixed,
-    /// A numbered format that doesn't use each argument up to its greatest.
+    /// A numbered format that doesn't use each argument up to its highest.
     MissingArgument,
     /// An argument that is used with two types.
     TwoTypes,

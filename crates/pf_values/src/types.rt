@@ -22,7 +22,7 @@ pub enum ArgType {
     LongLong,
     /// `unsigned long long`
     ULongLong,
-    /// A pointer to bytes that end in a null character.
+    /// A pointer to bytes that end in NUL.
     Str,
 }
 
@@ -43,8 +43,8 @@ impl ArgType {
         }
     }
 
-    /// Whether the number is in the range of the type in this data model (C11 6.2.5). A string has
-    /// none.
+    /// Returns whether the number is in the range of the type in this data model (C11 6.2.5). No
+    /// number is in that of a string.
     pub fn contains(self, model: Model, number: i128) -> bool
         ensures { IsTrue result ↔ IsInRange model self number }
     {

@@ -11,8 +11,8 @@ pub struct ShortWrite {
     pub written: usize,
 }
 
-/// Writes all the bytes. Where the writer fails, or takes none, exactly the first `written` of them
-/// went out, fewer than all, and a failure was counted.
+/// Writes all the bytes. `Err` if the writer fails, or takes none: then exactly the first `written`
+/// of them went out, fewer than all, and a failure was counted.
 pub fn write_bytes<W: Write>(writer: &mut Counted<W>, bytes: &[u8]) -> Result<(), ShortWrite>
     ensures { Writes W.contents writer.old writer.new bytes.now result }
 {

@@ -1,4 +1,4 @@
--- Examples of canonical texts, each of which computes. docs/DEFINITIONS.md goes through them.
+-- Examples of canonical texts. Each of them computes. docs/DEFINITIONS.md goes through them.
 use Rattle.std.proofs.Common.{◌≡◌, ℕ, List, [], ◌∷◌, ◌++◌, codes, length, refl, ap, arith, inl, inr}
 use Rattle.std.specs.Prelude.{Some, None}
 use Rattle.std.specs.Fmt.{digits}
@@ -106,7 +106,7 @@ base_two =
     (opaque Lp64 (Minus ∷ Plus ∷ []) star_width (given_precision (0 ∷ []) (omega arith, tt) (omega arith)) (Integer lengths.H) (Profile convs.B) refl refl)
     (ends (codes "!") refl)
 
--- a precision `*` is no width
+-- a precision `*` isn't a width
 precision_star : IsWholeCanonicalOf Ilp32 (codes "%+-.*u!") (codes "%.*u!")
 unfolding digits
 precision_star =

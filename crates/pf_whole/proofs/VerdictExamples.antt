@@ -1,4 +1,4 @@
--- Examples of verdicts, each of which computes.
+-- Examples of verdicts. Each of them computes.
 use Rattle.std.proofs.Common.{◌≡◌, ℕ, zero, suc, ◌<◌, List, [], ◌∷◌, ◌++◌, codes, length, refl, sym, ap, ◌∙◌, arith, inl, inr}
 use Rattle.std.proofs.Common.{subst}
 use Rattle.std.specs.Prelude.{Option, Some, None, Contains, slice_index, slice_get, pos, negsuc}

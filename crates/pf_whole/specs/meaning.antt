@@ -1,5 +1,5 @@
--- What the headline of the whole language depends on, in addition to definitions of `pf_values` and
--- `pf_posix`.
+-- The definitions that the headline of the whole language depends on, in addition to those of
+-- `pf_values` and `pf_posix`.
 pub mod NormalSpellings
 pub mod WholeArguments
 pub mod Traces

@@ -21,8 +21,8 @@ use std::alloc::{AllocError, Global};
 
 /// Returns the canonical text of a format: each stretch before, between and after the directives that
 /// the profile lacks is replaced by the canonical text that it has as a format of its own, and each of
-/// these directives by its normal spelling. It allocates once, and not at all if the text is refused or
-/// empty.
+/// these directives by its normal spelling. `Err` if the format or memory is refused. It allocates
+/// once, and not at all if the text is refused or empty.
 pub fn canonical(alloc: Global, model: Model, text: &[u8]) -> Result<Vec<u8>, TextFault>
     ensures { MatchResult result (λ c. IsWholeCanonicalFor model text.now c.items)
         (FaultForWholeCanonical model text.now) }
@@ -31,7 +31,7 @@ pub fn canonical(alloc: Global, model: Model, text: &[u8]) -> Result<Vec<u8>, Te
 }
 
 /// Returns the canonical text, with room for `more` bytes after one that isn't empty, so that what a
-/// caller appends needs no allocation of its own.
+/// caller appends needs no allocation of its own. `Err` if the format or memory is refused.
 pub fn canonical_with_room(
     alloc: Global,
     model: Model,

@@ -14,9 +14,9 @@ use pf_posix::{OpaqueDirective, check_unnumbered, next_stretch};
 use pf_text::{Refusal, Side};
 use pf_values::Model;
 
-/// Returns whether two formats have equal argument types, print equal bytes for all arguments, and
-/// make the same calls. Where a text is refused, the first text's refusal is returned if it has one. It
-/// takes no memory.
+/// Returns whether two formats have equal argument types, print equal bytes for all arguments, and make
+/// the same calls. `Err` if a text is refused: with the first text's refusal if it has one. Allocates
+/// nothing.
 pub fn same_text(model: Model, first: &[u8], second: &[u8]) -> Result<bool, (Side, Refusal)>
     ensures { MatchResult result (AreWholeSame model first.now second.now)
         (FaultForWholeSame model first.now second.now) }

@@ -147,7 +147,7 @@ fn is_meant(conversion: Conversion, n: u16) -> bool
     }
 }
 
-// Adds the flag if it is wanted.
+// Adds the flag if it is asked for.
 fn with_if(flags: FlagSet, flag: Flag, wanted: bool) -> FlagSet
     ensures { result ≡ (if wanted then with_flag flags flag else flags) }
 {

@@ -4,82 +4,83 @@ ghost use Rattle.pf_whole.specs.Answers.{AgreeingIsTogether, CallsGiveShape, One
 ghost use Rattle.pf_whole.specs.meaning.WholeHeadline.{WholeHeadline};
 ghost use Rattle.pf_whole.specs.Laws.{AlikeCallTheSame, AlikeIsCorresponding, CanonicalIsAlike, AlikeHaveOneCanonical, OneCanonicalIsAlike, ProfileCoincides, AlikePrintAlike, ServeFewer, TracesOnce};
 
-/// Stretches and opaque directives have exactly one trace for each list of arguments of their types.
+/// Proves that stretches and opaque directives have exactly one trace for each list of arguments of
+/// their types.
 pub fn traces_once()
     ensures { (model : ModelOf) → TracesOnce model }
 {}
 
-/// Alike texts print the same under every function that gives a text for what was printed before and
-/// a call.
+/// Proves that alike texts print the same under every function that gives a text for what was
+/// printed before and a call.
 pub fn alike_print_alike()
     ensures { (model : ModelOf) → AlikePrintAlike model }
 {}
 
-/// Two texts of the profile are alike exactly if they are equivalent, and their canonical texts here
-/// are those of the profile.
+/// Proves that two texts of the profile are alike exactly if they are equivalent, and their
+/// canonical texts here are those of the profile.
 pub fn profile_coincides()
     ensures { (model : ModelOf) → ProfileCoincides model }
 {}
 
-/// Texts with the same canonical text are alike.
+/// Proves that texts with the same canonical text are alike.
 pub fn one_canonical_is_alike()
     ensures { (model : ModelOf) → OneCanonicalIsAlike model }
 {}
 
-/// Canonical texts of alike texts are equal.
+/// Proves that canonical texts of alike texts are equal.
 pub fn alike_have_one_canonical()
     ensures { (model : ModelOf) → AlikeHaveOneCanonical model }
 {}
 
-/// A canonical text of a text is alike to it, and is its own canonical text.
+/// Proves that a canonical text of a text is alike to it, and is its own canonical text.
 pub fn canonical_is_alike()
     ensures { (model : ModelOf) → CanonicalIsAlike model }
 {}
 
-/// The headline of the whole language. Each accepted text has exactly one canonical text, which is
-/// alike to it, and is its own canonical text. Two accepted texts are alike exactly if their canonical
-/// texts are equal byte for byte.
+/// Proves the headline of the whole language. Each accepted text has exactly one canonical text, which
+/// is alike to it, and is its own canonical text. Two accepted texts are alike exactly if their
+/// canonical texts are equal byte for byte.
 pub fn headline()
     ensures { (model : ModelOf) → WholeHeadline model }
 {}
 
-/// Two texts are alike exactly if, side by side, their stretches print alike and their opaque
-/// directives have the same normal spelling.
+/// Proves that two texts are alike exactly if, side by side, their stretches print alike and their
+/// opaque directives have the same normal spelling.
 pub fn alike_is_corresponding()
     ensures { (model : ModelOf) → AlikeIsCorresponding model }
 {}
 
-/// Alike texts have the same calls, each with the same first argument.
+/// Proves that alike texts have the same calls, each with the same first argument.
 pub fn alike_call_the_same()
     ensures { (model : ModelOf) → AlikeCallTheSame model }
 {}
 
-/// Arguments for a text serve one whose types are a beginning of its own: those that it takes are there,
-/// and of its types (C11 7.21.6.1, paragraph 2). So where `fits_fewer` finds no difference, nothing is
-/// read that was not passed.
+/// Proves that arguments for a text serve one whose types are a beginning of its own: those that it
+/// takes are there, and of its types (C11 7.21.6.1, paragraph 2). So where `fits_fewer` finds no
+/// difference, nothing is read that was not passed.
 pub fn serve_fewer()
     ensures { (model : ModelOf) → ServeFewer model }
 {}
 
-/// Two texts have at most one verdict. So `compare` can return no other one.
+/// Proves that two texts have at most one verdict. So `compare` can return no other one.
 pub fn one_verdict()
     ensures { (model : ModelOf) → OneVerdict model }
 {}
 
-/// If two texts have equal types and equal calls, then, side by side, their stretches have equal
-/// types and their opaque directives have the same normal spelling.
+/// Proves that if two texts have equal types and equal calls, then, side by side, their stretches
+/// have equal types and their opaque directives have the same normal spelling.
 pub fn calls_give_shape()
     ensures { (model : ModelOf) → CallsGiveShape model }
 {}
 
-/// Arguments for which one stretch prints other bytes tell the traces apart, whatever the arguments
-/// of opaque directives and of other stretches are.
+/// Proves that arguments for which one stretch prints other bytes tell the traces apart, whatever
+/// the arguments of opaque directives and of other stretches are.
 pub fn telling_is_apart()
     ensures { (model : ModelOf) → TellingIsApart model }
 {}
 
-/// If each stretch prints the same bytes for the arguments shown, the traces are the same, whatever
-/// the arguments of opaque directives are.
+/// Proves that if each stretch prints the same bytes for the arguments shown, the traces are the
+/// same, whatever the arguments of opaque directives are.
 pub fn agreeing_is_together()
     ensures { (model : ModelOf) → AgreeingIsTogether model }
 {}

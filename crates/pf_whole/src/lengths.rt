@@ -17,7 +17,7 @@ use pf_posix::{OpaqueDirective, check_unnumbered, next_stretch};
 use pf_text::Refusal;
 use pf_values::Model;
 
-/// Returns how many bytes the canonical text of a format has. It takes no memory.
+/// Returns how many bytes the canonical text of a format has. `Err` if it is refused. Allocates nothing.
 pub fn canonical_len(model: Model, text: &[u8]) -> Result<u128, Refusal>
     ensures { MatchResult result
         (λ len. (c : Text) × IsWholeCanonicalFor model text.now c × (len ≡ length c))
@@ -60,7 +60,7 @@ fn stretch_len(model: Model, text: &[u8]) -> u128
     }
 }
 
-/// Returns whether a format is its own canonical text. It takes no memory.
+/// Returns whether a format is its own canonical text. `Err` if it is refused. Allocates nothing.
 pub fn is_canonical(model: Model, text: &[u8]) -> Result<bool, Refusal>
     ensures { MatchResult result
         (λ is. IsWholeAccepted text.now × (IsTrue is ↔ IsWholeCanonicalOf model text.now text.now))

@@ -25,17 +25,17 @@ pub enum WholeVerdict {
     /// Their argument types differ first at this index, counted from 0. If one list of types begins
     /// the other, it is the length of the shorter.
     Types(u64),
-    /// Their argument types are equal. This is the least index of an argument with which a call begins
-    /// that only one of them makes.
+    /// Their argument types are equal. This is the index of the first argument with which a call
+    /// begins that only one of them makes.
     Directives(u64),
     /// Their argument types and their calls are equal. For these arguments they print different bytes.
     /// `None` is any argument of a directive that the profile lacks.
     Args(Vec<Option<OwnedArg>>),
 }
 
-/// Compares two formats in a data model. A refused one is answered by its refusal, the first before the
-/// second. Memory is taken only for arguments: if both are accepted, and their argument types and calls
-/// are equal, and they are not alike.
+/// Compares two formats in a data model. `Err` if one is refused, the first before the second, or if
+/// memory is refused. Allocates only for arguments: if both are accepted, and their argument types and
+/// calls are equal, and they are not alike.
 pub fn compare(
     alloc: Global,
     model: Model,

@@ -11,8 +11,8 @@ use pf_text::signature;
 use pf_values::{ArgType, Model};
 use std::alloc::Global;
 
-/// Whether a format from outside takes one int and nothing else, so that a program may print a
-/// count with it.
+/// Returns whether a format from outside takes one int and nothing else, so that a program may
+/// print a count with it.
 pub fn takes_one_int(alloc: Global, format: &[u8]) -> bool
     ensures { IsTrue result → TakesTypes Lp64 format.now (types.Int ∷ []) }
 {
@@ -22,8 +22,9 @@ pub fn takes_one_int(alloc: Global, format: &[u8]) -> bool
     matches!(signature.as_slice(), [ArgType::Int])
 }
 
-/// The first argument for which a translation wants another type than its source, counted from 0;
-/// the number of arguments of the one that takes fewer, where one begins as the other.
+/// Returns the first argument for which a translation has another type than its source, counted
+/// from 0, or `None` if all are equal; the number of arguments of the one that takes fewer, if one
+/// begins as the other.
 pub fn other_type_at(alloc: Global, model: Model, source: &[u8], translation: &[u8]) -> Option<u64>
     ensures { IfSome result (λ at.
         (first second : List Item) × HasItems source.now first × HasItems translation.now second

@@ -11,8 +11,8 @@ use pf_compare::laws::headline;
 use pf_values::{Arg, Model};
 use std::alloc::Global;
 
-/// Whether two formats take the same types and print the same bytes for all arguments; none where
-/// one of them is refused. It takes no memory.
+/// Returns whether two formats take the same types and print the same bytes for all arguments, or
+/// `None` if one of them is refused. Allocates nothing.
 pub fn are_equivalent(model: Model, first: &[u8], second: &[u8]) -> Option<bool>
     ensures { IfSome result (λ same. IsTrue same ↔ AreEquivalent model first.now second.now) }
 {
@@ -22,9 +22,9 @@ pub fn are_equivalent(model: Model, first: &[u8], second: &[u8]) -> Option<bool>
     }
 }
 
-/// Whether `new` may be put in the place of `old`, by their canonical texts. True only if both take
-/// the same types and print the same bytes for all arguments. False for a refused format, and if out
-/// of memory.
+/// Returns whether `new` may replace `old`, by their canonical texts. True only if both take the
+/// same types and print the same bytes for all arguments. False for a refused format, and if out of
+/// memory.
 pub fn may_replace(alloc: Global, model: Model, old: &[u8], new: &[u8]) -> bool
     ensures { IsTrue result → AreEquivalent model old.now new.now }
 {
@@ -59,8 +59,8 @@ pub fn have_one_canonical_text(
     Some(of_first.as_slice() == of_second.as_slice())
 }
 
-/// Whether a number shows that two formats differ: both take an int and nothing else, and print
-/// different bytes for this one.
+/// Returns whether a number shows that two formats differ: both take an int and nothing else, and
+/// print different bytes for this one.
 pub fn shows_difference(alloc: Global, model: Model, old: &[u8], new: &[u8], number: i32) -> bool
     ensures { IsTrue result → TellApart model old.now new.now (args.Int number ∷ []) }
 {

@@ -7,7 +7,7 @@ use pf_whole::laws::headline;
 use pf_whole::{canonical, same_text};
 use std::alloc::Global;
 
-/// Whether two formats of the whole language are known to be alike. It takes no memory.
+/// Returns whether two formats of the whole language are known to be alike. Allocates nothing.
 pub fn are_alike(model: Model, first: &[u8], second: &[u8]) -> bool
     ensures { IsTrue result → AreWholeAlike model first.now second.now }
 {

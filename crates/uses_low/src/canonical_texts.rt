@@ -11,7 +11,7 @@ use pf_canon::{canonical_len, canonical_stream, is_canonical};
 use pf_values::{Counted, Model};
 use std::io::{Read, Write};
 
-/// Whether a format is accepted, and is its own canonical text.
+/// Returns whether a format is accepted, and is its own canonical text.
 pub fn is_tidy(model: Model, format: &[u8]) -> bool
     ensures accepted { IsTrue result → IsAccepted format.now }
     ensures canonical { IsTrue result → IsCanonicalText model format.now }
@@ -22,7 +22,7 @@ pub fn is_tidy(model: Model, format: &[u8]) -> bool
     }
 }
 
-/// Whether the canonical text of a format fits into `room` bytes. It takes no memory.
+/// Returns whether the canonical text of a format fits into `room` bytes. Allocates nothing.
 pub fn fits(model: Model, format: &[u8], room: u128) -> bool
     ensures { IsTrue result → (c : Text) × IsCanonicalFor model format.now c × (length c ≤ room) }
 {

@@ -11,7 +11,8 @@ ghost use Rattle.pf_reduce.specs.Reducing.{IsReducedTo};
 use pf_reduce::reduce;
 use pf_values::{Conv, Directive, Flag, FlagSet, Length, Model};
 
-/// The directive of a column that holds strings, as `%-20s`; none for a width above the limit.
+/// Returns the directive of a column that holds strings, as `%-20s`, or `None` for a width above
+/// the limit.
 pub fn column(width: u16) -> Option<Directive>
     ensures { IfSome result (λ d.
         d ≡ specification_of (with_flag no_flags flags.Minus) (Some width) None lengths.None
@@ -24,7 +25,7 @@ pub fn column(width: u16) -> Option<Directive>
     }
 }
 
-/// With how many spaces a directive prints first, whatever its argument is.
+/// Returns with how many spaces a directive prints first, whatever its argument is.
 pub fn spaces_in_front(model: Model, directive: &Directive) -> u16
     ensures { (reduced : Reduced) × IsReducedTo model directive.now reduced
         × (result ≡ reduced.spaces) }

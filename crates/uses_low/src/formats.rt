@@ -12,7 +12,8 @@ use pf_text::check;
 use pf_values::{Arg, Counted, Model};
 use std::io::Write;
 
-/// The byte at which a format is refused, for an editor that marks it; none where it is accepted.
+/// Returns the byte at which a format is refused, for an editor that marks it, or `None` if it is
+/// accepted.
 pub fn fault_at(format: &[u8]) -> Option<u64>
     ensures accepted { IfNone result (IsAccepted format.now) }
     ensures refused { IfSome result (λ at. (kind : RefusalKind) × IsRefusedAt format.now kind at) }
@@ -23,8 +24,8 @@ pub fn fault_at(format: &[u8]) -> Option<u64>
     }
 }
 
-/// Writes how many files there are. At Ok all was written and no call of the writer failed; at
-/// `Write(n)` exactly the first n bytes were.
+/// Writes how many files there are. If `Ok`, all was written and no call of the writer failed; if
+/// `Err(Write(n))`, exactly the first n bytes were.
 pub fn print_count<W: Write>(count: i32, writer: &mut Counted<W>) -> Result<(), RenderFault>
     ensures { RendersInto Lp64 W.contents writer.old writer.new
         (codes "%d files") (args.Int count ∷ []) result }

@@ -71,7 +71,7 @@ fn a_column_has_a_width(rt: HostRuntime) {
     assert!(rt; [width_of_column(20), width_of_column(4096)] == [Some(Some(20)), None]);
 }
 
-// How many spaces stand before an int in a field, where there is such a field.
+// How many spaces are before an int in a field, if there is such a field.
 fn spaces_before_int(width: u16) -> Option<u16> {
     match Directive::new(FlagSet::empty(), Some(width), None, Length::None, Conv::D) {
         Ok(field) => Some(spaces_in_front(Model::Lp64, &field)),

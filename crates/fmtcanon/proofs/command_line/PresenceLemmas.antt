@@ -33,11 +33,11 @@ use Rattle.clap.proofs.WalkLemmas.{both}
 
 -- ---- what the shape of the subcommand asks
 
--- an argument with this id wants a value at each use
+-- an argument with this id takes a value at each use
 abbrev pub wants_value : Text → Rule → Bool
 wants_value id a = not (bytes_eq a.id id) || nat_lt 0 (unwrap_or_range a.range).start_inclusive
 
--- a subcommand of this name has a required argument with this id, which wants a value
+-- a subcommand of this name has a required argument with this id, which takes a value
 abbrev pub requires_value : Text → Text → Shape → Bool
 requires_value name id s = not (bytes_eq s.name name)
     || (list_any (λ a. bytes_eq a.id id && a.required) s.rules && list_all (wants_value id) s.rules)

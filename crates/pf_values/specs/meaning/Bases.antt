@@ -1,4 +1,4 @@
--- The bases in which numbers are printed: a row for each, with all that hangs on the base.
+-- The bases in which numbers are printed. All that depends on the base is in its row.
 use Rattle.std.specs.Prelude.{ℕ, Bool, true, false, if◌then◌else◌, [], codes}
 use Rattle.pf_values.specs.declared.bases.Alternative.{Alternative}
 use Rattle.pf_values.specs.declared.bases.Alternative.TheVariants.{Undefined, Raised, Prefixed}
@@ -15,12 +15,13 @@ pub record BaseRow : Type 0 where
   -- the letters that `#` puts before a number, in lower case and as capitals (C11 7.21.6.1 p6)
   pub prefix : Text
   pub capital_prefix : Text
-  -- `'` groups the digits (POSIX fprintf)
+  -- whether `'` groups the digits (POSIX fprintf)
   pub grouped : Bool
-  -- the most digits of an unsigned number of so many bits
+  -- the most digits of an unsigned number with this many bits
   pub digits : Bits → ℕ
 
--- base two is that of `b` alone, of which `#` puts `0b` before a number (C23 7.23.6.1 p6, p8)
+-- The row of each base. Only `b` prints in base two, and its `#` puts `0b` before a number (C23
+-- 7.23.6.1 p6, p8).
 abbrev pub base_row : Base → BaseRow
 base_row Binary = record {
   number = 2;
@@ -70,13 +71,13 @@ is_grouped base = (base_row base).grouped
 abbrev pub most_digits_in : Base → Bits → ℕ
 most_digits_in base bits = (base_row base).digits bits
 
--- `#` is defined (C11 7.21.6.1 p6)
+-- Whether the standard defines `#` for it (C11 7.21.6.1 p6).
 abbrev pub is_defined : Alternative → Bool
 is_defined Undefined = false
 is_defined Raised = true
 is_defined Prefixed = true
 
--- `#` raises the precision (C11 7.21.6.1 p6)
+-- Whether `#` raises the precision (C11 7.21.6.1 p6).
 abbrev pub raises_precision : Alternative → Bool
 raises_precision Undefined = false
 raises_precision Raised = true

@@ -10,7 +10,7 @@ bit_count B16 = 16
 bit_count B32 = 32
 bit_count B64 = 64
 
--- one of four, by the bits
+-- Chooses one of four values by the number of bits.
 abbrev pub by_bits : {A : Type 0} → Bits → A → A → A → A → A
 by_bits B8 a b c d = a
 by_bits B16 a b c d = b

@@ -1,4 +1,5 @@
--- Conversions: a row for each with its letter, and one with its kind, from which all else is read.
+-- Conversions. One row per conversion gives its letter, and one its kind. Everything else is
+-- derived from the kind.
 use Rattle.std.specs.Prelude.{ℕ, Bool, true, false}
 use Rattle.pf_values.specs.declared.bases.Alternative.{Alternative}
 use Rattle.pf_values.specs.declared.bases.Alternative.TheVariants.{Undefined}
@@ -16,7 +17,8 @@ use Rattle.pf_values.specs.meaning.Bases.{
   raises_precision,
 }
 
--- `d`, `i`, `u`, `o`, `x`, `X`, `c` and `s` (C11 7.21.6.1 p8), and `b` (C23 7.23.6.1 p8)
+-- The letters: `d`, `i`, `u`, `o`, `x`, `X`, `c` and `s` (C11 7.21.6.1 p8), and `b` (C23 7.23.6.1
+-- p8).
 abbrev pub conv_letter : Conv → ℕ
 conv_letter D = 100
 conv_letter I = 105
@@ -28,7 +30,7 @@ conv_letter B = 98
 conv_letter C = 99
 conv_letter S = 115
 
--- what is printed (C11 7.21.6.1 p8; C23 7.23.6.1 p8 on `b`)
+-- What a conversion prints (C11 7.21.6.1 p8; C23 7.23.6.1 p8 on `b`).
 abbrev pub kind_of : Conv → Kind
 kind_of D = kinds.Signed
 kind_of I = kinds.Signed
@@ -40,7 +42,8 @@ kind_of B = kinds.Unsigned Binary false
 kind_of C = kinds.Char
 kind_of S = kinds.String
 
--- The conversion that a normal directive has for it: `i` is another name for `d` (C11 7.21.6.1 p8).
+-- The conversion that a normal directive uses instead: `d` for `i` (C11 7.21.6.1 p8), otherwise
+-- itself.
 abbrev pub kept_conv : Conv → Conv
 kept_conv I = D
 kept_conv D = D
@@ -52,7 +55,7 @@ kept_conv B = B
 kept_conv C = C
 kept_conv S = S
 
--- a byte or a string (C11 7.21.6.1 p8 on `c s`)
+-- Whether it prints a byte or a string (C11 7.21.6.1 p8 on `c s`).
 abbrev pub prints_text : Kind → Bool
 prints_text kinds.Signed = false
 prints_text (kinds.Unsigned base capitals) = false
@@ -71,43 +74,43 @@ prints_string (kinds.Unsigned base capitals) = false
 prints_string kinds.Char = false
 prints_string kinds.String = true
 
--- a number that may be below 0 (C11 7.21.6.1 p8 on `d i`)
+-- Whether it prints a number that may be below 0 (C11 7.21.6.1 p8 on `d i`).
 abbrev pub prints_signed : Kind → Bool
 prints_signed kinds.Signed = true
 prints_signed (kinds.Unsigned base capitals) = false
 prints_signed kinds.Char = false
 prints_signed kinds.String = false
 
--- a number in base ten, whose digits `'` groups (POSIX fprintf)
+-- Whether it prints a number in base ten, whose digits `'` groups (POSIX fprintf).
 abbrev pub prints_grouped : Kind → Bool
 prints_grouped kinds.Signed = true
 prints_grouped (kinds.Unsigned base capitals) = is_grouped base
 prints_grouped kinds.Char = false
 prints_grouped kinds.String = false
 
--- What `#` does: nothing that is defined to a number with a sign, a byte and a string
--- (C11 7.21.6.1 p6).
+-- What `#` does. The standard defines nothing for a number with a sign, a byte or a string (C11
+-- 7.21.6.1 p6).
 abbrev pub alternative_under : Kind → Alternative
 alternative_under kinds.Signed = Undefined
 alternative_under (kinds.Unsigned base capitals) = alternative_of base
 alternative_under kinds.Char = Undefined
 alternative_under kinds.String = Undefined
 
--- the base of the digits, ten where there is a sign (C11 7.21.6.1 p8)
+-- The base of the digits. It is ten for numbers with a sign (C11 7.21.6.1 p8).
 abbrev pub base_under : Kind → Base
 base_under kinds.Signed = Decimal
 base_under (kinds.Unsigned base capitals) = base
 base_under kinds.Char = Decimal
 base_under kinds.String = Decimal
 
--- the digits from ten on are `ABCDEF`, and not `abcdef` (C11 7.21.6.1 p8 on `x X`)
+-- Whether the digits from ten on are `ABCDEF` rather than `abcdef` (C11 7.21.6.1 p8 on `x X`).
 abbrev pub has_capitals : Kind → Bool
 has_capitals kinds.Signed = false
 has_capitals (kinds.Unsigned base capitals) = capitals
 has_capitals kinds.Char = false
 has_capitals kinds.String = false
 
--- the classes of conversions, by what they print
+-- Classes of conversions, by what they print.
 abbrev pub is_text : Conv → Bool
 is_text conv = prints_text (kind_of conv)
 
@@ -123,11 +126,11 @@ is_decimal conv = prints_grouped (kind_of conv)
 abbrev pub is_signed : Conv → Bool
 is_signed conv = prints_signed (kind_of conv)
 
--- `#` raises the precision
+-- Whether `#` raises the precision.
 abbrev pub is_octal : Conv → Bool
 is_octal conv = raises_precision (alternative_under (kind_of conv))
 
--- `#` says something of it
+-- Whether the standard defines `#` for it.
 abbrev pub has_alternative_form : Conv → Bool
 has_alternative_form conv = is_defined (alternative_under (kind_of conv))
 

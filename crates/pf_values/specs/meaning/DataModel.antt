@@ -1,6 +1,6 @@
--- The data models: types, bits and ranges. A model has three columns, and they are in this file
--- alone: the bits of a long, the rank of `size_t` and `ptrdiff_t`, and that of `intmax_t`. All else
--- goes by them. That the types of `j`, `z` and `t` are so in ILP32 is this project's own.
+-- The data models: types, bits and ranges. A model has three columns, which no other file gives:
+-- the bits of a long, the rank of `size_t` and `ptrdiff_t`, and that of `intmax_t`. Everything else
+-- is derived from these columns. The types of `j`, `z` and `t` in ILP32 are this project's choice.
 use Rattle.std.specs.Prelude.{ℕ, ◌-◌, ◌^◌, ◌≤ℤ◌, ◌<ℤ◌, neg_ℤ, ℤ, pos, Bool, true, false}
 use Rattle.pf_values.specs.declared.conversions.Conv.{Conv}
 use Rattle.pf_values.specs.declared.conversions.Kind.{Kind}
@@ -27,9 +27,9 @@ pub use Rattle.pf_values.specs.meaning.Bits.{Bits, B8, B16, B32, B64, bit_count}
 use Rattle.pf_values.specs.meaning.Conversions.{kind_of}
 use Rattle.pf_values.specs.meaning.Specification.{Specification}
 
--- What a length modifier says (C11 7.21.6.1 p7).
+-- The meaning of a length modifier (C11 7.21.6.1 p7).
 pub record LengthRow : Type 0 where
-  -- the modifier that a normal directive has for it
+  -- the modifier that a normal directive uses instead
   pub kept : Length
   -- the bits of the value that is printed
   pub bits : Bits
@@ -41,25 +41,25 @@ abbrev pub columns : Length → Bits → ArgType → ArgType → LengthRow
 columns kept bits signed unsigned =
     record { kept = kept; bits = bits; signed = signed; unsigned = unsigned }
 
--- the bits of a long
+-- The bits of a long.
 abbrev pub long_bits : Model → Bits
 long_bits Lp64 = B64
 long_bits Ilp32 = B32
 long_bits Llp64 = B32
 
--- the rank of `size_t` with its signed type, and of `ptrdiff_t` with its unsigned one
+-- The rank of `size_t` and its signed type, and of `ptrdiff_t` and its unsigned type.
 abbrev pub size_rank : Model → Rank
 size_rank Lp64 = ranks.Long
 size_rank Ilp32 = ranks.Int
 size_rank Llp64 = ranks.LongLong
 
--- the rank of `intmax_t` and `uintmax_t`
+-- The rank of `intmax_t` and `uintmax_t`.
 abbrev pub greatest_rank : Model → Rank
 greatest_rank Lp64 = ranks.Long
 greatest_rank Ilp32 = ranks.LongLong
 greatest_rank Llp64 = ranks.LongLong
 
--- the row of the modifier that names the types of a rank
+-- The row of the modifier that names the types of a rank.
 abbrev pub row_of_rank : Model → Rank → LengthRow
 row_of_rank model ranks.Int = columns lengths.None B32 Int UInt
 row_of_rank model ranks.Long = columns lengths.L (long_bits model) Long ULong
@@ -75,7 +75,7 @@ length_row model lengths.J = row_of_rank model (greatest_rank model)
 length_row model lengths.Z = row_of_rank model (size_rank model)
 length_row model lengths.T = row_of_rank model (size_rank model)
 
--- The bits of an integer type (C11 6.2.5). A string has none, and nothing reads its row.
+-- The bits of an integer type (C11 6.2.5). A string has none: its row is never used.
 abbrev pub type_bits : Model → ArgType → Bits
 type_bits model Int = B32
 type_bits model UInt = B32
@@ -88,18 +88,18 @@ type_bits model Str = B64
 abbrev pub kept_length : Model → Length → Length
 kept_length model length = (length_row model length).kept
 
--- the bits of the value that is printed under a length modifier
+-- The bits of the value that is printed under a length modifier.
 abbrev pub bits_under : Model → Length → Bits
 bits_under model length = (length_row model length).bits
 
--- the argument types of `d i` and of `u o x X b` under a length modifier
+-- The argument types of `d i` and of `u o x X b` under a length modifier.
 abbrev pub signed_type : Model → Length → ArgType
 signed_type model length = (length_row model length).signed
 
 abbrev pub unsigned_type : Model → Length → ArgType
 unsigned_type model length = (length_row model length).unsigned
 
--- the argument type (C11 7.21.6.1 p7, p8)
+-- The type of the argument (C11 7.21.6.1 p7, p8).
 abbrev pub type_of_kind : Model → Kind → Length → ArgType
 type_of_kind model kinds.Signed length = signed_type model length
 type_of_kind model (kinds.Unsigned base capitals) length = unsigned_type model length
@@ -112,12 +112,12 @@ type_under model conv length = type_of_kind model (kind_of conv) length
 abbrev pub arg_type : Model → Specification → ArgType
 arg_type model s = type_under model s.conv s.length
 
--- a number fits so many bits, signed or not (C11 6.2.6.2)
+-- The number can be represented in this many bits, with or without a sign (C11 6.2.6.2).
 abbrev pub FitsIn : Bool → ℕ → ℤ → Type 0
 FitsIn true bits n = (neg_ℤ (pos (2 ^ (bits - 1))) ≤ℤ n) × (n <ℤ pos (2 ^ (bits - 1)))
 FitsIn false bits n = (pos 0 ≤ℤ n) × (n <ℤ pos (2 ^ bits))
 
--- a number is in the range of a type, of which a string has none
+-- The number is in the range of the type. No number is in the range of a string.
 abbrev pub IsInRange : Model → ArgType → ℤ → Type 0
 IsInRange model Int n = FitsIn true (bit_count (type_bits model Int)) n
 IsInRange model UInt n = FitsIn false (bit_count (type_bits model UInt)) n
@@ -127,7 +127,7 @@ IsInRange model LongLong n = FitsIn true (bit_count (type_bits model LongLong)) 
 IsInRange model ULongLong n = FitsIn false (bit_count (type_bits model ULongLong)) n
 IsInRange model Str n = ⊥
 
--- the most digits that a value of so many bits has, its sign not counted
+-- The most digits of a value with this many bits. Its sign isn't counted.
 abbrev pub most_digits_of : Kind → Bits → ℕ
 most_digits_of kinds.Signed bits = by_bits bits 3 5 10 19
 most_digits_of (kinds.Unsigned base capitals) bits = most_digits_in base bits

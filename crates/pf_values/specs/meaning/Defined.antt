@@ -13,7 +13,7 @@ abbrev pub is_above_limit : Option ℕ → Bool
 is_above_limit None = false
 is_above_limit (Some n) = nat_lt MAX_NUMBER n
 
--- which kinds of refusal the parts of a specification give
+-- Whether the parts of a specification are refused as this kind.
 abbrev pub breaks : Specification → RefusalKind → Bool
 breaks s WidthTooLarge = is_above_limit s.width
 breaks s PrecisionTooLarge = is_above_limit s.precision
@@ -25,7 +25,7 @@ breaks s PrecisionUndefined = is_char s.conv && is_some s.precision
 breaks s LengthUndefined = is_text s.conv && not (is_absent s.length)
 breaks s _ = false
 
--- combinations that the standard leaves undefined, by their numbers
+-- The kinds of combinations that the standard leaves undefined, in the order of their numbers.
 abbrev pub undefined_kinds : List RefusalKind
 undefined_kinds =
     Wide ∷ AltUndefined ∷ ZeroUndefined ∷ GroupUndefined ∷ PrecisionUndefined ∷ LengthUndefined ∷ []
@@ -33,7 +33,7 @@ undefined_kinds =
 abbrev pub first_broken : List RefusalKind → Specification → Option RefusalKind
 first_broken kinds s = find (breaks s) kinds
 
--- the least number that the parts of a specification give
+-- The kind with the smallest number as which the parts of a specification are refused.
 abbrev pub refused_as : Specification → Option RefusalKind
 refused_as s = first_broken (WidthTooLarge ∷ PrecisionTooLarge ∷ undefined_kinds) s
 

@@ -4,7 +4,7 @@ use Rattle.pf_values.specs.declared.flags.Flag.{Flag}
 use Rattle.pf_values.specs.declared.flags.Flag.TheVariants.{Minus, Plus, Space, Alt, Zero, Group}
 use Rattle.pf_values.specs.declared.flags.FlagSet.{FlagSet}
 
--- whether a flag is given (C11 7.21.6.1 p4)
+-- Whether the flag is given (C11 7.21.6.1 p4).
 abbrev pub has : FlagSet → Flag → Bool
 has flags Minus = flags.minus
 has flags Plus = flags.plus
@@ -13,12 +13,12 @@ has flags Alt = flags.alt
 has flags Zero = flags.zero
 has flags Group = flags.group
 
--- flags may be missing (C11 7.21.6.1 p4)
+-- The empty set: flags may be missing (C11 7.21.6.1 p4).
 abbrev pub no_flags : FlagSet
 no_flags =
     record { minus = false; plus = false; space = false; alt = false; zero = false; group = false }
 
--- one flag more; one that is given already changes nothing (C11 7.21.6.1 p4)
+-- The set with one more flag. A flag that is given twice counts once (C11 7.21.6.1 p4).
 abbrev pub with_flag : FlagSet → Flag → FlagSet
 with_flag flags Minus = record flags { minus = true }
 with_flag flags Plus = record flags { plus = true }
@@ -27,11 +27,11 @@ with_flag flags Alt = record flags { alt = true }
 with_flag flags Zero = record flags { zero = true }
 with_flag flags Group = record flags { group = true }
 
--- the set of a list of flags, which are in any order, and one more than once (C11 7.21.6.1 p4)
+-- The set of a list of flags, which may be in any order and repeated (C11 7.21.6.1 p4).
 abbrev pub flag_set : List Flag → FlagSet
 flag_set flags = fold with_flag no_flags flags
 
--- `-`, `+`, a space, `#` and `0` (C11 7.21.6.1 p6), and `'` (POSIX fprintf)
+-- The bytes of the flags: `-`, `+`, space, `#` and `0` (C11 7.21.6.1 p6), and `'` (POSIX fprintf).
 abbrev pub flag_byte : Flag → ℕ
 flag_byte Minus = 45
 flag_byte Plus = 43
@@ -40,6 +40,6 @@ flag_byte Alt = 35
 flag_byte Zero = 48
 flag_byte Group = 39
 
--- the order in which `flags_spelled` writes them; this project's own
+-- The order in which `flags_spelled` writes flags. It is this project's choice.
 abbrev pub all_flags : List Flag
 all_flags = Minus ∷ Plus ∷ Space ∷ Alt ∷ Zero ∷ Group ∷ []

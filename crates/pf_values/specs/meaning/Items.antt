@@ -9,34 +9,35 @@ use Rattle.pf_values.specs.meaning.Specification.{Specification}
 use Rattle.pf_values.specs.meaning.Spelling.{Spells}
 use Rattle.pf_values.specs.meaning.Text.{Text, percent}
 
--- an ordinary character, or a conversion specification (C11 7.21.6.1 p3)
+-- An item is an ordinary character or a conversion specification (C11 7.21.6.1 p3).
 pub data Item : Type 0 where
   Byte : (byte : ℕ) → Item
   Directive : (parts : Specification) → Item
 
--- What one item is read from: `%%` for the byte `%` (C11 7.21.6.1 p8), any other byte but zero for
--- itself (p3), and a specification for its parts (p4), if they are defined together (p4 to p9).
+-- The text of one item: `%%` for the byte `%` (C11 7.21.6.1 p8); itself for any other byte except
+-- NUL (p3); and a specification for its parts (p4), if the standard defines their combination (p4
+-- to p9).
 abbrev pub IsReadAs : Text → Item → Type 0
 IsReadAs t (Byte byte) =
     MatchBool (byte == percent) (t ≡ percent ∷ percent ∷ []) ((byte ≢ 0) × (t ≡ byte ∷ []))
 IsReadAs t (Directive s) = Spells t s × IsDefined s
 
--- a text is the texts of its items, one after another (C11 7.21.6.1 p3)
+-- The text is the texts of its items, one after another (C11 7.21.6.1 p3).
 abbrev pub Reads : Text → List Item → Type 0
 Reads t [] = t ≡ []
 Reads t (item ∷ items) =
     (first rest : Text) × IsReadAs first item × Reads rest items × (t ≡ first ++ rest)
 
--- a text is read as these items, and is not too long; the limit is this project's own
+-- The text is read as these items, and isn't too long. The limit is this project's choice.
 pub record HasItems (t : Text) (items : List Item) : Type 0 where
   pub reads : Reads t items
   pub limit : length t ≤ MAX_TEXT_LEN
 
--- a text has some items
+-- A text is accepted if it has items.
 abbrev pub IsAccepted : Text → Type 0
 IsAccepted t = (items : List Item) × HasItems t items
 
--- the types of the arguments that the directives fetch, in order (C11 7.21.6.1 p3)
+-- The types of the arguments that the directives fetch, in order (C11 7.21.6.1 p3).
 abbrev pub types : Model → List Item → List ArgType
 types model [] = []
 types model (Byte byte ∷ items) = types model items

@@ -14,7 +14,7 @@ length_letters lengths.J = codes "j"
 length_letters lengths.Z = codes "z"
 length_letters lengths.T = codes "t"
 
--- no modifier
+-- Whether there is no modifier.
 abbrev pub is_absent : Length → Bool
 is_absent lengths.None = true
 is_absent _ = false

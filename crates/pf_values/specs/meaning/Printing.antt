@@ -1,4 +1,4 @@
--- What a directive prints, and what a text does.
+-- The bytes that a directive prints, and those of a text.
 use Rattle.std.specs.Prelude.{◌≡◌, ℕ, zero, suc, ◌-◌, ◌≤◌, ℤ, pos, negsuc, nat_abs, Bool, true, false, not, ◌&&◌, List, [], ◌∷◌, ◌++◌, length, take, replicate, slice_index, codes, Option, Some, None, unwrap_or, is_none, if◌then◌else◌, MatchBool, ◌↔◌}
 use Rattle.pf_values.specs.declared.bases.Alternative.{Alternative}
 use Rattle.pf_values.specs.declared.bases.Alternative.TheVariants.{Undefined, Raised, Prefixed}
@@ -22,12 +22,12 @@ use Rattle.pf_values.specs.meaning.Text.{Text, space, zero_digit}
 abbrev pub BeginsWithZero : Text → Type 0
 BeginsWithZero t = slice_index t 0 ≡ zero_digit
 
--- an octal numeral whose first digit is 0
+-- An octal numeral whose first digit is 0.
 abbrev pub IsOctalFromZero : ℕ → ℕ → Text → Type 0
 IsOctalFromZero precision n t = IsNumeral (number_of Octal) false precision n t × BeginsWithZero t
 
--- The digits of a number, at least as many as the precision. `#` raises the precision of an octal
--- number, by as little as makes it begin with 0.
+-- The digits of a number, at least as many as the precision. For `o` the flag `#` raises the
+-- precision until the first digit is 0, and no further.
 abbrev pub AreDigitsOf : Specification → ℕ → ℕ → Text → Type 0
 AreDigitsOf s precision n t = MatchBool (is_octal s.conv && has s.flags Alt)
     ((raised : ℕ) × IsLeastFrom precision (λ p. (u : Text) × IsOctalFromZero p n u) raised
@@ -42,13 +42,13 @@ abbrev pub is_zero : ℕ → Bool
 is_zero zero = true
 is_zero (suc n) = false
 
--- `-` below 0, and else what the flags ask for
+-- The sign: `-` below 0, otherwise what the flags ask for.
 abbrev pub sign : Specification → ℤ → Text
 sign s value =
     if is_negative value then codes "-"
     else (if has s.flags Plus then codes "+" else (if has s.flags Space then codes " " else []))
 
--- `0x`, `0X` or `0b`, which 0 doesn't have
+-- The prefix: `0x`, `0X` or `0b`, except for the number 0, which has none.
 abbrev pub base_prefix : Text → Specification → ℤ → Text
 base_prefix letters s value =
     if has s.flags Alt && not (is_zero (nat_abs value)) then letters else []
@@ -68,27 +68,27 @@ front_under kinds.String s value = []
 abbrev pub sign_or_prefix_under : Conv → Specification → ℤ → Text
 sign_or_prefix_under conv s value = front_under (kind_of conv) s value
 
--- what comes before the digits
+-- The bytes before the digits.
 abbrev pub sign_or_prefix : Specification → ℤ → Text
 sign_or_prefix s value = sign_or_prefix_under s.conv s value
 
--- the flag `0` counts where neither `-` nor a precision is given
+-- The flag `0` counts if neither `-` nor a precision is given.
 abbrev pub is_zero_filled : Specification → Bool
 is_zero_filled s = has s.flags Zero && not (has s.flags Minus) && is_none s.precision
 
--- with this precision the sign or prefix and the digits reach the width
+-- With this precision the sign or prefix and the digits reach the width.
 abbrev pub ReachesWidth : Specification → ℤ → ℕ → Type 0
 ReachesWidth s value precision = (t : Text) × AreDigitsOf s precision (nat_abs value) t
     × (width_of s ≤ length (sign_or_prefix s value ++ t))
 
--- The precision with which a number is printed: as it is given, or 1. The flag `0` makes it the
--- least with which the width is reached.
+-- The precision with which a number is printed: the given one, or 1. If the flag `0` counts, it is
+-- the smallest from 1 on with which the width is reached.
 abbrev pub IsPrecision : Specification → ℤ → ℕ → Type 0
 IsPrecision s value precision = MatchBool (is_zero_filled s)
     (IsLeastFrom 1 (ReachesWidth s value) precision)
     (precision ≡ unwrap_or s.precision 1)
 
--- a number, without padding
+-- The bytes of a number without padding.
 pub record PrintsNumber (model : Model) (s : Specification) (argument : ℤ)
     (body : Text) : Type 0 where
   pub value : ℤ
@@ -99,12 +99,12 @@ pub record PrintsNumber (model : Model) (s : Specification) (argument : ℤ)
   pub digits_are : AreDigitsOf s precision (nat_abs value) digits
   pub whole : body ≡ sign_or_prefix s value ++ digits
 
--- the byte that is the number modulo 256
+-- The byte of `%c`: the number modulo 256.
 abbrev pub PrintsChar : ℤ → Text → Type 0
 PrintsChar argument body = (byte : ℕ) × IsConverted false (bit_count B8) argument (pos byte)
     × (body ≡ byte ∷ [])
 
--- no more bytes than the precision, if there is one
+-- The first bytes of a string, no more than the precision if there is one.
 abbrev pub printed_front : Option ℕ → Text → Text
 printed_front None bytes = bytes
 printed_front (Some most) bytes = take most bytes
@@ -122,23 +122,24 @@ PrintsKind model kinds.String s (String bytes) body = body ≡ printed_front s.p
 abbrev pub PrintsUnder : Model → Conv → Specification → Argument → Text → Type 0
 PrintsUnder model conv s argument body = PrintsKind model (kind_of conv) s argument body
 
--- the fewest spaces with which a text has this many bytes
+-- The spaces that are missing from the width.
 abbrev pub padding : ℕ → Text → Text
 padding width body = replicate (width - length body) space
 
--- a text in a field of some width, to its left or to its right
+-- A text in a field: at its left, or at its right.
 abbrev pub field_of : Bool → ℕ → Text → Text
 field_of left width body = if left then body ++ padding width body else padding width body ++ body
 
 abbrev pub field : Specification → Text → Text
 field s body = field_of (has s.flags Minus) (width_of s) body
 
--- what a directive prints for an argument
+-- A directive prints these bytes for this argument: its body, padded to the width.
 abbrev pub Prints : Model → Specification → Argument → Text → Type 0
 Prints model s argument out =
     (body : Text) × PrintsUnder model s.conv s argument body × (out ≡ field s body)
 
--- a byte prints itself, and each directive takes the next argument
+-- Items print these bytes for these arguments. A byte prints itself, and each directive takes the
+-- next argument. None may be missing or left over.
 abbrev pub PrintsAll : Model → List Item → List Argument → Text → Type 0
 PrintsAll model [] [] out = out ≡ []
 PrintsAll model [] (argument ∷ args) out = ⊥
@@ -148,14 +149,14 @@ PrintsAll model (Directive s ∷ items) [] out = ⊥
 PrintsAll model (Directive s ∷ items) (argument ∷ args) out = (first rest : Text)
     × Prints model s argument first × PrintsAll model items args rest × (out ≡ first ++ rest)
 
--- Items that fetch arguments of the same types, and print the same bytes for all of them
--- (C11 7.21.6.1 p2, p3).
+-- Two lists of items print alike: they fetch arguments of the same types, and print the same bytes
+-- for all such arguments (C11 7.21.6.1 p2, p3).
 pub record PrintAlike (model : Model) (a b : List Item) : Type 0 where
   pub same_types : types model a ≡ types model b
   pub same_bytes : (args : List Argument) (out : Text) → HasTypes model args (types model a)
       → (PrintsAll model a args out ↔ PrintsAll model b args out)
 
--- one text may replace the other: their items print alike
+-- Two texts are equivalent, so that one may replace the other: their items print alike.
 pub record AreEquivalent (model : Model) (t u : Text) : Type 0 where
   pub first : List Item
   pub second : List Item

@@ -1,5 +1,5 @@
--- Where and why a text is refused. This project's own, but for the parts of a specification: the
--- standard leaves a wrong one undefined (C11 7.21.6.1 p9).
+-- Where and why a text is refused. This is the project's own, except for the parts of a
+-- specification: the standard leaves invalid ones undefined (C11 7.21.6.1 p9).
 use Rattle.std.specs.Prelude.{◌≡◌, ◌≢◌, ℕ, ◌<◌, ◌≤◌, false, List, [], ◌∷◌, ◌++◌, length, map, codes, Option, Some, Contains, ◌⊎◌, MatchBool, ◌==◌, ⊤}
 use Rattle.pf_values.specs.declared.flags.Flag.{Flag}
 use Rattle.pf_values.specs.declared.limits.TheConstants.{MAX_NUMBER, MAX_TEXT_LEN}
@@ -12,40 +12,40 @@ use Rattle.pf_values.specs.meaning.Specification.{Specification}
 use Rattle.pf_values.specs.meaning.Spelling.{Spells, SpellsWidth, SpellsPrecision}
 use Rattle.pf_values.specs.meaning.Text.{Text, dollar, percent, point, star}
 
--- no number above the limit: one conversion must be able to print 4,095 characters
--- (C11 7.21.6.1 p15)
+-- No number is above the limit. An implementation must print up to 4,095 characters for one
+-- conversion (C11 7.21.6.1 p15).
 pub record IsWithinLimits (s : Specification) : Type 0 where
   pub width : is_above_limit s.width ≡ false
   pub precision : is_above_limit s.precision ≡ false
 
--- what begins `%%` or a specification, and is not the whole of it
+-- The beginning of `%%` or of a specification, but not the whole of it.
 abbrev pub IsBegun : Text → Type 0
 IsBegun part =
     (more : Text) × (s : Specification) × Spells (part ++ more) s × IsWithinLimits s × (more ≢ [])
 
--- the text of items, and what comes after them
+-- The text is the text of `items`, followed by `part`.
 pub record IsSplit (t : Text) (items : List Item) (part : Text) : Type 0 where
   pub whole : Text
   pub reads : Reads whole items
   pub split : t ≡ whole ++ part
 
--- items, and the beginning of one more
+-- A good front: whole items, and the beginning of one more.
 pub record IsGoodFront (front : Text) (items : List Item) (part : Text) : Type 0 where
   pub splits : IsSplit front items part
   pub begun : IsBegun part
 
--- `%` and flags (C11 7.21.6.1 p4)
+-- `%` and flags (C11 7.21.6.1 p4).
 abbrev pub flags_text : List Flag → Text
 flags_text flags = percent ∷ map flag_byte flags
 
--- `%`, flags and a width, if there is one (C11 7.21.6.1 p4)
+-- `%`, flags and a width, if there is one (C11 7.21.6.1 p4).
 pub record IsToWidth (part : Text) (width : Option ℕ) : Type 0 where
   pub flags : List Flag
   pub digits : Text
   pub digits_are : SpellsWidth digits width
   pub whole : part ≡ flags_text flags ++ digits
 
--- `%`, flags, a width and a precision, if there are any (C11 7.21.6.1 p4)
+-- `%`, flags, a width and a precision, if there are any (C11 7.21.6.1 p4).
 pub record IsToPrecision (part : Text) (precision : Option ℕ) : Type 0 where
   pub width : Option ℕ
   pub before : Text
@@ -54,13 +54,15 @@ pub record IsToPrecision (part : Text) (precision : Option ℕ) : Type 0 where
   pub digits_are : SpellsPrecision digits precision
   pub whole : part ≡ before ++ digits
 
--- the byte ends a specification that is not defined (C11 7.21.6.1 p4 to p9), for this reason first
+-- The byte completes a specification that isn't defined (C11 7.21.6.1 p4 to p9), and this is the
+-- first reason.
 abbrev pub EndsUndefined : Text → ℕ → RefusalKind → Type 0
 EndsUndefined part byte kind =
     (s : Specification) × Spells (part ++ byte ∷ []) s
     × (first_broken undefined_kinds s ≡ Some kind)
 
--- conversions that are refused wherever they come (C11 7.21.6.1 p8; `C` and `S`: POSIX fprintf)
+-- The conversions that are refused wherever they come (C11 7.21.6.1 p8; `C` and `S`: POSIX
+-- fprintf).
 abbrev pub letters_of : RefusalKind → Text
 letters_of Float = codes "aAeEfFgG"
 letters_of Pointer = codes "p"
@@ -68,22 +70,22 @@ letters_of Count = codes "n"
 letters_of Wide = codes "CS"
 letters_of _ = []
 
--- `L`, which modifies floating conversions alone (C11 7.21.6.1 p7)
+-- `L`, which modifies only floating conversions (C11 7.21.6.1 p7).
 abbrev pub long_double_letter : ℕ
 long_double_letter = 76
 
--- a modifier may begin after the part (C11 7.21.6.1 p4)
+-- A length modifier may begin after the part (C11 7.21.6.1 p4).
 abbrev pub TakesModifier : Text → Type 0
 TakesModifier part = (precision : Option ℕ) × IsToPrecision part precision
 
--- the part ends where a width or a precision may begin, so that `*` may follow (C11 7.21.6.1 p5)
+-- A width or a precision may begin after the part, so `*` may follow (C11 7.21.6.1 p5).
 abbrev pub TakesStar : Text → Type 0
 TakesStar part = ((flags : List Flag) × (part ≡ flags_text flags)) ⊎ (
     (before : Text) × (width : Option ℕ) × IsToWidth before width
     × (part ≡ before ++ point ∷ []))
 
--- Each kind's own reason, where `part` is the beginning of an item and `byte` follows. `$` after a
--- number is of POSIX fprintf.
+-- The reason for each kind. `part` is the beginning of an item, and `byte` follows it. POSIX
+-- fprintf defines `$` after a number.
 abbrev pub HasReason : Text → ℕ → RefusalKind → Type 0
 HasReason part byte NulByte = byte ≡ 0
 HasReason part byte BadPercent = byte ≡ percent
@@ -100,21 +102,22 @@ HasReason part byte TooLong = ⊥
 HasReason part byte Unexpected = ⊤
 HasReason part byte kind = Contains (letters_of kind) byte ⊎ EndsUndefined part byte kind
 
--- The kind has its reason, and no other has one; but Unexpected is for what no other explains.
+-- The kind has its reason, and no other kind has one. Unexpected is for bytes that no other kind
+-- explains.
 pub record IsRefusedByte (part : Text) (byte : ℕ) (kind : RefusalKind) : Type 0 where
   pub reason : HasReason part byte kind
   pub others : (other : RefusalKind) → HasReason part byte other
       → (other ≡ kind) ⊎ (other ≡ Unexpected)
 
--- Why a text is refused after its longest good front, which has so many bytes: that ends with the
--- beginning of an item, `part`, and `rest` follows.
+-- Why a text is refused after its longest good front. That front has `at` bytes and ends with
+-- `part`, the beginning of an item. `rest` follows it.
 abbrev pub HasCause : ℕ → Text → Text → RefusalKind → Type 0
 HasCause at part [] kind = kind ≡ Truncated
 HasCause at part (byte ∷ rest) kind =
     MatchBool (at == MAX_TEXT_LEN) (kind ≡ TooLong) (IsRefusedByte part byte kind)
 
--- The text is not accepted. Its longest good front within the limit has `at` bytes, and the kind
--- says why.
+-- The text isn't accepted. Its longest good front within the limit has `at` bytes, and the kind
+-- says why no longer one is good.
 pub record IsRefusedAt (t : Text) (kind : RefusalKind) (at : ℕ) : Type 0 where
   pub not_accepted : ¬ IsAccepted t
   pub front : Text

@@ -11,6 +11,6 @@ pub record Specification : Type 0 where
   pub length : Length
   pub conv : Conv
 
--- the width, 0 where there is none
+-- The width, or 0 if there is none.
 abbrev pub width_of : Specification → ℕ
 width_of s = unwrap_or s.width 0

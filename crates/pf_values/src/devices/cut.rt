@@ -20,8 +20,8 @@ impl<'a> Cut<'a> {
     ghost use Rattle.std.specs.Prelude.{[]};
     ghost use Rattle.pf_values.specs.Cuts.{flush_fails_of, error_kind_of, room_of, step_of, taken_of};
 
-    /// A writer that has taken nothing yet. It fails with this kind of error, and so does each
-    /// flush if `flush_fails`.
+    /// Makes a writer that has taken nothing yet. It fails with this kind of error, and so does
+    /// each flush if `flush_fails`.
     pub fn new(buf: &'a mut [u8], step: usize, kind: ErrorKind, flush_fails: bool) -> Cut<'a>
         requires moves { 1 ≤ step }
         ensures none { taken_of result ≡ [] }
@@ -39,7 +39,7 @@ impl<'a> Cut<'a> {
         }
     }
 
-    /// The bytes that it took.
+    /// Returns the bytes that it took.
     pub fn taken(&self) -> &[u8]
         ensures { result.now ≡ taken_of self.now }
     {

@@ -21,8 +21,8 @@ pub struct Feed<'a> {
 impl<'a> Feed<'a> {
     ghost use Rattle.pf_values.specs.Feeds.{fault_of, error_kind_of, next_count, rest_of, step_of};
 
-    /// A reader of all these bytes. One call fails with this kind, where `fail_at` of them were
-    /// handed out.
+    /// Makes a reader of all these bytes. One call fails with this kind, where `fail_at` of them
+    /// were handed out.
     pub fn new(bytes: &'a [u8], step: usize, fail_at: Option<u64>, kind: ErrorKind) -> Feed<'a>
         requires moves { 1 ≤ step }
         ensures rest { rest_of result ≡ bytes.now }

@@ -19,7 +19,7 @@ use Rattle.pf_posix.specs.declared.conversions.Modifier.{Modifier}
 use Rattle.pf_posix.specs.declared.conversions.Modifier.TheVariants.{Integer, LongDouble}
 use Rattle.pf_posix.specs.Specifications.{Amount, Given, Fetched, PosixSpecification, conversion_letter, modifier_letters}
 
--- whether the conversion prints an integer: `d i u o x X b` (C11 7.21.6.1 p8; C23 7.23.6.1 p8)
+-- Whether the conversion prints an integer: `d i u o x X b` (C11 7.21.6.1 p8; C23 7.23.6.1 p8).
 abbrev pub is_integer : Conversion → Bool
 is_integer (Profile conv) = not (is_text conv)
 is_integer _ = false
@@ -33,7 +33,7 @@ keeps_sign (Float floating) = true
 keeps_sign Pointer = true
 keeps_sign _ = false
 
--- whether a precision is a number (C11 7.21.6.1 p4)
+-- Whether a precision is a number (C11 7.21.6.1 p4).
 abbrev pub is_given : Option Amount → Bool
 is_given None = false
 is_given (Some (Given n)) = true
@@ -58,47 +58,47 @@ kept_flags s = record {
   group = false;
 }
 
--- the default precision of a floating conversion: 6 of `f F e E g G`, and no number of `a A`, which
--- print as many digits as the value needs (C11 7.21.6.1 p8)
+-- The default precision of a floating conversion: 6 for `f F e E g G`, and none for `a A`, which
+-- print as many digits as the value needs (C11 7.21.6.1 p8).
 abbrev pub floating_precision : Floating → Option ℕ
 floating_precision floats.A = None
 floating_precision floats.UpperA = None
 floating_precision _ = Some 6
 
--- the default precision of a conversion: 1 of an integer, that of a floating one, and no number of the
--- others (C11 7.21.6.1 p8)
+-- The default precision of a conversion: 1 for an integer, that of a floating one, and none for the
+-- others (C11 7.21.6.1 p8).
 abbrev pub meant_precision : Conversion → Option ℕ
 meant_precision (Profile conv) = if is_text conv then None else Some 1
 meant_precision (Float floating) = floating_precision floating
 meant_precision _ = None
 
--- whether the conversion is `g` or `G`, which take a precision of 0 as 1 (C11 7.21.6.1 p8)
+-- Whether the conversion is `g` or `G`. They take a precision of 0 as 1 (C11 7.21.6.1 p8).
 abbrev pub is_general : Conversion → Bool
 is_general (Float floats.G) = true
 is_general (Float floats.UpperG) = true
 is_general _ = false
 
--- whether there is a number, and it is this one
+-- Whether there is a number, and it is this one.
 abbrev pub is_amount : Option ℕ → ℕ → Bool
 is_amount None n = false
 is_amount (Some m) n = m == n
 
--- a precision that is a number: the default is dropped, and 0 of `g` and `G` becomes 1
--- (C11 7.21.6.1 p8)
+-- The normal form of a precision that is a number. The default is dropped, and 0 becomes 1 for `g`
+-- and `G` (C11 7.21.6.1 p8).
 abbrev pub given_precision : Conversion → ℕ → Option Amount
 given_precision conversion n =
     if is_amount (meant_precision conversion) n then None else
     if is_general conversion && n == 0 then Some (Given 1) else
     Some (Given n)
 
--- the precision that is kept; `*` stays (C11 7.21.6.1 p5, p8)
+-- The precision that is kept. `*` stays (C11 7.21.6.1 p5, p8).
 abbrev pub normal_precision : Conversion → Option Amount → Option Amount
 normal_precision conversion None = None
 normal_precision conversion (Some (Given n)) = given_precision conversion n
 normal_precision conversion (Some (Fetched number)) = Some (Fetched number)
 
--- the conversion that is kept: `d` for `i` (C11 7.21.6.1 p8), `c` for `C` and `s` for `S`, which are
--- `lc` and `ls` (POSIX fprintf)
+-- The conversion that is kept: `d` for `i` (C11 7.21.6.1 p8), `c` for `C` and `s` for `S`, which
+-- mean `lc` and `ls` (POSIX fprintf).
 abbrev pub kept_conversion : Conversion → Conversion
 kept_conversion (Profile conv) = Profile (kept_conv conv)
 kept_conversion (Float floating) = Float floating
@@ -107,18 +107,18 @@ kept_conversion UpperS = Profile convs.S
 kept_conversion Pointer = Pointer
 kept_conversion Count = Count
 
--- the modifier of a floating conversion: `l` has no effect (C11 7.21.6.1 p7)
+-- The modifier of a floating conversion. `l` has no effect (C11 7.21.6.1 p7).
 abbrev pub floating_modifier : Modifier → Modifier
 floating_modifier (Integer length) = Integer lengths.None
 floating_modifier LongDouble = LongDouble
 
--- the modifier of an integer or of `n`: of `j z t` the one that names the same type in the data model,
--- as in the profile (C11 7.21.6.1 p7)
+-- The modifier of an integer or of `n`. In the data model, another modifier names the same type as
+-- `j`, `z` or `t`, and replaces it, as in the profile (C11 7.21.6.1 p7).
 abbrev pub integer_modifier : Model → Modifier → Modifier
 integer_modifier model (Integer length) = Integer (kept_length model length)
 integer_modifier model LongDouble = LongDouble
 
--- the modifier that is kept (C11 7.21.6.1 p7; POSIX fprintf on `C` and `S`)
+-- The modifier that is kept (C11 7.21.6.1 p7; POSIX fprintf on `C` and `S`).
 abbrev pub kept_modifier : Model → Conversion → Modifier → Modifier
 kept_modifier model (Profile conv) modifier =
     if is_text conv then modifier else integer_modifier model modifier
@@ -128,7 +128,7 @@ kept_modifier model UpperS modifier = Integer lengths.L
 kept_modifier model Pointer modifier = modifier
 kept_modifier model Count modifier = integer_modifier model modifier
 
--- the parts of the normal spelling; the width is kept as it is (C11 7.21.6.1 p4)
+-- The parts of the normal spelling. The width is kept as it is (C11 7.21.6.1 p4).
 abbrev pub normal_parts : Model → PosixSpecification → PosixSpecification
 normal_parts model s = record {
   position = s.position;
@@ -139,29 +139,29 @@ normal_parts model s = record {
   conversion = kept_conversion s.conversion;
 }
 
--- A number in base ten without leading zeros, or `*`. How parts are spelled is this project's choice.
+-- A number in base ten without leading zeros, or `*`. The spelling of parts is this project's choice.
 abbrev pub amount_spelled : Amount → Text
 amount_spelled (Given n) = decimal n
 amount_spelled (Fetched number) = star ∷ []
 
--- the spelling of a width, if there is one
+-- The spelling of a width, if there is one.
 abbrev pub posix_width_spelled : Option Amount → Text
 posix_width_spelled None = []
 posix_width_spelled (Some amount) = amount_spelled amount
 
--- the spelling of a precision, if there is one
+-- The spelling of a precision, if there is one.
 abbrev pub posix_precision_spelled : Option Amount → Text
 posix_precision_spelled None = []
 posix_precision_spelled (Some amount) = point ∷ amount_spelled amount
 
--- the one spelling of the parts of a specification that isn't numbered: the flags in the order `-`,
--- `+`, space, `#`, `0`, then the rest in the order of C11 7.21.6.1 p4
+-- The one spelling of the parts of a specification that isn't numbered: the flags in the order `-`,
+-- `+`, space, `#`, `0`, then the rest in the order of C11 7.21.6.1 p4.
 abbrev pub posix_spelling_of : PosixSpecification → Text
 posix_spelling_of s =
     percent ∷ flags_spelled s.flags ++ posix_width_spelled s.width
     ++ posix_precision_spelled s.precision ++ modifier_letters s.modifier
     ++ conversion_letter s.conversion ∷ []
 
--- the normal spelling of a specification
+-- The normal spelling of a specification.
 abbrev pub normal_spelling : Model → PosixSpecification → Text
 normal_spelling model s = posix_spelling_of (normal_parts model s)

@@ -1,5 +1,6 @@
--- What a text of the whole language prints and calls. This project's own: the standard defines what
--- each directive prints, and an opaque one makes a call here instead.
+-- The bytes that a text of the whole language prints, and the calls that it makes. Traces are this
+-- project's own: the standard defines what each directive prints, and here an opaque one makes a
+-- call instead.
 use Rattle.std.specs.Prelude.{◌≡◌, List, ◌++◌, length, map, ◌↔◌}
 use Rattle.pf_values.specs.declared.models.Model.{Model}
 use Rattle.pf_values.specs.meaning.Arguments.{Argument}
@@ -11,30 +12,30 @@ use Rattle.pf_posix.specs.Stretches.{Stretches, Last, Before, ReadsWhole, types_
 use Rattle.pf_whole.specs.meaning.NormalSpellings.{normal_spelling}
 use Rattle.pf_whole.specs.meaning.WholeArguments.{WholeArgument, Known, HasWholeTypes}
 
--- what an opaque directive asks of the C library: its normal spelling, and its arguments
+-- What an opaque directive asks of the C library: its normal spelling and its arguments.
 pub record Call : Type 0 where
   pub spelling : Text
   pub args : List WholeArgument
 
--- The bytes printed before the first call, that call, and the trace after it; or the bytes printed
--- where no call is left. So bytes that no call separates are one text.
+-- The bytes printed before the first call, that call, and the trace after it; or, if no call is
+-- left, the bytes printed. So bytes that no call separates are one text.
 pub data Trace : Type 0 where
   Ends : (text : Text) → Trace
   Calls : (text : Text) (call : Call) (rest : Trace) → Trace
 
--- a stretch prints these bytes; all its arguments are known (C11 7.21.6.1 p3)
+-- A stretch prints these bytes. All its arguments are known (C11 7.21.6.1 p3).
 abbrev pub PrintsKnown : Model → List Item → List WholeArgument → Text → Type 0
 PrintsKnown model items args text =
     (known : List Argument) × (args ≡ map Known known) × PrintsAll model items known text
 
--- an opaque directive makes this call, with the arguments that it fetches (C11 7.21.6.1 p3, p5)
+-- An opaque directive makes this call, with the arguments that it fetches (C11 7.21.6.1 p3, p5).
 pub record IsCallOf (model : Model) (s : PosixSpecification) (args : List WholeArgument)
     (call : Call) : Type 0 where
   pub spelling : call.spelling ≡ normal_spelling model s
   pub args_are : call.args ≡ args
   pub as_many : length args ≡ length (types_of_opaque model s)
 
--- each stretch and each opaque directive takes the next arguments (C11 7.21.6.1 p2, p3)
+-- Each stretch and each opaque directive takes the next arguments (C11 7.21.6.1 p2, p3).
 abbrev pub HasTrace : Model → Stretches → List WholeArgument → Trace → Type 0
 HasTrace model (Last items) args (Ends text) = PrintsKnown model items args text
 HasTrace model (Last items) args (Calls text call rest) = ⊥
@@ -44,14 +45,15 @@ HasTrace model (Before items s stretches) args (Calls text call rest) =
     × PrintsKnown model items first text × IsCallOf model s own call
     × HasTrace model stretches back rest
 
--- stretches take arguments of the same types, and have the same traces for all such arguments
+-- Two lists of stretches take arguments of the same types, and have the same traces for all such
+-- arguments.
 pub record TraceAlike (model : Model) (a b : Stretches) : Type 0 where
   pub same_types : whole_types model a ≡ whole_types model b
   pub same_traces : (args : List WholeArgument) (trace : Trace)
       → HasWholeTypes model args (whole_types model a)
       → (HasTrace model a args trace ↔ HasTrace model b args trace)
 
--- two texts are alike: their stretches have the same types and traces
+-- Two texts are alike: their stretches have the same types and traces.
 pub record AreWholeAlike (model : Model) (t u : Text) : Type 0 where
   pub first : Stretches
   pub second : Stretches

@@ -14,23 +14,23 @@ pub data WholeArgument : Type 0 where
   Known : (argument : Argument) → WholeArgument
   Other : (representation : Text) → WholeArgument
 
--- a type as the profile has it, if it does
+-- The type of the profile that this is, or none.
 abbrev pub narrowed : ArgumentType → Option ArgType
 narrowed (Profile type) = Some type
 narrowed _ = None
 
--- a known argument has the type of the profile; any bytes are an argument of another type
+-- A known argument has its type of the profile. Any bytes are an argument of any other type.
 abbrev pub HasNarrowedType : Model → WholeArgument → Option ArgType → Type 0
 HasNarrowedType model (Known argument) (Some type) = HasType model argument type
 HasNarrowedType model (Known argument) None = ⊥
 HasNarrowedType model (Other representation) (Some type) = ⊥
 HasNarrowedType model (Other representation) None = ⊤
 
--- an argument is of the type that a directive needs; any other is undefined (C11 7.21.6.1 p9)
+-- The argument has the type that a directive expects. Any other is undefined (C11 7.21.6.1 p9).
 abbrev pub HasWholeType : Model → WholeArgument → ArgumentType → Type 0
 HasWholeType model argument type = HasNarrowedType model argument (narrowed type)
 
--- one argument for each type, in order: too few are undefined (C11 7.21.6.1 p2), and too many are
--- wrong in this project alone
+-- There is one argument for each type, in order. Too few are undefined (C11 7.21.6.1 p2). The
+-- standard ignores arguments that are left over; this project doesn't accept them.
 abbrev pub HasWholeTypes : Model → List WholeArgument → List ArgumentType → Type 0
 HasWholeTypes model args types = AllZip (HasWholeType model) args types

@@ -1,4 +1,5 @@
--- Canonical texts of the whole language. This project's own: the standard has no canonical form.
+-- Canonical texts of the whole language. They are this project's own: the standard has no canonical
+-- form.
 use Rattle.std.specs.Prelude.{◌≡◌, List, ◌++◌}
 use Rattle.pf_values.specs.declared.models.Model.{Model}
 use Rattle.pf_values.specs.meaning.Canonical.{ReadsCanonically}
@@ -8,14 +9,14 @@ use Rattle.pf_values.specs.meaning.Text.{Text}
 use Rattle.pf_posix.specs.Stretches.{Stretches, Last, Before, ReadsWhole}
 use Rattle.pf_whole.specs.meaning.NormalSpellings.{normal_spelling}
 
--- the canonical text that a stretch has as a format of its own: a canonical text of the profile whose
--- items print alike
+-- The canonical text of a stretch, taken as a format of its own: a canonical text of the profile
+-- whose items print alike.
 pub record IsCanonicalStretch (model : Model) (items : List Item) (c : Text) : Type 0 where
   pub own : List Item
   pub canonical : ReadsCanonically model c own
   pub alike : PrintAlike model items own
 
--- the canonical texts of the stretches and the normal spellings of the opaque directives, in order
+-- The canonical texts of the stretches and the normal spellings of the opaque directives, in order.
 abbrev pub IsPutTogether : Model → Stretches → Text → Type 0
 IsPutTogether model (Last items) c = IsCanonicalStretch model items c
 IsPutTogether model (Before items s rest) c =
@@ -23,7 +24,7 @@ IsPutTogether model (Before items s rest) c =
     × (c ≡ first ++ normal_spelling model s ++ back)
 
 -- `c` is the canonical text of `t`: it replaces each stretch of `t` by its canonical text, and each
--- opaque directive by its normal spelling
+-- opaque directive by its normal spelling.
 pub record IsWholeCanonicalOf (model : Model) (t c : Text) : Type 0 where
   pub stretches : Stretches
   pub reads : ReadsWhole t stretches

@@ -1,4 +1,5 @@
--- The headline of the whole language: one trace, one canonical text. This project's own.
+-- The headline of the whole language: one trace, one canonical text. This is the project's own
+-- theorem.
 use Rattle.std.specs.Prelude.{◌≡◌, ◌↔◌}
 use Rattle.pf_values.specs.declared.models.Model.{Model}
 use Rattle.pf_values.specs.meaning.Text.{Text}
@@ -6,7 +7,7 @@ use Rattle.pf_posix.specs.Stretches.{IsWholeAccepted}
 use Rattle.pf_whole.specs.meaning.Traces.{AreWholeAlike}
 use Rattle.pf_whole.specs.meaning.WholeCanonical.{IsWholeCanonicalOf}
 
--- a text has exactly one canonical text, which is alike to it, and is its own canonical text
+-- A text has exactly one canonical text, which is alike to it, and is its own canonical text.
 pub record HasOneWholeCanonical (model : Model) (t : Text) : Type 0 where
   pub canonical : Text
   pub is : IsWholeCanonicalOf model t canonical
@@ -21,7 +22,7 @@ pub record HaveOneWholeMeaning (model : Model) (t u : Text) : Type 0 where
   pub second : HasOneWholeCanonical model u
   pub same : AreWholeAlike model t u ↔ (first.canonical ≡ second.canonical)
 
--- the headline of the whole language: this holds of every two accepted texts
+-- The headline of the whole language: this holds for every two accepted texts.
 abbrev pub WholeHeadline : Model → Type 0
 WholeHeadline model = (t u : Text) → IsWholeAccepted t → IsWholeAccepted u
     → HaveOneWholeMeaning model t u

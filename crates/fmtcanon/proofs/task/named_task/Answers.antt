@@ -11,7 +11,7 @@ use Rattle.fmtcanon.proofs.command_line.WordLemmas.{AreNames, IsWanted, format_w
 use Rattle.fmtcanon.proofs.TaskLemmas.{asks_if, lacks_if}
 use Rattle.fmtcanon.proofs.task.named_task.Goals as goal
 
--- the argument that the command wants is there
+-- the argument that the command requires is there
 present : (words : List Text) (name command id : Text) (inner : ArgMatches) → Names words name (rows_in inner) → name ≡ command → IsWanted command id
     → is_some (first_value (found_of inner) id) ≡ true
 present words name command id inner names e wants =

@@ -3,7 +3,7 @@ use pf_compare::{CompareFault, Verdict, compare};
 use pf_values::Model;
 use std::alloc::Global;
 
-/// Whether one format may replace another, and else the first argument that shows why not.
+/// Whether one format may replace another, and otherwise the first argument that shows why not.
 #[derive(Drop)]
 enum Standing {
     Fits,
@@ -20,7 +20,7 @@ fn may_stand_for(alloc: Global, old: &[u8], new: &[u8]) -> Result<Standing, Comp
     }
 }
 
-// Whether it answers as CALLING.md says, and that a text is refused.
+// Whether it returns what CALLING.md says, and that a text is refused.
 fn is_answered(alloc: Global) -> bool {
     matches!(may_stand_for(alloc, b"%5c", b"    %c"), Ok(Standing::Fits))
         && matches!(

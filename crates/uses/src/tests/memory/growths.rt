@@ -83,7 +83,7 @@ fn blocks_for(
 }
 
 /// Whether a call is out of memory as long as only the blocks of its first allocations are free, whichever is the next,
-/// and answers once all are.
+/// and succeeds once all are.
 pub(super) fn each_is_refused(alloc: Global, call: Call) -> Result<bool, AllocError> {
     let mut between = Vec::with_capacity(alloc, lens_of(call).len())?;
     let mut blocks = blocks_for(alloc, lens_of(call), &mut between)?;

@@ -1,4 +1,4 @@
-//! Readers that return a few bytes a call, and of which one call may be interrupted.
+//! Readers that return a few bytes a call. One call may be interrupted.
 use pf_values::devices::Feed;
 use std::io::{ErrorKind, Read};
 
@@ -7,7 +7,7 @@ pub(super) fn whole(text: &[u8], step: usize) -> Feed<'_> {
     Feed::new(text, step.max(1), None, ErrorKind::Interrupted)
 }
 
-/// A reader of a text of which one call fails, after `fails_at` bytes.
+/// A reader of a text. One of its calls fails, after `fails_at` bytes.
 pub(super) fn feed_that_fails(text: &[u8], step: usize, fails_at: usize) -> Feed<'_> {
     Feed::new(
         text,

@@ -23,7 +23,7 @@ fn of_streams(answer: Result<bool, (Side, Refusal)>) -> Result<bool, SideFault> 
     }
 }
 
-// Whether `same_stream` answers as `same_text`, however the texts are cut.
+// Whether `same_stream` returns what `same_text` does, however the texts are cut.
 pub(super) fn streams_agree(model: Model, first: &[u8], second: &[u8]) -> bool {
     let wanted = of_streams(same_text(model, first, second));
     for step in CUTS {

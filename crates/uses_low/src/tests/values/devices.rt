@@ -10,7 +10,7 @@ static KINDS: [ErrorKind; 4] = [
     ErrorKind::Other,
 ];
 
-// What a call answers: a number of bytes, or an error of this kind.
+// What a call returns: a number of bytes, or an error of this kind.
 fn answers(answer: io::Result<usize>, want: Option<usize>, kind: ErrorKind) -> bool {
     match answer {
         Ok(count) => want == Some(count),
