@@ -135,8 +135,8 @@ class Shapes(unittest.TestCase):
             (b"100%% %d", b"%%%d"),
             (b"%-5.*lu!", b"%-5.*lu"),
             (b"%<PRIu64>|%2$*1$d", b"%<PRIu64>%2$*1$d"),
-            (b"%!", None),
-            (b"%d%", None),
+            (b"%! %y", b"%!%y"),
+            (b"%d%", b"%d%"),
             (b"%d\0", None),
         ]:
             self.assertEqual(shape_of(text), wanted, text)
