@@ -57,7 +57,9 @@ def excerpt_lines(excerpts: Sequence[Excerpt], style: Style, colour: str) -> Ite
         count = max(columns(shown.line[shown.start : shown.end]), 1)
         mark = front + " " * (begin - len(front)) + style.carets(count, colour)
         if not one.words or style.width - begin - count - 1 >= min(ROOM, len(one.words)):
-            yield from beside(mark, begin + count, begin + count + 1, [one.words] * bool(one.words), style.width)
+            first, *rest = beside(mark, begin + count, begin + count + 1, [one.words] * bool(one.words), style.width)
+            yield first
+            yield from (front + it[len(front) :] for it in rest)
         else:
             yield mark
             yield from (front + it for it in wrapped(one.words, style.width - len(front)))

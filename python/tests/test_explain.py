@@ -219,7 +219,7 @@ class Pairs(unittest.TestCase):
         lines = ["  a %zu                         %d", "    ^^^                         ^^"]
         lines += ["  unsigned long                 int", "  unsigned int in ILP32", "  unsigned long long in LLP64"]
         self.assertEqual(run("a %zu", "%d")[1][1:], lines)
-        front = "x" * 60
+        front = "x" * 100
         self.assertEqual(run(f"{front}%d", "%s")[1][4:], ["  %s", "  ^^", "  string"])
 
     def test_numbered(self):
@@ -237,7 +237,7 @@ class Pairs(unittest.TestCase):
 
     def test_signs(self):
         """Of a number with a sign it is said which columns or digits the sign is among, by C11 7.21.6.1 p6."""
-        rows = [("%+05d", "%+d", "the sign is one of the 5 columns"), ("%.3d", "%.2d", "3 digits, and the sign before them")]
+        rows = [("%+05d", "%+d", "the sign is one of the 5 columns"), ("%.3d", "%03d", "3 digits, and the sign before them")]
         for first, second, said in rows:
             [one, _] = asked(first, second)[1]["directives"]
             self.assertEqual(one["meaning"], said, first)

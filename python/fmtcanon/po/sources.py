@@ -4,6 +4,7 @@ from __future__ import annotations
 
 from typing import List, NamedTuple, Optional
 
+from .. import encode_literal
 from ..excerpts import Excerpt
 from .tokens import ESCAPE, Scanner, Token, Unreadable
 
@@ -69,10 +70,8 @@ class CatalogSource:
 
 def text_excerpt(mark: Mark) -> Excerpt:
     """Returns a part of a text by itself, as a catalog would have it."""
-    before, inside, after = (
-        it.decode(errors="surrogateescape").replace("\\", "\\\\").replace('"', '\\"').replace("\n", "\\n")
-        for it in (mark.text[: mark.start], mark.text[mark.start : mark.end], mark.text[mark.end :])
-    )
+    parts = mark.text[: mark.start], mark.text[mark.start : mark.end], mark.text[mark.end :]
+    before, inside, after = (encode_literal(it)[1:-1].decode(errors="surrogateescape") for it in parts)
     return Excerpt(mark.name, f'"{before}{inside}{after}"', 1 + len(before), 1 + len(before + inside), mark.words)
 
 
