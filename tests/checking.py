@@ -328,7 +328,7 @@ def try_outputs(tool, trials):
     tool.put("a.c", SAYS + 'void f(size_t n) {\n\tprintf("%lu", n);\n}\n')
     message = "%lu takes unsigned long, and the argument is size_t: another size in LLP64, another type in ILP32; "
     message += "write %zu"
-    text = f'a.c:6:10: {message}\n    \tprintf("%lu", n);\n    \t        ^~~\n'
+    text = f"a.c:6:10: {message}\n"
     trials.expect("text", tool.run("a.c"), (1, text, "1 file, 1 format, 1 argument: 1 size\n"))
     line = f"::error file=a.c,line=6,col=10,endColumn=13::{message.replace('%', '%25')}\n"
     trials.expect("github", tool.run("--output", "github", "a.c")[1], line)
@@ -438,11 +438,11 @@ def try_visitor(tool, trials):
 # Lines of an old and a new file, and what is said of the second with its compile command.
 CHANGED = [
     ('printf("%lu a", n);', 'printf("%zu a", n);', 'types differ, and the call fits: "%lu a" and "%zu a"'),
-    ('printf("%d b", (int)m);', 'printf("%ld b", (int)m);', "types differ at argument 0: int and long"),
+    ('printf("%d b", (int)m);', 'printf("%ld b", (int)m);', "types differ at argument 1, counted from 1: %d takes int and %ld takes long"),
     ('printf("%ld c", m);', 'printf("%jd c", (intmax_t)m);', 'types differ, and the call fits: "%ld c" and "%jd c"'),
     ('printf("%d d", 1);', 'printf("%" PRIu64 " d", u);', "types differ, and the call fits: "),
-    ('printf("%d e", 1);', 'printf("%d%s e", 1);', "types differ at argument 1: no argument and string"),
-    ('other("%d f", 1);', 'other("%ld f", 1);', "types differ at argument 0: int and long"),
+    ('printf("%d e", 1);', 'printf("%d%s e", 1);', "types differ at argument 2, counted from 1: no argument and %s takes string"),
+    ('other("%d f", 1);', 'other("%ld f", 1);', "types differ at argument 1, counted from 1: %d takes int and %ld takes long"),
 ]
 
 

@@ -142,32 +142,42 @@ SOURCES = [
 # Options with the formats, and what is said of a place that is OLD.
 DIFFERENCES = [
     (["%05d", "%.5d"], "left: the two print different bytes for -1"),
-    (["%d", "%ld"], "left: the types differ at argument 0"),
-    (["%zu", "%lu"], "left: in ILP32 the types differ at argument 0; in LLP64 the types differ at argument 0"),
-    (["--model", "both", "%zd", "%d"], "left: in LP64 the types differ at argument 0"),
+    (["%d", "%ld"], "left: the types differ at argument 1, counted from 1: %d takes int and %ld takes long"),
+    (
+        ["%zu", "%lu"],
+        "left: in ILP32 the types differ at argument 1, counted from 1: %zu takes unsigned int and %lu takes unsigned "
+        "long; in LLP64 the types differ at argument 1, counted from 1: %zu takes unsigned long long and %lu takes "
+        "unsigned long",
+    ),
+    (["--model", "both", "%zd", "%d"], "left: in LP64 the types differ at argument 1, counted from 1: %zd takes long and %d takes int"),
     (["--model", "ilp32", "%zx", "%u"], "left: the two print different bytes for 4294967295"),
     (["--model", "lp64", "%zu", "%lu"], "replaced"),
     (
         ["%'i", "%d"],
-        "left: the flag ' groups digits, except in the POSIX locale: --posix-locale says that it prints there",
+        "left: the flag ' groups digits in other locales; use --posix-locale if the program prints only in POSIX",
     ),
     (
         ["%i", "%'d"],
-        "left: the flag ' groups digits, except in the POSIX locale: --posix-locale says that it prints there",
+        "left: the flag ' groups digits in other locales; use --posix-locale if the program prints only in POSIX",
     ),
     (["%%'%i", "%%'%d"], "replaced"),
     (["--posix-locale", "%'i", "%d"], "replaced"),
     (["%i: %.2f\\n", "%d: %.2f\\n"], "replaced"),
     (["%.6lf of %5c", "%f of     %c"], "replaced"),
     (["%-08.*f|%+ p", "%-8.*f|%+p"], "replaced"),
-    (["%i: %.2f", "%d: %.3f"], "left: the directives differ at argument 1"),
-    (["%*d", "%d%d"], "left: the directives differ at argument 0"),
+    (["%i: %.2f", "%d: %.3f"], "left: the directives differ at argument 2, counted from 1: %.2f and %.3f"),
+    (["%*d", "%d%d"], "left: the directives differ at argument 1, counted from 1: %*d and %d"),
     (["%f%05d", "%f%.5d"], "left: the two print different bytes for any, -1"),
-    (["%f", "%Lf"], "left: the types differ at argument 0"),
-    (["%jn%f", "%ln%f"], "left: in ILP32 the types differ at argument 0; in LLP64 the types differ at argument 0"),
+    (["%f", "%Lf"], "left: the types differ at argument 1, counted from 1: %f takes double and %Lf takes long double"),
+    (
+        ["%jn%f", "%ln%f"],
+        "left: in ILP32 the types differ at argument 1, counted from 1: %jn takes pointer to long long and %ln takes "
+        "pointer to long; in LLP64 the types differ at argument 1, counted from 1: %jn takes pointer to long long and "
+        "%ln takes pointer to long",
+    ),
     (
         ["%'f", "%f"],
-        "left: the flag ' groups digits, except in the POSIX locale: --posix-locale says that it prints there",
+        "left: the flag ' groups digits in other locales; use --posix-locale if the program prints only in POSIX",
     ),
     (["--posix-locale", "%'f", "%f"], "replaced"),
 ]

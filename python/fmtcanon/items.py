@@ -48,7 +48,8 @@ def is_specification(text: bytes) -> bool:
     try:
         return len(fmtcanon.directives(text)) == 1
     except fmtcanon.Refused as refusal:
-        return refusal.kind in (fmtcanon.Kind.MISSING_ARGUMENT, fmtcanon.Kind.MIXED)
+        kinds = (fmtcanon.Kind.MISSING_ARGUMENT, fmtcanon.Kind.MIXED, fmtcanon.Kind.TWO_TYPES)
+        return refusal.kind in kinds
 
 
 def errno_parts(item: Item) -> Optional[Specification]:
