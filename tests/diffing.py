@@ -244,7 +244,8 @@ def try_lines(tool, trials):
     )
     status, output, _ = tool.run("--output", "github", "old", "new")
     wanted = (
-        "::error file=new/src/a.c,line=3,col=12,endColumn=25::types differ at argument 2, counted from 1: %lu takes unsigned long and %d takes int, in "
+        "::error file=new/src/a.c,line=3,col=12,endColumn=25::types differ at argument 2, counted from 1: "
+        "%25lu takes unsigned long and %25d takes int, in "
     )
     trials.expect("a command of GitHub", (status, f"\n{wanted}" in output), (1, True))
     wanted = "::notice file=new/src/a.c,line=5,col=12,endColumn=29::the words differ: "

@@ -45,7 +45,7 @@ LIMITS = {
     "docs/CHEATSHEET.md": 450,
     "docs/USING.md": 2050,
     "docs/TRANSLATIONS.md": 1100,
-    "docs/EXPLAINING.md": 350,
+    "docs/EXPLAINING.md": 420,
     "docs/PORTING.md": 1200,
     "docs/REFACTORING.md": 1400,
     "docs/REFUSALS.md": 1500,
