@@ -14,7 +14,9 @@ from diffing import Tool
 from harness import TIMEOUT
 
 OLD, RIGHT, WRONG = (f'printf("{it}\\n", n);\n' for it in ["%05d", "%0005d", "%s"])
-TYPES = '{}:1:8: types differ at argument 1, counted from 1: %05d takes int and %s takes string, in "%05d\\n" and "%s\\n"\n'
+TYPES = (
+    '{}:1:8: types differ at argument 1, counted from 1: %05d takes int and %s takes string, in "%05d\\n" and "%s\\n"\n'
+)
 # The old and the new argument of a call, the options, and the exit status.
 STATUSES = [
     ("%05d", "%.5d", [], 1),

@@ -64,7 +64,11 @@ FILE:8:12: rejected now: refused 3 Unexpected at byte 3 of "%d%!\\n"
 SUMMARY = "6 places changed: 1 same, 1 with other words, 1 different, 2 with other types, 0 with other directives, 1 rejected now, 0 not judged; 2 literals added, 1 removed\n"
 # The same of the whole language: the old and the new part of each line, and what is said of it.
 WHOLE = [
-    ('printf("%d: %f\\n", n, d);', 'printf("%d: %e\\n", n, d);', 'directives differ at argument 2, counted from 1: "%f" and "%e"'),
+    (
+        'printf("%d: %f\\n", n, d);',
+        'printf("%d: %e\\n", n, d);',
+        'directives differ at argument 2, counted from 1: "%f" and "%e"',
+    ),
     (
         'printf("%" DIGITS "e\\n", d);',
         'printf("%" DIGITS "e\\n", d);',
@@ -76,7 +80,11 @@ WHOLE = [
         'different: "%.6lf: %05d\\n" and "%f: %.5d\\n" print "%f: -0001\\n" and "%f: -00001\\n" for any, -1',
     ),
     ('printf("%i %.6f\\n", n, d);', 'printf("%d %f\\n", n, d);', 'same: "%i %.6f\\n" and "%d %f\\n"'),
-    ('printf("%*d\\n", 5, n);', 'printf("%d%d\\n", 5, n);', 'directives differ at argument 1, counted from 1: "%*d" and "%d"'),
+    (
+        'printf("%*d\\n", 5, n);',
+        'printf("%d%d\\n", 5, n);',
+        'directives differ at argument 1, counted from 1: "%*d" and "%d"',
+    ),
 ]
 WHOLE_SUMMARY = "5 places changed: 1 same, 0 with other words, 1 different, 0 with other types, 3 with other directives, 0 rejected now, 0 not judged; 0 literals added, 0 removed\n"
 UNSIGNED = 'types differ at argument 1, counted from 1: %d takes int and %u takes unsigned int, in "%d" and "%u"'
@@ -310,7 +318,10 @@ def try_whole(tool, trials):
     trials.expect(
         "other directives for GitHub",
         (status, output.splitlines()[0]),
-        (1, '::error file=new.c,line=3,col=12,endColumn=22::directives differ at argument 2, counted from 1: "%25f" and "%25e"'),
+        (
+            1,
+            '::error file=new.c,line=3,col=12,endColumn=22::directives differ at argument 2, counted from 1: "%25f" and "%25e"',
+        ),
     )
 
 

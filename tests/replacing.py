@@ -13,7 +13,10 @@ import sys
 import tempfile
 from pathlib import Path
 
-from harness import SONAME, TIMEOUT, TOP, examples
+sys.path.insert(0, str(Path(__file__).resolve().parents[1] / "python/tests"))
+
+from harness import SONAME, TIMEOUT, TOP, examples  # noqa: E402
+from terminal import on_terminal  # noqa: E402
 
 FOLDER = TOP / "tests/rewrites"
 OLD, NEW = "%i\\n", "%d\\n"
@@ -149,7 +152,10 @@ DIFFERENCES = [
         "long; in LLP64 the types differ at argument 1, counted from 1: %zu takes unsigned long long and %lu takes "
         "unsigned long",
     ),
-    (["--model", "both", "%zd", "%d"], "left: in LP64 the types differ at argument 1, counted from 1: %zd takes long and %d takes int"),
+    (
+        ["--model", "both", "%zd", "%d"],
+        "left: in LP64 the types differ at argument 1, counted from 1: %zd takes long and %d takes int",
+    ),
     (["--model", "ilp32", "%zx", "%u"], "left: the two print different bytes for 4294967295"),
     (["--model", "lp64", "%zu", "%lu"], "replaced"),
     (
@@ -212,6 +218,34 @@ WITHOUT_LIBCLANG = (
 )
 
 
+# A source, and what a terminal of 80 columns shows of the places that are left, by hand.
+SCREEN_C = """\
+#include <stdio.h>
+void f(int n) {
+\tprintf("%d: %05d\\n", n, n);
+\tfputs("%d: %05d\\n", stderr);
+}
+"""
+SCREEN = """\
+a.c:3:9: left: the two print different bytes for 0, -1
+   3 |     printf("%d: %05d\\n", n, n);
+     |                 ^^^^ the sign is one of the 5 columns
+ NEW | "%d: %.5d\\n"
+     |      ^^^^ 5 digits, and the sign before them
+a.c:4:8: left: the two print different bytes for 0, -1
+   4 |     fputs("%d: %05d\\n", stderr);
+     |                ^^^^ the sign is one of the 5 columns
+ NEW | "%d: %.5d\\n"
+     |      ^^^^ 5 digits, and the sign before them
+"""
+REFUSED_SCREEN = """\
+fmtcanon-replace: NEW is refused 13 AltUndefined at byte 2
+refused 13 AltUndefined at byte 2
+%#d
+  ^ `#` has no meaning with `d`. Write %d.
+"""
+
+
 class Tool:
     """The command in a folder."""
 
@@ -246,6 +280,12 @@ class Tool:
             done.stdout.decode(errors="surrogateescape"),
             done.stderr.decode(errors="surrogateescape"),
         )
+
+    def on_terminal(self, *words):
+        """The status of a run on a terminal, and what this shows, without colours."""
+        python, script = map(str, self.words)
+        names = {**self.environment, "NO_COLOR": "1"}
+        return on_terminal([script, *words], folder=self.work, python=python, **names)
 
     def put(self, name, text):
         """Writes a file, and returns its path."""
@@ -625,6 +665,16 @@ def try_document(tool, trials):
         trials.expect(f"docs/REFACTORING.md: {command}", done.stdout.decode(), "".join(f"{line}\n" for line in output))
 
 
+def try_terminal(tool, trials):
+    """What a terminal shows: the lines of places that are left, with NEW; and a format that is rejected."""
+    tool.put("a.c", SCREEN_C)
+    words = ["--dry-run", r"%d: %05d\n", r"%d: %.5d\n", "a.c"]
+    trials.expect("places on a terminal", tool.on_terminal(*words), (1, SCREEN))
+    lines = [it for it in SCREEN.splitlines(keepends=True) if it.startswith("a.c:")]
+    trials.expect("places in a pipe", tool.run_with_columns(words)[1], "".join(lines))
+    trials.expect("a rejected format on a terminal", tool.on_terminal("%d", "%#d", "a.c"), (2, REFUSED_SCREEN))
+
+
 def try_without_libclang(folder, trials):
     """What the command says without libclang: usage errors, and that it is missing; no file is changed."""
     with tempfile.TemporaryDirectory() as work:
@@ -648,6 +698,7 @@ def try_replacing(folder, python, trials):
         try_files,
         try_trees,
         try_sizes,
+        try_terminal,
         try_document,
     ]:
         with tempfile.TemporaryDirectory() as work:

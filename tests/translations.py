@@ -286,7 +286,10 @@ def try_forms(folder, trials):
     trials.expect(
         "messages in JSON",
         (status, found[0]["message"]),
-        (1, "types of 'msgid' and 'msgstr' differ at argument 1, counted from 1: %s takes string and %d takes int [\"%s: %d\"]"),
+        (
+            1,
+            "types of 'msgid' and 'msgstr' differ at argument 1, counted from 1: %s takes string and %d takes int [\"%s: %d\"]",
+        ),
     )
     trials.expect(
         "formats in JSON",

@@ -59,7 +59,7 @@ LIMITS = {
     "docs/internals/PROOF_NOTES.md": 3600,
     "docs/CONTRIBUTING.md": 1000,
     "SECURITY.md": 150,
-    "CHANGELOG.md": 850,
+    "CHANGELOG.md": 920,
     CALLING: 9000,
 }
 MARGIN = 10

@@ -79,7 +79,8 @@ class Parser(argparse.ArgumentParser):
     def add_jobs(self, what: str) -> None:
         """Adds -j, which says how many of what are read at a time. The output doesn't depend on it."""
         count = os.cpu_count() or 1
-        self.add_argument("-j", "--jobs", type=int, default=count, metavar="N", help=f"how many {what} are read at a time")
+        text = f"how many {what} are read at a time"
+        self.add_argument("-j", "--jobs", type=int, default=count, metavar="N", help=text)
 
     def add_output(self) -> None:
         self.add_argument(

@@ -86,7 +86,8 @@ def explain(text: bytes, model: Model) -> Explanation:
     """Explains a format of the whole language. Raises `Refused`."""
     spans = fmtcanon.directives(text, model=model)
     types = {other: types_in(text, other) for other in Model}
-    parts = tuple(part_of(text, span, {it: found[at] for it, found in types.items() if found}) for at, span in enumerate(spans))
+    by_model = [{it: found[at] for it, found in types.items() if found} for at in range(len(spans))]
+    parts = tuple(part_of(text, span, types_of) for span, types_of in zip(spans, by_model))
     return Explanation(text, parts, canonical_by_model(text), bounds_of(text, model))
 
 
@@ -203,9 +204,7 @@ def about_argument(part: Part, arguments: Sequence[Argument]) -> Part:
     return part._replace(meaning=said or part.meaning)
 
 
-def marked_parts(
-    formats: Tuple[bytes, bytes], verdict: verdicts.Verdict, model: Model
-) -> Sequence[Optional[Marked]]:
+def marked_parts(formats: Tuple[bytes, bytes], verdict: verdicts.Verdict, model: Model) -> Sequence[Optional[Marked]]:
     """Returns the directive of each of two formats that a verdict is about, with its type or what it prints; nothing if
     the verdict is about none.
     """

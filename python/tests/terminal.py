@@ -11,8 +11,8 @@ import termios
 COLOUR = re.compile(r"\x1b\[[0-9;]*m")
 
 
-def on_terminal(words, columns=80, folder=None, **names):
-    """The status of a module of fmtcanon with these arguments on a terminal, and what this gets."""
+def on_terminal(words, columns=80, folder=None, python=sys.executable, **names):
+    """The status of Python with these arguments on a terminal of some columns, and what this gets."""
     child, stream = pty.fork()
     if child == 0:
         try:
@@ -20,7 +20,7 @@ def on_terminal(words, columns=80, folder=None, **names):
             environment = {it: value for it, value in os.environ.items() if it not in ("NO_COLOR", "COLUMNS")}
             environment.update({"LC_ALL": "C.UTF-8", **names})
             fcntl.ioctl(1, termios.TIOCSWINSZ, struct.pack("HHHH", 24, columns, 0, 0))
-            os.execve(sys.executable, [sys.executable, "-B", *words], environment)
+            os.execve(python, [python, "-B", *words], environment)
         finally:
             os._exit(127)
     parts = []

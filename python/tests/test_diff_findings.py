@@ -193,7 +193,10 @@ class Judging(unittest.TestCase):
         found = finding('"%td"', '"%ld"', models=[Model.ILP32, Model.LLP64])
         self.assertEqual(
             (found.message, found.models),
-            ('types differ at argument 1, counted from 1: %td takes int and %ld takes long, in "%td" and "%ld"', ("ilp32", "llp64")),
+            (
+                'types differ at argument 1, counted from 1: %td takes int and %ld takes long, in "%td" and "%ld"',
+                ("ilp32", "llp64"),
+            ),
         )
         self.assertEqual(
             finding('"%td"', '"%ld"').details["verdicts"], {"lp64": "same", "ilp32": "types", "llp64": "types"}
@@ -281,7 +284,10 @@ class Judging(unittest.TestCase):
                     (front[:4], back[:4], old, new, found.message),
                 )
                 if at is not None:
-                    self.assertIn(f"at argument {front.count('%') + 1}, counted from 1: %d takes int and %u takes unsigned int", found.message)
+                    self.assertIn(
+                        f"at argument {front.count('%') + 1}, counted from 1: %d takes int and %u takes unsigned int",
+                        found.message,
+                    )
                 if old == "%05d":
                     self.assertIn(
                         ' print "-0001" and "-00001" for -1',

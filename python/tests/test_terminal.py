@@ -18,6 +18,8 @@ from fmtcanon.terminals import Style, columns, style_of
 
 from .terminal import on_terminal, plain
 
+TOP = Path(__file__).resolve().parents[2]
+
 CATALOG = """\
 msgid ""
 msgstr "Content-Type: text/plain; charset=UTF-8\\nPlural-Forms: nplurals=2; plural=n != 1;\\n"
@@ -139,6 +141,23 @@ class Screens(InFolder):
         status, text = self.piped(words)
         self.assertEqual((status, len(text.splitlines())), (1, 5))
 
+    def test_document(self):
+        """The block of docs/EXPLAINING.md is what a terminal shows."""
+        page = (TOP / "docs/EXPLAINING.md").read_text(encoding="utf-8").partition("## Findings on a terminal")[2]
+        wanted = re.findall(r"^    (.*)$", page, re.MULTILINE)
+        self.put("de.po", '#, c-format\nmsgid "%s: %d"\nmsgstr "%s: %s"\n')
+        _, text = self.shown("-m", "fmtcanon.po", "de.po", NO_COLOR="1")
+        self.assertEqual(text.splitlines()[: len(wanted)], wanted)
+
+    def test_jobs(self):
+        """Many catalogs give one output in one order, however many are read at a time."""
+        names = [f"{at}.po" for at in range(20)]
+        for at, name in enumerate(names):
+            self.put(name, CATALOG.replace("files were", f"files {at} were"))
+        found = {it: self.shown("-m", "fmtcanon.po", "-j", it, *names, NO_COLOR="1") for it in ["1", "3"]}
+        self.assertEqual(found["1"], found["3"])
+        self.assertEqual(re.findall(r"^(\d+\.po):6:", found["1"][1], re.MULTILINE), names)
+
     def test_binary_catalog(self):
         """A .mo file has no lines, so its texts are shown, under their names."""
         self.put("de.po", CATALOG)
@@ -171,16 +190,6 @@ class Screens(InFolder):
         self.assertEqual(lines[0], "%5zu and %-05d")
         self.assertIn("`0` has no effect next to `-`", text)
 
-    def test_replace(self):
-        """OLD and NEW that are rejected are shown on a terminal."""
-        self.put("a.c", "int a;\n")
-        status, text = self.shown("-m", "fmtcanon.replace", "%d", "%#d", "a.c", NO_COLOR="1")
-        if "libclang" in text:
-            self.skipTest("no libclang")
-        lines = ["fmtcanon-replace: NEW is refused 13 AltUndefined at byte 2", "refused 13 AltUndefined at byte 2"]
-        lines += ["%#d", "  ^ `#` has no meaning with `d`. Write %d."]
-        self.assertEqual((status, text.splitlines()), (2, lines))
-
 
 class Lines(unittest.TestCase):
     """How one excerpt is laid out."""
@@ -190,7 +199,11 @@ class Lines(unittest.TestCase):
 
     def test_columns(self):
         """Carets are under what they mark: after tabs, wide characters and what is shown as an escape."""
-        rows = [("\tab", 1, 3, "    ab", "    ^^"), ("\u65e5%d", 1, 3, "\u65e5%d", "  ^^"), ("\x01%d", 1, 3, "\\x01%d", "    ^^")]
+        rows = [
+            ("\tab", 1, 3, "    ab", "    ^^"),
+            ("\u65e5%d", 1, 3, "\u65e5%d", "  ^^"),
+            ("\x01%d", 1, 3, "\\x01%d", "    ^^"),
+        ]
         for line, start, end, shown, mark in rows:
             found = self.lines(Excerpt("7", line, start, end))
             self.assertEqual(found, [f" 7 | {shown}", f"   | {mark}"])
@@ -290,7 +303,10 @@ class Help(unittest.TestCase):
             ("diff", ["OLD NEW", "--git [REV [REV]] [-- PATH...]"]),
             ("explain", ["FORMAT", "FORMAT FORMAT", "--kind KIND"]),
             ("po", ["FILE..."]),
-            ("replace", ["OLD NEW [FILE...]", "--pairs FILE [FILE...]", "--list [FILE...]", "--list-functions [FILE...]"]),
+            (
+                "replace",
+                ["OLD NEW [FILE...]", "--pairs FILE [FILE...]", "--list [FILE...]", "--list-functions [FILE...]"],
+            ),
         ]:
             module = "checker" if name == "check" else name
             words = [sys.executable, "-B", "-m", f"fmtcanon.{module}", "--help"]

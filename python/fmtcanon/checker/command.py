@@ -54,7 +54,8 @@ def summary(counts: Counter[str]) -> str:
 
 def check(printer: Printer, answers: Iterable[Answer]) -> int:
     """Prints what is found. Returns the exit status."""
-    status, counts = 0, collections.Counter[str]()
+    status = 0
+    counts: Counter[str] = collections.Counter()
     for one in answers:
         counts.update({it: one.counts[it] for it in ("files", "formats", "arguments")})
         for found in one.found.values():

@@ -149,7 +149,12 @@ def apart_lines(found: Difference, model: Model, style: Style) -> Iterator[str]:
     cells = [cell(text, part, model) for text, part in zip(found.formats, found.parts)]
     widths = [max(map(columns, it)) for it in cells]
     if sum(widths) + INDENT + GAP <= style.width:
-        cells = [[f"{one}{' ' * (widths[0] - columns(one))}{' ' * GAP}{two}" for one, two in zip_longest(*cells, fillvalue="")]]
+        cells = [
+            [
+                f"{one}{' ' * (widths[0] - columns(one))}{' ' * GAP}{two}"
+                for one, two in zip_longest(*cells, fillvalue="")
+            ]
+        ]
     for lines in cells:
         for line in lines:
             marks = line.strip(" ^") == "" and style.is_coloured

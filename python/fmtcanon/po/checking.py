@@ -197,7 +197,9 @@ class Checker:
         self.reports += 1
         text = f"{reason.text} [{shown(message.msgid)}]"
         finding = Finding(file, message.line, message.column, reason.kind, level, text, None, formats, names, details)
-        self.add(self.with_excerpts(finding, message, reason, texts, (models or self.models)[0]) if self.is_shown else finding)
+        if self.is_shown:
+            finding = self.with_excerpts(finding, message, reason, texts, (models or self.models)[0])
+        self.add(finding)
 
     def with_excerpts(
         self, finding: Finding, message: Message, reason: Reason, texts: Sequence[Text], model: fmtcanon.Model

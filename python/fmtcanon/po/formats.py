@@ -76,10 +76,11 @@ class Format:
                 out += new
                 done = item.start + len(item.text)
         self.plain = bytes(out + text[done:]) if done else text
+        self.starts = [it.start for it in self.edits]
 
     def place_of(self, byte: int) -> int:
         """Returns the offset in the text of a byte of the plain format."""
-        index = bisect.bisect_right(self.edits, byte, key=lambda it: it.start) - 1
+        index = bisect.bisect_right(self.starts, byte) - 1
         if index < 0:
             return byte
         edit = self.edits[index]

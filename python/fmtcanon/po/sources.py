@@ -77,7 +77,8 @@ def text_excerpt(mark: Mark) -> Excerpt:
 
 def ends_of(string: bytes) -> List[int]:
     """Returns where the source of each byte of a string ends, in the string without its quotes."""
-    ends, done = [], 0
+    ends: List[int] = []
+    done = 0
     for escape in ESCAPE.finditer(string):
         ends += range(done + 1, escape.start() + 1)
         ends.append(escape.end())
@@ -87,7 +88,8 @@ def ends_of(string: bytes) -> List[int]:
 
 def strings_of(text: bytes, name: str) -> List[Token]:
     """Returns the strings of the first text of this name, such as `msgstr[1]`, in a part of a catalog."""
-    scanner, current, found = Scanner(text), "", []
+    scanner, current = Scanner(text), ""
+    found: List[Token] = []
     token = scanner.token()
     while token is not None:
         if token.kind == "keyword":

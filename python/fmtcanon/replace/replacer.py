@@ -182,7 +182,9 @@ class Replacer(Rewriter):
         span = span_in(place, old.start, old.end) if old else (place.start, place.end)
         found = [line_excerpt(source, *span, old.words if old else "")]
         if rule and new:
-            before, inside = (encode_literal(it)[1:-1].decode(errors="surrogateescape") for it in parts_of(rule.new, new))
+            before, inside = (
+                encode_literal(it)[1:-1].decode(errors="surrogateescape") for it in parts_of(rule.new, new)
+            )
             whole = encode_literal(rule.new).decode(errors="surrogateescape")
             found.append(Excerpt("NEW", whole, 1 + len(before), 1 + len(before + inside), new.words))
         return tuple(found)
@@ -198,7 +200,8 @@ def line_excerpt(source: bytes, start: int, end: int, words: str) -> Excerpt:
     begin = source.rfind(b"\n", 0, start) + 1
     line = source[begin:].partition(b"\n")[0]
     first, last = (
-        len(source[begin : max(min(it, begin + len(line)), begin)].decode(errors="surrogateescape")) for it in (start, end)
+        len(source[begin : max(min(it, begin + len(line)), begin)].decode(errors="surrogateescape"))
+        for it in (start, end)
     )
     number = source.count(b"\n", 0, start) + 1
     return Excerpt(str(number), line.decode(errors="surrogateescape").rstrip("\r"), first, last, words)
