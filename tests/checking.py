@@ -347,6 +347,10 @@ def try_terminal(tool, trials):
     words = ["-m", "fmtcanon.checker", "a.c"]
     found = on_terminal(words, folder=tool.work, python=str(tool.python), **names)
     trials.expect("findings on a terminal", found, (1, SCREEN))
+    script = "from fmtcanon import progress; progress.BEGIN = progress.EVERY = 0; "
+    script += "from fmtcanon.checker.command import main; main(['a.c'])"
+    said = on_terminal(["-c", script], folder=tool.work, python=str(tool.python), **names)[1]
+    trials.expect("progress on a terminal", "1 of 1 files done" in said, True)
     trials.expect("findings in a pipe", len(tool.run("a.c")[1].splitlines()), 2)
 
 

@@ -283,9 +283,11 @@ class Tool:
 
     def on_terminal(self, *words):
         """The status of a run on a terminal, and what this shows, without colours."""
-        python, script = map(str, self.words)
+        return self.on_terminal_of(str(self.words[1]), *words)
+
+    def on_terminal_of(self, *words):
         names = {**self.environment, "NO_COLOR": "1"}
-        return on_terminal([script, *words], folder=self.work, python=python, **names)
+        return on_terminal(words, folder=self.work, python=str(self.words[0]), **names)
 
     def put(self, name, text):
         """Writes a file, and returns its path."""
@@ -672,6 +674,10 @@ def try_terminal(tool, trials):
     trials.expect("places on a terminal", tool.on_terminal(*words), (1, SCREEN))
     lines = [it for it in SCREEN.splitlines(keepends=True) if it.startswith("a.c:")]
     trials.expect("places in a pipe", tool.run_with_columns(words)[1], "".join(lines))
+    script = "from fmtcanon import progress; progress.BEGIN = progress.EVERY = 0; "
+    script += f"from fmtcanon.replace.command import main; main({words})"
+    said = tool.on_terminal_of("-c", script)[1]
+    trials.expect("progress on a terminal", "1 of 1 files done" in said, True)
     trials.expect("a rejected format on a terminal", tool.on_terminal("%d", "%#d", "a.c"), (2, REFUSED_SCREEN))
 
 

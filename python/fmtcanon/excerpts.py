@@ -36,6 +36,8 @@ def window(excerpt: Excerpt, width: int) -> Excerpt:
     parts = excerpt.line[: excerpt.start], excerpt.line[excerpt.start : excerpt.end], excerpt.line[excerpt.end :]
     before, inside, after = map(shown_line, parts)
     if columns(before + inside + after) > width:
+        if columns(inside) > width - BEFORE:
+            inside, after = inside[: width - BEFORE - 2 * len(DOTS)], DOTS
         room = max(width - columns(inside) - 2 * len(DOTS), 0)
         kept = min(len(before), max(BEFORE, room - len(after)))
         if kept < len(before):

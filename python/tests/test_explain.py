@@ -167,6 +167,8 @@ class Rejections(unittest.TestCase):
             for word in [str(int(kind)), name, name.lower()]:
                 lines = [f"{int(kind)} {name}: {HELP[kind]}", *([ADVICE[kind]] if kind in ADVICE else [])]
                 self.assertEqual(run("--kind", word), (0, lines))
+        found = {"kind": 5, "name": "Star", "help": HELP[Kind.STAR], "advice": ADVICE[Kind.STAR]}
+        self.assertEqual(asked("--kind", "5"), (0, found))
         for word in ["0", "23", "x", ""]:
             self.assertEqual(run("--kind", word)[0], 2, word)
 

@@ -158,6 +158,33 @@ class Screens(InFolder):
         self.assertEqual(found["1"], found["3"])
         self.assertEqual(re.findall(r"^(\d+\.po):6:", found["1"][1], re.MULTILINE), names)
 
+    def test_missing_argument(self):
+        """Of texts with other numbers of arguments, the first specification is marked that has no partner."""
+        self.put("de.po", '#, c-format\nmsgid "%d of %5d"\nmsgstr "%d ist"\n')
+        _, text = self.shown("-m", "fmtcanon.po", "de.po", NO_COLOR="1")
+        lines = [' 2 | msgid "%d of %5d"', "   |              ^^^ int", ' 3 | msgstr "%d ist"']
+        lines += ["   |         ^^^^^^ takes no such argument"]
+        self.assertEqual(text.splitlines()[2:6], lines)
+
+    def test_progress(self):
+        """Commands say how many files are done, on a terminal only, here from the first one on."""
+        names = [f"{at}.po" for at in range(3)]
+        for name in names:
+            self.put(name, CATALOG)
+        for folder in ["old", "new"]:
+            (self.work / folder).mkdir()
+            for name in ["a.c", "b.c", "same.c"]:
+                self.put(f"{folder}/{name}", 'f("%d");\n' if folder == "old" or name == "same.c" else 'f("%i");\n')
+        for package, words, wanted in [
+            ("po", names, ["1 of 3", "2 of 3", "3 of 3"]),
+            ("diff", ["old", "new"], ["1 of 2", "2 of 2"]),
+        ]:
+            script = "from fmtcanon import progress; progress.BEGIN = progress.EVERY = 0; "
+            script += f"from fmtcanon.{package}.command import main; main({words})"
+            _, text = self.shown("-c", script)
+            self.assertEqual(re.findall(r"\r\x1b\[K(\d+ of \d+) files done", text), wanted)
+            self.assertNotIn("files done", self.piped(["-c", script])[1])
+
     def test_binary_catalog(self):
         """A .mo file has no lines, so its texts are shown, under their names."""
         self.put("de.po", CATALOG)
@@ -217,6 +244,13 @@ class Lines(unittest.TestCase):
             begin = mark.index("^")
             self.assertEqual(shown[begin : begin + 3], "%5d")
             self.assertEqual((shown[5:7] == "..", shown.endswith("..")), (before > 0, after > 0))
+
+    def test_long_marks(self):
+        """A mark that is too long is cut, too."""
+        for front in [0, 100]:
+            shown, mark = self.lines(Excerpt("1", "a" * front + "b" * 300 + "c", front, front + 300))
+            self.assertLessEqual(max(columns(shown), columns(mark)), 79)
+            self.assertEqual(mark.count("^"), shown.count("b"))
 
     def test_labels(self):
         found = self.lines(Excerpt("9", "x", 0, 1), Excerpt("10", "y", 0, 1))

@@ -73,7 +73,7 @@ def main(words: Optional[Sequence[str]] = None) -> int:
 def run(options: Any, formats: Sequence[str]) -> int:
     """Explains what is asked, and returns the exit status."""
     if options.kind is not None:
-        return explain_kind(options.kind, style_of(options.color, sys.stdout))
+        return explain_kind(options.kind, style_of(options.color, sys.stdout), options.output == "json")
     try:
         texts = [text_of(it, options.literal) for it in formats]
     except BadLiteral as fault:
@@ -122,13 +122,17 @@ def lines_of(found: Found, model: Model, style: Style) -> List[str]:
     return list(difference_lines(found, model, style))
 
 
-def explain_kind(word: str, style: Style) -> int:
+def explain_kind(word: str, style: Style, is_json: bool) -> int:
     """Prints what a kind of rejection means."""
     names = {it.name.replace("_", "").lower(): it for it in Kind}
     kind = names.get(word.lower()) or (Kind(int(word)) if word.isdecimal() and int(word) in set(Kind) else None)
     if kind is None:
         complain(f"{NAME}: {word} is no kind: give a number from 1 to {len(Kind)}, or a name such as Star")
         return USAGE
+    if is_json:
+        found = {"kind": int(kind), "name": fmtcanon._name(kind), "help": HELP[kind], "advice": ADVICE.get(kind)}
+        put(sys.stdout, json.dumps(found))
+        return 0
     for text in [f"{int(kind)} {fmtcanon._name(kind)}: {HELP[kind]}", ADVICE.get(kind, "")]:
         for line in wrapped(text, style.width) if style.is_terminal else filter(None, [text]):
             put(sys.stdout, line)

@@ -89,7 +89,8 @@ def difference(wanted: Format, found: Format, may_be_fewer: bool, model: fmtcano
     first, second = wanted.codes(model), found.codes(model)
     if not is_fit and (len(second) > len(first) or (len(second) < len(first) and not may_be_fewer)):
         counts = f"{len(first)} and {len(second)}"
-        return Reason(NUMBER, f"number of format specifications in '{{}}' and '{{}}' does not match: {counts}")
+        text = f"number of format specifications in '{{}}' and '{{}}' does not match: {counts}"
+        return Reason(NUMBER, text, min(len(first), len(second)))
     # The library sees no macros.
     for at, (one, other) in enumerate(zip(first, second)):
         if macros.get(at) != others.get(at) or (at not in macros and one != other):
@@ -388,14 +389,15 @@ def marks_of(reason: Reason, texts: Sequence[Text], model: fmtcanon.Model) -> It
         yield Mark(text.name, text.text, min(max(begin_of(text.text, at), 0), at), at + 1, reason.refusal.name)
     elif reason.argument is not None:
         for text in texts:
-            yield from taken_in(text, reason.argument, model)
+            yield taken_in(text, reason.argument, model)
 
 
-def taken_in(text: Text, argument: int, model: fmtcanon.Model) -> Iterator[Mark]:
-    """Yields the first specification of a text that takes an argument, with its type."""
+def taken_in(text: Text, argument: int, model: fmtcanon.Model) -> Mark:
+    """Returns the first specification of a text that takes an argument, with its type; or the text if none does."""
     format = Format(text.text, text.is_translation)
     codes, macros = format.codes(model), format.macros(model)
     use = next((it for it in format.uses(model) if it.argument == argument), None)
-    if use is not None:
-        end = use.start + len(use.specification)
-        yield Mark(text.name, text.text, use.start, end, shown_type(codes[argument], macros.get(argument)))
+    if use is None:
+        return Mark(text.name, text.text, 0, len(text.text), "takes no such argument")
+    end = use.start + len(use.specification)
+    return Mark(text.name, text.text, use.start, end, shown_type(codes[argument], macros.get(argument)))
