@@ -1,23 +1,26 @@
 # Completion of fmtcanon-check, fmtcanon-diff, fmtcanon-explain, fmtcanon-po and fmtcanon-replace for bash.
 
-# The values of an option that has a list of them.
+# The values of an option of a command that has a list of them.
 _fmtcanon_values() {
-    case $1 in
-        --model) echo 'lp64 ilp32 llp64 both all' ;;
-        --output) echo 'text json sarif github' ;;
+    case ${1##*/}$2 in
+        fmtcanon-explain--model) echo 'lp64 ilp32 llp64' ;;
+        fmtcanon-explain--output) echo 'text json' ;;
+        *--color) echo 'auto always never' ;;
+        *--model) echo 'lp64 ilp32 llp64 both all' ;;
+        *--output) echo 'text json sarif github' ;;
     esac
 }
 
 _fmtcanon_commands() {
-    local word=${COMP_WORDS[COMP_CWORD]} before=${COMP_WORDS[COMP_CWORD - 1]} options='-h --help --version --model --output' at
+    local word=${COMP_WORDS[COMP_CWORD]} before=${COMP_WORDS[COMP_CWORD - 1]} options='-h --help --version --model --output --color' at
     COMPREPLY=()
     case ${1##*/} in
-        fmtcanon-check) options+=' -p --flag --function --type --rank --sign --composed --fix --diff --jobs' ;;
-        fmtcanon-diff) options+=' -p --git --cached --exclude --verbose --fail-on --jobs' ;;
-        fmtcanon-explain) options+=' --literal --kind --color' ;;
-        fmtcanon-po) options+=' --c-format --strict --jobs' ;;
+        fmtcanon-check) options+=' -p --flag --function --type --rank --sign --composed --fix --diff -j --jobs' ;;
+        fmtcanon-diff) options+=' -p --git --cached --exclude --verbose --fail-on -j --jobs' ;;
+        fmtcanon-explain) options+=' --literal --kind' ;;
+        fmtcanon-po) options+=' --c-format --strict -j --jobs' ;;
         fmtcanon-replace)
-            options+=' -p --flag --attribute --function --posix-locale --dry-run --diff --pairs --list --list-functions --jobs'
+            options+=' -p --flag --attribute --function --posix-locale --dry-run --diff --pairs --list --list-functions -j --jobs'
             ;;
     esac
     # What comes after -- is a file.
@@ -28,14 +31,14 @@ _fmtcanon_commands() {
     [[ $before == = ]] && before=${COMP_WORDS[COMP_CWORD - 2]}
     [[ $word == = ]] && word=''
     case $before in
-        --model | --output)
-            mapfile -t COMPREPLY < <(compgen -W "$(_fmtcanon_values "$before")" -- "$word")
+        --model | --output | --color)
+            mapfile -t COMPREPLY < <(compgen -W "$(_fmtcanon_values "$1" "$before")" -- "$word")
             return
             ;;
     esac
     case $word in
-        --model=* | --output=*)
-            mapfile -t COMPREPLY < <(compgen -P "${word%%=*}=" -W "$(_fmtcanon_values "${word%%=*}")" -- "${word#*=}")
+        --model=* | --output=* | --color=*)
+            mapfile -t COMPREPLY < <(compgen -P "${word%%=*}=" -W "$(_fmtcanon_values "$1" "${word%%=*}")" -- "${word#*=}")
             ;;
         -*) mapfile -t COMPREPLY < <(compgen -W "$options" -- "$word") ;;
     esac

@@ -5,9 +5,8 @@ for command in fmtcanon-check fmtcanon-diff fmtcanon-po fmtcanon-replace
     complete -c $command -l version -d 'print the version'
     complete -c $command -l model -x -a 'lp64 ilp32 llp64 both all' -d 'the data models'
     complete -c $command -l output -x -a 'text json sarif github' -d 'how findings are printed'
-end
-for command in fmtcanon-check fmtcanon-diff fmtcanon-po fmtcanon-replace
-    complete -c $command -l jobs -x -d 'how many files are read at a time'
+    complete -c $command -l color -x -a 'auto always never' -d 'when to use colour'
+    complete -c $command -s j -l jobs -x -d 'how many files are read at a time'
 end
 complete -c fmtcanon-check -s p -x -a '(__fish_complete_directories)' -d 'the folder of compile_commands.json'
 complete -c fmtcanon-check -l flag -x -d 'a flag of the compile command'

@@ -87,14 +87,30 @@ STRICTER = [
 ]
 # An int is printed as something else: a warning here, and a fault for msgfmt.
 CHANGED = [
-    ("%d", "%c", "argument 0 otherwise: as a number, and as a character"),
-    ("%d", "%hd", "argument 0 otherwise: as a number, and as a number of type short"),
-    ("%hhd", "%d", "argument 0 otherwise: as a number of type signed char, and as a number"),
-    ("%s %d", "%s %hhd", "argument 1 otherwise: as a number, and as a number of type signed char"),
-    ("%hhd", "%hhx", "argument 0 otherwise: as a number of type signed char, and as a number of type unsigned char"),
-    ("%hu", "%hi", "argument 0 otherwise: as a number of type unsigned short, and as a number of type short"),
-    ("%1$d", "%1$d %1$hd", "argument 0 otherwise: as a number, and as a number and a number of type short"),
-    ("%*d", "%d %d", "argument 0 otherwise: as a width or precision, and as a number"),
+    ("%d", "%c", "argument 1, counted from 1, otherwise: %d as a number, and %c as a character"),
+    ("%d", "%hd", "argument 1, counted from 1, otherwise: %d as a number, and %hd as a number of type short"),
+    ("%hhd", "%d", "argument 1, counted from 1, otherwise: %hhd as a number of type signed char, and %d as a number"),
+    (
+        "%s %d",
+        "%s %hhd",
+        "argument 2, counted from 1, otherwise: %d as a number, and %hhd as a number of type signed char",
+    ),
+    (
+        "%hhd",
+        "%hhx",
+        "argument 1, counted from 1, otherwise: %hhd as a number of type signed char, and %hhx as a number of type unsigned char",
+    ),
+    (
+        "%hu",
+        "%hi",
+        "argument 1, counted from 1, otherwise: %hu as a number of type unsigned short, and %hi as a number of type short",
+    ),
+    (
+        "%1$d",
+        "%1$d %1$hd",
+        "argument 1, counted from 1, otherwise: %1$d as a number, and %1$d and %1$hd as a number and a number of type short",
+    ),
+    ("%*d", "%d %d", "argument 1, counted from 1, otherwise: %*d as a width or precision, and %d as a number"),
 ]
 # Types that are equal under other spellings.
 UNCHANGED = [
@@ -341,7 +357,9 @@ def try_charsets(folder, work, trials):
         )
         status, report, *_ = checked(folder, ["a.po"], work)
         trials.expect(
-            f"the charset after {front!r}", (status, report.count("int and string"), "read" in report), (1, 1, False)
+            f"the charset after {front!r}",
+            (status, report.count("%d takes int and %s takes string"), "read" in report),
+            (1, 1, False),
         )
     for bad in [b"\xff", b"\xed\xa0\x80", rb"\355\240\200", rb"\xff", b"\xc3"]:
         file.write_bytes(
@@ -410,7 +428,7 @@ def try_sizes(folder, work, trials):
         status, report, _, memory = checked(folder, ["a.po"], work)
         trials.expect(
             f"{size} MB of {letters[:2]!r}: {memory} KiB",
-            (status, memory < most * 1000, "int and string" in report),
+            (status, memory < most * 1000, "%d takes int and %s takes string" in report),
             (1, True, True),
         )
     (work / "a.mo").write_bytes(overlapping(60_000, 1_000_000))

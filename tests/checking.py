@@ -15,7 +15,10 @@ import tempfile
 from collections import Counter
 from pathlib import Path
 
-from harness import PACKAGES, SONAME, TIMEOUT, TOP, examples, page_examples
+sys.path.insert(0, str(Path(__file__).resolve().parents[1] / "python/tests"))
+
+from harness import PACKAGES, SONAME, TIMEOUT, TOP, examples, page_examples  # noqa: E402
+from terminal import on_terminal  # noqa: E402
 
 SOURCE = TOP / "tests/platforms/expressions.c"
 LARGE = ["-D_TIME_BITS=64", "-D_FILE_OFFSET_BITS=64"]
@@ -323,12 +326,40 @@ def try_files(tool, trials):
     trials.expect("a nested function", (status, said in output, "part.c:5:28: %lu" in output), (2, True, True))
 
 
+# What a terminal of 80 columns shows of a call and of a format that isn't accepted, by hand.
+SCREEN = """\
+a.c:6:10: %lu takes unsigned long, and the argument is size_t: another size in
+    LLP64, another type in ILP32; write %zu
+ 6 |     printf("%lu", n);
+   |             ^^^ write %zu
+a.c:7: not judged: refused 13 AltUndefined at byte 2 of a format of printf
+ format | "%#d"
+        |  ^^^ AltUndefined
+    help: `#` has no meaning with `d`. Write %d.
+1 file, 1 format, 1 argument: 1 size, 1 unjudged
+"""
+
+
+def try_terminal(tool, trials):
+    """What a terminal shows: the line of the source, and what helps."""
+    tool.put("a.c", SAYS + 'void f(size_t n) {\n\tprintf("%lu", n);\n\tprintf("%#d", 1);\n}\n')
+    names = {**tool.environment, "NO_COLOR": "1"}
+    words = ["-m", "fmtcanon.checker", "a.c"]
+    found = on_terminal(words, folder=tool.work, python=str(tool.python), **names)
+    trials.expect("findings on a terminal", found, (1, SCREEN))
+    script = "from fmtcanon import progress; progress.BEGIN = progress.EVERY = 0; "
+    script += "from fmtcanon.checker.command import main; main(['a.c'])"
+    said = on_terminal(["-c", script], folder=tool.work, python=str(tool.python), **names)[1]
+    trials.expect("progress on a terminal", "1 of 1 files done" in said, True)
+    trials.expect("findings in a pipe", len(tool.run("a.c")[1].splitlines()), 2)
+
+
 def try_outputs(tool, trials):
     """The forms of the output."""
     tool.put("a.c", SAYS + 'void f(size_t n) {\n\tprintf("%lu", n);\n}\n')
     message = "%lu takes unsigned long, and the argument is size_t: another size in LLP64, another type in ILP32; "
     message += "write %zu"
-    text = f'a.c:6:10: {message}\n    \tprintf("%lu", n);\n    \t        ^~~\n'
+    text = f"a.c:6:10: {message}\n"
     trials.expect("text", tool.run("a.c"), (1, text, "1 file, 1 format, 1 argument: 1 size\n"))
     line = f"::error file=a.c,line=6,col=10,endColumn=13::{message.replace('%', '%25')}\n"
     trials.expect("github", tool.run("--output", "github", "a.c")[1], line)
@@ -438,11 +469,11 @@ def try_visitor(tool, trials):
 # Lines of an old and a new file, and what is said of the second with its compile command.
 CHANGED = [
     ('printf("%lu a", n);', 'printf("%zu a", n);', 'types differ, and the call fits: "%lu a" and "%zu a"'),
-    ('printf("%d b", (int)m);', 'printf("%ld b", (int)m);', "types differ at argument 0: int and long"),
+    ('printf("%d b", (int)m);', 'printf("%ld b", (int)m);', "types differ at argument 1, counted from 1: %d takes int and %ld takes long"),
     ('printf("%ld c", m);', 'printf("%jd c", (intmax_t)m);', 'types differ, and the call fits: "%ld c" and "%jd c"'),
     ('printf("%d d", 1);', 'printf("%" PRIu64 " d", u);', "types differ, and the call fits: "),
-    ('printf("%d e", 1);', 'printf("%d%s e", 1);', "types differ at argument 1: no argument and string"),
-    ('other("%d f", 1);', 'other("%ld f", 1);', "types differ at argument 0: int and long"),
+    ('printf("%d e", 1);', 'printf("%d%s e", 1);', "types differ at argument 2, counted from 1: no argument and %s takes string"),
+    ('other("%d f", 1);', 'other("%ld f", 1);', "types differ at argument 1, counted from 1: %d takes int and %ld takes long"),
 ]
 
 
@@ -493,4 +524,4 @@ def try_checking(folder, python, tools, trials):
                 part(Tool(folder, os.path.realpath(work), python), trials)
 
 
-PARTS = [try_tables, try_compilers, try_calls, try_files, try_outputs, try_fix, try_not_fixed, try_visitor, try_diff, try_examples]
+PARTS = [try_tables, try_compilers, try_calls, try_files, try_outputs, try_terminal, try_fix, try_not_fixed, try_visitor, try_diff, try_examples]

@@ -14,7 +14,9 @@ from diffing import Tool
 from harness import TIMEOUT
 
 OLD, RIGHT, WRONG = (f'printf("{it}\\n", n);\n' for it in ["%05d", "%0005d", "%s"])
-TYPES = '{}:1:8: types differ at argument 0: int and string, in "%05d\\n" and "%s\\n"\n'
+TYPES = (
+    '{}:1:8: types differ at argument 1, counted from 1: %05d takes int and %s takes string, in "%05d\\n" and "%s\\n"\n'
+)
 # The old and the new argument of a call, the options, and the exit status.
 STATUSES = [
     ("%05d", "%.5d", [], 1),
@@ -152,7 +154,7 @@ def try_ignored(tool, trials):
     trials.expect("an ignored file by its name", tool.run("old/made.c", "new/made.c")[0], 1)
     tool.git("add", "-f", "new/made.c")
     status, output, fault = tool.run("old", "new")
-    found = (status, output, fault.endswith("; 1 literals came, 0 went\n"))
+    found = (status, output, fault.endswith("; 1 literals added, 0 removed\n"))
     trials.expect("a file that git has, though it is ignored", found, (1, TYPES.format("new/a.c"), True))
 
 

@@ -55,20 +55,24 @@ void f(long n, int x) {
 """
 LINES = """\
 FILE:2:12: different: "%05d\\n" and "%.5d\\n" print "-0001\\n" and "-00001\\n" for -1
-FILE:3:12: types differ at argument 1: unsigned long and int, in "%s has %lu\\n" and "%s has %d\\n"
+FILE:3:12: types differ at argument 2, counted from 1: %lu takes unsigned long and %d takes int, in "%s has %lu\\n" and "%s has %d\\n"
 FILE:4:12: same in lp64 only: "%td\\n" and "%ld\\n"
 FILE:5:12: the words differ: "%d files\\n" and "%d file names\\n"
 FILE:6:12: same: "%d %d\\n" and "%i %d\\n"
 FILE:8:12: rejected now: refused 3 Unexpected at byte 3 of "%d%!\\n"
 """
-SUMMARY = "6 places changed: 1 same, 1 with other words, 1 different, 2 with other types, 0 with other directives, 1 rejected now, 0 not judged; 2 literals came, 1 went\n"
+SUMMARY = "6 places changed: 1 same, 1 with other words, 1 different, 2 with other types, 0 with other directives, 1 rejected now, 0 not judged; 2 literals added, 1 removed\n"
 # The same of the whole language: the old and the new part of each line, and what is said of it.
 WHOLE = [
-    ('printf("%d: %f\\n", n, d);', 'printf("%d: %e\\n", n, d);', 'directives differ at argument 1: "%f" and "%e"'),
+    (
+        'printf("%d: %f\\n", n, d);',
+        'printf("%d: %e\\n", n, d);',
+        'directives differ at argument 2, counted from 1: "%f" and "%e"',
+    ),
     (
         'printf("%" DIGITS "e\\n", d);',
         'printf("%" DIGITS "e\\n", d);',
-        'directives differ at argument 0: "%.3e" and "%.4e"',
+        'directives differ at argument 1, counted from 1: "%.3e" and "%.4e"',
     ),
     (
         'printf("%.6lf: %05d\\n", d, n);',
@@ -76,10 +80,14 @@ WHOLE = [
         'different: "%.6lf: %05d\\n" and "%f: %.5d\\n" print "%f: -0001\\n" and "%f: -00001\\n" for any, -1',
     ),
     ('printf("%i %.6f\\n", n, d);', 'printf("%d %f\\n", n, d);', 'same: "%i %.6f\\n" and "%d %f\\n"'),
-    ('printf("%*d\\n", 5, n);', 'printf("%d%d\\n", 5, n);', 'directives differ at argument 0: "%*d" and "%d"'),
+    (
+        'printf("%*d\\n", 5, n);',
+        'printf("%d%d\\n", 5, n);',
+        'directives differ at argument 1, counted from 1: "%*d" and "%d"',
+    ),
 ]
-WHOLE_SUMMARY = "5 places changed: 1 same, 0 with other words, 1 different, 0 with other types, 3 with other directives, 0 rejected now, 0 not judged; 0 literals came, 0 went\n"
-UNSIGNED = 'types differ at argument 0: int and unsigned int, in "%d" and "%u"'
+WHOLE_SUMMARY = "5 places changed: 1 same, 0 with other words, 1 different, 0 with other types, 3 with other directives, 0 rejected now, 0 not judged; 0 literals added, 0 removed\n"
+UNSIGNED = 'types differ at argument 1, counted from 1: %d takes int and %u takes unsigned int, in "%d" and "%u"'
 USAGE = [
     ([], "give OLD and NEW, or --git"),
     (["a.c"], "give OLD and NEW, or --git"),
@@ -88,7 +96,7 @@ USAGE = [
     (["--model", "LP64", "a.c", "b.c"], "argument --model: invalid choice: 'LP64'"),
     (["--output=xml", "a.c", "b.c"], "argument --output: invalid choice: 'xml'"),
     (["--what", "a.c", "b.c"], "--what"),
-    (["--jobs", "many", "a.c", "b.c"], "argument --jobs: invalid int value: 'many'"),
+    (["--jobs", "many", "a.c", "b.c"], "argument -j/--jobs: invalid int value: 'many'"),
     (["--fail-on", "types,word", "a.c", "b.c"], "argument --fail-on: 'word' is not a kind: use same, words, "),
 ]
 # The seconds that a tree of a million lines with a thousand changed files, and a line of ten million bytes, may take.
@@ -205,7 +213,7 @@ def try_lines(tool, trials):
         (["--model=all", "old", "new/"], "new/src/a.c", plain, 1),
         (["--jobs", "1", "--", "old", "new"], "new/src/a.c", plain, 1),
     ]:
-        wanted = (1, lines.replace("FILE", file), SUMMARY.replace("1 went", f"{1 + more} went"))
+        wanted = (1, lines.replace("FILE", file), SUMMARY.replace("1 removed", f"{1 + more} removed"))
         trials.expect(f"fmtcanon-diff {words}", tool.run(*words), wanted)
     trials.expect("two files that are equal", tool.run("old/src/a.c", "old/src/a.c"), (0, "", ""))
     status, output, _ = tool.run("--model", "lp64", "--verbose", "old", "new")
@@ -244,7 +252,8 @@ def try_lines(tool, trials):
     )
     status, output, _ = tool.run("--output", "github", "old", "new")
     wanted = (
-        "::error file=new/src/a.c,line=3,col=12,endColumn=25::types differ at argument 1: unsigned long and int, in "
+        "::error file=new/src/a.c,line=3,col=12,endColumn=25::types differ at argument 2, counted from 1: "
+        "%25lu takes unsigned long and %25d takes int, in "
     )
     trials.expect("a command of GitHub", (status, f"\n{wanted}" in output), (1, True))
     wanted = "::notice file=new/src/a.c,line=5,col=12,endColumn=29::the words differ: "
@@ -309,7 +318,10 @@ def try_whole(tool, trials):
     trials.expect(
         "other directives for GitHub",
         (status, output.splitlines()[0]),
-        (1, '::error file=new.c,line=3,col=12,endColumn=22::directives differ at argument 1: "%25f" and "%25e"'),
+        (
+            1,
+            '::error file=new.c,line=3,col=12,endColumn=22::directives differ at argument 2, counted from 1: "%25f" and "%25e"',
+        ),
     )
 
 
@@ -339,11 +351,11 @@ def try_git(tool, trials):
     tool.git("commit", "-qam", "third")
     renamed = (
         1,
-        'c.c:9:8: types differ at argument 0: int and unsigned int, in "%d\\n" and "%u\\n"\n',
+        'c.c:9:8: types differ at argument 1, counted from 1: %d takes int and %u takes unsigned int, in "%d\\n" and "%u\\n"\n',
         SUMMARY.replace("6 places", "1 place")
         .replace("1 same, 1 with other words, 1 different, 2", "0 same, 0 with other words, 0 different, 1")
         .replace("1 rejected", "0 rejected")
-        .replace("2 literals came, 1", "0 literals came, 0"),
+        .replace("2 literals added, 1", "0 literals added, 0"),
     )
     for words in [
         ["--git", "HEAD~1", "HEAD"],
@@ -371,7 +383,7 @@ def try_git(tool, trials):
         (
             0,
             "",
-            "0 places changed: 0 same, 0 with other words, 0 different, 0 with other types, 0 with other directives, 0 rejected now, 0 not judged; 0 literals came, 9 went\n",
+            "0 places changed: 0 same, 0 with other words, 0 different, 0 with other types, 0 with other directives, 0 rejected now, 0 not judged; 0 literals added, 9 removed\n",
         ),
     )
     for words, said in [

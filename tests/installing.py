@@ -404,7 +404,7 @@ def options_of(name):
         capture_output=True,
         encoding="utf-8",
     )
-    return re.findall(r"^  (?:-h, )?(--?[\w-]+(?: [A-Z:,.=]+)?)(?:  +|$)", done.stdout, flags=re.MULTILINE)
+    return re.findall(r"^  (?:-h, |-j N, )?(--?[\w-]+(?: [A-Z:,.=]+)?)(?:  +|$)", done.stdout, flags=re.MULTILINE)
 
 
 def try_command_pages(trials):
@@ -413,7 +413,7 @@ def try_command_pages(trials):
         page = (TOP / f"man/fmtcanon-{name}.1").read_text(encoding="utf-8").replace("\\-", "-")
         section = page[page.index(".SH OPTIONS") : page.index(".SH EXIT STATUS")]
         tags = [
-            " ".join(tag.replace('"', "").split())
+            re.sub(r"^-[hj](?: N)? ?, ", "", " ".join(tag.replace('"', "").split()))
             for tag in re.findall(r"^\.TP\n\.BI? (.*)$", section, flags=re.MULTILINE)
         ]
         trials.expect(f"options of fmtcanon-{name}.1", sorted(tags), sorted(options_of(name)))

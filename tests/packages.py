@@ -28,7 +28,9 @@ TRIED = [
     ("fmtcanon-diff size.c other.c 2> counts; echo $?", 'other.c:2:32: same in lp64 only: "%zu" and "%lu"\n1\n'),
     (
         "fmtcanon-replace %zu %lu size.c || true",
-        "size.c:2:32: left: in ILP32 the types differ at argument 0; in LLP64 the types differ at argument 0\n",
+        "size.c:2:32: left: in ILP32 the types differ at argument 1, counted from 1: %zu takes unsigned int and %lu takes "
+        "unsigned long; in LLP64 the types differ at argument 1, counted from 1: %zu takes unsigned long long and %lu takes "
+        "unsigned long\n",
     ),
     ("fmtcanon-replace --model lp64 %zu %lu size.c", "size.c:2:32: replaced\n"),
     ("cc -std=c99 -o canon canon.c $(pkg-config --cflags --libs fmtcanon) && ./canon %05u", "%.5u\n"),

@@ -137,15 +137,15 @@ def try_command_completions(trials):
     )
     for name in installing.COMMANDS:
         options = [one.split()[0] for one in installing.options_of(name)]
-        listed = sorted({"-h", *options})
+        listed = sorted({"-h", *(["-j"] if "--jobs" in options else []), *options})
         command = f"fmtcanon-{name}"
         trials.expect(f"bash: {command} -", sorted(completed_command(command, ["-"])), listed)
-        trials.expect(
-            f"bash: {command} --model",
-            completed_command(command, ["--model", ""]),
-            ["lp64", "ilp32", "llp64", "both", "all"],
-        )
-        trials.expect(f"bash: {command} --output=s", completed_command(command, ["--output", "=", "s"]), ["sarif"])
+        models, forms = ["lp64", "ilp32", "llp64"], []
+        if name != "explain":
+            models, forms = [*models, "both", "all"], ["sarif"]
+        trials.expect(f"bash: {command} --model", completed_command(command, ["--model", ""]), models)
+        trials.expect(f"bash: {command} --output=s", completed_command(command, ["--output", "=", "s"]), forms)
+        trials.expect(f"bash: {command} --color=n", completed_command(command, ["--color", "=", "n"]), ["never"])
         trials.expect(
             f"bash: {command} --output=j in one word", completed_command(command, ["--output=j"]), ["--output=json"]
         )

@@ -13,7 +13,10 @@ import sys
 import tempfile
 from pathlib import Path
 
-from harness import SONAME, TIMEOUT, TOP, examples
+sys.path.insert(0, str(Path(__file__).resolve().parents[1] / "python/tests"))
+
+from harness import SONAME, TIMEOUT, TOP, examples  # noqa: E402
+from terminal import on_terminal  # noqa: E402
 
 FOLDER = TOP / "tests/rewrites"
 OLD, NEW = "%i\\n", "%d\\n"
@@ -142,32 +145,45 @@ SOURCES = [
 # Options with the formats, and what is said of a place that is OLD.
 DIFFERENCES = [
     (["%05d", "%.5d"], "left: the two print different bytes for -1"),
-    (["%d", "%ld"], "left: the types differ at argument 0"),
-    (["%zu", "%lu"], "left: in ILP32 the types differ at argument 0; in LLP64 the types differ at argument 0"),
-    (["--model", "both", "%zd", "%d"], "left: in LP64 the types differ at argument 0"),
+    (["%d", "%ld"], "left: the types differ at argument 1, counted from 1: %d takes int and %ld takes long"),
+    (
+        ["%zu", "%lu"],
+        "left: in ILP32 the types differ at argument 1, counted from 1: %zu takes unsigned int and %lu takes unsigned "
+        "long; in LLP64 the types differ at argument 1, counted from 1: %zu takes unsigned long long and %lu takes "
+        "unsigned long",
+    ),
+    (
+        ["--model", "both", "%zd", "%d"],
+        "left: in LP64 the types differ at argument 1, counted from 1: %zd takes long and %d takes int",
+    ),
     (["--model", "ilp32", "%zx", "%u"], "left: the two print different bytes for 4294967295"),
     (["--model", "lp64", "%zu", "%lu"], "replaced"),
     (
         ["%'i", "%d"],
-        "left: the flag ' groups digits, except in the POSIX locale: --posix-locale says that it prints there",
+        "left: the flag ' groups digits in other locales; use --posix-locale if the program prints only in POSIX",
     ),
     (
         ["%i", "%'d"],
-        "left: the flag ' groups digits, except in the POSIX locale: --posix-locale says that it prints there",
+        "left: the flag ' groups digits in other locales; use --posix-locale if the program prints only in POSIX",
     ),
     (["%%'%i", "%%'%d"], "replaced"),
     (["--posix-locale", "%'i", "%d"], "replaced"),
     (["%i: %.2f\\n", "%d: %.2f\\n"], "replaced"),
     (["%.6lf of %5c", "%f of     %c"], "replaced"),
     (["%-08.*f|%+ p", "%-8.*f|%+p"], "replaced"),
-    (["%i: %.2f", "%d: %.3f"], "left: the directives differ at argument 1"),
-    (["%*d", "%d%d"], "left: the directives differ at argument 0"),
+    (["%i: %.2f", "%d: %.3f"], "left: the directives differ at argument 2, counted from 1: %.2f and %.3f"),
+    (["%*d", "%d%d"], "left: the directives differ at argument 1, counted from 1: %*d and %d"),
     (["%f%05d", "%f%.5d"], "left: the two print different bytes for any, -1"),
-    (["%f", "%Lf"], "left: the types differ at argument 0"),
-    (["%jn%f", "%ln%f"], "left: in ILP32 the types differ at argument 0; in LLP64 the types differ at argument 0"),
+    (["%f", "%Lf"], "left: the types differ at argument 1, counted from 1: %f takes double and %Lf takes long double"),
+    (
+        ["%jn%f", "%ln%f"],
+        "left: in ILP32 the types differ at argument 1, counted from 1: %jn takes pointer to long long and %ln takes "
+        "pointer to long; in LLP64 the types differ at argument 1, counted from 1: %jn takes pointer to long long and "
+        "%ln takes pointer to long",
+    ),
     (
         ["%'f", "%f"],
-        "left: the flag ' groups digits, except in the POSIX locale: --posix-locale says that it prints there",
+        "left: the flag ' groups digits in other locales; use --posix-locale if the program prints only in POSIX",
     ),
     (["--posix-locale", "%'f", "%f"], "replaced"),
 ]
@@ -200,6 +216,34 @@ WITHOUT_LIBCLANG = (
     "fmtcanon-replace: libclang is missing: {python} has no module clang.cindex. The package python3-clang has it for "
     "the system's Python; for this one: {python} -m pip install libclang\n"
 )
+
+
+# A source, and what a terminal of 80 columns shows of the places that are left, by hand.
+SCREEN_C = """\
+#include <stdio.h>
+void f(int n) {
+\tprintf("%d: %05d\\n", n, n);
+\tfputs("%d: %05d\\n", stderr);
+}
+"""
+SCREEN = """\
+a.c:3:9: left: the two print different bytes for 0, -1
+   3 |     printf("%d: %05d\\n", n, n);
+     |                 ^^^^ the sign is one of the 5 columns
+ NEW | "%d: %.5d\\n"
+     |      ^^^^ 5 digits, and the sign before them
+a.c:4:8: left: the two print different bytes for 0, -1
+   4 |     fputs("%d: %05d\\n", stderr);
+     |                ^^^^ the sign is one of the 5 columns
+ NEW | "%d: %.5d\\n"
+     |      ^^^^ 5 digits, and the sign before them
+"""
+REFUSED_SCREEN = """\
+fmtcanon-replace: NEW is refused 13 AltUndefined at byte 2
+refused 13 AltUndefined at byte 2
+%#d
+  ^ `#` has no meaning with `d`. Write %d.
+"""
 
 
 class Tool:
@@ -236,6 +280,14 @@ class Tool:
             done.stdout.decode(errors="surrogateescape"),
             done.stderr.decode(errors="surrogateescape"),
         )
+
+    def on_terminal(self, *words):
+        """The status of a run on a terminal, and what this shows, without colours."""
+        return self.on_terminal_of(str(self.words[1]), *words)
+
+    def on_terminal_of(self, *words):
+        names = {**self.environment, "NO_COLOR": "1"}
+        return on_terminal(words, folder=self.work, python=str(self.words[0]), **names)
 
     def put(self, name, text):
         """Writes a file, and returns its path."""
@@ -615,6 +667,20 @@ def try_document(tool, trials):
         trials.expect(f"docs/REFACTORING.md: {command}", done.stdout.decode(), "".join(f"{line}\n" for line in output))
 
 
+def try_terminal(tool, trials):
+    """What a terminal shows: the lines of places that are left, with NEW; and a format that is rejected."""
+    tool.put("a.c", SCREEN_C)
+    words = ["--dry-run", r"%d: %05d\n", r"%d: %.5d\n", "a.c"]
+    trials.expect("places on a terminal", tool.on_terminal(*words), (1, SCREEN))
+    lines = [it for it in SCREEN.splitlines(keepends=True) if it.startswith("a.c:")]
+    trials.expect("places in a pipe", tool.run_with_columns(words)[1], "".join(lines))
+    script = "from fmtcanon import progress; progress.BEGIN = progress.EVERY = 0; "
+    script += f"from fmtcanon.replace.command import main; main({words})"
+    said = tool.on_terminal_of("-c", script)[1]
+    trials.expect("progress on a terminal", "1 of 1 files done" in said, True)
+    trials.expect("a rejected format on a terminal", tool.on_terminal("%d", "%#d", "a.c"), (2, REFUSED_SCREEN))
+
+
 def try_without_libclang(folder, trials):
     """What the command says without libclang: usage errors, and that it is missing; no file is changed."""
     with tempfile.TemporaryDirectory() as work:
@@ -638,6 +704,7 @@ def try_replacing(folder, python, trials):
         try_files,
         try_trees,
         try_sizes,
+        try_terminal,
         try_document,
     ]:
         with tempfile.TemporaryDirectory() as work:

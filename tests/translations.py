@@ -33,11 +33,11 @@ found 1 fatal error
         "wrong.po",
         1,
         """\
-wrong.po:7: types of 'msgid' and 'msgstr' differ at argument 0: string and int ["%s: %d"]
-wrong.po:11: types of 'msgid' and 'msgstr' differ at argument 0: int and long ["%d items"]
+wrong.po:7: types of 'msgid' and 'msgstr' differ at argument 1, counted from 1: %s takes string and %d takes int ["%s: %d"]
+wrong.po:11: types of 'msgid' and 'msgstr' differ at argument 1, counted from 1: %d takes int and %ld takes long ["%d items"]
 wrong.po:15: number of format specifications in 'msgid' and 'msgstr' does not match: 2 and 1 ["%d of %d"]
 wrong.po:19: 'msgstr' is not a valid C format string, unlike 'msgid'. Reason: refused 2 Truncated at byte 3 ["%d%%"]
-wrong.po:23: types of 'msgid' and 'msgstr' differ at argument 1: double and string ["%s is %5.1f"]
+wrong.po:23: types of 'msgid' and 'msgstr' differ at argument 2, counted from 1: %5.1f takes double and %s takes string ["%s is %5.1f"]
 6 messages judged, 0 not judged
 found 5 fatal errors
 """,
@@ -47,9 +47,9 @@ found 5 fatal errors
         1,
         """\
 whole.po:16: number of format specifications in 'msgid' and 'msgstr' does not match: 2 and 3 ["%*d"]
-whole.po:20: types of 'msgid' and 'msgstr' differ at argument 1: string and double ["%.2f of %s"]
-whole.po:28: types of 'msgid' and 'msgstr' differ at argument 1: <PRIu64> and <PRId64> ["%s: %<PRIu64>"]
-whole.po:32: types of 'msgid' and 'msgstr' differ at argument 0: <PRIuMAX> and unsigned long ["%<PRIuMAX>"]
+whole.po:20: types of 'msgid' and 'msgstr' differ at argument 2, counted from 1: %s takes string and %e takes double ["%.2f of %s"]
+whole.po:28: types of 'msgid' and 'msgstr' differ at argument 2, counted from 1: %<PRIu64> takes uint64_t and %<PRId64> takes int64_t ["%s: %<PRIu64>"]
+whole.po:32: types of 'msgid' and 'msgstr' differ at argument 1, counted from 1: %<PRIuMAX> takes uintmax_t and %lu takes unsigned long ["%<PRIuMAX>"]
 whole.po:36: 'msgstr' is not a valid C format string, unlike 'msgid'. Reason: refused 20 Mixed at byte 15 ["%s: %<PRIu64>%s"]
 whole.po:40: 'msgstr' is not a valid C format string, unlike 'msgid'. Reason: refused 21 MissingArgument at byte 4 ["%s %s"]
 11 messages judged, 0 not judged
@@ -102,7 +102,7 @@ found 1 fatal error
         "flags.po",
         1,
         """\
-flags.po:3: types of 'msgid' and 'msgstr' differ at argument 0: int and string ["%d"]
+flags.po:3: types of 'msgid' and 'msgstr' differ at argument 1, counted from 1: %d takes int and %s takes string ["%d"]
 1 message judged, 0 not judged
 found 1 fatal error
 """,
@@ -131,8 +131,8 @@ IN_MODELS = [
     (
         ["--model", "lp64"],
         """\
-models.po:12: types of 'msgid' and 'msgstr' differ at argument 1: int and long ["%d of %d"]
-models.po:16: types of 'msgid' and 'msgstr' differ at argument 0: int and unsigned int ["%d"]
+models.po:12: types of 'msgid' and 'msgstr' differ at argument 2, counted from 1: %d takes int and %zd takes long ["%d of %d"]
+models.po:16: types of 'msgid' and 'msgstr' differ at argument 1, counted from 1: %d takes int and %u takes unsigned int ["%d"]
 3 messages judged, 0 not judged
 found 2 fatal errors
 """,
@@ -140,8 +140,8 @@ found 2 fatal errors
     (
         ["--model", "ilp32"],
         """\
-models.po:8: types of 'msgid' and 'msgstr' differ at argument 0: unsigned int and unsigned long ["%zu"]
-models.po:16: types of 'msgid' and 'msgstr' differ at argument 0: int and unsigned int ["%d"]
+models.po:8: types of 'msgid' and 'msgstr' differ at argument 1, counted from 1: %zu takes unsigned int and %lu takes unsigned long ["%zu"]
+models.po:16: types of 'msgid' and 'msgstr' differ at argument 1, counted from 1: %d takes int and %u takes unsigned int ["%d"]
 3 messages judged, 0 not judged
 found 2 fatal errors
 """,
@@ -149,9 +149,9 @@ found 2 fatal errors
     (
         ["--model", "both"],
         """\
-models.po:8: types of 'msgid' and 'msgstr' differ at argument 0: unsigned int and unsigned long, in ILP32 ["%zu"]
-models.po:12: types of 'msgid' and 'msgstr' differ at argument 1: int and long, in LP64 ["%d of %d"]
-models.po:16: types of 'msgid' and 'msgstr' differ at argument 0: int and unsigned int ["%d"]
+models.po:8: types of 'msgid' and 'msgstr' differ at argument 1, counted from 1: %zu takes unsigned int and %lu takes unsigned long, in ILP32 ["%zu"]
+models.po:12: types of 'msgid' and 'msgstr' differ at argument 2, counted from 1: %d takes int and %zd takes long, in LP64 ["%d of %d"]
+models.po:16: types of 'msgid' and 'msgstr' differ at argument 1, counted from 1: %d takes int and %u takes unsigned int ["%d"]
 3 messages judged, 0 not judged
 found 3 fatal errors
 """,
@@ -188,7 +188,7 @@ REPORTS_OF_BINARY = [
         [],
         0,
         """\
-a.mo:1: warning: if it is a C format: types of 'msgid_plural' and 'msgstr[1]' differ at argument 0: int and string ["%d file"]
+a.mo:1: warning: if it is a C format: types of 'msgid_plural' and 'msgstr[1]' differ at argument 1, counted from 1: %d takes int and %s takes string ["%d file"]
 a.mo:3: warning: if it is a C format: 'msgstr' is not a valid C format string, unlike 'msgid'. Reason: refused 3 Unexpected at byte 6 ["100% of it"]
 a.mo:4: 'msgid' and 'msgstr' entries do not both end with '\\n' ["%u"]
 a.mo:5: 'msgid' and 'msgstr' entries do not both begin with '\\n' ["no format"]
@@ -201,7 +201,7 @@ found 3 fatal errors
         ["--c-format"],
         1,
         """\
-a.mo:1: types of 'msgid_plural' and 'msgstr[1]' differ at argument 0: int and string ["%d file"]
+a.mo:1: types of 'msgid_plural' and 'msgstr[1]' differ at argument 1, counted from 1: %d takes int and %s takes string ["%d file"]
 a.mo:3: 'msgstr' is not a valid C format string, unlike 'msgid'. Reason: refused 3 Unexpected at byte 6 ["100% of it"]
 a.mo:4: 'msgid' and 'msgstr' entries do not both end with '\\n' ["%u"]
 a.mo:5: 'msgid' and 'msgstr' entries do not both begin with '\\n' ["no format"]
@@ -286,7 +286,10 @@ def try_forms(folder, trials):
     trials.expect(
         "messages in JSON",
         (status, found[0]["message"]),
-        (1, "types of 'msgid' and 'msgstr' differ at argument 0: string and int [\"%s: %d\"]"),
+        (
+            1,
+            "types of 'msgid' and 'msgstr' differ at argument 1, counted from 1: %s takes string and %d takes int [\"%s: %d\"]",
+        ),
     )
     trials.expect(
         "formats in JSON",
@@ -303,7 +306,7 @@ def try_forms(folder, trials):
         [["ilp32", "llp64"], ["lp64", "llp64"], ["lp64", "ilp32", "llp64"]],
     )
     status, out, report = check_po(folder, ["--output", "github", "wrong.po"])
-    wanted = "::error file=wrong.po,line=7,col=1::types of 'msgid' and 'msgstr' differ at argument 0: string and int [\"%25s: %25d\"]"
+    wanted = "::error file=wrong.po,line=7,col=1::types of 'msgid' and 'msgstr' differ at argument 1, counted from 1: %25s takes string and %25d takes int [\"%25s: %25d\"]"
     trials.expect("a command of GitHub", (status, out.splitlines()[0]), (1, wanted))
     status, out, report = check_po(folder, ["--output", "sarif", "wrong.po"])
     trials.expect(
@@ -353,7 +356,7 @@ def fault_lines(text):
     """The faults of formats and newlines in what either tool prints: each line with the words that both have."""
     kinds = r"types of|number of format|is not a valid C format|do not both"
     theirs = r"format specifications in ('.*') and ('.*') for argument (\d+) are not the same"
-    text = re.sub(theirs, lambda it: f"types of {it[1]} and {it[2]} differ at argument {int(it[3]) - 1}", text)
+    text = re.sub(theirs, lambda it: f"types of {it[1]} and {it[2]} differ at argument {it[3]}, counted from 1", text)
     for line in text.splitlines():
         found = re.match(rf"(\S+:\d+): (.*(?:{kinds})[^:.\[]*)", line)
         if found:

@@ -86,7 +86,7 @@ LIMITS = {
     "docs/CHEATSHEET.md": 520,
     "docs/USING.md": 2050,
     "docs/TRANSLATIONS.md": 1100,
-    "docs/EXPLAINING.md": 350,
+    "docs/EXPLAINING.md": 420,
     "docs/PORTING.md": 1200,
     "docs/REFACTORING.md": 1400,
     # With a part for each kind, the table of flags, and the grammar.
@@ -106,7 +106,7 @@ LIMITS = {
     "docs/internals/PROOF_NOTES.md": 3800,
     "docs/CONTRIBUTING.md": 1000,
     "SECURITY.md": 150,
-    "CHANGELOG.md": 850,
+    "CHANGELOG.md": 920,
     CALLING: 9000,
 }
 MARGIN = 10

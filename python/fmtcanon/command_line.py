@@ -3,13 +3,16 @@
 from __future__ import annotations
 
 import argparse
+import os
 import signal
 import sys
+import textwrap
 from typing import IO, Callable, Dict, List, NoReturn, Optional, Sequence, Tuple, Union
 
 from . import Model, __version__
 from .findings import OUTPUTS
 from .output import Unwritable, complain, drop, occupy, write
+from .terminals import COLORS
 
 MODELS: Dict[str, List[Model]] = {
     "lp64": [Model.LP64],
@@ -18,7 +21,28 @@ MODELS: Dict[str, List[Model]] = {
     "both": [Model.LP64, Model.ILP32],
     "all": list(Model),
 }
+# What each value of --model means.
+MODEL_WORDS = {
+    "lp64": "lp64, 64-bit Unix",
+    "ilp32": "ilp32, 32-bit systems",
+    "llp64": "llp64, 64-bit Windows",
+    "both": "both, the first two",
+    "all": "all",
+}
 USAGE = 2
+
+
+class Formatter(argparse.HelpFormatter):
+    """Wraps each paragraph of a text. Lines that are indented, such as examples, stay as they are."""
+
+    def _fill_text(self, text: str, width: int, indent: str) -> str:
+        return "\n\n".join(self._filled(it, width) for it in text.split("\n\n"))
+
+    @staticmethod
+    def _filled(paragraph: str, width: int) -> str:
+        if "\n  " in paragraph:
+            return paragraph
+        return textwrap.fill(paragraph, width, break_long_words=False, break_on_hyphens=False)
 
 
 class Parser(argparse.ArgumentParser):
@@ -30,15 +54,33 @@ class Parser(argparse.ArgumentParser):
             usage=usage,
             description=description,
             epilog=epilog,
-            formatter_class=argparse.RawDescriptionHelpFormatter,
+            formatter_class=Formatter,
             allow_abbrev=False,
             add_help=False,
         )
         self.add_argument("-h", "--help", action="help", help="print this text")
         self.add_argument("--version", action="version", version=f"fmtcanon {__version__}", help="print the version")
 
-    def add_model(self, help: str) -> None:
-        self.add_argument("--model", choices=list(MODELS), default="all", metavar="MODEL", help=help)
+    def add_model(self, what: str, default: str = "all", choices: Sequence[str] = tuple(MODELS)) -> None:
+        """Adds --model, whose data models are those of which this is said."""
+        listed = "; ".join(MODEL_WORDS[it] + (", the default" if it == default else "") for it in choices)
+        noun = "the data models" if "all" in choices else "the data model"
+        self.add_argument("--model", choices=choices, default=default, metavar="MODEL", help=f"{noun} {what}: {listed}")
+
+    def add_color(self) -> None:
+        self.add_argument(
+            "--color",
+            choices=COLORS,
+            default="auto",
+            metavar="WHEN",
+            help="when to use colour: auto, the default, on a terminal unless NO_COLOR is set; always; or never",
+        )
+
+    def add_jobs(self, what: str) -> None:
+        """Adds -j, which says how many of what are read at a time. The output doesn't depend on it."""
+        count = os.cpu_count() or 1
+        text = f"how many {what} are read at a time"
+        self.add_argument("-j", "--jobs", type=int, default=count, metavar="N", help=text)
 
     def add_output(self) -> None:
         self.add_argument(

@@ -6,15 +6,17 @@ without it is the same.
 
 from __future__ import annotations
 
-from typing import Dict, List, NamedTuple, Optional, Sequence, Tuple
+from typing import Dict, List, NamedTuple, Optional, Sequence, Tuple, Union
 
 import fmtcanon
 from fmtcanon import DirectiveSpan, Kind, Model, Refused, Type, Verdict
 
-from .rejections import HELP, instead_of
+from . import verdicts
+from .kinds import TYPE_NAMES
+from .rejections import instead_of, sentence
 from .specification import Specification, specification_of
-from .verdicts import Argument, Library, shared_front
-from .wording import Stars, meaning, note
+from .verdicts import Argument, Library, shared_front, taker_of
+from .wording import Stars, meaning, meaning_of_number, note
 
 
 class Part(NamedTuple):
@@ -31,6 +33,14 @@ class Part(NamedTuple):
     notes: Tuple[str, ...]
 
 
+class Marked(NamedTuple):
+    """A part of a format, by its offsets, and what is said of it."""
+
+    start: int
+    end: int
+    words: str
+
+
 class Explanation(NamedTuple):
     """What a format does. `canonical` is empty if its arguments are numbered, and `bounds` None outside the profile."""
 
@@ -40,22 +50,12 @@ class Explanation(NamedTuple):
     bounds: Optional[fmtcanon.Bounds]
 
 
-class Rejection(NamedTuple):
-    """Why a format is rejected: the refusal, what it means, and what to write instead of the specification."""
-
-    format: bytes
-    refusal: Refused
-    help: str
-    instead: Optional[bytes]
-
-
 class Difference(NamedTuple):
     """How two formats compare.
 
     `arguments` are some that they print differently, and `printed` is what each prints for them, if the program can be
-    run. `at` is the index from
-    0 of the first argument at which their types or directives differ. `parts` are the directives there: of each format
-    one, or None.
+    run. `at` is the index from 0 of the first argument at which their types or directives differ. `parts` are the
+    directives there: of each format one, or None.
     """
 
     formats: Tuple[bytes, bytes]
@@ -67,11 +67,27 @@ class Difference(NamedTuple):
     parts: Tuple[Optional[Part], ...] = ()
 
 
+class Rejection(NamedTuple):
+    """Why a format is rejected: the refusal, what it means, and what to write instead of the specification.
+
+    `side` is the index of the format, if two are compared. `types` is how their types compare, if numbered arguments are
+    all that is rejected.
+    """
+
+    format: bytes
+    refusal: Refused
+    help: str
+    instead: Optional[bytes]
+    side: Optional[int] = None
+    types: Optional[Difference] = None
+
+
 def explain(text: bytes, model: Model) -> Explanation:
     """Explains a format of the whole language. Raises `Refused`."""
     spans = fmtcanon.directives(text, model=model)
     types = {other: types_in(text, other) for other in Model}
-    parts = tuple(part_of(text, span, types, model) for span in spans)
+    by_model = [{it: found[at] for it, found in types.items() if found} for at in range(len(spans))]
+    parts = tuple(part_of(text, span, types_of) for span, types_of in zip(spans, by_model))
     return Explanation(text, parts, canonical_by_model(text), bounds_of(text, model))
 
 
@@ -99,14 +115,12 @@ def bounds_of(text: bytes, model: Model) -> Optional[fmtcanon.Bounds]:
         return None
 
 
-def part_of(text: bytes, span: DirectiveSpan, types: Dict[Model, List[Type]], model: Model) -> Part:
-    """Returns a directive with what it prints."""
+def part_of(text: bytes, span: DirectiveSpan, types: Dict[Model, Type]) -> Part:
+    """Returns a directive, whose types are these, with what it prints."""
     spelling = text[span.start : span.end]
-    index = [it.start for it in fmtcanon.directives(text, model=model)].index(span.start)
-    by_model = {other: found[index] for other, found in types.items() if found}
     effective, notes = effects(specification_of(spelling))
     stars = Stars(*(None if it is None else it + 1 for it in (span.width_argument, span.precision_argument)))
-    return Part(span.start, span.end, spelling, span.argument + 1, by_model, meaning(effective, stars), notes)
+    return Part(span.start, span.end, spelling, span.argument + 1, types, meaning(effective, stars), notes)
 
 
 def effects(found: Specification) -> Tuple[Specification, Tuple[str, ...]]:
@@ -130,20 +144,19 @@ def is_same(first: Specification, second: Specification) -> bool:
         return False
 
 
-def reject(text: bytes, refusal: Refused, model: Model) -> Rejection:
+def reject(text: bytes, refusal: Refused, model: Model, side: Optional[int] = None) -> Rejection:
     """Returns what a refusal of a format means."""
-    return Rejection(text, refusal, HELP[refusal.kind], instead_of(text, refusal, model))
+    return Rejection(text, refusal, sentence(text, refusal), instead_of(text, refusal, model), side)
 
 
-def compare(first: bytes, second: bytes, model: Model) -> Difference:
-    """Compares two formats. Raises `Refused` with the side that is rejected."""
+def compare(first: bytes, second: bytes, model: Model) -> Union[Difference, Rejection]:
+    """Compares two formats."""
     formats = (first, second)
     try:
         found = fmtcanon.compare(first, second, model=model, whole=True)
     except Refused as refusal:
-        if refusal.kind is not Kind.NUMBERED:
-            raise
-        return by_types(formats, model)
+        rejection = reject(formats[refusal.side], refusal, model, refusal.side)
+        return rejection._replace(types=by_types(formats, model)) if refusal.kind is Kind.NUMBERED else rejection
     if found.verdict is Verdict.SAME:
         return Difference(formats, found.verdict, canonical=fmtcanon.canonical(first, model=model, whole=True))
     if found.verdict is Verdict.DIFFERENT:
@@ -152,12 +165,15 @@ def compare(first: bytes, second: bytes, model: Model) -> Difference:
     return Difference(formats, found.verdict, at=at, parts=parts_at(formats, at or 0, model))
 
 
-def by_types(formats: Tuple[bytes, bytes], model: Model) -> Difference:
-    """Compares two formats of which one has numbered arguments: only their types can be compared."""
-    first, second = (bytes(fmtcanon.arguments(it, model=model)) for it in formats)
-    at = shared_front(first, second)
-    if fmtcanon.fits(*formats, model=model):
+def by_types(formats: Tuple[bytes, bytes], model: Model) -> Optional[Difference]:
+    """Compares the types of two formats; returns None if one of them is rejected."""
+    try:
+        first, second = (bytes(fmtcanon.arguments(it, model=model)) for it in formats)
+    except Refused:
+        return None
+    if first == second:
         return Difference(formats, Verdict.SAME)
+    at = shared_front(first, second)
     return Difference(formats, Verdict.TYPES, at=at, parts=parts_at(formats, at, model))
 
 
@@ -168,10 +184,8 @@ def parts_at(formats: Sequence[bytes], index: int, model: Model) -> Tuple[Option
 
 def part_at(text: bytes, index: int, model: Model) -> Optional[Part]:
     """Returns the directive that takes the argument of this index, converted or as a `*`."""
-    for span, part in zip(fmtcanon.directives(text, model=model), explain(text, model).parts):
-        if index in (span.argument, span.width_argument, span.precision_argument):
-            return part
-    return None
+    taker = taker_of(text, index, model)
+    return next((it for it in explain(text, model).parts if taker and it.start == taker.start), None)
 
 
 def printed_unlike(formats: Tuple[bytes, bytes], arguments: Tuple[Argument, ...], model: Model) -> Difference:
@@ -179,8 +193,30 @@ def printed_unlike(formats: Tuple[bytes, bytes], arguments: Tuple[Argument, ...]
     printed = tuple(it for it in (printed_by(it, arguments, model) for it in formats) if it is not None)
     first, second = (explain(it, model).parts for it in formats)
     unlike = ((one, two) for one, two in zip(first, second) if not is_alike(one, two, arguments, model))
-    parts: Tuple[Optional[Part], ...] = next(unlike, ())
+    parts = tuple(about_argument(it, arguments) for it in next(unlike, ()))
     return Difference(formats, Verdict.DIFFERENT, arguments=arguments, printed=printed, parts=parts)
+
+
+def about_argument(part: Part, arguments: Sequence[Argument]) -> Part:
+    """Returns a directive, of which it is said what it does with its own argument, if that is a number with a sign."""
+    argument = arguments[part.argument - 1]
+    said = meaning_of_number(specification_of(part.text), argument) if isinstance(argument, int) else None
+    return part._replace(meaning=said or part.meaning)
+
+
+def marked_parts(formats: Tuple[bytes, bytes], verdict: verdicts.Verdict, model: Model) -> Sequence[Optional[Marked]]:
+    """Returns the directive of each of two formats that a verdict is about, with its type or what it prints; nothing if
+    the verdict is about none.
+    """
+    if verdict.kind is verdicts.Kind.TYPES:
+        takers = [taker_of(it, verdict.at, model) for it in formats]
+        return [it and Marked(it.start, it.end, TYPE_NAMES[it.type]) for it in takers]
+    parts: Sequence[Optional[Part]] = ()
+    if verdict.kind is verdicts.Kind.DIRECTIVES:
+        parts = parts_at(formats, verdict.at, model)
+    elif verdict.kind is verdicts.Kind.DIFFERENT:
+        parts = printed_unlike(formats, verdict.arguments, model).parts
+    return [it and Marked(it.start, it.end, it.meaning) for it in parts]
 
 
 def is_alike(first: Part, second: Part, arguments: Sequence[Argument], model: Model) -> bool:

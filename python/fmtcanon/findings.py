@@ -9,30 +9,14 @@ from dataclasses import dataclass, field
 from typing import Any, Callable, Dict, List, Mapping, Optional, TextIO, Tuple
 from urllib.parse import quote
 
-from . import Type, __version__
+from . import __version__
+from .excerpts import Excerpt, shown_finding
+from .output import complain
 from .output import put as put
+from .progress import Progress
+from .terminals import style_of, wrapped
 from .visible import visible
 
-# The names of types that all commands use.
-TYPE_NAMES = {
-    Type.INT: "int",
-    Type.UINT: "unsigned int",
-    Type.LONG: "long",
-    Type.ULONG: "unsigned long",
-    Type.LONG_LONG: "long long",
-    Type.ULONG_LONG: "unsigned long long",
-    Type.STRING: "string",
-    Type.DOUBLE: "double",
-    Type.LONG_DOUBLE: "long double",
-    Type.WIDE_CHAR: "wide character",
-    Type.WIDE_STRING: "wide string",
-    Type.POINTER_TO_VOID: "pointer",
-    Type.POINTER_TO_SCHAR: "pointer to signed char",
-    Type.POINTER_TO_SHORT: "pointer to short",
-    Type.POINTER_TO_INT: "pointer to int",
-    Type.POINTER_TO_LONG: "pointer to long",
-    Type.POINTER_TO_LONG_LONG: "pointer to long long",
-}
 ERROR, WARNING, NOTE = "error", "warning", "note"
 # What GitHub calls the levels.
 GITHUB_LEVELS = {ERROR: "error", WARNING: "warning", NOTE: "notice"}
@@ -45,7 +29,8 @@ class Finding:
 
     Lines and columns count from 1, and `end` is after the last character. A column is None if it isn't known, and a
     line is 0 if the finding is of the file as a whole. `level` is "error", "warning" or "note". `formats` are those in
-    question, and `models` the names of the data models in which it holds. `details` are more keys for JSON.
+    question, and `models` the names of the data models in which it holds. `details` are more keys for JSON. On a
+    terminal `excerpts` are shown, and `help`, which says what to do.
     """
 
     file: str
@@ -58,6 +43,8 @@ class Finding:
     formats: Tuple[str, ...] = ()
     models: Tuple[str, ...] = ()
     details: Mapping[str, Any] = field(default_factory=dict)
+    excerpts: Tuple[Excerpt, ...] = field(default=(), compare=False)
+    help: str = field(default="", compare=False)
 
     @property
     def place(self) -> str:
@@ -140,7 +127,8 @@ OUTPUTS = ("text", "json", "sarif", "github")
 class Printer:
     """Prints findings in one form, each as soon as it is there; only SARIF waits for the last.
 
-    `rules` are the kinds that the command has, each with what it means; `text` is how it prints a finding as text.
+    `rules` are the kinds that the command has, each with what it means; `text` is how it prints a finding in one line.
+    On a terminal, a finding as text has its excerpts, and long work says how far it is.
     """
 
     def __init__(
@@ -150,17 +138,44 @@ class Printer:
         rules: Mapping[str, str],
         stream: Optional[TextIO] = None,
         text: Callable[[Finding], str] = as_text,
+        color: str = "auto",
     ) -> None:
         self.command, self.output, self.rules = command, output, rules
         self.stream = sys.stdout if stream is None else stream
-        self.line = {"text": text, "json": as_json, "github": as_github}.get(output, as_text)
+        self.style = style_of(color, self.stream)
+        self.text = text
+        self.line = {"text": self.as_text, "json": as_json, "github": as_github}.get(output, as_text)
+        self.progress = Progress()
         self.waiting: List[Finding] = []
+
+    @property
+    def has_excerpts(self) -> bool:
+        """Whether findings are shown with their excerpts."""
+        return self.output == "text" and self.style.is_terminal
+
+    def as_text(self, finding: Finding) -> str:
+        """Returns a finding as text: in one line, or with its excerpts for a terminal."""
+        line = self.text(finding)
+        if not self.style.is_terminal and not self.style.is_coloured:
+            return line
+        file = visible(finding.file)
+        position, _, message = line[len(file) :].partition(" ")
+        excerpts, help = (finding.excerpts, finding.help) if self.style.is_terminal else ((), "")
+        return "\n".join(shown_finding(file + position, message, finding.level, excerpts, help, self.style))
 
     def add(self, finding: Finding) -> None:
         if self.output == "sarif":
             self.waiting.append(finding)
         else:
+            self.progress.clear()
             put(self.stream, self.line(finding))
+
+    def say(self, text: str) -> None:
+        """Writes a text to standard error, in lines of its width if that is a terminal."""
+        self.progress.clear()
+        style = style_of("never", sys.stderr)
+        for line in wrapped(text, style.width, "    ") if style.is_terminal else [text]:
+            complain(line)
 
     def end(self) -> None:
         if self.output == "sarif":

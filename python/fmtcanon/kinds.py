@@ -73,3 +73,25 @@ class Verdict(enum.IntEnum):
     DIFFERENT = 3
     # Of the whole language alone.
     DIRECTIVES = 4
+
+
+# The names of types that all commands use.
+TYPE_NAMES = {
+    Type.INT: "int",
+    Type.UINT: "unsigned int",
+    Type.LONG: "long",
+    Type.ULONG: "unsigned long",
+    Type.LONG_LONG: "long long",
+    Type.ULONG_LONG: "unsigned long long",
+    Type.STRING: "string",
+    Type.DOUBLE: "double",
+    Type.LONG_DOUBLE: "long double",
+    Type.WIDE_CHAR: "wide character",
+    Type.WIDE_STRING: "wide string",
+    Type.POINTER_TO_VOID: "pointer",
+    Type.POINTER_TO_SCHAR: "pointer to signed char",
+    Type.POINTER_TO_SHORT: "pointer to short",
+    Type.POINTER_TO_INT: "pointer to int",
+    Type.POINTER_TO_LONG: "pointer to long",
+    Type.POINTER_TO_LONG_LONG: "pointer to long long",
+}

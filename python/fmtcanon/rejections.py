@@ -26,7 +26,7 @@ HELP: Mapping[Kind, str] = {
     Kind.ZERO_UNDEFINED: "`0` has no meaning with this conversion.",
     Kind.GROUP_UNDEFINED: "`'` has no meaning with this conversion.",
     Kind.PRECISION_UNDEFINED: "A precision has no meaning with this conversion.",
-    Kind.LENGTH_UNDEFINED: "This conversion doesn't take this length modifier.",
+    Kind.LENGTH_UNDEFINED: "The length modifier has no meaning with this conversion.",
     Kind.TOO_LONG: "A format has at most 2^62 bytes.",
     Kind.COUNT_UNDEFINED: "`n` with `-`, `+`, a space or a width is undefined.",
     Kind.MIXED: "One format can't have numbered arguments and others. Number all or none.",
@@ -41,6 +41,40 @@ NEEDLESS: Mapping[Kind, bytes] = {
     Kind.LENGTH_UNDEFINED: b"hlLjzt",
     Kind.COUNT_UNDEFINED: b"-+ 0123456789",
 }
+
+
+# What to write, or to do, for each kind whose meaning doesn't say it.
+ADVICE: Mapping[Kind, str] = {
+    Kind.STAR: "Use --whole, or write the number: `%8d` instead of `%*d`.",
+    Kind.NUMBERED: "Use `fits` or `types --whole`, or leave out `1$` and pass the arguments in their order.",
+    Kind.WIDTH_TOO_LARGE: "Write at most `%4095d`, and pad in the program.",
+    Kind.PRECISION_TOO_LARGE: "Write at most `%.4095s`, and pad or cut in the program.",
+    Kind.FLOAT: "Use --whole, or make a string of the number and write `%s`.",
+    Kind.POINTER: "Use --whole, or cast to `unsigned long` and write `%#lx`.",
+    Kind.COUNT: "Use --whole, or take the number of bytes from what `printf` returns.",
+    Kind.WIDE: "Use --whole, or convert the wide string to bytes and write `%s`.",
+    Kind.ALT_UNDEFINED: "Leave out the `#`: `%d` instead of `%#d`.",
+    Kind.ZERO_UNDEFINED: "Leave out the `0`: `%5s` instead of `%05s`.",
+    Kind.GROUP_UNDEFINED: "Leave out the `'`: `%x` instead of `%'x`.",
+    Kind.PRECISION_UNDEFINED: "Leave it out: `%c` instead of `%.3c`.",
+    Kind.LENGTH_UNDEFINED: "Leave it out: `%s` instead of `%hs`.",
+    Kind.COUNT_UNDEFINED: "Write `%n`.",
+    Kind.MISSING_ARGUMENT: "Number the arguments from 1 on: `%1$d` instead of `%2$d`.",
+    Kind.TWO_TYPES: "Give each argument a number of its own: `%1$d%2$s` instead of `%1$d%1$s`.",
+}
+
+
+def sentence(text: bytes, refusal: Refused) -> str:
+    """Returns what a refusal of a text means, with the conversion that it is about."""
+    conversion = text[refusal.byte : refusal.byte + 1].decode("latin-1")
+    named = f"`{conversion}`" if conversion.isalpha() and conversion.isascii() else "this conversion"
+    return HELP[refusal.kind].replace("this conversion", named)
+
+
+def advice_on(text: bytes, refusal: Refused, model: Model) -> str:
+    """Returns what a refusal of a text means, and what to write instead, if that is known."""
+    instead = instead_of(text, refusal, model)
+    return sentence(text, refusal) + (f" Write {instead.decode(errors='backslashreplace')}." if instead else "")
 
 
 def is_accepted(text: bytes, model: Model) -> bool:

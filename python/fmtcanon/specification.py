@@ -1,15 +1,12 @@
-"""The parts of a conversion specification that the library accepts. Nothing is judged here."""
+"""The parts of a conversion specification that the library accepts. Nothing is judged here: the order of the parts of an
+accepted one is known (C11 7.21.6.1 p4).
+"""
 
 from __future__ import annotations
 
-import re
 from typing import Iterator, NamedTuple, Tuple
 
-_PARTS = re.compile(
-    rb"%(?P<position>(?:\d+\$)?)(?P<flags>[-+ #0']*)(?P<width>\*(?:\d+\$)?|\d*)(?P<precision>(?:\.(?:\*(?:\d+\$)?|\d*))?)"
-    rb"(?P<modifier>[hlLjzt]*)(?P<conversion>.)",
-    re.DOTALL,
-)
+FLAGS, LENGTHS = "-+ #0'", "hlLjzt"
 # The parts that can be left out.
 OPTIONAL = ("width", "precision", "modifier")
 
@@ -47,7 +44,13 @@ class Specification(NamedTuple):
 
 def specification_of(text: bytes) -> Specification:
     """Returns the parts of a specification that is accepted."""
-    found = _PARTS.fullmatch(text)
-    if found is None:
-        raise ValueError(f"not a conversion specification: {text!r}")
-    return Specification(*(it.decode() for it in found.groups()))
+    inner, conversion = text[1:-1].decode(), text[-1:].decode()
+    front = inner.rstrip(LENGTHS)
+    before, point, digits = front.partition(".")
+    # The `$` of a width comes after its `*`.
+    number, dollar, rest = before.partition("$")
+    position = "" if "*" in number or not dollar else number + dollar
+    fields = before if not position else rest
+    width = fields.lstrip(FLAGS)
+    flags = fields[: len(fields) - len(width)]
+    return Specification(position, flags, width, point + digits, inner[len(front) :], conversion)

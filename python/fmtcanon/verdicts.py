@@ -6,18 +6,14 @@ types of formats with numbered arguments, which the comparison rejects.
 
 import enum
 import re
-from typing import Any, AnyStr, List, NamedTuple, Optional, Sequence, Tuple, Union
+from typing import Any, AnyStr, Iterator, List, NamedTuple, Optional, Sequence, Tuple, Union
 
 import fmtcanon
 from fmtcanon import Model
 
+from .kinds import TYPE_NAMES
 from .visible import visible
 
-# A specification of the whole language, `%%` among them.
-SPECIFICATION = re.compile(
-    rb"%(?P<number>\d+\$)?(?P<flags>[-+ #0']*)(?P<width>\*(?:\d+\$)?|\d+)?(?P<precision>\.(?:\*(?:\d+\$)?|\d+)?)?"
-    rb"(?P<length>hh|h|ll|l|j|z|t|L)?(?P<last>[a-zA-Z%])"
-)
 # What a specification has before its last byte. So after every other byte a piece of a format ends.
 INNER = b"%0123456789$-+ #'*.hljztL"
 # A number of a format. One with more digits is no width or precision that is accepted.
@@ -46,13 +42,15 @@ class Verdict(NamedTuple):
     """How two formats compare.
 
     `at` is the index of the first argument at which the types or the directives differ. The two print `arguments`
-    differently. `reason` says why there is no verdict, or why the second format is rejected and the first isn't.
+    differently. `reason` says why there is no verdict, or why the second format is rejected and the first isn't, and
+    `refusal` is the one that it is about, if there is one.
     """
 
     kind: Kind
     at: int = 0
     arguments: Tuple[Argument, ...] = ()
     reason: str = ""
+    refusal: Optional[fmtcanon.Refused] = None
 
 
 class Span(NamedTuple):
@@ -60,6 +58,18 @@ class Span(NamedTuple):
 
     start: int
     end: int
+
+
+class Taker(NamedTuple):
+    """The specification that takes an argument: where it is, how it is spelled, and the argument's type."""
+
+    start: int
+    end: int
+    text: bytes
+    type: fmtcanon.Type
+
+    def __str__(self) -> str:
+        return f"{self.text.decode()} takes {TYPE_NAMES[self.type]}"
 
 
 def shared_front(first: AnyStr, second: AnyStr) -> int:
@@ -115,13 +125,13 @@ class Library:
         """Returns the verdict on formats of which the comparison rejects one: only their types can be judged."""
         if old == new:
             return Verdict(Kind.SAME)
-        unjudged = Verdict(Kind.UNJUDGED, reason=f"{refusal} of {shown([old, new][refusal.side])}")
+        unjudged = Verdict(Kind.UNJUDGED, reason=f"{refusal} of {shown([old, new][refusal.side])}", refusal=refusal)
         try:
             if fmtcanon.fits(old, new, model=model):
                 return unjudged
         except fmtcanon.Refused as other:
             kind = Kind.REJECTED if other.side else Kind.UNJUDGED
-            return Verdict(kind, reason=f"{other} of {shown([old, new][other.side])}")
+            return Verdict(kind, reason=f"{other} of {shown([old, new][other.side])}", refusal=other)
         return Verdict(Kind.TYPES, at=shared_front(self.types(old, model), self.types(new, model)))
 
     def types(self, text: bytes, model: Model) -> bytes:
@@ -135,22 +145,56 @@ class Library:
         except (OSError, ValueError, MemoryError):
             return None
 
-    def span(self, text: bytes, argument: int, model: Model) -> Optional[Span]:
-        """Returns where the specification is that takes the argument of this index, or None."""
-        for one in fmtcanon.directives(text, model=model):
-            if argument in (one.argument, one.width_argument, one.precision_argument):
-                return Span(one.start, one.end)
-        return None
+
+def taker_of(text: bytes, argument: int, model: Model) -> Optional[Taker]:
+    """Returns the specification that takes the argument of this index, converted or as a `*`; None if none does."""
+    for one in fmtcanon.directives(text, model=model):
+        if argument == one.argument:
+            return Taker(one.start, one.end, text[one.start : one.end], one.type)
+        if argument in (one.width_argument, one.precision_argument):
+            return Taker(one.start, one.end, text[one.start : one.end], fmtcanon.Type.INT)
+    return None
+
+
+def argument_words(index: int) -> str:
+    """Returns how an argument is named: by its number from 1, as in `%1$d`."""
+    return f"argument {index + 1}, counted from 1"
+
+
+def both_take(takers: Sequence[Optional[Taker]]) -> str:
+    """Returns what the specifications of two formats take as one argument."""
+    return " and ".join("no argument" if it is None else str(it) for it in takers)
+
+
+def directives_in(text: bytes) -> Iterator[Span]:
+    """Yields where a text has specifications, also if it is not a format: then those before and after what is rejected."""
+    done = 0
+    while True:
+        try:
+            found = fmtcanon.directives(text[done:])
+        except fmtcanon.Refused as refusal:
+            at = done + refusal.byte
+            end = at if refusal.kind is fmtcanon.Kind.NUL_BYTE else text.rfind(b"%", done, at)
+            if end > done:
+                yield from (Span(it.start + done, it.end + done) for it in directives_in(text[done:end]))
+            done = max(at, done + 1)
+        else:
+            yield from (Span(it.start + done, it.end + done) for it in found)
+            return
 
 
 def specifications(text: bytes) -> bytes:
-    """Returns the specifications of a format without the words between them."""
-    return b"".join(it.group() for it in SPECIFICATION.finditer(text) if it["last"] != b"%")
+    """Returns the specifications of a text without the words between them."""
+    return b"".join(text[it.start : it.end] for it in directives_in(text))
 
 
 def without_specifications(text: bytes) -> bytes:
-    """Returns the words of a format, with each specification as `%`."""
-    return SPECIFICATION.sub(b"%", text)
+    """Returns the words of a text, with each specification as `%`."""
+    parts, done = [], 0
+    for one in directives_in(text):
+        parts.append(text[done : one.start])
+        done = one.end
+    return b"%".join([*parts, text[done:]])
 
 
 def only_words_differ(library: Any, old: bytes, new: bytes, model: Model) -> bool:

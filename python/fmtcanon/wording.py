@@ -127,6 +127,18 @@ def meaning(found: Specification, stars: Stars) -> str:
     return ", ".join([say(found, stars), *signs(found), *field(found, stars)])
 
 
+def meaning_of_number(found: Specification, number: int) -> Optional[str]:
+    """Returns what an integer conversion does with the sign of a number, which tells zeros from digits; or None."""
+    has_sign = found.conversion in "di" and (number < 0 or "+" in found.flags or " " in found.flags)
+    if not has_sign or "*" in found.width + found.precision:
+        return None
+    if found.precision:
+        return f"{counted(number_of(found.precision), 'digit')}, and the sign before them"
+    if "0" in found.flags and found.width and "-" not in found.flags:
+        return f"the sign is one of the {counted(found.width, 'column')}"
+    return None
+
+
 def flag_note(flag: str, found: Specification) -> str:
     """Returns why a flag has no effect, by the first reason that applies."""
     reasons = {

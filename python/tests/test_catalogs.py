@@ -135,11 +135,35 @@ class Shapes(unittest.TestCase):
             (b"100%% %d", b"%%%d"),
             (b"%-5.*lu!", b"%-5.*lu"),
             (b"%<PRIu64>|%2$*1$d", b"%<PRIu64>%2$*1$d"),
-            (b"%!", None),
-            (b"%d%", None),
+            (b"%! %y", b"%!%y"),
+            (b"%d%", b"%d%"),
             (b"%d\0", None),
         ]:
             self.assertEqual(shape_of(text), wanted, text)
+
+    def test_two_types(self):
+        """Two macros, or a macro and a conversion, that give one argument two types: its number is from 1."""
+        for text, said in [
+            (b"%1$<PRIu64> of %1$u", "%1$<PRIu64> and %1$u give argument 1, counted from 1, different types"),
+            (
+                b"%1$d%2$<PRIx8>%2$<PRIx16>",
+                "%2$<PRIx8> and %2$<PRIx16> give argument 2, counted from 1, different types",
+            ),
+            (b"%1$<PRIu64> %1$<PRIx64>", None),
+            (b"%m %<PRIu64> %d", None),
+        ]:
+            self.assertEqual(Format(text).two_types(Model.LP64), said, text)
+
+    def test_uses(self):
+        """The arguments that specifications take, with where these are in the text: by hand."""
+        for text, wanted in [
+            (b"a %<PRIu64> %5m%d", [(0, b"%<PRIu64>", 2), (1, b"%d", 15)]),
+            (b"%*m%-*.*m|%s", [(0, b"%*m", 0), (1, b"%-*.*m", 3), (2, b"%-*.*m", 3), (3, b"%s", 10)]),
+            (b"%Id", [(0, b"%Id", 0)]),
+            (b"%2$*1$d", [(0, b"%2$*1$d", 0), (1, b"%2$*1$d", 0)]),
+        ]:
+            found = [(it.argument, it.specification, it.start) for it in Format(text, True).uses(Model.LP64)]
+            self.assertEqual(found, wanted, text)
 
     def test_models(self):
         """What has no j, z or t has one answer in all data models."""

@@ -169,7 +169,13 @@ class Judging(unittest.TestCase):
         found = judged([{(1, "printf", 0): it} for it in calls[:2]] + [{}, {(1, "printf", 0): calls[3]}])
         self.assertEqual(([names for _, names in found.lost], found.faults), ([["ILP32 with 64-bit time_t"]], []))
         found = judged([{(1, "printf", 0): it} for it in calls_of("%y", "int")])
-        self.assertEqual([why for _, why in found.refused], ["refused 3 Unexpected at byte 1"])
+        [(_, text, why)] = found.refused
+        self.assertEqual((text, str(why)), (b"%y", "refused 3 Unexpected at byte 1"))
+        shown = reporting.refused_finding(found.refused[0], list(Model))
+        self.assertEqual(shown.message, "not judged: refused 3 Unexpected at byte 1 of a format of printf")
+        [excerpt] = shown.excerpts
+        self.assertEqual((excerpt.line, excerpt.start, excerpt.end), ('"%y"', 1, 3))
+        self.assertIn("can't continue", shown.help)
 
     def test_composed(self):
         for tokens, is_composed in [
@@ -208,9 +214,11 @@ class Reporting(unittest.TestCase):
             file = Path(work, "a.c")
             file.write_text('int a;\n\tprintf("%lu", a);\n')
             found = Finding(str(file), 2, 10, "size", "error", "wrong", (2, 13))
-            lines = reporting.as_source(found).splitlines()
-            self.assertEqual(lines, [f"{file}:2:10: wrong", '    \tprintf("%lu", a);', "    \t        ^~~"])
-            self.assertEqual(reporting.as_source(Finding(str(file), 2, None, "size", "error", "x")), f"{file}:2: x")
+            [excerpt] = reporting.with_source(found).excerpts
+            self.assertEqual((excerpt.label, excerpt.line), ("2", '\tprintf("%lu", a);'))
+            self.assertEqual(excerpt.line[excerpt.start : excerpt.end], "%lu")
+            unknown = Finding(str(file), 2, None, "size", "error", "x")
+            self.assertEqual(reporting.with_source(unknown).excerpts, ())
 
 
 class Changes(unittest.TestCase):

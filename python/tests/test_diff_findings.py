@@ -12,8 +12,9 @@ from fmtcanon import Model, Type
 from fmtcanon.diff.judging import RULES, judge
 from fmtcanon.diff.literals import Source
 from fmtcanon.diff.pairing import paired
-from fmtcanon.findings import ERROR, NOTE, TYPE_NAMES, WARNING, Finding, Printer
-from fmtcanon.verdicts import Kind, Library, Span, narrowed, shortened, specifications
+from fmtcanon.findings import ERROR, NOTE, WARNING, Finding, Printer
+from fmtcanon.kinds import TYPE_NAMES
+from fmtcanon.verdicts import Kind, Library, Taker, directives_in, narrowed, shortened, specifications, taker_of
 
 ALL = list(Model)
 
@@ -38,7 +39,7 @@ SAID = [
         '"%s %lu"',
         '"%s %d"',
         "types",
-        'types differ at argument 1: unsigned long and int, in "%s %lu" and "%s %d"',
+        'types differ at argument 2, counted from 1: %lu takes unsigned long and %d takes int, in "%s %lu" and "%s %d"',
         "lp64 ilp32 llp64",
     ),
     ('"%td"', '"%ld"', "types", 'same in lp64 only: "%td" and "%ld"', "ilp32 llp64"),
@@ -58,7 +59,7 @@ SAID = [
         '"%d"',
         '"none"',
         "types",
-        'types differ at argument 0: int and no argument, in "%d" and "none"',
+        'types differ at argument 1, counted from 1: %d takes int and no argument, in "%d" and "none"',
         "lp64 ilp32 llp64",
     ),
     ('"%" PRIu64', '"%lu"', "types", 'same in lp64 only: "%" PRIu64 and "%lu"', "ilp32 llp64"),
@@ -80,7 +81,7 @@ SAID = [
         '"%1$d"',
         '"%1$s"',
         "types",
-        'types differ at argument 0: int and string, in "%1$d" and "%1$s"',
+        'types differ at argument 1, counted from 1: %1$d takes int and %1$s takes string, in "%1$d" and "%1$s"',
         "lp64 ilp32 llp64",
     ),
     (
@@ -134,17 +135,17 @@ WHOLE = [
         "different",
         'different: "%.6lf %s|" and "%f %.10s|" print "%f AAAAAAAAAAA|" and "%f AAAAAAAAAA|" for any, "AAAAAAAAAAA"',
     ),
-    ('"%d %f"', '"%d %e"', "directives", 'directives differ at argument 1: "%f" and "%e"'),
-    ('"%*d %s"', '"%d%d %s"', "directives", 'directives differ at argument 0: "%*d" and "%d"'),
+    ('"%d %f"', '"%d %e"', "directives", 'directives differ at argument 2, counted from 1: "%f" and "%e"'),
+    ('"%*d %s"', '"%d%d %s"', "directives", 'directives differ at argument 1, counted from 1: "%*d" and "%d"'),
     ('"%*d"', '"%*i"', "same", 'same: "%*d" and "%*i"'),
     ('"%f km"', '"%f miles"', "words", 'the words differ: "%f km" and "%f miles"'),
     (
         '"%f and %d"',
         '"%f and %s"',
         "types",
-        'types differ at argument 1: int and string, in "%f and %d" and "%f and %s"',
+        'types differ at argument 2, counted from 1: %d takes int and %s takes string, in "%f and %d" and "%f and %s"',
     ),
-    ('"%.2f"', '"%.3f"', "directives", 'directives differ at argument 0: "%.2f" and "%.3f"'),
+    ('"%.2f"', '"%.3f"', "directives", 'directives differ at argument 1, counted from 1: "%.2f" and "%.3f"'),
     ('"%f at %p"', '"%.6lf at %p"', "same", 'same: "%f at %p" and "%.6lf at %p"'),
     ('"%jn"', '"%ln"', "types", 'same in lp64 only: "%jn" and "%ln"'),
     ('"%2$s %1$f"', '"%2$s  %1$f"', "unjudged", 'not judged: refused 6 Numbered at byte 2 of "%2$s %1$f"'),
@@ -192,7 +193,10 @@ class Judging(unittest.TestCase):
         found = finding('"%td"', '"%ld"', models=[Model.ILP32, Model.LLP64])
         self.assertEqual(
             (found.message, found.models),
-            ('types differ at argument 0: int and long, in "%td" and "%ld"', ("ilp32", "llp64")),
+            (
+                'types differ at argument 1, counted from 1: %td takes int and %ld takes long, in "%td" and "%ld"',
+                ("ilp32", "llp64"),
+            ),
         )
         self.assertEqual(
             finding('"%td"', '"%ld"').details["verdicts"], {"lp64": "same", "ilp32": "types", "llp64": "types"}
@@ -280,7 +284,10 @@ class Judging(unittest.TestCase):
                     (front[:4], back[:4], old, new, found.message),
                 )
                 if at is not None:
-                    self.assertIn(f"at argument {front.count('%')}: int and unsigned int", found.message)
+                    self.assertIn(
+                        f"at argument {front.count('%') + 1}, counted from 1: %d takes int and %u takes unsigned int",
+                        found.message,
+                    )
                 if old == "%05d":
                     self.assertIn(
                         ' print "-0001" and "-00001" for -1',
@@ -290,7 +297,7 @@ class Judging(unittest.TestCase):
     def test_long_of_whole_language(self):
         front = "%d x" * 5_000
         found = finding(f'"{front}%f "', f'"{front}%e "').message
-        self.assertEqual(found, 'directives differ at argument 5000: "%f" and "%e"')
+        self.assertEqual(found, 'directives differ at argument 5001, counted from 1: "%f" and "%e"')
 
     def test_bytes(self):
         """Formats may have bytes that aren't UTF-8."""
@@ -303,8 +310,22 @@ class Judging(unittest.TestCase):
 
     def test_specifications(self):
         self.assertEqual(specifications(b"a %d%% %-5.*s b"), b"%d%-5.*s")
-        spans = [Library().span(b"a%5.*lu%%%c", it, Model.LP64) for it in range(4)]
-        self.assertEqual(spans, [Span(1, 7), Span(1, 7), Span(9, 11), None])
+        takers = [taker_of(b"a%5.*lu%%%c", it, Model.LP64) for it in range(4)]
+        whole = Taker(1, 7, b"%5.*lu", Type.ULONG)
+        self.assertEqual(takers, [whole._replace(type=Type.INT), whole, Taker(9, 11, b"%c", Type.INT), None])
+
+    def test_directives_of_any_text(self):
+        """Those of a text that is not a format, around what is rejected: by hand."""
+        for text, wanted in [
+            (b"%d %y %s", [b"%d", b"%s"]),
+            (b"100% %d%", [b"%d"]),
+            (b"%m: %5d", [b"%5d"]),
+            (b"%d\0%s", [b"%d", b"%s"]),
+            (b"%5%%d %x", [b"%x"]),
+            (b"none", []),
+        ]:
+            found = [text[it.start : it.end] for it in directives_in(text)]
+            self.assertEqual(found, wanted, text)
 
 
 class Forms(unittest.TestCase):

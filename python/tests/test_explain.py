@@ -14,7 +14,7 @@ import fmtcanon
 from fmtcanon import Kind, Model
 from fmtcanon.explain.command import main
 from fmtcanon.explaining import explain
-from fmtcanon.rejections import HELP
+from fmtcanon.rejections import ADVICE, HELP
 from fmtcanon.specification import specification_of
 
 TOP = Path(__file__).resolve().parents[2]
@@ -149,7 +149,7 @@ class Lines(unittest.TestCase):
 class Rejections(unittest.TestCase):
     def test_a_caret(self):
         status, lines = run("%d and %#d")
-        said = "         ^ `#` has no meaning with this conversion. Write %d."
+        said = "         ^ `#` has no meaning with `d`. Write %d."
         self.assertEqual((status, lines), (2, ["refused 13 AltUndefined at byte 9", "%d and %#d", said]))
 
     def test_what_to_write(self):
@@ -165,7 +165,10 @@ class Rejections(unittest.TestCase):
         names = {kind: fmtcanon._name(kind) for kind in Kind}
         for kind, name in names.items():
             for word in [str(int(kind)), name, name.lower()]:
-                self.assertEqual(run("--kind", word), (0, [f"{int(kind)} {name}: {HELP[kind]}"]))
+                lines = [f"{int(kind)} {name}: {HELP[kind]}", *([ADVICE[kind]] if kind in ADVICE else [])]
+                self.assertEqual(run("--kind", word), (0, lines))
+        found = {"kind": 5, "name": "Star", "help": HELP[Kind.STAR], "advice": ADVICE[Kind.STAR]}
+        self.assertEqual(asked("--kind", "5"), (0, found))
         for word in ["0", "23", "x", ""]:
             self.assertEqual(run("--kind", word)[0], 2, word)
 
@@ -178,7 +181,8 @@ class Rejections(unittest.TestCase):
             status, found = asked("--", format)
             refusal = found["refusal"]
             self.assertEqual((status, refusal["kind"], refusal["at"]), (2, int(kind), int(at)), format)
-            self.assertEqual(refusal["help"], HELP[Kind(int(kind))])
+            conversion = f"`{format[int(at) : int(at) + 1]}`"
+            self.assertIn(refusal["help"], [HELP[Kind(int(kind))].replace("this conversion", conversion)])
 
     def test_second_of_two(self):
         status, lines = run("%d", "%y")
@@ -203,17 +207,81 @@ class Pairs(unittest.TestCase):
     def test_types(self):
         status, lines = run("%zu", "%lu", "--model", "ilp32")
         self.assertEqual((status, lines[0]), (1, "types differ at argument 1, counted from 1"))
-        _, found = asked("%s: %d", "%2$s: %1$d")
+        _, found = asked("%s: %d", "%d: %s")
         self.assertEqual((found["verdict"], found["argument"]), ("types", 1))
-        self.assertEqual([it["text"] for it in found["directives"]], ["%s", "%1$d"])
+        self.assertEqual([it["text"] for it in found["directives"]], ["%s", "%d"])
         self.assertIsNone(asked("%d", "%d%d")[1]["directives"][0])
 
     def test_directives(self):
         status, found = asked("%d%f", "%d%e")
         self.assertEqual((status, found["verdict"], found["argument"]), (1, "directives", 2))
 
+    def test_side_by_side(self):
+        """The two directives are side by side with their types, or below each other where a line has no room."""
+        lines = ["  a %zu                         %d", "    ^^^                         ^^"]
+        lines += ["  unsigned long                 int", "  unsigned int in ILP32", "  unsigned long long in LLP64"]
+        self.assertEqual(run("a %zu", "%d")[1][1:], lines)
+        front = "x" * 100
+        self.assertEqual(run(f"{front}%d", "%s")[1][4:], ["  %s", "  ^^", "  string"])
+
     def test_numbered(self):
-        self.assertEqual(run("%s: %d", "%1$s/%2$d")[0], 0)
+        """Formats with numbered arguments are rejected, as by `same --whole`, and their types compared."""
+        status, lines = run("%s: %d", "%1$s/%2$d")
+        last = "only the types of the arguments can be compared: they are the same"
+        self.assertEqual((status, lines[0], lines[-1]), (2, "second: refused 6 Numbered at byte 2", last))
+        status, found = asked("%s: %d", "%2$s: %1$d")
+        self.assertEqual((status, found["refusal"]["kind"], found["refusal"]["side"]), (2, 6, 1))
+        self.assertEqual((found["types"]["verdict"], found["types"]["argument"]), ("types", 1))
+        self.assertNotIn("types", asked("%1$d", "%y")[1])
+
+    def test_first_of_two(self):
+        self.assertEqual(run("%y", "%d")[1][0], "first: refused 3 Unexpected at byte 1")
+
+    def test_signs(self):
+        """Of a number with a sign it is said which columns or digits the sign is among, by C11 7.21.6.1 p6."""
+        rows = [("%+05d", "%+d", "the sign is one of the 5 columns"), ("%.3d", "%03d", "3 digits, and the sign before them")]
+        for first, second, said in rows:
+            [one, _] = asked(first, second)[1]["directives"]
+            self.assertEqual(one["meaning"], said, first)
+
+
+# What the specification of the command shows, byte for byte.
+WORKED = [
+    (
+        ["%-08.6lf of %5zu%%"],
+        0,
+        """\
+%-08.6lf of %5zu%%
+^^^^^^^^             argument 1, double: digits with 6 places after the point, on the left of 8 columns
+                     `0` has no effect next to `-`; `.6` is the default; `l` has no effect on `f`
+            ^^^^     argument 2, unsigned long (unsigned int in ILP32, unsigned long long in LLP64):
+                     decimal, on the right of 5 columns
+canonical text: %-8f of %5lu%%""",
+    ),
+    (
+        ["%d: %05d", "%d: %.5d"],
+        1,
+        """\
+different: for 0 and -1 they print
+  0: -0001     %05d: the sign is one of the 5 columns
+  0: -00001    %.5d: 5 digits, and the sign before them
+         ^""",
+    ),
+    (
+        ["%d and %#d"],
+        2,
+        """\
+refused 13 AltUndefined at byte 9
+%d and %#d
+         ^ `#` has no meaning with `d`. Write %d.""",
+    ),
+]
+
+
+class Worked(unittest.TestCase):
+    def test_worked(self):
+        for words, status, text in WORKED:
+            self.assertEqual(run(*words), (status, text.splitlines()), words)
 
 
 class Words(unittest.TestCase):

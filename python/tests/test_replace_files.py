@@ -222,6 +222,7 @@ import argparse, os, signal, sys, time
 from fmtcanon.compiling import running
 from fmtcanon.compiling.stand_ins import StandIn, original
 from fmtcanon.findings import Finding
+from fmtcanon.progress import Progress
 from fmtcanon.replace import writing
 from fmtcanon.replace.replacer import Replacer, Report
 
@@ -229,7 +230,7 @@ names, how = sys.argv[2:], sys.argv[1]
 
 class Fake(Replacer):
     def __init__(self):
-        pass
+        self.progress = Progress()
 
     def reports(self, _, pool):
         if "hang" in how:
@@ -257,7 +258,7 @@ def put_in_place(*rest, real=writing.put_in_place):
         os.kill(os.getpid(), signal.SIGTERM)
 
 writing.put_in_place = put_in_place
-options = argparse.Namespace(jobs=2, output="text", diff=False, dry_run=False)
+options = argparse.Namespace(jobs=2, output="text", diff=False, dry_run=False, color="auto")
 from fmtcanon.command_line import status_of
 sys.exit(status_of("fmtcanon-replace", lambda: writing.replace(options, Fake(), names)))
 """

@@ -12,7 +12,7 @@ from .fixing import Fixes, fixes_of, merged
 from .judging import Fault, Judged, judged
 from .locating import Located, located
 from .proposals import proposal
-from .reporting import COMPOSED, LOST, RANK, SIGN, UNJUDGED, Spot
+from .reporting import COMPOSED, LOST, RANK, SIGN, Spot
 from .unit import Settings, Unit
 
 
@@ -100,9 +100,9 @@ def add(answer: Answer, question: Question, unit: Unit, result: Judged, where: O
     for call, names in result.lost:
         message = f"lost: the call of {call.function} isn't there in {reporting.listed(names)}"
         found[call.file, call.line, message] = Found(reporting.finding_of_call(call, LOST, message, models))
-    for call, why in result.refused:
-        message = f"not judged: {why} of a format of {call.function}"
-        found[call.file, call.line, message] = Found(reporting.finding_of_call(call, UNJUDGED, message, models))
+    for refused in result.refused:
+        finding = reporting.refused_finding(refused, models)
+        found[refused.call.file, refused.call.line, finding.message] = Found(finding)
 
 
 def place_of(fault: Fault, where: Optional[Located]) -> Optional[int]:

@@ -16,7 +16,7 @@ from ..replace.writing import replace
 from .checking import Answer, Job, Question, answer
 from .fixer import Fixer
 from .options import NAME, parsed
-from .reporting import COMPOSED, RANK, RULES, SIGN, as_source
+from .reporting import COMPOSED, RANK, RULES, SIGN, with_source
 from .retargeting import write_headers
 from .unit import Settings
 
@@ -52,19 +52,19 @@ def summary(counts: Counter[str]) -> str:
     return f"{', '.join(parts)}: {found or 'nothing found'}"
 
 
-def check(options: Any, answers: Iterable[Answer]) -> int:
+def check(printer: Printer, answers: Iterable[Answer]) -> int:
     """Prints what is found. Returns the exit status."""
-    printer, status = Printer(NAME, options.output, RULES, text=as_source), 0
+    status = 0
     counts: Counter[str] = collections.Counter()
     for one in answers:
         counts.update({it: one.counts[it] for it in ("files", "formats", "arguments")})
         for found in one.found.values():
-            printer.add(found.finding)
+            printer.add(with_source(found.finding) if printer.has_excerpts else found.finding)
             counts[found.finding.kind] += 1
             status = max(status, int(found.finding.level == ERROR))
         status = max(status, USAGE if one.counts["left"] else 0)
     printer.end()
-    complain(summary(counts))
+    printer.say(summary(counts))
     return status
 
 
@@ -83,9 +83,12 @@ def run(options: Any) -> int:
     try:
         files = Files(options)
         with tempfile.TemporaryDirectory() as folder:
-            found = each_once(in_order(answer, jobs_of(files, question_of(options, folder)), options.jobs), set())
+            printer = Printer(NAME, options.output, RULES, color=options.color)
+            jobs = list(jobs_of(files, question_of(options, folder)))
+            printer.progress.expect(len(jobs))
+            found = each_once(printer.progress.each(in_order(answer, jobs, options.jobs)), set())
             is_writing = options.fix or options.diff
-            return fix(options, files, list(found)) if is_writing else check(options, found)
+            return fix(options, files, list(found)) if is_writing else check(printer, found)
     except BrokenPipeError:
         raise
     except (Unreadable, OSError) as error:

@@ -12,14 +12,13 @@ from ..replace.places import places_in
 from ..replace.replacer import Report, Rewriter, Scanned, change_to
 from .checking import Answer, Found
 from .options import NAME
-from .reporting import RULES, as_fixed, as_not_written, as_source, shown_file
+from .reporting import RULES, as_fixed, as_not_written, shown_file, with_source
 
 
 class Fixer(Rewriter):
     """Replaces formats by those that fit everywhere. All findings of a file are reported with it, fixed or not."""
 
     name, rules = NAME, RULES
-    as_text = staticmethod(as_source)
 
     def __init__(self, options: Any, files: Files, answers: Sequence[Answer]) -> None:
         given: Dict[str, Shape] = dict(options.function)
@@ -58,7 +57,7 @@ class Fixer(Rewriter):
 
     def report(self, name: str, left: Dict[int, str]) -> Report:
         """Returns the report on a file, by why the places with new texts are left; an empty reason if one isn't."""
-        findings = [with_fix(it, left) for it in self.answers[name].found.values()]
+        findings = [with_source(with_fix(it, left)) for it in self.answers[name].found.values()]
         return Report(name, findings, is_left=any(it.level == ERROR for it in findings))
 
 

@@ -2,16 +2,15 @@
 
 import enum
 import re
-from typing import Iterator, List, Mapping, NamedTuple, Sequence, Set, Tuple
+from typing import Iterator, List, Mapping, NamedTuple, Sequence, Set, Tuple, Union
 
 from .. import BadLiteral, DirectiveSpan, Refused, decode_literal, directives
+from ..items import errno_parts, items_of
 from ..kinds import Type
 from ..models import Model
 from .calls import Argument, Call, Format, Key, Token
 from .platforms import PLATFORMS, Platform
 
-# The directive of glibc and syslog for the text of errno, which takes no argument. The library rejects it.
-ERRNO = re.compile(rb"(?<!%)((?:%%)*)%[-+ #0']*\d*(?:\.\d*)?m")
 SIGNED = {Type.UINT: Type.INT, Type.ULONG: Type.LONG, Type.ULONG_LONG: Type.LONG_LONG}
 INTEGERS = (*SIGNED.values(), *SIGNED)
 # What C calls the types that aren't integers, without qualifiers.
@@ -88,15 +87,23 @@ class Fault(NamedTuple):
         return self.text[self.span.start : self.span.end].decode(errors="backslashreplace")
 
 
+class RefusedFormat(NamedTuple):
+    """A format that isn't accepted: its call, its text if that is known, and why."""
+
+    call: Call
+    text: bytes
+    why: Union[Refused, BadLiteral]
+
+
 class Judged(NamedTuple):
     """What is found in a unit: its faults, the formats that fit their calls except in a sign, the calls that a platform
-    lacks, the formats that aren't accepted with why, and how many formats and arguments were judged.
+    lacks, the formats that aren't accepted, and how many formats and arguments were judged.
     """
 
     faults: List[Fault]
     fitting: Set[Tuple[Key, int]]
     lost: List[Tuple[Call, List[str]]]
-    refused: List[Tuple[Call, str]]
+    refused: List[RefusedFormat]
     formats: int
     arguments: int
 
@@ -122,8 +129,15 @@ def fit_of(wanted: Type, given: Argument, model: Model) -> Fit:
 
 
 def without_errno(text: bytes) -> bytes:
-    """Returns a format of the same length in which `%%` and more bytes replace each `%m`."""
-    return ERRNO.sub(lambda it: it[1] + b"%%" + b"_" * (len(it[0]) - len(it[1]) - 2), text)
+    """Returns a format of the same length in which `%%` and more bytes replace each `%m` of glibc and syslog, which
+    takes no argument, and which the library rejects.
+    """
+    parts, done = [], 0
+    for item in items_of(text) if b"m" in text else ():
+        if b"*" not in item.inner and errno_parts(item):
+            parts += [text[done : item.start], b"%%", b"_" * (len(item.text) - 2)]
+            done = item.start + len(item.text)
+    return b"".join([*parts, text[done:]])
 
 
 class Text(NamedTuple):
@@ -135,8 +149,13 @@ class Text(NamedTuple):
 
 def text_of(format: Format, platform: Platform) -> Text:
     """Returns the text of a format. Raises `Refused` or `BadLiteral`."""
-    text = without_errno(decode_literal(format.source.encode("utf-8", "surrogateescape")))
+    text = bytes_of(format)
     return Text(text, directives(text, model=platform.model))
+
+
+def bytes_of(format: Format) -> bytes:
+    """Returns the text of a format, without `%m`. Raises `BadLiteral`."""
+    return without_errno(decode_literal(format.source.encode("utf-8", "surrogateescape")))
 
 
 def arguments_of(spans: Sequence[DirectiveSpan]) -> Iterator[Tuple[int, int, Type]]:
@@ -174,8 +193,11 @@ def judged(units: Sequence[Mapping[Key, Call]]) -> Judged:
         for number in range(len(call.formats)):
             try:
                 texts = [text_of(it.formats[number], platform) for it, platform in zip(calls, PLATFORMS)]
-            except (Refused, BadLiteral) as why:
-                result.refused.append((call, str(why)))
+            except Refused as why:
+                result.refused.append(RefusedFormat(call, bytes_of(call.formats[number]), why))
+                continue
+            except BadLiteral as why:
+                result.refused.append(RefusedFormat(call, b"", why))
                 continue
             formats += 1
             arguments += sum(1 for _ in arguments_of(texts[0].spans))

@@ -1,7 +1,6 @@
 """The command line of fmtcanon-check."""
 
 import argparse
-import os
 import re
 from typing import Any, Optional, Sequence, Tuple
 
@@ -15,25 +14,31 @@ USAGE = """\
 fmtcanon-check [OPTION]... -p DIR [FILE...]
        fmtcanon-check [OPTION]... FILE..."""
 DESCRIPTION = """\
-Says of each call of a printf function in C source whether its arguments have the types that its format
-takes: where it is compiled, on 32-bit systems, also with a 64-bit time_t, and on 64-bit Windows. It
-proposes a directive that is right on all of them.
+Says of each call of a printf function in C source whether its arguments have the types that its format takes: where it \
+is compiled, on 32-bit systems, also with a 64-bit time_t, and on 64-bit Windows. It proposes a directive that is right \
+on all of them.
 
-Each file is preprocessed by its own compiler, for 64-bit Unix. In that text, the types of the C library
-get those of each platform, and libclang (the package python3-clang) parses it for that platform, of
-which no headers are needed.
+Each file is preprocessed by its own compiler, for 64-bit Unix. In that text, the types of the C library get those of \
+each platform, and libclang (the package python3-clang) parses it for that platform, of which no headers are needed.
 
-FILE is a file or a folder, of which all C files are read. Without one, all files of the compile commands
-in -p are read."""
+FILE is a file or a folder, of which all C files are read. Without one, all files of the compile commands in -p are \
+read."""
 EPILOG = f"""\
-Functions of the C library's printf family and those with the attribute format(printf, m, n) are known.
-Arguments count from 0. Types are compared between integers; of other types it is only said if one of
-the two is an integer.
+Examples:
+  fmtcanon-check src/*.c
+  fmtcanon-check -p build --model ilp32
+  fmtcanon-check -p build --diff
+
+Functions of the C library's printf family and those with the attribute format(printf, m, n) are known. Types are \
+compared between integers; of other types it is only said if one of the two is an integer. In JSON, the arguments of a \
+format are counted from 1, as in %1$d.
 
 The kinds of findings are {', '.join(RULES)}.
 
-The exit status is 0 if nothing is an error, 1 if something is, and 2 for a usage error, a file that was
-left, or an output that can't be written."""
+Exit status:
+  0  nothing is an error
+  1  something is an error
+  2  usage error, a file was left, or an output can't be written"""
 # Types of C that --type may name, beside typedefs of the C library.
 INTEGER = re.compile(r"(?:(?:un)?signed )?(?:char|short|int|long|long long)")
 
@@ -41,10 +46,7 @@ INTEGER = re.compile(r"(?:(?:un)?signed )?(?:char|short|int|long|long long)")
 def parser() -> Parser:
     """Returns the definition of the command line."""
     made = Parser(NAME, USAGE, DESCRIPTION, EPILOG)
-    made.add_model(
-        "the data models that are reported: lp64, ilp32, llp64, both for the first two, or all, the default; "
-        "what is proposed fits all of them"
-    )
+    made.add_model("that are reported, while a proposal fits all of them")
     database = "the folder of compile_commands.json; without FILE all its files are read"
     made.add_argument("-p", metavar="DIR", dest="database", help=database)
     flag = "without -p, a flag of the compile command, which is cc: --flag=-Iinclude"
@@ -66,9 +68,8 @@ def parser() -> Parser:
     modes.add_argument("--fix", action="store_true", help=fix)
     modes.add_argument("--diff", action="store_true", help="print what --fix would write as a unified diff")
     made.add_output()
-    made.add_argument(
-        "--jobs", type=int, default=os.cpu_count() or 1, metavar="N", help="how many files are read at a time"
-    )
+    made.add_color()
+    made.add_jobs("files")
     made.add_argument("files", metavar="FILE", nargs="*", help="files or folders")
     return made
 

@@ -10,6 +10,8 @@ from .judging import SIGNED, Fault, Fit
 from .platforms import PLATFORMS
 
 LENGTHS = ("", "l", "ll", "z", "t", "j")
+# What length modifiers are made of.
+LETTERS = "hlLjzt"
 MACROS = ("64", "PTR")
 # Typedefs whose types the standards leave open: no directive fits them everywhere.
 OPEN = re.compile(
@@ -19,7 +21,6 @@ OPEN = re.compile(
 # What is tried first for a type, by its name.
 FIRST = {"size_t": "z", "ssize_t": "z", "ptrdiff_t": "t", "intmax_t": "j", "uintmax_t": "j"}
 FIRST.update(intptr_t="PTR", uintptr_t="PTR")
-LENGTH = re.compile(r"(?:hh|h|ll|l|j|z|t|q)?[a-zA-Z]$")
 
 
 class Proposal(NamedTuple):
@@ -68,7 +69,7 @@ def proposal(fault: Fault) -> Optional[Proposal]:
     directive, type = fault.directive, fault.given[0].type
     is_unsigned, letter = type in SIGNED, directive[-1]
     letter = "u" if is_unsigned and letter in "di" else letter
-    bare, end = LENGTH.sub("", directive), fitting(fault)
+    bare, end = directive[:-1].rstrip(LETTERS), fitting(fault)
     if end is None:
         return Proposal(f"{bare}j{letter}", False, "uintmax_t" if letter not in "di" else "intmax_t")
     if end in MACROS:

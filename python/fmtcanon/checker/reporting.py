@@ -5,14 +5,16 @@ import os
 from dataclasses import replace
 from typing import Any, Dict, List, NamedTuple, Optional, Sequence, Tuple
 
+from .. import Refused, encode_literal
 from ..command_line import model_names
-from ..findings import ERROR, NOTE, TYPE_NAMES, WARNING, Finding, as_text
-from ..kinds import Type
+from ..excerpts import Excerpt
+from ..findings import ERROR, NOTE, WARNING, Finding
+from ..kinds import TYPE_NAMES, Type
 from ..models import Model
+from ..rejections import advice_on, begin_of
 from ..replace.replacer import column_of
-from ..visible import visible
 from .calls import Call
-from .judging import ORDER, SIGNED, Fault, Fit, is_composed
+from .judging import ORDER, SIGNED, Fault, Fit, RefusedFormat, is_composed
 from .locating import Located
 from .platforms import PLATFORMS
 from .proposals import fitting, proposal
@@ -132,7 +134,7 @@ def details_of(fault: Fault) -> Dict[str, Any]:
         "format": fault.text.decode(errors="backslashreplace"),
         "directive": fault.directive,
         "function": fault.call.function,
-        "argument": fault.number,
+        "argument": fault.number + 1,
         "type": name_of(fault),
         "platforms": platforms,
         "proposal": str(written) if written else None,
@@ -167,6 +169,19 @@ def as_not_written(finding: Finding, why: str) -> Finding:
     return replace(finding, message=f"{finding.message}; not written: {why}")
 
 
+def refused_finding(refused: RefusedFormat, models: Sequence[Model]) -> Finding:
+    """Returns the finding of a format that isn't accepted, with the format and what helps."""
+    call, text, why = refused
+    finding = finding_of_call(call, UNJUDGED, f"not judged: {why} of a format of {call.function}", models)
+    if not isinstance(why, Refused):
+        return finding
+    begin, end = begin_of(text, why.byte), why.byte + 1
+    start, stop = (len(encode_literal(text[:it])) - 1 for it in (min(max(begin, 0), why.byte), end))
+    line = encode_literal(text).decode(errors="surrogateescape")
+    excerpt = Excerpt("format", line, start, stop, why.name)
+    return replace(finding, excerpts=(excerpt,), help=advice_on(text, why, models[0]))
+
+
 def finding_of_call(call: Call, kind: str, message: str, models: Sequence[Model]) -> Finding:
     """Returns a finding of a call as a whole."""
     return Finding(
@@ -186,20 +201,16 @@ def left(path: str, why: str, models: Sequence[Model]) -> Finding:
     return Finding(shown_file(path), 0, None, LEFT, WARNING, f"left: {why}", models=model_names(models))
 
 
-def as_source(finding: Finding) -> str:
-    """Returns a finding as text, with its line of the source and what is meant in it."""
+def with_source(finding: Finding) -> Finding:
+    """Returns a finding with its line of the source, if that is known, and what is meant in it."""
     lines = lines_of(finding.file)[finding.line - 1 : finding.line] if finding.column else []
     if not lines or finding.column is None:
-        return as_text(finding)
-    line = lines[0]
-    end = finding.end[1] if finding.end and finding.end[0] == finding.line else finding.column + 1
-    before = "".join("\t" if it == "\t" else " " for it in line[: finding.column - 1])
-    mark = "^" + "~" * (end - finding.column - 1)
-    return f"{as_text(finding)}\n    {shown_line(line)}\n    {before}{mark}"
-
-
-def shown_line(line: str) -> str:
-    return "".join(it if it == "\t" else visible(it) for it in line)
+        return finding
+    is_short = finding.end is not None and finding.end[0] == finding.line
+    end = finding.end[1] if finding.end and is_short else finding.column + 1
+    written = finding.details.get("proposal")
+    words = f"write {written}" if written and finding.kind != FIXED else ""
+    return replace(finding, excerpts=(Excerpt(str(finding.line), lines[0], finding.column - 1, end - 1, words),))
 
 
 @functools.lru_cache(maxsize=8)

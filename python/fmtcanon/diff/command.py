@@ -3,10 +3,8 @@
 import argparse
 import collections
 import functools
-import os
-import sys
 import tempfile
-from typing import Any, Dict, Iterable, Iterator, NamedTuple, Optional, Sequence, Tuple
+from typing import Any, Callable, Dict, Iterable, Iterator, NamedTuple, Optional, Sequence, Tuple
 
 from ..checker.fitting import Fitting
 from ..checker.retargeting import write_headers
@@ -14,7 +12,6 @@ from ..command_line import MODELS, USAGE, Parser, status_of
 from ..compiling.libclang import MISSING, cindex
 from ..findings import ERROR, Finding, Printer
 from ..models import Model
-from ..output import complain
 from ..processes import in_order
 from ..verdicts import Kind, Library
 from ..visible import visible
@@ -25,22 +22,29 @@ from .trees import Change, Git, Unreadable, changes_of
 
 NAME = "fmtcanon-diff"
 DESCRIPTION = """\
-Finds the string literals of C source that changed, and says of each that has a conversion
-specification whether the new format takes the same arguments and prints the same bytes as the old.
+Finds the string literals of C source that changed, and says of each that has a conversion specification whether the \
+new format takes the same arguments and prints the same bytes as the old.
 
-OLD and NEW are two files or two folders. With --git it compares two revisions, a revision and the
-work tree, or HEAD and the work tree; with --cached, what is staged instead of the work tree. PATHs
-are those of git. In folders, hidden files and folders and files that git ignores are left out."""
+OLD and NEW are two files or two folders. With --git it compares two revisions, a revision and the work tree, or HEAD \
+and the work tree; with --cached, what is staged instead of the work tree. PATHs are those of git. In folders, hidden \
+files and folders and files that git ignores are left out."""
 EPILOG = f"""\
-A place is one or more adjacent string literals, with macros of <inttypes.h> and those that the
-file defines as literals. Other macros and wide literals are not judged. Arguments of puts, fputs,
-asm, and of functions such as scanf and strftime are not formats. Arguments count from 0. Places that
-came or went are counted. Files are compared one by one.
+Examples:
+  fmtcanon-diff old.c new.c
+  fmtcanon-diff --git main -- src
+  fmtcanon-diff --fail-on types,rejected release-1.0 release-1.1
+
+A place is one or more adjacent string literals, with macros of <inttypes.h> and those that the file defines as \
+literals. Other macros and wide literals are not judged. Arguments of puts, fputs, asm, and of functions such as scanf \
+and strftime are not formats. Arguments are counted from 1, as in %1$d. Literals that were added or removed are \
+counted. Files are compared one by one.
 
 The kinds of findings are {', '.join(RULES)}.
 
-The exit status is 0 if no finding has a kind that --fail-on names, 1 if one does, and 2 for a usage
-error or if a file or git can't be read."""
+Exit status:
+  0  no finding has a kind that --fail-on names
+  1  a finding has one
+  2  usage error, or a file or git can't be read"""
 
 
 def kinds_of(text: str) -> Tuple[str, ...]:
@@ -81,14 +85,10 @@ def parser() -> Parser:
         metavar="KIND,..",
         help=f"the kinds of findings for which the status is 1; by default {','.join(FAULTS)}",
     )
-    made.add_model(
-        "the data models in which the formats are compared: "
-        "lp64, ilp32, llp64, both for the first two, or all, the default"
-    )
+    made.add_model("in which the formats are compared")
     made.add_output()
-    made.add_argument(
-        "--jobs", type=int, default=os.cpu_count() or 1, metavar="N", help="how many files are read at a time"
-    )
+    made.add_color()
+    made.add_jobs("files")
     made.add_argument(
         "operands", metavar="OLD NEW", nargs="*", help="two files or two folders; with --git at most two revisions"
     )
@@ -105,25 +105,30 @@ class Report(NamedTuple):
 
 
 def report_on(
-    change: Change, models: Sequence[Model], fail_on: Sequence[str] = FAULTS, fitting: Optional[Fitting] = None
+    change: Change,
+    models: Sequence[Model],
+    fail_on: Sequence[str] = FAULTS,
+    fitting: Optional[Fitting] = None,
+    is_shown: bool = False,
 ) -> Report:
-    """Judges the places of a file that changed."""
+    """Judges the places of a file that changed, whose findings have excerpts if they are to be shown."""
     if change.error:
         return Report(error=change.error)
     old, new = (Source(b"" if it is None else it) for it in (change.old, change.new))
     if change.old is None or change.new is None:
         return Report(came=len(new.read().places), went=len(old.read().places))
     pairs, library = paired(old, new), Library()
-    findings = [judge(library, change.name, it, models, fail_on) for it in pairs.changed if is_judged(*it)]
+    found = [it for it in pairs.changed if is_judged(*it)]
+    findings = [judge(library, change.name, it, models, fail_on, is_shown) for it in found]
     return Report(fitting.noted(change.name, findings) if fitting else findings, pairs.came, pairs.went)
 
 
-def changes_for(options: Any, paths: Sequence[str]) -> Iterator[Change]:
+def changes_for(options: Any, paths: Sequence[str], expect: Callable[[int], None]) -> Iterator[Change]:
     """Returns what the operands say is to be compared."""
     if options.git:
-        return Git().changes(options.operands or ["HEAD"], paths, options.exclude, options.cached)
+        return Git().changes(options.operands or ["HEAD"], paths, options.exclude, options.cached, expect)
     old, new = options.operands
-    return changes_of(old, new, options.exclude)
+    return changes_of(old, new, options.exclude, expect)
 
 
 def fitting_in(options: Any, folder: str) -> Optional[Fitting]:
@@ -154,7 +159,7 @@ def summary(counts: Dict[str, int]) -> str:
     )
     changed = sum(counts[it.value] for it in Kind)
     word = "place" if changed == 1 else "places"
-    return f"{changed} {word} changed: {judged}; {counts['came']} literals came, {counts['went']} went"
+    return f"{changed} {word} changed: {judged}; {counts['came']} literals added, {counts['went']} removed"
 
 
 def run(changes: Iterable[Report], printer: Printer, counts: Dict[str, int], is_verbose: bool) -> int:
@@ -171,7 +176,7 @@ def run(changes: Iterable[Report], printer: Printer, counts: Dict[str, int], is_
         counts["came"] += report.came
         counts["went"] += report.went
         if report.error:
-            complain(f"{NAME}: {visible(report.error)}")
+            printer.say(f"{NAME}: {visible(report.error)}")
             status = USAGE
     return status
 
@@ -199,18 +204,20 @@ def is_of_work_tree(options: Any) -> bool:
 
 def diff(options: Any, paths: Sequence[str]) -> int:
     """Compares what the operands name, and returns the exit status."""
-    printer = Printer(NAME, options.output, RULES)
+    printer = Printer(NAME, options.output, RULES, color=options.color)
     counts: Dict[str, int] = collections.Counter()
     try:
         with tempfile.TemporaryDirectory() as folder:
             fitting = fitting_in(options, folder)
-            work = functools.partial(report_on, models=MODELS[options.model], fail_on=options.fail_on, fitting=fitting)
-            found = in_order(work, changes_for(options, paths), options.jobs)
+            question = {"models": MODELS[options.model], "fail_on": options.fail_on, "fitting": fitting}
+            work = functools.partial(report_on, **question, is_shown=printer.has_excerpts)
+            changes = changes_for(options, paths, printer.progress.expect)
+            found = printer.progress.each(in_order(work, changes, options.jobs))
             status = run(found, printer, counts, options.verbose)
     except Unreadable as error:
-        complain(f"{NAME}: {visible(str(error))}")
+        printer.say(f"{NAME}: {visible(str(error))}")
         status = USAGE
     printer.end()
     if sum(counts.values()):
-        complain(summary(counts))
+        printer.say(summary(counts))
     return status

@@ -1,20 +1,28 @@
 """Judges a pair of places, and says in words what it found."""
 
-from typing import Any, Dict, Iterable, List, NamedTuple, Optional, Sequence
+from typing import Any, Dict, Iterable, List, NamedTuple, Optional, Sequence, Tuple
 
-from .. import Refused, Type
+from .. import Refused
 from ..command_line import model_names
 from ..compiling.known import KNOWN
-from ..findings import ERROR, NOTE, TYPE_NAMES, WARNING, Finding
+from ..excerpts import Excerpt
+from ..explaining import Marked, marked_parts
+from ..findings import ERROR, NOTE, WARNING, Finding
+from ..kinds import TYPE_NAMES
 from ..models import Model
+from ..rejections import advice_on, begin_of
 from ..verdicts import (
     Kind,
+    Taker,
     Verdict,
+    argument_words,
+    both_take,
     narrowed,
     only_words_differ,
     shared_front,
     shown,
     shown_arguments,
+    taker_of,
     telling_arguments,
 )
 from .literals import NOT_FORMATS, Place
@@ -35,6 +43,8 @@ FAULTS = (Kind.TYPES.value, Kind.DIFFERENT.value, Kind.DIRECTIVES.value, Kind.RE
 NOTES = (Kind.SAME, Kind.WORDS)
 # A longer format is compared without what it shares with the other.
 LONG = 10_000
+# How the two sides are named on a terminal.
+NAMES = ("old", "new")
 # How much of a text is shown, and how much of that comes before the first difference.
 SHOWN, BEFORE = 60, 20
 
@@ -92,8 +102,17 @@ def long_verdict(library: Any, old: bytes, new: bytes, model: Model) -> Judged:
     return Judged(verdict._replace(at=at), texts[0], texts[1], before)
 
 
-def judge(library: Any, file: str, pair: Pair, models: Sequence[Model], fail_on: Sequence[str] = FAULTS) -> Finding:
-    """Returns the finding on a pair: that of the first data model in which more than words differ, if there is one."""
+def judge(
+    library: Any,
+    file: str,
+    pair: Pair,
+    models: Sequence[Model],
+    fail_on: Sequence[str] = FAULTS,
+    is_shown: bool = False,
+) -> Finding:
+    """Returns the finding on a pair: that of the first data model in which more than words differ, if there is one. It
+    has excerpts if it is to be shown.
+    """
     old, new = pair
     found = {model: verdict_in(library, old, new, model) for model in models}
     kinds = {model: it.verdict.kind for model, it in found.items()}
@@ -104,6 +123,7 @@ def judge(library: Any, file: str, pair: Pair, models: Sequence[Model], fail_on:
     details["verdicts"] = {name: kinds[it].value for name, it in zip(model_names(models), models)}
     wording = Wording(library, pair, found[model], model)
     details.update(wording.specification())
+    excerpts, help = wording.excerpts() if is_shown else ((), "")
     start, end = new.span()
     return Finding(
         file,
@@ -116,6 +136,8 @@ def judge(library: Any, file: str, pair: Pair, models: Sequence[Model], fail_on:
         (details["old"], details["new"]),
         model_names(others or models),
         details,
+        excerpts,
+        help,
     )
 
 
@@ -173,10 +195,10 @@ class Wording:
         if verdict.kind is Kind.SAME:
             return f"same: {self.both()}"
         if verdict.kind is Kind.TYPES:
-            names = [type_at(self.library, text, verdict.at - self.judged.before, self.model) for text in (old, new)]
-            return f"types differ at argument {verdict.at}: {names[0]} and {names[1]}, in {self.both()}"
+            taken = both_take(self.takers(old, new))
+            return f"types differ at {argument_words(verdict.at)}: {taken}, in {self.both()}"
         if verdict.kind is Kind.DIRECTIVES:
-            return f"directives differ at argument {verdict.at}: {self.directives(old, new)}"
+            return f"directives differ at {argument_words(verdict.at)}: {self.directives(old, new)}"
         if verdict.kind is Kind.WORDS:
             return f"the words differ: {self.both()}"
         return f"different: {self.both()}{self.example(old, new)}"
@@ -186,21 +208,38 @@ class Wording:
         verdict, text = self.judged.verdict, self.new.text(self.model)[0]
         if verdict.kind not in (Kind.TYPES, Kind.DIRECTIVES) or text is None or len(text) > LONG:
             return {}
-        span = self.library.span(text, verdict.at, self.model)
-        offsets = [self.new.offset_of(it) for it in (span.start, span.end - 1)] if span else []
+        taker = taker_of(text, verdict.at, self.model)
+        offsets = [self.new.offset_of(it) for it in (taker.start, taker.end - 1)] if taker else []
         places = [self.new.source.position(it) for it in offsets if it is not None]
         if len(places) < 2:
             return {}
         (line, column), (end_line, end_column) = places
         return {"specification": {"line": line, "column": column, "end_line": end_line, "end_column": end_column + 1}}
 
+    def takers(self, old: bytes, new: bytes) -> List[Optional[Taker]]:
+        """Returns the specifications that take the argument at which the two differ."""
+        return [taker_of(it, self.judged.verdict.at - self.judged.before, self.model) for it in (old, new)]
+
     def directives(self, old: bytes, new: bytes) -> str:
-        at = self.judged.verdict.at - self.judged.before
-        spans = [self.library.span(text, at, self.model) for text in (old, new)]
-        texts = [
-            "nothing" if span is None else shown(text[span.start : span.end]) for text, span in zip((old, new), spans)
-        ]
-        return " and ".join(texts)
+        return " and ".join("nothing" if it is None else shown(it.text) for it in self.takers(old, new))
+
+    def excerpts(self) -> Tuple[Tuple[Excerpt, ...], str]:
+        """Returns the lines of the two places with what is wrong in each marked, and what helps."""
+        verdict, sides = self.judged.verdict, ((self.old, self.judged.old), (self.new, self.judged.new))
+        # Of long formats the texts are only parts of those of the places.
+        is_whole = all(text is not None and place.text(self.model)[0] == text for place, text in sides)
+        old, new = (text or b"" for _, text in sides)
+        if verdict.refusal is not None and is_whole:
+            side = verdict.refusal.side if verdict.kind is Kind.UNJUDGED else 1
+            text, at = (old, new)[side], verdict.refusal.byte
+            span = min(max(begin_of(text, at), 0), at), at + 1
+            excerpt = place_excerpt(NAMES[side], sides[side][0], span, verdict.refusal.name)
+            return (excerpt,), advice_on(text, verdict.refusal, self.model)
+        spans: Sequence[Optional[Marked]] = [None, None]
+        if is_whole:
+            spans = marked_parts((old, new), verdict, self.model) or spans
+        found = zip(NAMES, (self.old, self.new), spans)
+        return tuple(place_excerpt(name, place, it and it[:2], it[2] if it else "") for name, place, it in found), ""
 
     def example(self, old: bytes, new: bytes) -> str:
         """Returns what the two print for arguments that tell them apart."""
@@ -213,10 +252,15 @@ class Wording:
         return f" print {printed[0]} and {printed[1]}" + (f" {listed}" if arguments else "")
 
 
-def type_at(library: Any, text: bytes, index: int, model: Model) -> str:
-    """Returns the name of the type of a format's argument."""
-    types = library.types(text, model)
-    return TYPE_NAMES[Type(types[index])] if index < len(types) else "no argument"
+def place_excerpt(name: str, place: Place, span: Optional[Tuple[int, int]], words: str) -> Excerpt:
+    """Returns the line of a place with a part of its text marked, or its literals if the part isn't known."""
+    offsets = [place.offset_of(it) for it in (span[0], span[1] - 1)] if span else []
+    first, last = (offsets[0], offsets[1]) if len(offsets) == 2 else (None, None)
+    first, last = (place.quote, place.end - 1) if first is None or last is None else (first, last)
+    start, end = place.source.position(first), place.source.position(last)
+    line = place.source.line(start.line)
+    stop = end.column if end.line == start.line else len(line)
+    return Excerpt(f"{name} {start.line}", line, start.column - 1, max(stop, start.column), words)
 
 
 def text_of(place: Place, model: Model) -> str:

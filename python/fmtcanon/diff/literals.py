@@ -256,6 +256,11 @@ class Source:
         start = self.data.rfind(b"\n", 0, offset) + 1
         return Position(self.lines, len(self.data[start:offset].decode(errors="surrogateescape")) + 1)
 
+    def line(self, number: int) -> str:
+        """Returns the line of the file with this number, from 1."""
+        lines = self.data.split(b"\n", number)
+        return lines[number - 1].decode(errors="surrogateescape").rstrip("\r") if number <= len(lines) else ""
+
     def raw(self, start: int, end: int) -> bytes:
         """Returns the bytes of the file between two offsets in the text: in a raw string no line is spliced."""
         return (

@@ -5,7 +5,7 @@ import os
 import re
 import subprocess
 from contextlib import contextmanager
-from typing import Any, Iterator, List, NamedTuple, Optional, Sequence, Set, Tuple
+from typing import Any, Callable, Iterator, List, NamedTuple, Optional, Sequence, Set, Tuple
 
 # The endings of C and C++, of what they include, and of what is made into them.
 SOURCES = re.compile(r".*\.(?:[chyl]|cc|cpp|cxx|c\+\+|hh|hpp|hxx|h\+\+|inc|inl|ipp|tcc|def|C|H|m|mm|pc|ec)", re.DOTALL)
@@ -89,8 +89,10 @@ def checked_by_git(top: str, names: Set[str]) -> Set[str]:
     return set(map(os.fsdecode, done.stdout.split(b"\0")[:-1])) if done.returncode == 0 else set()
 
 
-def changes_of(old: str, new: str, globs: Sequence[str] = ()) -> Iterator[Change]:
-    """Yields what changed between two files or two folders."""
+def changes_of(
+    old: str, new: str, globs: Sequence[str] = (), expect: Callable[[int], None] = lambda _: None
+) -> Iterator[Change]:
+    """Yields what changed between two files or two folders, and tells `expect` how many more it may be, or fewer."""
     kinds = [os.path.isdir(it) for it in (old, new)]
     for path in (old, new):
         if not os.path.exists(path):
@@ -103,9 +105,12 @@ def changes_of(old: str, new: str, globs: Sequence[str] = ()) -> Iterator[Change
     (first_names, first_errors), (second_names, second_errors) = (compared_below(it, globs) for it in (old, new))
     yield from (Change("", None, None, it) for it in first_errors + second_errors)
     names = [first_names, second_names]
+    expect(len(first_errors + second_errors) + len(names[0] | names[1]))
     for name in sorted(names[0] | names[1]):
         first, second = (os.path.join(top, name) if name in there else None for top, there in zip((old, new), names))
-        yield from compared(os.path.join(new, name), first, second)
+        found = list(compared(os.path.join(new, name), first, second))
+        expect(len(found) - 1)
+        yield from found
 
 
 def compared(name: str, old: Optional[str], new: Optional[str]) -> Iterator[Change]:
@@ -193,17 +198,27 @@ class Git:
             del fields[:count]
 
     def changes(
-        self, revisions: Sequence[str], paths: Sequence[str], globs: Sequence[str] = (), is_cached: bool = False
+        self,
+        revisions: Sequence[str],
+        paths: Sequence[str],
+        globs: Sequence[str] = (),
+        is_cached: bool = False,
+        expect: Callable[[int], None] = lambda _: None,
     ) -> Iterator[Change]:
-        """Yields what changed in the sources among the files of these paths, or of all."""
+        """Yields what changed in the sources among the files of these paths, or of all, and tells `expect` how many more
+        it may be, or fewer.
+        """
         given = {os.path.realpath(it) for it in paths}
         trees = self.trees(revisions)
         is_of_work_tree = len(trees) == 1 and not is_cached
         with objects() as blob:
-            for entry in self.entries(trees, paths, is_cached):
+            entries = list(self.entries(trees, paths, is_cached))
+            expect(len(entries))
+            for entry in entries:
                 below = os.fsdecode(entry.names[-1])
                 path = os.path.join(self.top, below)
                 if is_excluded(below, globs) or (not SOURCES.fullmatch(path) and path not in given):
+                    expect(-1)
                     continue
                 name = os.path.relpath(path)
                 try:
@@ -214,6 +229,8 @@ class Git:
                     continue
                 if old != new:
                     yield Change(name, old, new)
+                else:
+                    expect(-1)
 
     @staticmethod
     def text(name: str, entry: Entry, side: int, blob: Any, path: Optional[str] = None) -> Optional[bytes]:

@@ -4,7 +4,6 @@ from __future__ import annotations
 
 import json
 import os
-import shutil
 import sys
 from typing import Any, Dict, List, Optional, Sequence, Union
 
@@ -13,56 +12,46 @@ from fmtcanon import BadLiteral, Kind, Model, Refused, Verdict
 
 from ..command_line import USAGE, Parser, status_of
 from ..explaining import Difference, Explanation, Part, Rejection, compare, explain, reject
-from ..findings import TYPE_NAMES
+from ..kinds import TYPE_NAMES
 from ..models import model_of
 from ..output import complain, put
-from ..rejections import HELP
-from .layout import Style, difference_lines, explanation_lines, rejection_lines
+from ..rejections import ADVICE, HELP
+from ..terminals import Style, style_of, wrapped
+from .layout import difference_lines, explanation_lines, rejection_lines
 
 NAME = "fmtcanon-explain"
 USAGE_LINES = """\
 fmtcanon-explain [OPTION]... FORMAT
        fmtcanon-explain [OPTION]... FORMAT FORMAT
-       fmtcanon-explain --kind KIND"""
+       fmtcanon-explain [OPTION]... --kind KIND"""
 DESCRIPTION = """\
-Says in words what a printf format does, how two formats differ, or what a
-kind of rejection means.
+Says in words what a printf format does, how two formats differ, or what a kind of rejection means.
 
-For each directive it prints the number of its argument, counted from 1, the
-argument's type, what is printed, and which parts have no effect. Formats are
-those of POSIX fprintf.
-
-Example: fmtcanon-explain '%-08.6lf of %5zu%%'"""
+For each directive it prints the number of its argument, counted from 1, the argument's type, what is printed, and \
+which parts have no effect. Formats are those of POSIX fprintf."""
 EPILOG = """\
-The words may change from version to version: scripts use --output json, or
-the other commands. If a format starts with -, put -- before it.
+Examples:
+  fmtcanon-explain '%-08.6lf of %5zu%%'
+  fmtcanon-explain '%05d' '%.5d'
+  fmtcanon-explain --kind AltUndefined
 
-The exit status is 0 for a format that is accepted and for two that are the
-same, 1 for two that differ, and 2 for a rejected format or a usage error."""
-# Of what is not a terminal, and at least.
-WIDTH, NARROWEST = 104, 40
+The words may change from version to version: scripts use --output json, or the other commands. If a format starts \
+with -, put -- before it.
+
+Exit status:
+  0  the format is accepted, or the two are the same
+  1  the two differ
+  2  a format is rejected, or the usage is wrong"""
 NAMES = {Verdict.SAME: "same", Verdict.TYPES: "types", Verdict.DIFFERENT: "different", Verdict.DIRECTIVES: "directives"}
 
 
 def parser() -> Parser:
     """Returns the definition of the command line."""
     made = Parser(NAME, USAGE_LINES, DESCRIPTION, EPILOG)
-    made.add_argument(
-        "--model",
-        choices=[it.name.lower() for it in Model],
-        default="lp64",
-        metavar="MODEL",
-        help="the data model: lp64, the default, ilp32 or llp64",
-    )
+    made.add_model("whose types are named first", default="lp64", choices=[it.name.lower() for it in Model])
     made.add_argument("--literal", action="store_true", help="formats are string literals of C, with their quotes")
     made.add_argument("--kind", metavar="KIND", help="explain a kind of rejection, by its number or name")
-    made.add_argument(
-        "--color",
-        choices=["auto", "always", "never"],
-        default="auto",
-        metavar="WHEN",
-        help="colour: auto, the default, on a terminal unless NO_COLOR is set; always; or never",
-    )
+    made.add_color()
     made.add_argument(
         "--output", choices=["text", "json"], default="text", metavar="FORM", help="text, the default, or json"
     )
@@ -84,7 +73,7 @@ def main(words: Optional[Sequence[str]] = None) -> int:
 def run(options: Any, formats: Sequence[str]) -> int:
     """Explains what is asked, and returns the exit status."""
     if options.kind is not None:
-        return explain_kind(options.kind)
+        return explain_kind(options.kind, style_of(options.color, sys.stdout), options.output == "json")
     try:
         texts = [text_of(it, options.literal) for it in formats]
     except BadLiteral as fault:
@@ -94,7 +83,7 @@ def run(options: Any, formats: Sequence[str]) -> int:
     if options.output == "json":
         put(sys.stdout, json.dumps(as_json(found)))
     else:
-        for line in lines_of(found, model_of(options.model), style_of(options.color)):
+        for line in lines_of(found, model_of(options.model), style_of(options.color, sys.stdout)):
             put(sys.stdout, line)
     return status_of_found(found)
 
@@ -110,10 +99,12 @@ Found = Union[Explanation, Difference, Rejection]
 
 def found_of(texts: Sequence[bytes], model: Model) -> Found:
     """Explains one format, or compares two; or says why one is rejected."""
+    if len(texts) > 1:
+        return compare(texts[0], texts[1], model)
     try:
-        return explain(texts[0], model) if len(texts) == 1 else compare(texts[0], texts[1], model)
+        return explain(texts[0], model)
     except Refused as refusal:
-        return reject(texts[refusal.side], refusal, model)
+        return reject(texts[0], refusal, model)
 
 
 def status_of_found(found: Found) -> int:
@@ -127,25 +118,24 @@ def lines_of(found: Found, model: Model, style: Style) -> List[str]:
     if isinstance(found, Explanation):
         return list(explanation_lines(found, model, style))
     if isinstance(found, Rejection):
-        return list(rejection_lines(found, style))
+        return list(rejection_lines(found, model, style))
     return list(difference_lines(found, model, style))
 
 
-def style_of(color: str) -> Style:
-    """Returns how lines are laid out on standard output."""
-    is_terminal = sys.stdout is not None and sys.stdout.isatty()
-    width = max(shutil.get_terminal_size().columns, NARROWEST) if is_terminal else WIDTH
-    return Style(width, color == "always" or (color == "auto" and is_terminal and not os.environ.get("NO_COLOR")))
-
-
-def explain_kind(word: str) -> int:
+def explain_kind(word: str, style: Style, is_json: bool) -> int:
     """Prints what a kind of rejection means."""
     names = {it.name.replace("_", "").lower(): it for it in Kind}
     kind = names.get(word.lower()) or (Kind(int(word)) if word.isdecimal() and int(word) in set(Kind) else None)
     if kind is None:
         complain(f"{NAME}: {word} is no kind: give a number from 1 to {len(Kind)}, or a name such as Star")
         return USAGE
-    put(sys.stdout, f"{int(kind)} {fmtcanon._name(kind)}: {HELP[kind]}")
+    if is_json:
+        found = {"kind": int(kind), "name": fmtcanon._name(kind), "help": HELP[kind], "advice": ADVICE.get(kind)}
+        put(sys.stdout, json.dumps(found))
+        return 0
+    for text in [f"{int(kind)} {fmtcanon._name(kind)}: {HELP[kind]}", ADVICE.get(kind, "")]:
+        for line in wrapped(text, style.width) if style.is_terminal else filter(None, [text]):
+            put(sys.stdout, line)
     return 0
 
 
@@ -175,11 +165,12 @@ def as_json(found: Found) -> Dict[str, Any]:
 def rejection_in_json(found: Rejection) -> Dict[str, Any]:
     refusal: Dict[str, Any] = {"kind": int(found.refusal.kind), "name": found.refusal.name, "at": found.refusal.byte}
     refusal["help"] = found.help
-    if found.refusal.side:
-        refusal["side"] = found.refusal.side
+    if found.side is not None:
+        refusal["side"] = found.side
     if found.instead is not None:
         refusal["write"] = text_in_json(found.instead)
-    return {"format": text_in_json(found.format), "accepted": False, "refusal": refusal}
+    types = {"types": difference_in_json(found.types)} if found.types else {}
+    return {"format": text_in_json(found.format), "accepted": False, "refusal": refusal, **types}
 
 
 def explanation_in_json(found: Explanation) -> Dict[str, Any]:

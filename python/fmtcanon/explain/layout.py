@@ -2,32 +2,21 @@
 
 from __future__ import annotations
 
-import textwrap
-import unicodedata
-from typing import Dict, Iterator, List, NamedTuple, Optional
+from itertools import zip_longest
+from typing import Dict, Iterator, List, Optional
 
 import fmtcanon
 from fmtcanon import Model, Type, Verdict
 
 from ..explaining import Difference, Explanation, Part, Rejection
-from ..findings import TYPE_NAMES
-from ..verdicts import shown_argument, shown_arguments
+from ..kinds import TYPE_NAMES
+from ..terminals import Style, beside, columns
+from ..verdicts import argument_words, shown_argument, shown_arguments
 from ..visible import visible
 
 # Formats up to this many columns have the words beside the carets; the words of others are on lines of their own.
 BESIDE, GAP, INDENT = 40, 3, 4
-BOLD, PLAIN = "\x1b[1;36m", "\x1b[0m"
-
-
-class Style(NamedTuple):
-    """How many columns a line has, and whether carets are in colour."""
-
-    width: int
-    is_coloured: bool
-
-    def carets(self, count: int) -> str:
-        marks = "^" * max(count, 1)
-        return f"{BOLD}{marks}{PLAIN}" if self.is_coloured else marks
+SIDES = ("first: ", "second: ")
 
 
 def as_source(text: bytes) -> str:
@@ -35,34 +24,25 @@ def as_source(text: bytes) -> str:
     return visible(fmtcanon.encode_literal(text)[1:-1].decode(errors="backslashreplace"))
 
 
-def columns(text: str) -> int:
-    """Returns how many columns of a terminal a text takes."""
-    wide = sum(unicodedata.east_asian_width(it) in "WF" for it in text)
-    return len(text) + wide - sum(bool(unicodedata.combining(it)) for it in text)
-
-
 def column_of(text: bytes, offset: int) -> int:
     """Returns the column at which the byte at an offset is shown."""
     return columns(as_source(text[:offset]))
 
 
-def beside(style: Style, mark: str, mark_columns: int, start: int, words: List[str]) -> Iterator[str]:
-    """Yields a mark, with wrapped words beside it that begin in a column."""
-    lines = [line for it in words for line in textwrap.wrap(it, max(style.width - start, BESIDE))]
-    yield f"{mark}{' ' * (start - mark_columns)}{lines[0]}".rstrip()
-    for line in lines[1:]:
-        yield " " * start + line
+def type_names(part: Part, model: Model) -> List[str]:
+    """Returns the type of an argument, and the types that it has in other data models, each with these."""
+    others: Dict[Type, List[str]] = {}
+    for other, kind in part.types.items():
+        if kind is not part.types[model]:
+            others.setdefault(kind, []).append(other.name)
+    listed = [f"{TYPE_NAMES[kind]} in {' and '.join(names)}" for kind, names in others.items()]
+    return [TYPE_NAMES[part.types[model]], *listed]
 
 
 def type_words(part: Part, model: Model) -> str:
-    """Returns the type of an argument, and the types that it has in other data models."""
-    own = part.types[model]
-    others: Dict[Type, List[str]] = {}
-    for other, kind in part.types.items():
-        if kind is not own:
-            others.setdefault(kind, []).append(other.name)
-    listed = ", ".join(f"{TYPE_NAMES[kind]} in {' and '.join(names)}" for kind, names in others.items())
-    return f"{TYPE_NAMES[own]} ({listed})" if listed else TYPE_NAMES[own]
+    """Returns the type of an argument, and in brackets the types that it has in other data models."""
+    own, *others = type_names(part, model)
+    return f"{own} ({', '.join(others)})" if others else own
 
 
 def part_words(part: Part, model: Model) -> List[str]:
@@ -81,10 +61,10 @@ def explanation_lines(found: Explanation, model: Model, style: Style) -> Iterato
         mark = " " * begin + style.carets(count)
         start = columns(shown) + GAP if is_short else INDENT
         if is_short:
-            yield from beside(style, mark, begin + count, start, part_words(part, model))
+            yield from beside(mark, begin + count, start, part_words(part, model), style.width)
         else:
             yield mark
-            yield from beside(style, "", 0, start, part_words(part, model))
+            yield from beside("", 0, start, part_words(part, model), style.width)
     if found.canonical:
         yield f"canonical text: {as_source(found.canonical[model])}"
     if found.bounds is not None:
@@ -100,15 +80,28 @@ def bounds_words(bounds: fmtcanon.Bounds) -> str:
     return f"it prints {bounds.least} to {bounds.greatest} bytes"
 
 
-def rejection_lines(found: Rejection, style: Style) -> Iterator[str]:
+def rejection_lines(found: Rejection, model: Model, style: Style) -> Iterator[str]:
     """Yields the error line, the format with a caret under the byte that is rejected, and what to write."""
-    side = ("first: ", "second: ")[found.refusal.side] if found.refusal.side else ""
-    yield f"{side}{found.refusal}"
+    yield f"{'' if found.side is None else SIDES[found.side]}{found.refusal}"
     yield as_source(found.format)
     begin = column_of(found.format, found.refusal.byte)
     more = [f"Write {as_source(found.instead)}."] if found.instead else []
     words = " ".join([found.help, *more])
-    yield from beside(style, " " * begin + style.carets(1), begin + 1, begin + 2, [words])
+    if begin <= BESIDE:
+        yield from beside(" " * begin + style.carets(1), begin + 1, begin + 2, [words], style.width)
+    else:
+        yield " " * begin + style.carets(1)
+        yield from beside("", 0, INDENT, [words], style.width)
+    if found.types is not None:
+        yield from types_lines(found.types, model, style)
+
+
+def types_lines(found: Difference, model: Model, style: Style) -> Iterator[str]:
+    """Yields how two formats compare by their types, of which one has numbered arguments."""
+    if found.verdict is Verdict.SAME:
+        yield "only the types of the arguments can be compared: they are the same"
+    else:
+        yield from apart_lines(found, model, style)
 
 
 def difference_lines(found: Difference, model: Model, style: Style) -> Iterator[str]:
@@ -118,14 +111,11 @@ def difference_lines(found: Difference, model: Model, style: Style) -> Iterator[
     elif found.verdict is Verdict.DIFFERENT:
         yield from printed_lines(found, style)
     else:
-        yield from apart_lines(found, model)
+        yield from apart_lines(found, model, style)
 
 
 def same_lines(found: Difference) -> Iterator[str]:
-    if found.canonical is None:
-        yield "same types: numbered arguments are compared by their types only"
-    else:
-        yield "same"
+    yield "same"
     for text in found.formats:
         yield f"  {as_source(text)}"
     if found.canonical is not None:
@@ -149,15 +139,31 @@ def printed_lines(found: Difference, style: Style) -> Iterator[str]:
     yield "  " + " " * column_of(first, at) + style.carets(1)
 
 
-def apart_lines(found: Difference, model: Model) -> Iterator[str]:
-    """Yields the two directives whose types, or which themselves, differ."""
+def apart_lines(found: Difference, model: Model, style: Style) -> Iterator[str]:
+    """Yields the two formats side by side, with carets under the directives whose types, or which themselves, differ.
+
+    They are one below the other if a line has no room for both.
+    """
     what = "types" if found.verdict is Verdict.TYPES else "directives"
-    yield f"{what} differ at argument {(found.at or 0) + 1}, counted from 1"
-    for text, part in zip(found.formats, found.parts):
-        yield f"  {as_source(text)}"
-        yield f"    {taker(part, model)}"
+    yield f"{what} differ at {argument_words(found.at or 0)}"
+    cells = [cell(text, part, model) for text, part in zip(found.formats, found.parts)]
+    widths = [max(map(columns, it)) for it in cells]
+    if sum(widths) + INDENT + GAP <= style.width:
+        cells = [
+            [
+                f"{one}{' ' * (widths[0] - columns(one))}{' ' * GAP}{two}"
+                for one, two in zip_longest(*cells, fillvalue="")
+            ]
+        ]
+    for lines in cells:
+        for line in lines:
+            marks = line.strip(" ^") == "" and style.is_coloured
+            yield f"  {line.replace('^', style.carets(1)) if marks else line}".rstrip()
 
 
-def taker(part: Optional[Part], model: Model) -> str:
-    """Returns a directive with its type, or says that nothing takes the argument."""
-    return "takes no such argument" if part is None else f"{as_source(part.text)} takes {type_words(part, model)}"
+def cell(text: bytes, part: Optional[Part], model: Model) -> List[str]:
+    """Returns the lines of a format: itself, carets under a directive, and the types that this takes."""
+    if part is None:
+        return [as_source(text), "", "takes no such argument"]
+    begin, end = (column_of(text, it) for it in (part.start, part.end))
+    return [as_source(text), " " * begin + "^" * (end - begin), *type_names(part, model)]

@@ -2,15 +2,19 @@
 
 import collections
 import json
+from dataclasses import replace
 from typing import Callable, Dict, Iterator, NamedTuple, Optional, Sequence, Set, Tuple
 
 import fmtcanon
 
 from ..command_line import model_names
 from ..findings import ERROR, WARNING, Finding
+from ..rejections import advice_on, begin_of
+from ..verdicts import argument_words
 from .formats import DEPENDENT, Format, shape_of, shown_kinds, shown_type
 from .plurals import PluralRule, rule_of
 from .reading import Catalog, Message, read_catalog
+from .sources import CatalogSource, Mark
 from .tokens import Unreadable
 
 # The types that an argument has whether it is printed as a number, a short number or a character.
@@ -47,10 +51,14 @@ Right = Set[Tuple[Optional[bytes], Optional[bytes], bool, bool]]
 
 
 class Text(NamedTuple):
-    """A text of a message, under the name that a report gives it."""
+    """A text of a message, under the name that a report gives it, and whether it is a translation."""
 
     name: str
     text: bytes
+
+    @property
+    def is_translation(self) -> bool:
+        return self.name.startswith("msgstr")
 
 
 def shown(text: bytes) -> str:
@@ -61,40 +69,51 @@ def shown(text: bytes) -> str:
 
 
 class Reason(NamedTuple):
-    """What is wrong with a text, with `{}` for its name and that of the one that it is compared with."""
+    """What is wrong with a text, with `{}` for its name and that of the one that it is compared with.
+
+    `argument` is the index of the argument that it is about, and `refusal` is set if a text is rejected.
+    """
 
     kind: str
     text: str
+    argument: Optional[int] = None
+    refusal: Optional[fmtcanon.Refused] = None
 
 
 def difference(wanted: Format, found: Format, may_be_fewer: bool, model: fmtcanon.Model) -> Optional[Reason]:
-    """Says how the types of two formats differ: by their number, or at an argument, from 0. None if they don't."""
+    """Says how the types of two formats differ: by their number, or at an argument. None if they don't."""
     is_fit = fmtcanon.fits(wanted.plain, found.plain, model=model, fewer=may_be_fewer)
-    macros, others = wanted.macros(), found.macros()
+    macros, others = wanted.macros(model), found.macros(model)
     if is_fit and not macros and not others:
         return None
     first, second = wanted.codes(model), found.codes(model)
     if not is_fit and (len(second) > len(first) or (len(second) < len(first) and not may_be_fewer)):
         counts = f"{len(first)} and {len(second)}"
-        return Reason(NUMBER, f"number of format specifications in '{{}}' and '{{}}' does not match: {counts}")
+        text = f"number of format specifications in '{{}}' and '{{}}' does not match: {counts}"
+        return Reason(NUMBER, text, min(len(first), len(second)))
     # The library sees no macros.
     for at, (one, other) in enumerate(zip(first, second)):
         if macros.get(at) != others.get(at) or (at not in macros and one != other):
-            names = f"{shown_type(one, macros.get(at))} and {shown_type(other, others.get(at))}"
-            return Reason(TYPES, f"types of '{{}}' and '{{}}' differ at argument {at}: {names}")
+            types = shown_type(one, macros.get(at)), shown_type(other, others.get(at))
+            both = " and ".join(f"{taker(it, at, model)} takes {type}" for it, type in zip((wanted, found), types))
+            return Reason(TYPES, f"types of '{{}}' and '{{}}' differ at {argument_words(at)}: {both}", at)
     return None
 
 
-def changed_kind(wanted: Format, found: Format) -> Optional[Reason]:
+def taker(format: Format, argument: int, model: fmtcanon.Model) -> str:
+    """Returns the specifications that take an argument, as they are spelled."""
+    return " and ".join(it.decode() for it in format.takers(argument, model))
+
+
+def changed_kind(wanted: Format, found: Format, model: fmtcanon.Model) -> Optional[Reason]:
     """Says which int is printed as something else by the second format, whose types are those of the first."""
-    codes = [one.codes(fmtcanon.Model.LP64) for one in (wanted, found)]
+    codes = [one.codes(model) for one in (wanted, found)]
+    kinds = [it.kinds(len(listed), model) for it, listed in zip((wanted, found), codes)]
     # The second format may leave arguments out.
-    for at, (code, one, other) in enumerate(zip(codes[0], wanted.kinds(len(codes[0])), found.kinds(len(codes[1])))):
+    for at, (code, one, other) in enumerate(zip(codes[0], *kinds)):
         if one != other and code in INTEGERS:
-            return Reason(
-                USE,
-                f"'{{}}' and '{{}}' use argument {at} otherwise: as {shown_kinds(one)}, and as {shown_kinds(other)}",
-            )
+            uses = [f"{taker(it, at, model)} as {shown_kinds(kind)}" for it, kind in ((wanted, one), (found, other))]
+            return Reason(USE, f"'{{}}' and '{{}}' use {argument_words(at)}, otherwise: {uses[0]}, and {uses[1]}", at)
     return None
 
 
@@ -123,8 +142,12 @@ class Checker:
         models: Sequence[fmtcanon.Model],
         is_all: bool = False,
         right: Optional[Right] = None,
+        is_shown: bool = False,
     ) -> None:
         self.add = add
+        # Whether findings are to have excerpts of the catalog, and its lines.
+        self.is_shown = is_shown
+        self.source = CatalogSource(b"")
         self.right: Right = set() if right is None else right
         self.models = models
         self.is_all = is_all
@@ -174,15 +197,37 @@ class Checker:
         names = model_names(models or self.models)
         self.reports += 1
         text = f"{reason.text} [{shown(message.msgid)}]"
-        self.add(Finding(file, message.line, message.column, reason.kind, level, text, None, formats, names, details))
+        finding = Finding(file, message.line, message.column, reason.kind, level, text, None, formats, names, details)
+        if self.is_shown:
+            finding = self.with_excerpts(finding, message, reason, texts, (models or self.models)[0])
+        self.add(finding)
 
-    def leave(self, file: str, message: Message, text: str) -> None:
-        """Warns of a text that isn't judged."""
+    def with_excerpts(
+        self, finding: Finding, message: Message, reason: Reason, texts: Sequence[Text], model: fmtcanon.Model
+    ) -> Finding:
+        """Returns a finding with the lines that it is about, and what helps."""
+        marks = marks_of(reason, texts, model)
+        excerpts = tuple(self.source.excerpt(message.line, it) for it in marks)
+        refused = texts[-1].text if texts and reason.refusal else b""
+        help = advice_on(refused, reason.refusal, model) if reason.refusal else ""
+        return replace(finding, excerpts=excerpts, help=help)
+
+    def leave(
+        self,
+        file: str,
+        message: Message,
+        text: str,
+        rejected: Optional[Text] = None,
+        refusal: Optional[fmtcanon.Refused] = None,
+    ) -> None:
+        """Warns of a text that isn't judged, and says which format is rejected."""
         self.is_whole = False
-        self.found(file, message, WARNING, Reason(UNJUDGED, text))
+        self.found(file, message, WARNING, Reason(UNJUDGED, text, refusal=refusal), [rejected] if rejected else ())
 
     def check_data(self, file: str, data: bytes) -> None:
         """Checks the catalog in a file's bytes."""
+        if self.is_shown:
+            self.source = CatalogSource(data)
         try:
             catalog = read_catalog(data)
             rule = rule_of(catalog.header)
@@ -264,19 +309,25 @@ class Checker:
         models = self.models if DEPENDENT.search(first.text + second.text) else self.models[:1]
         rejection = rejection_of(wanted, models)
         if rejection is not None:
-            self.leave(file, message, f"'{second.name}' isn't checked, since '{first.name}' is {rejection.reason}")
+            self.leave(
+                file,
+                message,
+                f"'{second.name}' isn't checked, since '{first.name}' is {rejection.reason}",
+                first,
+                rejection.refusal,
+            )
             return False
         rejection = rejection_of(found, models)
         if rejection is None:
             self.check_types(file, message, (first, second), (wanted, found), may_be_fewer, models)
-        elif second.name == "msgid" and rejection.kind is fmtcanon.Kind.MISSING_ARGUMENT:
+        elif second.name == "msgid" and is_missing(rejection.refusal):
             # The message for one may leave out arguments that no list of arguments may.
             self.leave(file, message, f"'msgid' isn't checked: {rejection.reason}")
         else:
             reason = (
                 f"'{second.name}' is not a valid C format string, unlike '{first.name}'. Reason: {rejection.reason}"
             )
-            self.report_of(file, message, Reason(FORMAT, reason), (first, second))
+            self.report_of(file, message, Reason(FORMAT, reason, refusal=rejection.refusal), (first, second))
         return True
 
     def check_types(
@@ -304,16 +355,20 @@ class Checker:
                     () if all(reasons) else [it for it, one in zip(models, reasons) if one],
                 )
                 return
-        change = changed_kind(wanted, found)
+        change = changed_kind(wanted, found, models[0])
         if change:
             self.found(file, message, WARNING, change._replace(text=change.text.format(*names)), texts)
 
 
 class Rejection(NamedTuple):
-    """Why a text is not a format: in words, and as a kind if the library says so."""
+    """Why a text is not a format: in words, and as the refusal of the library, if it is one."""
 
     reason: str
-    kind: Optional[fmtcanon.Kind] = None
+    refusal: Optional[fmtcanon.Refused] = None
+
+
+def is_missing(refusal: Optional[fmtcanon.Refused]) -> bool:
+    return refusal is not None and refusal.kind is fmtcanon.Kind.MISSING_ARGUMENT
 
 
 def rejection_of(format: Format, models: Sequence[fmtcanon.Model]) -> Optional[Rejection]:
@@ -322,6 +377,27 @@ def rejection_of(format: Format, models: Sequence[fmtcanon.Model]) -> Optional[R
         try:
             format.codes(model)
         except fmtcanon.Refused as refusal:
-            return Rejection(str(refusal), refusal.kind)
-    reason = format.two_types()
+            return Rejection(str(refusal), refusal)
+    reason = format.two_types(models[0])
     return Rejection(reason) if reason else None
+
+
+def marks_of(reason: Reason, texts: Sequence[Text], model: fmtcanon.Model) -> Iterator[Mark]:
+    """Yields what a reason is about: the byte that is rejected, or the specifications that take an argument."""
+    if reason.refusal is not None and texts:
+        text, at = texts[-1], reason.refusal.byte
+        yield Mark(text.name, text.text, min(max(begin_of(text.text, at), 0), at), at + 1, reason.refusal.name)
+    elif reason.argument is not None:
+        for text in texts:
+            yield taken_in(text, reason.argument, model)
+
+
+def taken_in(text: Text, argument: int, model: fmtcanon.Model) -> Mark:
+    """Returns the first specification of a text that takes an argument, with its type; or the text if none does."""
+    format = Format(text.text, text.is_translation)
+    codes, macros = format.codes(model), format.macros(model)
+    use = next((it for it in format.uses(model) if it.argument == argument), None)
+    if use is None:
+        return Mark(text.name, text.text, 0, len(text.text), "takes no such argument")
+    end = use.start + len(use.specification)
+    return Mark(text.name, text.text, use.start, end, shown_type(codes[argument], macros.get(argument)))

@@ -10,7 +10,7 @@ from typing import Any, Dict, Iterator, List, NamedTuple, Optional, Sequence, Tu
 from ..command_line import MODELS, Parser, status_of
 from ..findings import WARNING, Finding, Printer
 from ..models import Model
-from ..output import Unwritable, complain
+from ..output import Unwritable
 from ..processes import in_order
 from ..visible import visible
 from .checking import RULES, Checker, Right
@@ -21,36 +21,38 @@ FEW = 8
 DESCRIPTION = """\
 Checks the C formats of message catalogs.
 
-FILE is a .po or .mo file, or - for standard input. Each translated message with the flag c-format or
-possible-c-format is checked, except fuzzy and obsolete ones. The translation must take arguments of
-the same types, in the same order. A plural form and msgid must take those of msgid_plural. A form that
-is used for at most four numbers, as 'one file' is, may leave out the last arguments. A message must
-begin and end with a newline exactly if its translation does.
+FILE is a .po or .mo file, or - for standard input. Each translated message with the flag c-format or \
+possible-c-format is checked, except fuzzy and obsolete ones. The translation must take arguments of the same types, \
+in the same order. A plural form and msgid must take those of msgid_plural. A form that is used for at most four \
+numbers, as 'one file' is, may leave out the last arguments. Message and translation must agree on a leading and a \
+trailing newline.
 
-A .mo file doesn't say which messages are C formats. Each one with a % is checked, and a fault that
-only a C format has is a warning unless --c-format is given. Messages of a .mo file have numbers
-instead of lines.
+A .mo file doesn't say which messages are C formats. Each one with a % is checked, and a fault that only a C format \
+has is a warning unless --c-format is given. Messages of a .mo file have numbers instead of lines.
 
-Formats are those of POSIX fprintf, with numbered arguments, *, floating conversions, %p and %n. %m
-takes no argument. The argument of a macro of <inttypes.h>, such as %<PRIu64>, has its own type."""
+Formats are those of POSIX fprintf, with numbered arguments, *, floating conversions, %p and %n. %m takes no argument. \
+The argument of a macro of <inttypes.h>, such as %<PRIu64>, has its own type."""
 EPILOG = """\
-A fault is reported on standard error, as by `msgfmt -c`: the file, the line, the reason and the
-message. Arguments are counted from 0. If only the message is not a C format, its translation can't be
-judged, which is a warning. It is a warning, too, if a translation prints an int as something else, as
-%c for %d, or if some of its plural forms are empty. The last lines count the messages that were judged
-and that were not, the faults, and the messages with formats of other languages, which are not judged.
+Examples:
+  fmtcanon-po po/*.po
+  fmtcanon-po --model lp64 --output sarif -j 4 po/*.po > po.sarif
 
-The exit status is 0 if there is no fault, 1 if there is one or a file can't be read, and 2 for a usage
-error."""
+A fault is reported on standard error, as by `msgfmt -c`: the file, the line, the reason and the message. A terminal \
+also shows the lines of the catalog. Arguments are counted from 1, as in %1$d. If only the message is not a C format, \
+its translation can't be judged, which is a warning. It is a warning, too, if a translation prints an int as something \
+else, as %c for %d, or if some of its plural forms are empty. The last lines count the messages that were judged and \
+that were not, the faults, and the messages with formats of other languages, which are not judged.
+
+Exit status:
+  0  there is no fault
+  1  there is a fault, or a file can't be read
+  2  usage error"""
 
 
 def parser() -> Parser:
     """Returns the definition of the command line."""
     made = Parser(NAME, "fmtcanon-po [OPTION]... FILE...", DESCRIPTION, EPILOG)
-    made.add_model(
-        "the data models in which the types must be the same: lp64, ilp32, llp64, both for the first two, or all, "
-        "the default, so that a catalog works on every machine: %%zu is not a translation of %%lu"
-    )
+    made.add_model("in which the types must be the same, since %%zu is not a translation of %%lu on every machine")
     made.add_argument(
         "--c-format",
         action="store_true",
@@ -58,9 +60,8 @@ def parser() -> Parser:
     )
     made.add_argument("--strict", action="store_true", help="exit with status 1 also if something could not be judged")
     made.add_output()
-    made.add_argument(
-        "--jobs", type=int, default=os.cpu_count() or 1, metavar="N", help="how many catalogs are read at a time"
-    )
+    made.add_color()
+    made.add_jobs("catalogs")
     made.add_argument("files", metavar="FILE", nargs="*", help="a catalog, or - for standard input")
     return made
 
@@ -109,10 +110,10 @@ def read_file(file: str) -> Union[bytes, str]:
         return str(error.strerror)
 
 
-def check_catalog(catalog: Given, models: Sequence[Model], is_all: bool) -> Checked:
+def check_catalog(catalog: Given, models: Sequence[Model], is_all: bool, is_shown: bool = False) -> Checked:
     file, given = catalog
     findings: List[Finding] = []
-    checker = Checker(findings.append, models, is_all, remembered(tuple(models)))
+    checker = Checker(findings.append, models, is_all, remembered(tuple(models)), is_shown)
     data = read_file(file) if given is None else given
     if isinstance(data, str):
         checker.report(file, 0, f"it can't be read: {data}")
@@ -143,21 +144,24 @@ def check(options: Any, files: Sequence[str]) -> int:
     """Checks the catalogs, and returns the exit status."""
     if options.output == "text" and sys.stderr is None:
         raise Unwritable("standard error is closed")
-    printer = Printer(NAME, options.output, RULES, sys.stderr if options.output == "text" else None, as_msgfmt)
-    work = functools.partial(check_catalog, models=MODELS[options.model], is_all=options.c_format)
+    stream = sys.stderr if options.output == "text" else None
+    printer = Printer(NAME, options.output, RULES, stream, as_msgfmt, options.color)
+    is_shown = printer.has_excerpts
+    work = functools.partial(check_catalog, models=MODELS[options.model], is_all=options.c_format, is_shown=is_shown)
     judged = unjudged = faults = 0
     others: Dict[str, int] = collections.Counter()
-    for one in in_order(work, catalogs(files), options.jobs, FEW):
+    printer.progress.expect(len(files))
+    for one in printer.progress.each(in_order(work, catalogs(files), options.jobs, FEW)):
         for finding in one.findings:
             printer.add(finding)
         judged, unjudged, faults = judged + one.judged, unjudged + one.unjudged, faults + one.faults
         for flag, count in one.others.items():
             others[flag] += count
     printer.end()
-    complain(f"{counted(judged, 'message')} judged, {unjudged} not judged")
+    printer.say(f"{counted(judged, 'message')} judged, {unjudged} not judged")
     if faults:
-        complain(f"found {counted(faults, 'fatal error')}")
+        printer.say(f"found {counted(faults, 'fatal error')}")
     if others:
         listed = ", ".join(f"{count} {flag}" for flag, count in sorted(others.items()))
-        complain(f"{counted(sum(others.values()), 'message')} of other formats not judged: {listed}")
+        printer.say(f"{counted(sum(others.values()), 'message')} of other formats not judged: {listed}")
     return 1 if faults or (options.strict and unjudged) else 0

@@ -1,23 +1,17 @@
 """The types of the arguments of a message, in the whole language of printf with macros and `%m`."""
 
+import bisect
 import re
-from typing import Dict, Iterator, List, NamedTuple, Optional, Tuple
+from typing import Dict, Iterator, List, NamedTuple, Optional
 
 import fmtcanon
 
-from ..findings import TYPE_NAMES
+from ..items import MACRO, Item, errno_parts, items_of
+from ..kinds import TYPE_NAMES
 
-# A macro of <inttypes.h> comes in angle brackets, as xgettext writes it. Its name has its conversion (C11 7.8.1). d and
-# i take one type, and so do o, u, x and X.
-MACRO = rb"<PRI[dioxXu](?:(?:LEAST|FAST)?(?:8|16|32|64)|MAX|PTR)>"
-# What may be a conversion specification. Each part begins with bytes that the part before can't end in, so that
-# matching is linear.
-SPECIFICATION = re.compile(
-    rb"%(?P<number>[1-9][0-9]*\$)?(?P<flags>[-+ #0'I]*)(?P<width>\*(?:[1-9][0-9]*\$)?|[1-9][0-9]*)?"
-    rb"(?:\.(?P<precision>\*(?:[1-9][0-9]*\$)?|[0-9]*))?(?P<length>hh?|ll?|[jztL])?(?P<last>[A-Za-z%]|" + MACRO + rb")?"
-)
 # The conversions for which the GNU C library has the flag I, other digits. It is for translations, and changes no type.
 WITH_OTHER_DIGITS = b"diufFeEgG"
+PERCENT = ord("%")
 
 # How an argument of the types int and unsigned int is used, as bits.
 KINDS = {
@@ -30,8 +24,6 @@ KINDS = {
     64: "a number of type unsigned char",
 }
 NUMBER, CHARACTER, SHORT, SIGNED_CHAR, WIDTH, UNSIGNED_SHORT, UNSIGNED_CHAR = KINDS
-# A specification that ends as one does, or a percent sign with anything else.
-ITEM = re.compile(re.sub(rb"\(\?P<\w+>", b"(?:", SPECIFICATION.pattern[:-1]) + b"|%")
 # What of a specification has another type in another data model (C11 7.21.6.1p7).
 DEPENDENT = re.compile(rb"[jzt]")
 # The shape of a longer text isn't looked for.
@@ -40,12 +32,31 @@ LONG = 1_000
 OTHER_KINDS = re.compile(rb"[ch*]")
 
 
+class Edit(NamedTuple):
+    """A part of a text that the library gets in other words: its item, its macro, if it is one, where the new words
+    begin in the plain format, and how many more bytes these are.
+    """
+
+    item: Item
+    macro: Optional[bytes]
+    start: int
+    new: bytes
+
+    @property
+    def growth(self) -> int:
+        return len(self.new) - len(self.item.text)
+
+
 class Use(NamedTuple):
-    """A use of an argument: its number from 0, what it is printed as, and the macro that gives its type, if any."""
+    """A use of an argument: its number from 0, what it is printed as, the macro that gives its type, if any, and its
+    specification in the text, with where that begins.
+    """
 
     argument: int
     kind: int
     macro: Optional[bytes]
+    specification: bytes
+    start: int
 
 
 class Format:
@@ -54,45 +65,41 @@ class Format:
     def __init__(self, text: bytes, is_translation: bool = False) -> None:
         self.text = text
         self.is_translation = is_translation
+        self.edits: List[Edit] = []
         out = bytearray()
         done = 0
-        for match in specifications(text):
-            new = replacement(match, is_translation)
+        for item in items_of(text):
+            new = replacement(item, is_translation)
             if new is not None:
-                out += text[done : match.start()]
+                out += text[done : item.start]
+                self.edits.append(Edit(item, macro_type(item.last), len(out), new))
                 out += new
-                done = match.end()
+                done = item.start + len(item.text)
         self.plain = bytes(out + text[done:]) if done else text
+        self.starts = [it.start for it in self.edits]
 
     def place_of(self, byte: int) -> int:
         """Returns the offset in the text of a byte of the plain format."""
-        shift = 0
-        for match in specifications(self.text):
-            start = match.start() + shift
-            if byte < start:
-                break
-            new = replacement(match, self.is_translation)
-            if new is not None:
-                if byte < start + len(new):
-                    break
-                shift += len(new) - (match.end() - match.start())
-        return byte - shift
+        index = bisect.bisect_right(self.starts, byte) - 1
+        if index < 0:
+            return byte
+        edit = self.edits[index]
+        is_after = byte >= edit.start + len(edit.new)
+        return byte - (edit.start - edit.item.start) - (edit.growth if is_after else 0)
 
-    def uses(self) -> Iterator[Use]:
-        """Yields each use of an argument. The format must be accepted."""
-        following = 0
-        for match in specifications(self.text):
-            last = match.group("last") or b""
-            named: List[Tuple[bytes, int, Optional[bytes]]] = []
-            for star in (match.group("width"), match.group("precision")):
-                if star is not None and star[:1] == b"*":
-                    named.append((star[1:-1], WIDTH, None))
-            if last not in (b"%", b"m"):
-                number = match.group("number")
-                named.append((number[:-1] if number else b"", kind_of(match, last), macro_type(last)))
-            for digits, kind, macro in named:
-                yield Use(int(digits) - 1 if digits else following, kind, macro)
-                following += 1
+    def uses(self, model: fmtcanon.Model) -> Iterator[Use]:
+        """Yields each use of an argument. The format must be accepted in this data model."""
+        # A `%m` with stars has become a directive for each.
+        edits = {it.start + at: it for it in self.edits for at, byte in enumerate(it.new) if byte == PERCENT}
+        for span in fmtcanon.directives(self.plain, model=model):
+            plain, edit = self.plain[span.start : span.end], edits.get(span.start)
+            text, start = (edit.item.text, edit.item.start) if edit else (plain, self.place_of(span.start))
+            for star in (span.width_argument, span.precision_argument):
+                if star is not None:
+                    yield Use(star, WIDTH, None, text, start)
+            is_star = edit is not None and edit.item.last == b"m"
+            kind = WIDTH if is_star else kind_of(plain)
+            yield Use(span.argument, kind, edit.macro if edit else None, text, start)
 
     def codes(self, model: fmtcanon.Model) -> bytes:
         """Returns the number of each argument's type. Raises `Refused` with the offset in the text."""
@@ -101,69 +108,70 @@ class Format:
         except fmtcanon.Refused as refusal:
             raise fmtcanon.Refused(refusal.kind, refusal.name, self.place_of(refusal.byte)) from None
 
-    def two_types(self) -> Optional[str]:
+    def two_types(self, model: fmtcanon.Model) -> Optional[str]:
         """Says which argument two macros, or a macro and a conversion, give different types.
 
         The library sees no macros.
         """
-        found: Dict[int, Optional[bytes]] = {}
-        for use in self.uses() if b"<" in self.text else ():
-            other = found.setdefault(use.argument, use.macro)
-            if other != use.macro:
-                names = " and ".join(sorted(macro.decode() for macro in (other, use.macro) if macro))
-                return f"argument {use.argument + 1} has another type than that of {names}"
+        found: Dict[int, Use] = {}
+        for use in self.uses(model) if b"<" in self.text else ():
+            other = found.setdefault(use.argument, use)
+            if other.macro != use.macro:
+                both = " and ".join(it.specification.decode() for it in (other, use))
+                return f"{both} give argument {use.argument + 1}, counted from 1, different types"
         return None
 
-    def macros(self) -> Dict[int, bytes]:
+    def macros(self, model: fmtcanon.Model) -> Dict[int, bytes]:
         """Returns the type of each argument that a macro prints."""
         if b"<" not in self.text:
             return {}
-        return {use.argument: use.macro for use in self.uses() if use.macro is not None}
+        return {use.argument: use.macro for use in self.uses(model) if use.macro is not None}
 
-    def kinds(self, count: int) -> bytearray:
+    def takers(self, argument: int, model: fmtcanon.Model) -> List[bytes]:
+        """Returns the specifications that take an argument, each once."""
+        return list(dict.fromkeys(it.specification for it in self.uses(model) if it.argument == argument))
+
+    def kinds(self, count: int, model: fmtcanon.Model) -> bytearray:
         """Returns how each of the arguments is used."""
         if OTHER_KINDS.search(self.text) is None:
             return bytearray([NUMBER]) * count
         kinds = bytearray(count)
-        for use in self.uses():
+        for use in self.uses(model):
             kinds[use.argument] |= use.kind
         return kinds
 
 
-def specifications(text: bytes) -> Iterator["re.Match[bytes]"]:
-    return SPECIFICATION.finditer(text)
-
-
 def shape_of(text: bytes) -> Optional[bytes]:
-    """Returns the specifications of a text side by side, which decide what is said of it; None if that isn't certain.
+    """Returns the items of a text side by side, which decide what is said of it; None if that isn't certain.
 
     The library reads a specification by its own bytes alone, and rejects a NUL.
     """
     if len(text) > LONG or b"\0" in text:
         return None
-    items = ITEM.findall(text)
-    return None if b"%" in items else b"".join(items)
+    return b"".join(it.text for it in items_of(text))
 
 
-def replacement(match: "re.Match[bytes]", is_translation: bool) -> Optional[bytes]:
-    """Returns what the library is given for a specification, or None for the specification itself."""
-    last, length = match.group("last") or b"", match.group("length")
-    new: bytes = match.group()
-    if last[:1] == b"<" and length is None:
-        new = new[: -len(last)] + last[4:5]
-    elif last == b"m" and length is None:
-        return only_stars(match)
-    if is_translation and b"I" in match.group("flags") and new[-1] in WITH_OTHER_DIGITS:
-        start = match.start("flags") - match.start()
-        end = match.end("flags") - match.start()
-        new = new[:start] + new[start:end].replace(b"I", b"-") + new[end:]
-    return None if new == match.group() else new
+def replacement(item: Item, is_translation: bool) -> Optional[bytes]:
+    """Returns what the library is given for an item, or None for the item itself."""
+    inner, last = item.inner, item.last
+    if last == b"m":
+        return only_stars(item)
+    macro = MACRO.fullmatch(last)
+    if macro and not item.has_length:
+        last = macro[1]
+    if is_translation and last != b"" and last in WITH_OTHER_DIGITS:
+        inner = inner.replace(b"I", b"-")
+    new = b"%" + inner + last
+    return None if new == item.text else new
 
 
-def only_stars(match: "re.Match[bytes]") -> bytes:
-    """Returns what stands for a `%m`: it takes an int for each `*`, and no other argument."""
-    stars = [star for star in (match.group("width"), match.group("precision")) if star and star[:1] == b"*"]
-    return b"".join(b"%" + star[1:] + b"d" for star in stars) or b"%%"
+def only_stars(item: Item) -> Optional[bytes]:
+    """Returns what replaces a `%m`: it takes an int for each `*`, and no other argument. None if it isn't one."""
+    found = errno_parts(item)
+    if found is None:
+        return None
+    stars = [it.partition("*") for it in (found.width, found.precision)]
+    return "".join(f"%{number}d" for _, star, number in stars if star).encode() or b"%%"
 
 
 def macro_type(last: bytes) -> Optional[bytes]:
@@ -173,20 +181,26 @@ def macro_type(last: bytes) -> Optional[bytes]:
     return last[:4] + (b"d" if last[4:5] in b"di" else b"u") + last[5:]
 
 
-def kind_of(match: "re.Match[bytes]", last: bytes) -> int:
+def kind_of(specification: bytes) -> int:
+    """Returns as what a specification prints its argument."""
+    last, is_short, is_char = specification[-1:], specification[-2:-1] == b"h", specification[-3:-1] == b"hh"
     if last == b"c":
         return CHARACTER
     is_signed = last in (b"d", b"i")
-    if match.group("length") == b"h":
-        return SHORT if is_signed else UNSIGNED_SHORT
-    if match.group("length") == b"hh":
+    if is_char:
         return SIGNED_CHAR if is_signed else UNSIGNED_CHAR
+    if is_short:
+        return SHORT if is_signed else UNSIGNED_SHORT
     return NUMBER
 
 
 def shown_type(code: int, macro: Optional[bytes]) -> str:
-    """Returns the name of an argument's type for a report."""
-    return macro.decode() if macro else TYPE_NAMES[fmtcanon.Type(code)]
+    """Returns the name of an argument's type for a report: of a macro, that of <stdint.h>."""
+    if macro is None:
+        return TYPE_NAMES[fmtcanon.Type(code)]
+    size = macro[5:-1].decode().lower()
+    named = f"_{size}" if size.startswith(("least", "fast")) else size
+    return f"{'u' if macro[4:5] == b'u' else ''}int{named}_t"
 
 
 def shown_kinds(kinds: int) -> str:

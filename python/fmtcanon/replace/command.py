@@ -1,14 +1,18 @@
 """Replaces printf formats in C source by others that mean the same."""
 
 import sys
-from typing import Any, List, Optional, Sequence
+from typing import Any, Iterator, List, Optional, Sequence
 
 from ..command_line import MODELS, USAGE, status_of
 from ..compiling.libclang import MISSING, cindex
 from ..compiling.sources import Files, Name
 from ..diff.trees import Unreadable, read
+from ..explain.layout import rejection_lines
+from ..explaining import reject
 from ..findings import Printer
+from ..models import Model
 from ..output import complain, put
+from ..terminals import style_of
 from . import listing
 from .options import NAME, parsed
 from .pairs import Wrong
@@ -34,7 +38,7 @@ def list_formats(options: Any, names: Sequence[Name]) -> int:
         for line in lines:
             put(sys.stdout, line)
         return status
-    printer = Printer(NAME, options.output, listing.RULES)
+    printer = Printer(NAME, options.output, listing.RULES, color=options.color)
     for number, group in enumerate(listing.groups(listed)):
         if options.output == "text":
             put(sys.stdout, ("\n" if number else "") + listing.heading(group))
@@ -67,4 +71,13 @@ def guarded(options: Any) -> int:
         raise
     except (Wrong, Unreadable, OSError) as error:
         complain(f"{NAME}: {error}")
+        for line in refused_lines(error, options.color) if isinstance(error, Wrong) else ():
+            complain(line)
         return USAGE
+
+
+def refused_lines(wrong: Wrong, color: str) -> Iterator[str]:
+    """Yields, for a terminal, the format that is rejected with a caret under its byte, and what helps."""
+    style = style_of(color, sys.stderr)
+    if wrong.refusal is not None and style.is_terminal:
+        yield from rejection_lines(reject(wrong.format, wrong.refusal, Model.LP64), Model.LP64, style)

@@ -15,26 +15,32 @@ fmtcanon-replace [OPTION]... OLD NEW [FILE...]
        fmtcanon-replace [OPTION]... --list [FILE...]
        fmtcanon-replace [OPTION]... --list-functions [FILE...]"""
 DESCRIPTION = """\
-Replaces printf formats by others in C source. Nothing is replaced unless both take the same
-arguments and print the same bytes for all of them.
+Replaces printf formats by others in C source. Nothing is replaced unless both take the same arguments and print the \
+same bytes for all of them.
 
-OLD and NEW are formats as C has them between the quotes, so '%i\\n' ends in a newline. A place is one
-or more adjacent string literals that make up OLD. It is replaced if it is the format of a call
-of the C library's printf family, of a function given by --function, or, with --attribute, of one
-that is declared with the attribute format(printf, m, n). The file's own compiler preprocesses it, and
-libclang (the package python3-clang) finds the calls in that text. The result is preprocessed again, and
-checked with the warnings of the compile command: only the replaced literals may differ. Parts that
-OLD and NEW share keep their spelling.
+OLD and NEW are formats as C has them between the quotes, so '%i\\n' ends in a newline. A place is one or more adjacent \
+string literals that make up OLD. It is replaced if it is the format of a call of the C library's printf family, of a \
+function given by --function, or, with --attribute, of one that is declared with the attribute format(printf, m, n). \
+The file's own compiler preprocesses it, and libclang (the package python3-clang) finds the calls in that text. The \
+result is preprocessed again, and checked with the warnings of the compile command: only the replaced literals may \
+differ. Parts that OLD and NEW share keep their spelling.
 
-FILE is a file or a folder, of which all C and C++ files are read; links out of it are not followed.
-Without one, all files of the compile commands in -p are read. All files are reported before the first
-is replaced."""
+FILE is a file or a folder, of which all C and C++ files are read; links out of it are not followed. Without one, all \
+files of the compile commands in -p are read. All files are reported before the first is replaced."""
 EPILOG = """\
-Each place is reported: that it is replaced, or that it is left, and why. So is each place that means
-the same as OLD and is spelled in another way. One that is already NEW is not. Arguments count from 0.
+Examples:
+  fmtcanon-replace --dry-run '%i items' '%d items' src
+  fmtcanon-replace -p build --diff '%5.5d' '%.5d'
+  fmtcanon-replace --list src
 
-The exit status is 0 if no place was left, 1 if one was, 2 for a usage error, a format that is
-rejected, or a file or an output that can't be read or written."""
+It reports each place, and says whether it was replaced and, if not, why. It also reports each place that means the \
+same as OLD and is spelled in another way, except for one that is already NEW. Arguments are counted from 1, as in \
+%1$d.
+
+Exit status:
+  0  no place was left
+  1  a place was left
+  2  usage error, a rejected format, or a file or output that can't be used"""
 # What isn't a pair of formats and files.
 MODES = ("pairs", "list", "list_functions")
 
@@ -43,15 +49,11 @@ def parser() -> Parser:
     """Returns the definition of the command line."""
     made = Parser(NAME, USAGE, DESCRIPTION, EPILOG)
     add_calls(made)
-    made.add_model(
-        "the data models in which OLD and NEW must mean the same: "
-        "lp64, ilp32, llp64, both for the first two, or all, the default"
-    )
+    made.add_model("in which OLD and NEW must mean the same")
     add_modes(made)
     made.add_output()
-    made.add_argument(
-        "--jobs", type=int, default=os.cpu_count() or 1, metavar="N", help="how many files are read at a time"
-    )
+    made.add_color()
+    made.add_jobs("files")
     made.add_argument("operands", metavar="OLD NEW FILE", nargs="*", help="two formats, and files or folders")
     return made
 

@@ -5,16 +5,21 @@ from typing import Dict, Hashable, List, NamedTuple, Optional, Sequence, Tuple
 
 import fmtcanon
 
-from ..verdicts import SPECIFICATION, Kind, Library, shown, shown_arguments
+from ..explaining import Marked, marked_parts
+from ..verdicts import Kind, Library, argument_words, both_take, shown, shown_arguments, specifications, taker_of
 from .places import decoded
 
 LIBRARY = Library()
 OTHERWISE = "it means the same, and is spelled otherwise"
-GROUPING = "the flag ' groups digits, except in the POSIX locale: --posix-locale says that it prints there"
+GROUPING = "the flag ' groups digits in other locales; use --posix-locale if the program prints only in POSIX"
 
 
 class Wrong(Exception):
-    """The pairs can't be used, and why."""
+    """The pairs can't be used, and why. `format` is the one that is rejected, if one is, with what helps."""
+
+    def __init__(self, why: str, format: bytes = b"", refusal: Optional[fmtcanon.Refused] = None) -> None:
+        super().__init__(why)
+        self.format, self.refusal = format, refusal
 
 
 def format_of(word: bytes) -> Optional[bytes]:
@@ -49,7 +54,21 @@ def difference(old: bytes, new: bytes, model: fmtcanon.Model) -> Optional[str]:
         return None
     if found.kind is Kind.DIFFERENT:
         return f"the two print different bytes for {shown_arguments(found.arguments)}"
-    return f"the {found.kind.value} differ at argument {found.at}"
+    takers = [taker_of(it, found.at, model) for it in (old, new)]
+    if found.kind is Kind.DIRECTIVES:
+        both = " and ".join("nothing" if it is None else it.text.decode() for it in takers)
+    else:
+        both = both_take(takers)
+    return f"the {found.kind.value} differ at {argument_words(found.at)}: {both}"
+
+
+def marked_pair(old: bytes, new: bytes, models: Sequence[fmtcanon.Model]) -> Sequence[Optional[Marked]]:
+    """Returns the directives in which two formats differ in the first data model in which they do, or nothing."""
+    for model in models:
+        found = LIBRARY.compared(old, new, model)
+        if found.kind is not Kind.SAME:
+            return marked_parts((old, new), found, model)
+    return ()
 
 
 def difference_in(old: bytes, new: bytes, models: Sequence[fmtcanon.Model]) -> Optional[str]:
@@ -61,14 +80,15 @@ def difference_in(old: bytes, new: bytes, models: Sequence[fmtcanon.Model]) -> O
 
 
 def has_grouping(text: bytes) -> bool:
-    return any(b"'" in it["flags"] for it in SPECIFICATION.finditer(text))
+    return b"'" in specifications(text)
 
 
 class Rule(NamedTuple):
-    """What is done with a place: the new text, or why it is left."""
+    """What is done with a place: the new text, or why it is left. `marks` are the directives in which the two differ."""
 
     new: bytes
     why_left: str = ""
+    marks: Sequence[Optional[Marked]] = ()
 
 
 class Pairs:
@@ -78,9 +98,14 @@ class Pairs:
         self, pairs: Sequence[Tuple[bytes, bytes]], models: Sequence[fmtcanon.Model], is_posix: bool, is_file: bool
     ) -> None:
         self.models, self.is_posix, self.is_file = models, is_posix, is_file
-        self.rules = {old: Rule(new, self.verdict(old, new)) for old, new in pairs}
+        self.rules = {old: self.rule_of(old, new) for old, new in pairs}
         self.new = {new for _, new in pairs}
         self.meanings = {self.meaning(it) for it in self.rules}
+
+    def rule_of(self, old: bytes, new: bytes) -> Rule:
+        """Returns what is to be done with places that have the old format."""
+        why = self.verdict(old, new)
+        return Rule(new, why, marked_pair(old, new, self.models) if why else ())
 
     def verdict(self, old: bytes, new: bytes) -> str:
         """Returns why the old format can't be replaced by the new one, or nothing."""
@@ -88,7 +113,8 @@ class Pairs:
             found = difference_in(old, new, self.models) or ""
         except fmtcanon.Refused as refusal:
             which = f" of {shown([old, new][refusal.side])}" if self.is_file else ""
-            raise Wrong(f"{['OLD', 'NEW'][refusal.side]} is {refusal}{which}") from refusal
+            side = refusal.side
+            raise Wrong(f"{['OLD', 'NEW'][side]} is {refusal}{which}", (old, new)[side], refusal) from refusal
         return GROUPING if not found and not self.is_posix and (has_grouping(old) or has_grouping(new)) else found
 
     def meaning(self, text: bytes) -> Optional[Hashable]:

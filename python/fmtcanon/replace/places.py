@@ -62,6 +62,15 @@ def element_spans(plain: bytes) -> List[Tuple[int, int]]:
     return found
 
 
+def span_in(place: Place, start: int, end: int) -> Tuple[int, int]:
+    """Returns where a part of a place's text, by its bytes, is in the source; or the place, if it isn't in one piece."""
+    plain, offsets = plain_literals(place.source)
+    spans = element_spans(plain)
+    if len(spans) != len(place.text):
+        return place.start, place.end
+    return place.start + offsets[spans[start][0]], place.start + offsets[spans[end - 1][1] - 1] + 1
+
+
 Edit = Tuple[int, int, int, int]
 
 

@@ -3,20 +3,24 @@
 import difflib
 import os
 from concurrent.futures import ThreadPoolExecutor
-from typing import Any, List, Mapping, NamedTuple, Optional, Sequence, Union
+from typing import Any, List, Mapping, NamedTuple, Optional, Sequence, Tuple, Union
 
+from .. import encode_literal
 from ..command_line import MODELS, model_names
 from ..compiling.left import Left
 from ..compiling.sources import Files, Name
 from ..compiling.stand_ins import Original, original
 from ..compiling.targets import check_model
+from ..excerpts import Excerpt
+from ..explaining import Marked
 from ..findings import NOTE, WARNING, Finding, as_text
 from ..models import Model
+from ..progress import Progress
 from .calls import Functions
 from .files import Change, File, with_sources
 from .options import NAME
 from .pairs import Pairs
-from .places import Place, places_in, respelled
+from .places import Place, places_in, respelled, span_in
 from .units import Units, units_of
 
 REPLACED, LEFT = "replaced", "left"
@@ -59,6 +63,7 @@ class Rewriter:
     def __init__(self, files: Files, functions: Functions, models: Sequence[Model], with_diff: bool) -> None:
         self.files, self.functions, self.models, self.with_diff = files, functions, models, with_diff
         self.units = Units([])
+        self.progress = Progress()
 
     def changes_in(self, name: Name, source: bytes) -> List[Change]:
         """Returns the places of a source of which something is to be said."""
@@ -78,7 +83,8 @@ class Rewriter:
         if any(isinstance(it, Scanned) and it.is_open() for it in scanned):
             commands = [it for found in self.files.database.values() for it in found]
             self.units = units_of(commands, pool.map)
-        return list(pool.map(self.report_on, scanned))
+        self.progress.expect(len(scanned))
+        return list(self.progress.each(pool.map(self.report_on, scanned)))
 
     def scanned(self, name: Name) -> Union[Scanned, Report]:
         """Reads a file, and returns its places of which something is to be said."""
@@ -154,6 +160,7 @@ class Replacer(Rewriter):
         end = (place.line + place.source.count(b"\n"), column_of(source, place.end))
         message = f"left: {change.why_left}" if change.why_left else REPLACED
         kind, level = (LEFT, WARNING) if change.why_left else (REPLACED, NOTE)
+        excerpts = self.excerpts_of(source, change) if change.why_left else ()
         return Finding(
             file,
             place.line,
@@ -165,7 +172,39 @@ class Replacer(Rewriter):
             tuple(formats),
             model_names(self.models),
             dict(zip(("old", "new"), formats)),
+            excerpts,
         )
+
+    def excerpts_of(self, source: bytes, change: Change) -> Tuple[Excerpt, ...]:
+        """Returns the line of a place that is left, and NEW, with the directives marked in which they differ."""
+        place, rule = change.place, self.pairs.rules.get(change.place.text)
+        old, new = rule.marks if rule and len(rule.marks) == 2 else (None, None)
+        span = span_in(place, old.start, old.end) if old else (place.start, place.end)
+        found = [line_excerpt(source, *span, old.words if old else "")]
+        if rule and new:
+            before, inside = (
+                encode_literal(it)[1:-1].decode(errors="surrogateescape") for it in parts_of(rule.new, new)
+            )
+            whole = encode_literal(rule.new).decode(errors="surrogateescape")
+            found.append(Excerpt("NEW", whole, 1 + len(before), 1 + len(before + inside), new.words))
+        return tuple(found)
+
+
+def parts_of(text: bytes, part: Marked) -> Tuple[bytes, bytes]:
+    """Returns what comes before a part of a text, and the part."""
+    return text[: part.start], text[part.start : part.end]
+
+
+def line_excerpt(source: bytes, start: int, end: int, words: str) -> Excerpt:
+    """Returns the line of a source in which a part begins, with the part marked."""
+    begin = source.rfind(b"\n", 0, start) + 1
+    line = source[begin:].partition(b"\n")[0]
+    first, last = (
+        len(source[begin : max(min(it, begin + len(line)), begin)].decode(errors="surrogateescape"))
+        for it in (start, end)
+    )
+    number = source.count(b"\n", 0, start) + 1
+    return Excerpt(str(number), line.decode(errors="surrogateescape").rstrip("\r"), first, last, words)
 
 
 def change_to(place: Place, text: bytes) -> Change:

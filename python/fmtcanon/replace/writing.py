@@ -33,6 +33,7 @@ def replace(options: Any, replacer: Rewriter, names: Sequence[Name]) -> int:
                     return status
                 return max(status, put_all_in_place(reports, signals, changed))
         except Interrupted as interrupted:
+            replacer.progress.clear()
             end(pool, replacer.name, interrupted.number, changed)
         finally:
             pool.shutdown(wait=False)
@@ -50,7 +51,7 @@ def as_it_is(replacer: Rewriter, report: Report) -> Report:
 def print_reports(options: Any, replacer: Rewriter, reports: Sequence[Report]) -> None:
     """Prints the reports. Raises Unwritable before a file is replaced."""
     stream = sys.stderr if options.diff else None
-    printer = Printer(replacer.name, options.output, replacer.rules, stream, replacer.as_text)
+    printer = Printer(replacer.name, options.output, replacer.rules, stream, replacer.as_text, options.color)
     try:
         for report in reports:
             if report.diff:

@@ -1,0 +1,104 @@
+"""Finds where the texts of a message are in a .po file, to show a part of one with the line that has it."""
+
+from __future__ import annotations
+
+from typing import List, NamedTuple, Optional
+
+from .. import encode_literal
+from ..excerpts import Excerpt
+from .tokens import ESCAPE, Scanner, Token, Unreadable
+
+# How many lines before a translation its message begins at most, and how many bytes after that are read.
+LINES, BYTES = 1_000, 100_000
+CONTEXT = (b"msgctxt", b"msgid")
+
+
+class Mark(NamedTuple):
+    """A part of a text of a message: the name of the text, its bytes, the part's offsets, and what is said of it."""
+
+    name: str
+    text: bytes
+    start: int
+    end: int
+    words: str
+
+
+class CatalogSource:
+    """The lines of a .po file."""
+
+    def __init__(self, data: bytes) -> None:
+        self.lines = data.split(b"\n")
+
+    def excerpt(self, line: int, mark: Mark) -> Excerpt:
+        """Returns the line with a part of a text of the message whose translation begins in this line, or the text."""
+        try:
+            found = self.found(line, mark)
+        except Unreadable:
+            found = None
+        return found or text_excerpt(mark)
+
+    def found(self, line: int, mark: Mark) -> Optional[Excerpt]:
+        begin = self.begin_of(line)
+        if begin is None:
+            return None
+        rest = len(mark.text[: mark.start])
+        for token in strings_of(b"\n".join(self.lines[begin : line + LINES])[:BYTES], mark.name):
+            size = len(ends_of(token.text))
+            if rest < size:
+                return self.marked(begin + token.line, token, rest, mark)
+            rest -= size
+        return None
+
+    def begin_of(self, line: int) -> Optional[int]:
+        """Returns the index of the line in which the message begins whose translation is in this line, from 1."""
+        for at in range(min(line, len(self.lines)) - 1, max(line - LINES, 0) - 1, -1):
+            if self.lines[at].lstrip().startswith(b"msgid") and b"msgid_plural" not in self.lines[at][:20]:
+                return at
+        return None
+
+    def marked(self, line: int, token: Token, start: int, mark: Mark) -> Excerpt:
+        """Returns a line with the part that begins at this byte of a string in it."""
+        ends = ends_of(token.text)
+        # The column is that of the quote.
+        front = token.column
+        first = front + (ends[start - 1] if start else 0)
+        last = front + ends[min(start + mark.end - mark.start, len(ends)) - 1]
+        whole = self.lines[line - 1]
+        begin, end = (len(whole[:it].decode(errors="surrogateescape")) for it in (first, last))
+        return Excerpt(str(line), whole.decode(errors="surrogateescape").rstrip("\r"), begin, end, mark.words)
+
+
+def text_excerpt(mark: Mark) -> Excerpt:
+    """Returns a part of a text by itself, as a catalog would have it."""
+    parts = mark.text[: mark.start], mark.text[mark.start : mark.end], mark.text[mark.end :]
+    before, inside, after = (encode_literal(it)[1:-1].decode(errors="surrogateescape") for it in parts)
+    return Excerpt(mark.name, f'"{before}{inside}{after}"', 1 + len(before), 1 + len(before + inside), mark.words)
+
+
+def ends_of(string: bytes) -> List[int]:
+    """Returns where the source of each byte of a string ends, in the string without its quotes."""
+    ends: List[int] = []
+    done = 0
+    for escape in ESCAPE.finditer(string):
+        ends += range(done + 1, escape.start() + 1)
+        ends.append(escape.end())
+        done = escape.end()
+    return [*ends, *range(done + 1, len(string) + 1)]
+
+
+def strings_of(text: bytes, name: str) -> List[Token]:
+    """Returns the strings of the first text of this name, such as `msgstr[1]`, in a part of a catalog."""
+    scanner, current = Scanner(text), ""
+    found: List[Token] = []
+    token = scanner.token()
+    while token is not None:
+        if token.kind == "keyword":
+            if found:
+                break
+            current = token.text.decode()
+        elif token.kind == "form":
+            current += "[" + token.text.strip(b"[] \t").decode() + "]"
+        elif token.kind == "string" and current == name:
+            found.append(token)
+        token = scanner.token()
+    return found

@@ -1,0 +1,360 @@
+"""Tests of what the commands show on a terminal and in a pipe: excerpts, colours, progress, and help in 80 columns."""
+
+import io
+import os
+import re
+import subprocess
+import sys
+import tempfile
+import time
+import unittest
+from pathlib import Path
+from unittest import mock
+
+from fmtcanon import progress
+from fmtcanon.excerpts import Excerpt, excerpt_lines, shown_finding
+from fmtcanon.po.sources import CatalogSource, Mark
+from fmtcanon.terminals import Style, columns, style_of
+
+from .terminal import on_terminal, plain
+
+TOP = Path(__file__).resolve().parents[2]
+
+CATALOG = """\
+msgid ""
+msgstr "Content-Type: text/plain; charset=UTF-8\\nPlural-Forms: nplurals=2; plural=n != 1;\\n"
+
+#, c-format
+msgid "%d of %zu files were copied"
+msgstr "%d von %lu Dateien kopiert"
+
+#, c-format
+msgid "\\tremoved %d file"
+msgid_plural "\\tremoved %d files"
+msgstr[0] "\\t%d Datei gel\u00f6scht"
+msgstr[1] ""
+"\\tEs wurden alle gel\u00f6scht: "
+"gel\u00f6scht: %s Dateien"
+
+#, c-format
+msgid "%s: %5d"
+msgstr "%s: %#d"
+"""
+# What a terminal of 80 columns shows of it: the lines, and carets under the specifications, by hand.
+CATALOG_SHOWN = """\
+de.po:6: types of 'msgid' and 'msgstr' differ at argument 2, counted from 1:
+    %zu takes unsigned int and %lu takes unsigned long, in ILP32 ["%d of %zu
+    files were copied"]
+ 5 | msgid "%d of %zu files were copied"
+   |              ^^^ unsigned int
+ 6 | msgstr "%d von %lu Dateien kopiert"
+   |                ^^^ unsigned long
+de.po:11: types of 'msgid_plural' and 'msgstr[1]' differ at argument 1, counted
+    from 1: %d takes int and %s takes string ["\\tremoved %d file"]
+ 10 | msgid_plural "\\tremoved %d files"
+    |                         ^^ int
+ 14 | "gel\u00f6scht: %s Dateien"
+    |            ^^ string
+de.po:18: 'msgstr' is not a valid C format string, unlike 'msgid'. Reason:
+    refused 13 AltUndefined at byte 6 ["%s: %5d"]
+ 18 | msgstr "%s: %#d"
+    |             ^^^ AltUndefined
+    help: `#` has no meaning with `d`. Write %d.
+3 messages judged, 0 not judged
+found 3 fatal errors
+"""
+OLD = """\
+void f(int n, const char *name, double d) {
+\tprintf("%-20s|%d files\\n", name, n);
+\tprintf("%05d\\n", n);
+\tprintf("%d %f\\n", n, d);
+\tprintf("%d ok\\n", n);
+}
+"""
+NEW = OLD.replace("%d files", "%s files").replace("%05d", "%.5d").replace("%f", "%e").replace("%d ok", "%y ok")
+DIFF_SHOWN = """\
+new.c:2:9: types differ at argument 2, counted from 1: %d takes int and %s
+    takes string, in "%-20s|%d files\\n" and "%-20s|%s files\\n"
+ old 2 |     printf("%-20s|%d files\\n", name, n);
+       |                   ^^ int
+ new 2 |     printf("%-20s|%s files\\n", name, n);
+       |                   ^^ string
+new.c:3:9: different: "%05d\\n" and "%.5d\\n" print "-0001\\n" and "-00001\\n" for
+    -1
+ old 3 |     printf("%05d\\n", n);
+       |             ^^^^ the sign is one of the 5 columns
+ new 3 |     printf("%.5d\\n", n);
+       |             ^^^^ 5 digits, and the sign before them
+new.c:4:9: directives differ at argument 2, counted from 1: "%f" and "%e"
+ old 4 |     printf("%d %f\\n", n, d);
+       |                ^^ digits with 6 places after the point
+ new 4 |     printf("%d %e\\n", n, d);
+       |                ^^ one digit, the point, 6 places, and an exponent
+       |                   after `e`
+new.c:5:9: rejected now: refused 3 Unexpected at byte 1 of "%y ok\\n"
+ new 5 |     printf("%y ok\\n", n);
+       |             ^^ Unexpected
+    help: The byte can't continue the specification. Flags, width, precision,
+          length modifier and conversion come in this order. A percent sign is
+          `%%`.
+4 places changed: 0 same, 0 with other words, 1 different, 1 with other types,
+    1 with other directives, 1 rejected now, 0 not judged; 0 literals added, 0
+    removed
+"""
+
+
+class InFolder(unittest.TestCase):
+    def setUp(self):
+        folder = tempfile.TemporaryDirectory()
+        self.addCleanup(folder.cleanup)
+        self.work = Path(folder.name)
+
+    def put(self, name, text):
+        (self.work / name).write_text(text, encoding="utf-8")
+
+    def piped(self, words):
+        """The status of a command, and all that it writes into a pipe."""
+        run = [sys.executable, "-B", *words]
+        done = subprocess.run(run, cwd=self.work, stdout=subprocess.PIPE, stderr=subprocess.STDOUT, check=False)
+        return done.returncode, done.stdout.decode()
+
+    def shown(self, *words, **names):
+        return on_terminal(words, folder=self.work, **names)
+
+
+class Screens(InFolder):
+    """What is shown of files, on a terminal of 80 columns, and that a pipe gets one line for each finding."""
+
+    def test_catalog(self):
+        self.put("de.po", CATALOG)
+        words = ["-m", "fmtcanon.po", "de.po"]
+        self.assertEqual(self.shown(*words, NO_COLOR="1"), (1, CATALOG_SHOWN))
+        status, text = self.piped(words)
+        self.assertEqual((status, len(text.splitlines())), (1, 5))
+        self.assertEqual(len(re.findall(r"^de\.po:\d+: ", text, re.MULTILINE)), 3)
+
+    def test_diff(self):
+        self.put("old.c", OLD)
+        self.put("new.c", NEW)
+        words = ["-m", "fmtcanon.diff", "old.c", "new.c"]
+        self.assertEqual(self.shown(*words, NO_COLOR="1"), (1, DIFF_SHOWN))
+        status, text = self.piped(words)
+        self.assertEqual((status, len(text.splitlines())), (1, 5))
+
+    def test_document(self):
+        """The block of docs/EXPLAINING.md is what a terminal shows."""
+        page = (TOP / "docs/EXPLAINING.md").read_text(encoding="utf-8").partition("## Findings on a terminal")[2]
+        wanted = re.findall(r"^    (.*)$", page, re.MULTILINE)
+        self.put("de.po", '#, c-format\nmsgid "%s: %d"\nmsgstr "%s: %s"\n')
+        _, text = self.shown("-m", "fmtcanon.po", "de.po", NO_COLOR="1")
+        self.assertEqual(text.splitlines()[: len(wanted)], wanted)
+
+    def test_jobs(self):
+        """Many catalogs give one output in one order, however many are read at a time."""
+        names = [f"{at}.po" for at in range(20)]
+        for at, name in enumerate(names):
+            self.put(name, CATALOG.replace("files were", f"files {at} were"))
+        found = {it: self.shown("-m", "fmtcanon.po", "-j", it, *names, NO_COLOR="1") for it in ["1", "3"]}
+        self.assertEqual(found["1"], found["3"])
+        self.assertEqual(re.findall(r"^(\d+\.po):6:", found["1"][1], re.MULTILINE), names)
+
+    def test_missing_argument(self):
+        """Of texts with other numbers of arguments, the first specification is marked that has no partner."""
+        self.put("de.po", '#, c-format\nmsgid "%d of %5d"\nmsgstr "%d ist"\n')
+        _, text = self.shown("-m", "fmtcanon.po", "de.po", NO_COLOR="1")
+        lines = [' 2 | msgid "%d of %5d"', "   |              ^^^ int", ' 3 | msgstr "%d ist"']
+        lines += ["   |         ^^^^^^ takes no such argument"]
+        self.assertEqual(text.splitlines()[2:6], lines)
+
+    def test_progress(self):
+        """Commands say how many files are done, on a terminal only, here from the first one on."""
+        names = [f"{at}.po" for at in range(3)]
+        for name in names:
+            self.put(name, CATALOG)
+        for folder in ["old", "new"]:
+            (self.work / folder).mkdir()
+            for name in ["a.c", "b.c", "same.c"]:
+                self.put(f"{folder}/{name}", 'f("%d");\n' if folder == "old" or name == "same.c" else 'f("%i");\n')
+        for package, words, wanted in [
+            ("po", names, ["1 of 3", "2 of 3", "3 of 3"]),
+            ("diff", ["old", "new"], ["1 of 2", "2 of 2"]),
+        ]:
+            script = "from fmtcanon import progress; progress.BEGIN = progress.EVERY = 0; "
+            script += f"from fmtcanon.{package}.command import main; main({words})"
+            _, text = self.shown("-c", script)
+            self.assertEqual(re.findall(r"\r\x1b\[K(\d+ of \d+) files done", text), wanted)
+            self.assertNotIn("files done", self.piped(["-c", script])[1])
+
+    def test_binary_catalog(self):
+        """A .mo file has no lines, so its texts are shown, under their names."""
+        self.put("de.po", CATALOG)
+        subprocess.run(["msgfmt", "-o", "de.mo", "de.po"], cwd=self.work, check=True)
+        status, text = self.shown("-m", "fmtcanon.po", "--c-format", "de.mo", NO_COLOR="1")
+        shown = [' msgid_plural | "\\tremoved %d files"', "              |            ^^ int"]
+        self.assertEqual((status, [it for it in shown if it.rstrip() not in text]), (1, []), text)
+
+    def test_colours(self):
+        """Colours are for a terminal, unless NO_COLOR is set or an option says otherwise."""
+        self.put("de.po", CATALOG)
+        words = ["-m", "fmtcanon.po", "de.po"]
+        for more, names, has in [
+            ([], {}, True),
+            ([], {"NO_COLOR": ""}, True),
+            ([], {"NO_COLOR": "1"}, False),
+            (["--color", "never"], {}, False),
+            (["--color", "always"], {"NO_COLOR": "1"}, True),
+        ]:
+            _, text = self.shown(*words, *more, **names)
+            self.assertEqual(("\x1b[" in text, plain(text)), (has, CATALOG_SHOWN), (more, names))
+        status, text = self.piped([*words, "--color", "always"])
+        self.assertEqual((status, "\x1b[" in text, plain(text)), (1, True, self.piped(words)[1]))
+
+    def test_explain(self):
+        """Lines are wrapped at the width of the terminal."""
+        _, text = self.shown("-m", "fmtcanon.explain", "%5zu and %-05d", NO_COLOR="1")
+        lines = text.splitlines()
+        self.assertLessEqual(max(map(len, lines)), 79)
+        self.assertEqual(lines[0], "%5zu and %-05d")
+        self.assertIn("`0` has no effect next to `-`", text)
+
+
+class Lines(unittest.TestCase):
+    """How one excerpt is laid out."""
+
+    def lines(self, *excerpts, width=79):
+        return list(excerpt_lines(excerpts, Style(width, False, True), ""))
+
+    def test_columns(self):
+        """Carets are under what they mark: after tabs, wide characters and what is shown as an escape."""
+        rows = [
+            ("\tab", 1, 3, "    ab", "    ^^"),
+            ("\u65e5%d", 1, 3, "\u65e5%d", "  ^^"),
+            ("\x01%d", 1, 3, "\\x01%d", "    ^^"),
+        ]
+        for line, start, end, shown, mark in rows:
+            found = self.lines(Excerpt("7", line, start, end))
+            self.assertEqual(found, [f" 7 | {shown}", f"   | {mark}"])
+
+    def test_long_lines(self):
+        """A line that is too long is cut so that the mark is seen."""
+        for before, after in [(200, 200), (0, 200), (200, 0)]:
+            line = "a" * before + "%5d" + "b" * after
+            shown, mark = self.lines(Excerpt("1", line, before, before + 3))
+            self.assertLessEqual(max(columns(shown), columns(mark)), 79)
+            begin = mark.index("^")
+            self.assertEqual(shown[begin : begin + 3], "%5d")
+            self.assertEqual((shown[5:7] == "..", shown.endswith("..")), (before > 0, after > 0))
+
+    def test_long_marks(self):
+        """A mark that is too long is cut, too."""
+        for front in [0, 100]:
+            shown, mark = self.lines(Excerpt("1", "a" * front + "b" * 300 + "c", front, front + 300))
+            self.assertLessEqual(max(columns(shown), columns(mark)), 79)
+            self.assertEqual(mark.count("^"), shown.count("b"))
+
+    def test_labels(self):
+        found = self.lines(Excerpt("9", "x", 0, 1), Excerpt("10", "y", 0, 1))
+        self.assertEqual(found, ["  9 | x", "    | ^", " 10 | y", "    | ^"])
+
+    def test_pipe(self):
+        """A message that is not for a terminal is one line, however long."""
+        message = "word " * 40
+        [line] = shown_finding("a.c:1:", message, "error", (), "", Style(79, False))
+        self.assertEqual(line, f"a.c:1: {message}")
+
+    def test_styles(self):
+        with mock.patch.dict(os.environ, {"COLUMNS": "80"}):
+            self.assertEqual(style_of("auto", None), Style(104, False))
+            self.assertEqual(style_of("always", io.StringIO()), Style(104, True))
+
+
+class Places(unittest.TestCase):
+    """Where a part of a text is in a catalog."""
+
+    def excerpt(self, text, line, *mark):
+        found = CatalogSource(text.encode()).excerpt(line, Mark(*mark))
+        return found.label, found.line[found.start : found.end]
+
+    def test_escapes(self):
+        """Escapes by name and by number count as one byte."""
+        text = 'msgid "a"\nmsgstr "\\t\\303\\244\\x41\\"%5d"\n'
+        self.assertEqual(self.excerpt(text, 2, "msgstr", b'\t\xc3\xa4A"%5d', 5, 8, ""), ("2", "%5d"))
+
+    def test_forms(self):
+        text = 'msgid "%d"\nmsgid_plural "%ds"\nmsgstr[0] "x"\nmsgstr[ 1 ] "y"\n\t"%s"\n'
+        self.assertEqual(self.excerpt(text, 3, "msgstr[1]", b"y%s", 1, 3, ""), ("5", "%s"))
+        self.assertEqual(self.excerpt(text, 3, "msgid_plural", b"%ds", 0, 2, ""), ("2", "%d"))
+
+    def test_unknown(self):
+        """A text that isn't found is shown by itself."""
+        for text, line in [("", 1), ("# nothing\n", 1), ('msgid "x\nmsgstr "%d"\n', 2)]:
+            self.assertEqual(self.excerpt(text, line, "msgstr", b'"%d"', 1, 3, ""), ("msgstr", "%d"))
+
+
+class Terminal(io.BytesIO):
+    """A stream that says that it is a terminal."""
+
+    def __init__(self, is_terminal=True):
+        super().__init__()
+        self.is_terminal, self.buffer = is_terminal, self
+
+    def isatty(self):
+        return self.is_terminal
+
+
+class Slow(unittest.TestCase):
+    """Progress, with a clock of the test."""
+
+    def said(self, seconds, is_terminal=True):
+        """What is said while each of some files takes this long."""
+        stream, clock = Terminal(is_terminal), [0.0]
+        with mock.patch.object(sys, "stderr", stream), mock.patch.object(time, "monotonic", lambda: clock[0]):
+            shown = progress.Progress()
+            shown.expect(len(seconds))
+            for at, _ in enumerate(shown.each(iter(seconds))):
+                clock[0] += seconds[at]
+        return stream.getvalue().decode().replace("\r\x1b[K", "|")
+
+    def test_progress(self):
+        self.assertEqual(self.said([0.6, 0.6, 0.6]), "|2 of 3 files done|3 of 3 files done|")
+
+    def test_short_work(self):
+        self.assertEqual(self.said([0.2, 0.2, 0.2]), "")
+
+    def test_pipe(self):
+        self.assertEqual(self.said([5.0, 5.0], is_terminal=False), "")
+
+    def test_often(self):
+        """It isn't said more often than a person reads."""
+        self.assertEqual(self.said([1.0] + [0.01] * 30).count("files done"), 2)
+
+
+class Help(unittest.TestCase):
+    def test_helps(self):
+        """The help of each command fits 79 columns, shows what is required, and has an example that it accepts."""
+        for name, usage in [
+            ("check", ["-p DIR [FILE...]", "FILE..."]),
+            ("diff", ["OLD NEW", "--git [REV [REV]] [-- PATH...]"]),
+            ("explain", ["FORMAT", "FORMAT FORMAT", "--kind KIND"]),
+            ("po", ["FILE..."]),
+            (
+                "replace",
+                ["OLD NEW [FILE...]", "--pairs FILE [FILE...]", "--list [FILE...]", "--list-functions [FILE...]"],
+            ),
+        ]:
+            module = "checker" if name == "check" else name
+            words = [sys.executable, "-B", "-m", f"fmtcanon.{module}", "--help"]
+            environment = {**os.environ, "COLUMNS": "80"}
+            text = subprocess.run(words, env=environment, stdout=subprocess.PIPE, check=True).stdout.decode()
+            self.assertLessEqual(max(map(len, text.splitlines())), 79, name)
+            head = text.partition("\n\n")[0].replace("usage: ", "       ").split("\n")
+            self.assertEqual(head, [f"       fmtcanon-{name} [OPTION]... {it}" for it in usage])
+            examples = re.findall(rf"^  (fmtcanon-{name} .*)$", text.partition("\nExamples:\n")[2], re.MULTILINE)
+            self.assertGreaterEqual(len(examples), 2, name)
+            for value in ["lp64, 64-bit", "ilp32, 32-bit systems", "llp64, 64-bit"]:
+                self.assertIn(value, " ".join(text.split()), name)
+            self.assertIn("NO_COLOR", text)
+
+
+if __name__ == "__main__":
+    unittest.main()
