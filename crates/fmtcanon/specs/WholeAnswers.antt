@@ -34,11 +34,11 @@ whole_verdict_lines (Directives index) =
 whole_verdict_lines (Args shown) = line (codes "different") ++ flat_map shown_line shown.items
 
 -- it has arguments for which the bytes differ
-abbrev pub HasWholeArguments : WholeVerdict → Type 0
-HasWholeArguments Same = ⊥
-HasWholeArguments (Types index) = ⊥
-HasWholeArguments (Directives index) = ⊥
-HasWholeArguments (Args shown) = ⊤
+abbrev pub ShowsWholeArguments : WholeVerdict → Type 0
+ShowsWholeArguments Same = ⊥
+ShowsWholeArguments (Types index) = ⊥
+ShowsWholeArguments (Directives index) = ⊥
+ShowsWholeArguments (Args shown) = ⊤
 
 -- how a run with this verdict ends
 abbrev pub whole_ending_of : WholeVerdict → Ending
