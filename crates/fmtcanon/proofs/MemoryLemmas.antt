@@ -16,9 +16,9 @@ use Rattle.pf_whole.specs.declared.verdicts.WholeVerdict.{WholeVerdict}
 use Rattle.pf_whole.specs.declared.verdicts.WholeVerdict.TheVariants as whole
 use Rattle.pf_whole.proofs.Telling.{calls_give_shape}
 use Rattle.fmtcanon.specs.Answers.{IsPairFault, NeedsMemory}
-use Rattle.fmtcanon.specs.Comparisons.{ShowsArguments}
+use Rattle.fmtcanon.specs.Comparisons.{BytesDiffer}
 use Rattle.fmtcanon.specs.Faults.{of_comparison}
-use Rattle.fmtcanon.specs.WholeAnswers.{ShowsWholeArguments}
+use Rattle.fmtcanon.specs.WholeAnswers.{WholeBytesDiffer}
 use Rattle.fmtcanon.specs.declared.questions.PairQuestion.TheVariants.{Same, WholeSame}
 
 module _ (model : Model) (first second : Text) where
@@ -34,7 +34,7 @@ module _ (model : Model) (first second : Text) where
 
   -- arguments that tell two formats apart
   pub arguments_needed : (verdict : Verdict) (comparison : Comparison) → IsComparisonOf model first second comparison
-      → comparison.verdict ≡ verdict → ShowsArguments verdict → NeedsMemory Same model first second
+      → comparison.verdict ≡ verdict → BytesDiffer verdict → NeedsMemory Same model first second
   arguments_needed verdicts.Same comparison h is has = absurd has
   arguments_needed (verdicts.Types index) comparison h is has = absurd has
   arguments_needed (verdicts.Args args) comparison h is has =
@@ -44,14 +44,14 @@ module _ (model : Model) (first second : Text) where
           first = record { items = h.first; accepted = h.accepted_first; types_are = refl };
           second = record { items = h.second; accepted = h.accepted_second; types_are = v.0 };
         },
-        λ alike. subst ShowsArguments (sym is ∙ h.same.1 alike) has,
+        λ alike. subst BytesDiffer (sym is ∙ h.same.1 alike) has,
       )
 
   abbrev IsDifferent : answers.WholeVerdict → Type 0
   IsDifferent (answers.Different shown) = ⊤
   IsDifferent _ = ⊥
 
-  pub shown_needed : (verdict : WholeVerdict) → IsComparison model first second verdict → ShowsWholeArguments verdict
+  pub shown_needed : (verdict : WholeVerdict) → IsComparison model first second verdict → WholeBytesDiffer verdict
       → NeedsMemory WholeSame model first second
   shown_needed whole.Same h has = absurd has
   shown_needed (whole.Types index) h has = absurd has

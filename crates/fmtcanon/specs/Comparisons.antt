@@ -33,10 +33,10 @@ verdict_lines (Types index) = line (codes "types differ at argument " ++ decimal
 verdict_lines (Args args) = line (codes "different") ++ flat_map argument_line args.items
 
 -- it has arguments for which the bytes differ
-abbrev pub ShowsArguments : Verdict → Type 0
-ShowsArguments Same = ⊥
-ShowsArguments (Types index) = ⊥
-ShowsArguments (Args args) = ⊤
+abbrev pub BytesDiffer : Verdict → Type 0
+BytesDiffer Same = ⊥
+BytesDiffer (Types index) = ⊥
+BytesDiffer (Args args) = ⊤
 
 -- how a run with this verdict ends
 abbrev pub ending_of : Verdict → Ending

@@ -34,11 +34,11 @@ whole_verdict_lines (Directives index) =
 whole_verdict_lines (Args shown) = line (codes "different") ++ flat_map shown_line shown.items
 
 -- it has arguments for which the bytes differ
-abbrev pub ShowsWholeArguments : WholeVerdict → Type 0
-ShowsWholeArguments Same = ⊥
-ShowsWholeArguments (Types index) = ⊥
-ShowsWholeArguments (Directives index) = ⊥
-ShowsWholeArguments (Args shown) = ⊤
+abbrev pub WholeBytesDiffer : WholeVerdict → Type 0
+WholeBytesDiffer Same = ⊥
+WholeBytesDiffer (Types index) = ⊥
+WholeBytesDiffer (Directives index) = ⊥
+WholeBytesDiffer (Args shown) = ⊤
 
 -- how a run with this verdict ends
 abbrev pub whole_ending_of : WholeVerdict → Ending

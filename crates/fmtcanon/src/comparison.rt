@@ -1,7 +1,7 @@
 //! Two formats of the profile compared, as lines.
 ghost use Rattle.std.specs.Prelude.{◌≡◌, ◌++◌, IfOk, MatchResult, codes, flat_map};
 ghost use Rattle.fmtcanon.specs.Answers.{IsPairFault, NeedsMemory};
-ghost use Rattle.fmtcanon.specs.Comparisons.{ShowsArguments, IsComparisonAnswer, argument_line, ending_of, verdict_lines};
+ghost use Rattle.fmtcanon.specs.Comparisons.{BytesDiffer, IsComparisonAnswer, argument_line, ending_of, verdict_lines};
 ghost use Rattle.fmtcanon.specs.Lines.{line, output_bytes};
 ghost use Rattle.fmtcanon.specs.declared.questions.PairQuestion.TheVariants.{Same};
 
@@ -46,7 +46,7 @@ fn ending_of(verdict: &Verdict) -> Ending
 // Only arguments that tell two formats apart need memory.
 fn verdict_lines(alloc: Global, verdict: &Verdict) -> Result<Output, AllocError>
     ensures { MatchResult result (λ out. output_bytes out ≡ verdict_lines verdict.now)
-        (λ _. ShowsArguments verdict.now) }
+        (λ _. BytesDiffer verdict.now) }
 {
     match verdict {
         Verdict::Same => Ok(Output::Line(same_line())),

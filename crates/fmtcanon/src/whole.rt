@@ -5,7 +5,7 @@ ghost use Rattle.fmtcanon.specs.ArgumentLines.{IsFitAnswer, fit_ending, fit_line
 ghost use Rattle.pf_posix.specs.Laws.{ComparesArgumentTypes, ComparesBeginning};
 ghost use Rattle.fmtcanon.specs.Languages.{Unnumbered};
 ghost use Rattle.fmtcanon.specs.Lines.{line, output_bytes};
-ghost use Rattle.fmtcanon.specs.WholeAnswers.{ShowsWholeArguments, HasWholeCanonicalLine, IsAlikeAnswer, shown_line, whole_ending_of, whole_verdict_lines};
+ghost use Rattle.fmtcanon.specs.WholeAnswers.{WholeBytesDiffer, HasWholeCanonicalLine, IsAlikeAnswer, shown_line, whole_ending_of, whole_verdict_lines};
 ghost use Rattle.fmtcanon.specs.declared.questions.PairQuestion.TheVariants.{Fits, FitsFewer, WholeSame};
 
 use crate::answer::{Answer, Ending, with_newline};
@@ -122,7 +122,7 @@ fn whole_ending_of(verdict: &WholeVerdict) -> Ending
 // Only arguments that tell two formats apart need memory.
 fn whole_verdict_lines(alloc: Global, verdict: &WholeVerdict) -> Result<Output, AllocError>
     ensures { MatchResult result (λ out. output_bytes out ≡ whole_verdict_lines verdict.now)
-        (λ _. ShowsWholeArguments verdict.now) }
+        (λ _. WholeBytesDiffer verdict.now) }
 {
     match verdict {
         WholeVerdict::Same => Ok(Output::Line(same_line())),
