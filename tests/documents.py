@@ -388,6 +388,21 @@ def try_contracts(trials):
             trials.expect(f"public functions that CALLING.md of {page.parent.name} lacks", sorted(missing), [])
 
 
+# Changes of which the row says where they go, each with a variant that is named wherever all are.
+LISTED = {"a data model": "Llp64", "an unsigned conversion": "UpperX"}
+
+
+def try_changes(trials):
+    """The rows of docs/internals/ARCHITECTURE.md on where a change goes have each file that lists what is changed."""
+    text = (TOP / "docs/internals/ARCHITECTURE.md").read_text(encoding="utf-8")
+    sources = [it for part in ("src", "specs") for it in sorted(TOP.glob(f"crates/[!u]*/{part}/**/*.*t*"))]
+    for change, variant in LISTED.items():
+        row = re.search(rf"^\| {change} \| (.*) \|$", text, re.MULTILINE)[1]
+        named = [it.name for it in sources if re.search(rf"\b{variant}\b", it.read_text(encoding="utf-8"))]
+        trials.expect(f"whether files list {variant}", len(named) > 4, True)
+        trials.expect(f"files that list {variant} and aren't in the row of {change}", [it for it in named if it not in row], [])
+
+
 def try_map(trials):
     """The part of docs/internals/ARCHITECTURE.md on a crate has each of its source files."""
     text = (TOP / "docs/internals/ARCHITECTURE.md").read_text(encoding="utf-8")
@@ -491,6 +506,7 @@ def try_all(trials):
     try_names(trials)
     try_links(trials)
     try_contracts(trials)
+    try_changes(trials)
     try_map(trials)
     try_graph(trials)
     try_callers(trials)
