@@ -5,6 +5,8 @@
 #                        gettext, libclang, mypy, lintian, debootstrap, meson, CMake, and the shells of the
 #                        completions
 # make mutants           tries the mutants that the records don't have as refused, and writes them there
+# make library TARGET=aarch64
+#                        builds the C library for AArch64, with the tools of a cross compiler
 # make install PREFIX=   installs what `make` built: the program, the C library, the Python module
 #                        with its five commands, manual pages, completions and documents; below
 #                        DESTDIR=, where that is given. It builds nothing
@@ -22,11 +24,27 @@ PROGRAM = crates/fmtcanon/out/fmtcanon
 # The file VERSION has the version; tests/versions.py compares every other copy of it. The major version names the ABI.
 VERSION := $(file < VERSION)
 SONAME = libfmtcanon.so.$(firstword $(subst ., ,$(VERSION)))
-# What the C library is made in: `rt ci` keeps only its own files in a crate's out/.
+# The processor of the C library: x86_64, or aarch64 by a cross compiler.
+TARGET = x86_64
+# What the names of its tools begin with, if it is another than that of the program, and the folder that it is made in.
+# `rt ci` keeps only its own files in a crate's out/.
+ifeq ($(TARGET),x86_64)
+CROSS =
 C = out/c
+else ifeq ($(TARGET),aarch64)
+CROSS = aarch64-linux-gnu-
+C = out/c-aarch64
+ifeq ($(origin CC),default)
+CC = $(CROSS)gcc
+endif
+else
+$(error TARGET is x86_64 or aarch64)
+endif
 SHARED = $(C)/libfmtcanon.so.$(VERSION)
-# The oldest processors that the library is to run on. It doesn't test for them.
-CPU = x86-64
+# The oldest processors that the library is to run on, as the words of `rt lib`. It doesn't test for them.
+CPU_x86_64 = --cpu x86-64
+CPU_aarch64 = --target aarch64-unknown-linux-gnu
+CPU = $(CPU_$(TARGET))
 
 # How many checks `rt ci` runs side by side: one a processor, with 5 GB of free memory. Left alone, it plans twice the memory
 # that a check takes, and the largest crate starts last. Beside it run half as many; on two processors two, since neither
@@ -50,11 +68,11 @@ library: $(C)/libfmtcanon.a $(SHARED)
 C_CRATE = crates/fmtcanon_c
 
 archive: tools c-tools
-	cd $(C_CRATE) && rt lib --cpu $(CPU)
+	cd $(C_CRATE) && rt lib $(CPU)
 	mkdir -p $(C)
 
 # One object, whose only global names are those of the header.
-JOIN = CC="$(CC)" library/join.sh $(C_CRATE)/out/libfmtcanon_c.a
+JOIN = CC="$(CC)" CROSS="$(CROSS)" library/join.sh $(C_CRATE)/out/libfmtcanon_c.a
 
 # A file that stays as it is causes nothing to be made again.
 $(C)/fmtcanon.o: archive
@@ -64,7 +82,7 @@ $(C)/fmtcanon.o: archive
 
 $(C)/libfmtcanon.a: $(C)/fmtcanon.o
 	rm -f $@
-	ar rcs $@ $<
+	$(CROSS)ar rcs $@ $<
 
 $(SHARED): $(C)/fmtcanon.o
 	$(CC) -shared -Wl,-soname,$(SONAME) -Wl,-z,defs -Wl,-z,text -Wl,-z,relro -Wl,-z,now $(LDFLAGS) -o $@ $<
@@ -75,7 +93,7 @@ $(SHARED): $(C)/fmtcanon.o
 $(C)/second.a: library
 	cd $(C_CRATE) && rt lib --backend rattle
 	$(JOIN) $(C)/second.o
-	cd $(C_CRATE) && rt lib --cpu $(CPU)
+	cd $(C_CRATE) && rt lib $(CPU)
 	rm -f $@
 	ar rcs $@ $(C)/second.o
 
@@ -129,6 +147,9 @@ endef
 check-more: program library $(C)/second.a
 	python3 tests/outside_tools.py $(PROGRAM) $(C)
 	python3 tests/short_streams.py --each $(PROGRAM)
+	$(MAKE) library TARGET=aarch64
+	python3 tests/aarch64.py $(C) out/c-aarch64
+	cd $(C_CRATE) && rt lib $(CPU)
 
 mutants: tools
 	python3 tests/mutants.py --jobs $(JOBS)
@@ -139,10 +160,14 @@ tools:
 	@command -v python3 > /dev/null || { echo 'python3 is missing: the package python3 has it'; exit 1; }
 	@command -v bash > /dev/null || { echo 'bash is missing: the package bash has it'; exit 1; }
 
+# Debian's packages of the tools for another processor have its name.
+DASHED = $(if $(CROSS),-$(CROSS:%-=%))
+GCC_OF = gcc$(DASHED)
+
 c-tools:
-	@command -v $(CC) > /dev/null || { echo '$(CC) is missing: the package gcc has it'; exit 1; }
-	@for tool in ld ar objcopy nm; do command -v $$tool > /dev/null || \
-	    { echo "$$tool is missing: the package binutils has it"; exit 1; }; done
+	@command -v $(CC) > /dev/null || { echo '$(CC) is missing: the package $(GCC_OF) has it'; exit 1; }
+	@for tool in ld ar objcopy nm; do command -v $(CROSS)$$tool > /dev/null || \
+	    { echo "$(CROSS)$$tool is missing: the package binutils$(DASHED) has it"; exit 1; }; done
 
 # The targets below need what only `make` builds.
 built:

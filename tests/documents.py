@@ -388,7 +388,7 @@ def try_contracts(trials):
             trials.expect(f"public functions that CALLING.md of {page.parent.name} lacks", sorted(missing), [])
 
 
-# Changes of which the row says where they go, each with a variant that is named wherever all are.
+# What a row says where it goes, and a variant that is named wherever all variants are.
 LISTED = {"a data model": "Llp64", "an unsigned conversion": "UpperX"}
 
 

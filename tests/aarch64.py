@@ -1,0 +1,86 @@
+#!/usr/bin/env python3
+"""Tries the C library for AArch64 in an emulator: against its header, and against the library for x86-64.
+
+Usage: tests/aarch64.py FOLDER CROSS
+
+FOLDER and CROSS have libfmtcanon.a, as `make library` and `make library TARGET=aarch64` leave them, and CROSS has
+libfmtcanon.so, too. It needs Debian's gcc-aarch64-linux-gnu, libc6-dev-arm64-cross and qemu-user. Its last line is
+'N passed, M failed', and it exits with 1 where M isn't 0.
+"""
+
+import math
+import re
+import sys
+import tempfile
+from pathlib import Path
+
+sys.dont_write_bytecode = True
+sys.path.insert(0, str(Path(__file__).resolve().parent))
+
+from harness import SONAME, main  # noqa: E402
+from library import PROGRAMS, SHAPES, TOP, WRAPPED, compile_with, header_calls, lines_of  # noqa: E402
+from sizes import CALLS, TIMES  # noqa: E402
+
+TOOLS = "aarch64-linux-gnu-"
+COMPILER = [f"{TOOLS}gcc", "-std=c99", "-O1"]
+# Debian's folder of the C library for the compiler.
+EMULATOR = ["qemu-aarch64", "-L", "/usr/aarch64-linux-gnu"]
+# How much slower than this processor the emulator may be.
+SLOWER = 60
+SOURCES = TOP / "tests/library"
+
+
+def try_programs(archive, trials, work):
+    """The programs of tests/library find nothing wrong, those on a small stack among them."""
+    for program, options, line in PROGRAMS:
+        trials.expect(f"{program}.c", compile_with(COMPILER, SOURCES / f"{program}.c", work / program, archive, *options), (0, ""))
+        trials.expect(program, lines_of([*EMULATOR, work / program]), (0, f"{line}\n"))
+
+
+def answers_of(compiler, emulator, program, *library):
+    """Returns what the answers about all shapes are, in each data model."""
+    compiled = compile_with(compiler, SOURCES / "answers.c", program, *library)
+    return compiled if compiled != (0, "") else lines_of([*emulator, program, SHAPES])
+
+
+def try_answers(folder, cross, trials, work):
+    """The answers of the archive and of the shared library are those of the library for x86-64, byte for byte."""
+    wanted = answers_of(["gcc", "-std=c99"], [], work / "own", folder / "libfmtcanon.a")
+    trials.expect("whether there are answers", wanted[0] == 0 and wanted[1].count("\n") > 10_000, True)
+    archive = answers_of(COMPILER, EMULATOR, work / "archive", cross / "libfmtcanon.a")
+    shared = answers_of(COMPILER, [*EMULATOR, "-E", f"LD_LIBRARY_PATH={cross}"], work / "shared", cross / "libfmtcanon.so")
+    for name, found in [("archive", archive), ("shared library", shared)]:
+        trials.expect(f"whether the {name} answers as x86-64", found == wanted, True)
+    return wanted[1].count("\n")
+
+
+def try_sizes(archive, trials, work):
+    """Long texts through each call."""
+    program = work / "sizes"
+    trials.expect("sizes.c", compile_with(COMPILER, SOURCES / "sizes.c", program, archive, *WRAPPED), (0, ""))
+    for name, units, took in CALLS:
+        words = [*EMULATOR, program, str(math.ceil(SLOWER * TIMES * took)), str(units), name]
+        trials.expect(f"{name} over {units} units", lines_of(words), (0, ""))
+
+
+def try_exports(cross, trials):
+    """The library gives its functions and no other name, and needs nothing but the C library."""
+    wanted = sorted(name for name, _ in header_calls())
+    for words in [["-D", cross / "libfmtcanon.so"], ["-g", cross / "libfmtcanon.a"]]:
+        said = lines_of([f"{TOOLS}nm", "--defined-only", *words])[1]
+        trials.expect(f"names of {words[1].name}", sorted(re.findall(r"^[0-9a-f]+ \w (\S+)$", said, re.MULTILINE)), wanted)
+    headers = lines_of([f"{TOOLS}objdump", "-p", cross / "libfmtcanon.so"])[1]
+    trials.expect("the name that programs ask for", re.findall(r"SONAME\s+(\S+)", headers), [SONAME])
+    trials.expect("libraries that it wants", re.findall(r"NEEDED\s+(\S+)", headers), ["libc.so.6"])
+
+
+def try_all(folder, cross, trials):
+    with tempfile.TemporaryDirectory() as work:
+        try_exports(cross, trials)
+        try_programs(cross / "libfmtcanon.a", trials, Path(work))
+        print(f"{try_answers(folder, cross, trials, Path(work)):,} lines of answers compared")
+        try_sizes(cross / "libfmtcanon.a", trials, Path(work))
+
+
+if __name__ == "__main__":
+    main(__doc__, try_all)
