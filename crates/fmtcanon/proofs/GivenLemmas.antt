@@ -178,4 +178,4 @@ module _ (Needs : PairQuestion → Model → Text → Text → Type 0) (question
   pair_fault second_bytes h (WrongCount wanted given) reported hinders is = absurd hinders
   pair_fault second_bytes h (WrongType index) reported hinders is = absurd hinders
   pair_fault second_bytes h Memory reported hinders is =
-      subst (IsGivenPairFault Needs question model first second) (sym is) (inr (inr (first_bytes, g, second_bytes, h, hinders)))
+      subst (IsGivenPairFault Needs question model first second) (sym is) (inr (inr (first_bytes, g, (second_bytes, h, hinders))))

@@ -41,7 +41,7 @@ loop-model-preserved c =
     let answer = c.in_ok-answer.answer in
     let is = c.in_ok-answer.ensures in
     let name = c.name_of.result.now in
-    let pushed = c.in_ok-push_verdict.ensures ∙ ap (λ lines. out ++ line name ++ lines) c.deref.ensures.value in (
+    let pushed = c.in_ok-push_verdict.ensures ∙ ap (λ lines. out ++ line name ++ lines) c.as_bytes.ensures in (
       verdict_pushed (λ model. IsPairAnswer question model first second) c.args.models.now c.loop-model.model-index _ c.loop-model-test.true
           (output_bytes answer.output) answer.ending is out c.loop-model.ending
           c.loop-model.invariant.0 name c.name_of.ensures _ pushed _ c.ending_with-ending.ensures,

@@ -8,8 +8,8 @@ pub returns-in-Ok : goal.returns-in-Ok
 returns-in-Ok c =
     let push = c.push.ensures in
     let answer = c.in-Ok.answer in
-    let is = subst (λ t. IsAnswer c.args.question.now t answer.ending) (sym c.deref.ensures.value) c.in-Ok.ensures in
-    λ asked formats sent replies about h. reply_added asked formats sent replies _ _ h push.written c.args.question.now about c.deref.result.now
+    let is = subst (λ t. IsAnswer c.args.question.now t answer.ending) (sym c.as_bytes.ensures) c.in-Ok.ensures in
+    λ asked formats sent replies about h. reply_added asked formats sent replies _ _ h push.written c.args.question.now about c.as_bytes.result.now
     (outcome_of_ending answer.ending) (inl (answer.ending, is, refl)) c.status.result c.status.ensures.value c.push.result push.bytes push.greatest push.none push.same
 
 pub returns-in_default : goal.returns-in_default
