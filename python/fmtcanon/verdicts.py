@@ -169,7 +169,8 @@ def both_take(takers: Sequence[Optional[Taker]]) -> str:
 def directives_in(text: bytes) -> Iterator[Span]:
     """Yields where a text has specifications, also if it is not a format: then those before and after what is rejected."""
     done = 0
-    while True:
+    # Most texts have none.
+    while text.find(b"%", done) >= 0:
         try:
             found = fmtcanon.directives(text[done:])
         except fmtcanon.Refused as refusal:
