@@ -15,7 +15,7 @@ from . import verdicts
 from .kinds import TYPE_NAMES
 from .rejections import instead_of, sentence
 from .specification import Specification, specification_of
-from .verdicts import Argument, Library, shared_front, taker_of
+from .verdicts import Argument, Library, shared_front, taker_of, telling_arguments
 from .wording import Stars, meaning, meaning_of_number, note
 
 
@@ -190,6 +190,7 @@ def part_at(text: bytes, index: int, model: Model) -> Optional[Part]:
 
 def printed_unlike(formats: Tuple[bytes, bytes], arguments: Tuple[Argument, ...], model: Model) -> Difference:
     """Returns what two formats print for arguments that show a difference, and the first directives that do."""
+    arguments = telling_arguments(Library(), *formats, arguments, model)
     printed = tuple(it for it in (printed_by(it, arguments, model) for it in formats) if it is not None)
     first, second = (explain(it, model).parts for it in formats)
     unlike = ((one, two) for one, two in zip(first, second) if not is_alike(one, two, arguments, model))

@@ -234,6 +234,15 @@ class Pairs(unittest.TestCase):
         self.assertEqual((found["types"]["verdict"], found["types"]["argument"]), ("types", 1))
         self.assertNotIn("types", asked("%1$d", "%y")[1])
 
+    def test_short_arguments(self):
+        """Strings are as short as they can be, and of long lines what surrounds the difference is shown."""
+        lines = ['different: for "AAAA" they print', "  AAAA    %s: the string"]
+        lines += ["  AAA     %.3s: the string, 3 bytes of it at most", "     ^"]
+        self.assertEqual(run("%s", "%.3s"), (1, lines))
+        _, (_, first, second, mark) = run("%1000d|", "%1001d|")
+        self.assertLessEqual(max(map(len, [first, second])), 104)
+        self.assertEqual((first[mark.index("^")], second[mark.index("^")]), ("0", " "))
+
     def test_first_of_two(self):
         self.assertEqual(run("%y", "%d")[1][0], "first: refused 3 Unexpected at byte 1")
 

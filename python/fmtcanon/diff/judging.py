@@ -17,6 +17,7 @@ from ..verdicts import (
     Verdict,
     argument_words,
     both_take,
+    cut,
     narrowed,
     only_words_differ,
     shared_front,
@@ -45,8 +46,6 @@ NOTES = (Kind.SAME, Kind.WORDS)
 LONG = 10_000
 # How the two sides are named on a terminal.
 NAMES = ("old", "new")
-# How much of a text is shown, and how much of that comes before the first difference.
-SHOWN, BEFORE = 60, 20
 
 
 class Judged(NamedTuple):
@@ -271,14 +270,3 @@ def text_of(place: Place, model: Model) -> str:
 
 def printable(text: bytes) -> str:
     return text.decode(errors="backslashreplace")
-
-
-def cut(first: str, second: str) -> List[str]:
-    """Returns two texts cut short, so that each shows where they begin to differ."""
-    at = shared_front(first, second)
-    found = []
-    for text in (first, second):
-        start = max(at - BEFORE, 0) if max(len(first), len(second)) > SHOWN else 0
-        piece = text[start : start + SHOWN]
-        found.append((".." if start else "") + piece + (".." if start + SHOWN < len(text) else ""))
-    return found
