@@ -71,7 +71,8 @@ class Rejection(NamedTuple):
     """Why a format is rejected: the refusal, what it means, and what to write instead of the specification.
 
     `side` is the index of the format, if two are compared. `types` is how their types compare, if numbered arguments are
-    all that is rejected.
+    all that is rejected. `at` is the offset of the byte as the program prints it: in string literals, if the format was
+    given as these.
     """
 
     format: bytes
@@ -80,6 +81,11 @@ class Rejection(NamedTuple):
     instead: Optional[bytes]
     side: Optional[int] = None
     types: Optional[Difference] = None
+    at: Optional[int] = None
+
+    def __str__(self) -> str:
+        at = self.refusal.byte if self.at is None else self.at
+        return str(Refused(self.refusal.kind, self.refusal.name, at))
 
 
 def explain(text: bytes, model: Model) -> Explanation:

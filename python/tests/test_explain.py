@@ -145,6 +145,15 @@ class Lines(unittest.TestCase):
         self.assertEqual(run("--literal", r'"\x25i\n"')[1][0], r"%i\n")
         self.assertEqual(run("--literal", "%d")[0], 2)
 
+    def test_rejected_literals(self):
+        """The offset is that of the literals, as the program prints it, and the caret is under the byte."""
+        rows = [([r'"\t%y"'], r"\t%y", 4), (['"%d"', r'"\x41" "%d%y"'], "A%d%y", 11)]
+        for words, shown, at in rows:
+            status, lines = run("--literal", *words)
+            self.assertEqual((status, lines[0][-len(f"byte {at}") :]), (2, f"byte {at}"))
+            self.assertEqual((lines[1], lines[2].index("^")), (shown, len(shown) - 1))
+            self.assertEqual(asked("--literal", *words)[1]["refusal"]["at"], at)
+
 
 class Rejections(unittest.TestCase):
     def test_a_caret(self):

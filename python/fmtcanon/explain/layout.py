@@ -82,7 +82,7 @@ def bounds_words(bounds: fmtcanon.Bounds) -> str:
 
 def rejection_lines(found: Rejection, model: Model, style: Style) -> Iterator[str]:
     """Yields the error line, the format with a caret under the byte that is rejected, and what to write."""
-    yield f"{'' if found.side is None else SIDES[found.side]}{found.refusal}"
+    yield f"{'' if found.side is None else SIDES[found.side]}{found}"
     yield as_source(found.format)
     begin = column_of(found.format, found.refusal.byte)
     more = [f"Write {as_source(found.instead)}."] if found.instead else []
