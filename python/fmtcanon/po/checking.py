@@ -11,6 +11,7 @@ from ..command_line import model_names
 from ..findings import ERROR, WARNING, Finding
 from ..rejections import advice_on, refused_span
 from ..verdicts import argument_words
+from .charsets import charset_named
 from .formats import DEPENDENT, Format, shape_of, shown_kinds, shown_type
 from .plurals import PluralRule, rule_of
 from .reading import Catalog, Message, read_catalog
@@ -226,8 +227,6 @@ class Checker:
 
     def check_data(self, file: str, data: bytes) -> None:
         """Checks the catalog in a file's bytes."""
-        if self.is_shown:
-            self.source = CatalogSource(data)
         try:
             catalog = read_catalog(data)
             rule = rule_of(catalog.header)
@@ -236,6 +235,8 @@ class Checker:
         except ValueError as error:
             self.report(file, 0, f"it can't be read: {error}")
         else:
+            if self.is_shown:
+                self.source = CatalogSource(charset_named(catalog.charset).decode(data))
             self.check_catalog(file, catalog, rule)
 
     def check_catalog(self, file: str, catalog: Catalog, rule: Optional[PluralRule]) -> None:

@@ -23,7 +23,7 @@ class Mark(NamedTuple):
 
 
 class CatalogSource:
-    """The lines of a .po file."""
+    """The lines of a .po file in UTF-8."""
 
     def __init__(self, data: bytes) -> None:
         self.lines = data.split(b"\n")
@@ -55,14 +55,18 @@ class CatalogSource:
                 return at
         return None
 
-    def marked(self, line: int, token: Token, start: int, mark: Mark) -> Excerpt:
-        """Returns a line with the part that begins at this byte of a string in it."""
+    def marked(self, line: int, token: Token, start: int, mark: Mark) -> Optional[Excerpt]:
+        """Returns a line with the part that begins at this byte of a string in it; None if other bytes are there."""
         ends = ends_of(token.text)
         # The column is that of the quote.
         front = token.column
         first = front + (ends[start - 1] if start else 0)
         last = front + ends[min(start + mark.end - mark.start, len(ends)) - 1]
         whole = self.lines[line - 1]
+        part = whole[first:last]
+        # Of another charset than UTF-8, an escape by number may be of more bytes.
+        if b"\\" not in part and not mark.text[mark.start : mark.end].startswith(part):
+            return None
         begin, end = (len(whole[:it].decode(errors="surrogateescape")) for it in (first, last))
         return Excerpt(str(line), whole.decode(errors="surrogateescape").rstrip("\r"), begin, end, mark.words)
 
