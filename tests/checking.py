@@ -15,10 +15,7 @@ import tempfile
 from collections import Counter
 from pathlib import Path
 
-sys.path.insert(0, str(Path(__file__).resolve().parents[1] / "python/tests"))
-
-from harness import PACKAGES, SONAME, TIMEOUT, TOP, examples, page_examples  # noqa: E402
-from terminal import on_terminal  # noqa: E402
+from harness import PACKAGES, SONAME, TIMEOUT, TOP, examples, page_examples
 
 SOURCE = TOP / "tests/platforms/expressions.c"
 LARGE = ["-D_TIME_BITS=64", "-D_FILE_OFFSET_BITS=64"]
@@ -326,34 +323,6 @@ def try_files(tool, trials):
     trials.expect("a nested function", (status, said in output, "part.c:5:28: %lu" in output), (2, True, True))
 
 
-# What a terminal of 80 columns shows of a call and of a format that isn't accepted, by hand.
-SCREEN = """\
-a.c:6:10: %lu takes unsigned long, and the argument is size_t: another size in
-    LLP64, another type in ILP32; write %zu
- 6 |     printf("%lu", n);
-   |             ^^^ write %zu
-a.c:7: not judged: refused 13 AltUndefined at byte 2 of a format of printf
- format | "%#d"
-        |  ^^^ AltUndefined
-    help: `#` has no meaning with `d`. Write %d.
-1 file, 1 format, 1 argument: 1 size, 1 unjudged
-"""
-
-
-def try_terminal(tool, trials):
-    """What a terminal shows: the line of the source, and what helps."""
-    tool.put("a.c", SAYS + 'void f(size_t n) {\n\tprintf("%lu", n);\n\tprintf("%#d", 1);\n}\n')
-    names = {**tool.environment, "NO_COLOR": "1"}
-    words = ["-m", "fmtcanon.checker", "a.c"]
-    found = on_terminal(words, folder=tool.work, python=str(tool.python), **names)
-    trials.expect("findings on a terminal", found, (1, SCREEN))
-    script = "from fmtcanon import progress; progress.BEGIN = progress.EVERY = 0; "
-    script += "from fmtcanon.checker.command import main; main(['a.c'])"
-    said = on_terminal(["-c", script], folder=tool.work, python=str(tool.python), **names)[1]
-    trials.expect("progress on a terminal", "1 of 1 files done" in said, True)
-    trials.expect("findings in a pipe", len(tool.run("a.c")[1].splitlines()), 2)
-
-
 def try_outputs(tool, trials):
     """The forms of the output."""
     tool.put("a.c", SAYS + 'void f(size_t n) {\n\tprintf("%lu", n);\n}\n')
@@ -524,4 +493,4 @@ def try_checking(folder, python, tools, trials):
                 part(Tool(folder, os.path.realpath(work), python), trials)
 
 
-PARTS = [try_tables, try_compilers, try_calls, try_files, try_outputs, try_terminal, try_fix, try_not_fixed, try_visitor, try_diff, try_examples]
+PARTS = [try_tables, try_compilers, try_calls, try_files, try_outputs, try_fix, try_not_fixed, try_visitor, try_diff, try_examples]

@@ -35,6 +35,7 @@ from opaque import argument_of  # noqa: E402
 from recipes import try_recipes  # noqa: E402
 from replacing import try_replacing  # noqa: E402
 from replacing_programs import try_programs  # noqa: E402
+from screens import try_screens  # noqa: E402
 from translations import try_msgfmt  # noqa: E402
 from typing_of_module import try_annotations  # noqa: E402
 
@@ -176,6 +177,7 @@ def try_libclang(folder, tools, trials):
     trials.expect("libclang is there: the package python3-clang has it", python is not None, True)
     if python:
         try_replacing(folder, python, trials)
+        try_screens(folder, python, trials)
         try_programs(folder, python, trials)
         try_checking(folder, python, tools, trials)
 

@@ -13,10 +13,7 @@ import sys
 import tempfile
 from pathlib import Path
 
-sys.path.insert(0, str(Path(__file__).resolve().parents[1] / "python/tests"))
-
-from harness import SONAME, TIMEOUT, TOP, examples  # noqa: E402
-from terminal import on_terminal  # noqa: E402
+from harness import SONAME, TIMEOUT, TOP, examples
 
 FOLDER = TOP / "tests/rewrites"
 OLD, NEW = "%i\\n", "%d\\n"
@@ -218,34 +215,6 @@ WITHOUT_LIBCLANG = (
 )
 
 
-# A source, and what a terminal of 80 columns shows of the places that are left, by hand.
-SCREEN_C = """\
-#include <stdio.h>
-void f(int n) {
-\tprintf("%d: %05d\\n", n, n);
-\tfputs("%d: %05d\\n", stderr);
-}
-"""
-SCREEN = """\
-a.c:3:9: left: the two print different bytes for 0, -1
-   3 |     printf("%d: %05d\\n", n, n);
-     |                 ^^^^ the sign is one of the 5 columns
- NEW | "%d: %.5d\\n"
-     |      ^^^^ 5 digits, and the sign before them
-a.c:4:8: left: the two print different bytes for 0, -1
-   4 |     fputs("%d: %05d\\n", stderr);
-     |                ^^^^ the sign is one of the 5 columns
- NEW | "%d: %.5d\\n"
-     |      ^^^^ 5 digits, and the sign before them
-"""
-REFUSED_SCREEN = """\
-fmtcanon-replace: NEW is refused 13 AltUndefined at byte 2
-refused 13 AltUndefined at byte 2
-%#d
-  ^ `#` has no meaning with `d`. Write %d.
-"""
-
-
 class Tool:
     """The command in a folder."""
 
@@ -280,14 +249,6 @@ class Tool:
             done.stdout.decode(errors="surrogateescape"),
             done.stderr.decode(errors="surrogateescape"),
         )
-
-    def on_terminal(self, *words):
-        """The status of a run on a terminal, and what this shows, without colours."""
-        return self.on_terminal_of(str(self.words[1]), *words)
-
-    def on_terminal_of(self, *words):
-        names = {**self.environment, "NO_COLOR": "1"}
-        return on_terminal(words, folder=self.work, python=str(self.words[0]), **names)
 
     def put(self, name, text):
         """Writes a file, and returns its path."""
@@ -667,20 +628,6 @@ def try_document(tool, trials):
         trials.expect(f"docs/REFACTORING.md: {command}", done.stdout.decode(), "".join(f"{line}\n" for line in output))
 
 
-def try_terminal(tool, trials):
-    """What a terminal shows: the lines of places that are left, with NEW; and a format that is rejected."""
-    tool.put("a.c", SCREEN_C)
-    words = ["--dry-run", r"%d: %05d\n", r"%d: %.5d\n", "a.c"]
-    trials.expect("places on a terminal", tool.on_terminal(*words), (1, SCREEN))
-    lines = [it for it in SCREEN.splitlines(keepends=True) if it.startswith("a.c:")]
-    trials.expect("places in a pipe", tool.run_with_columns(words)[1], "".join(lines))
-    script = "from fmtcanon import progress; progress.BEGIN = progress.EVERY = 0; "
-    script += f"from fmtcanon.replace.command import main; main({words})"
-    said = tool.on_terminal_of("-c", script)[1]
-    trials.expect("progress on a terminal", "1 of 1 files done" in said, True)
-    trials.expect("a rejected format on a terminal", tool.on_terminal("%d", "%#d", "a.c"), (2, REFUSED_SCREEN))
-
-
 def try_without_libclang(folder, trials):
     """What the command says without libclang: usage errors, and that it is missing; no file is changed."""
     with tempfile.TemporaryDirectory() as work:
@@ -704,7 +651,6 @@ def try_replacing(folder, python, trials):
         try_files,
         try_trees,
         try_sizes,
-        try_terminal,
         try_document,
     ]:
         with tempfile.TemporaryDirectory() as work:

@@ -4,6 +4,7 @@ from __future__ import annotations
 
 from typing import Iterator, List, NamedTuple, Sequence
 
+from . import encode_literal
 from .terminals import LEVELS, PLACE, Style, beside, columns, wrapped
 from .visible import visible
 
@@ -24,6 +25,19 @@ class Excerpt(NamedTuple):
     start: int
     end: int
     words: str = ""
+
+
+def line_of(data: bytes, offset: int) -> str:
+    """Returns the line of a source that has the byte at an offset."""
+    end = data.find(b"\n", offset)
+    line = data[data.rfind(b"\n", 0, offset) + 1 : len(data) if end < 0 else end]
+    return line.decode(errors="surrogateescape").rstrip("\r")
+
+
+def literal_excerpt(label: str, text: bytes, start: int, end: int, words: str = "") -> Excerpt:
+    """Returns a text as a string literal, with a part of it marked, by its bytes."""
+    before, whole = (encode_literal(text[:it])[:-1].decode(errors="surrogateescape") for it in (start, end))
+    return Excerpt(label, encode_literal(text).decode(errors="surrogateescape"), len(before), len(whole), words)
 
 
 def shown_line(line: str) -> str:

@@ -15,7 +15,7 @@ from . import verdicts
 from .kinds import TYPE_NAMES
 from .rejections import instead_of, sentence
 from .specification import Specification, specification_of
-from .verdicts import Argument, Library, shared_front, taker_of
+from .verdicts import Argument, Library, shared_front, taker_of, telling_arguments
 from .wording import Stars, meaning, meaning_of_number, note
 
 
@@ -71,7 +71,8 @@ class Rejection(NamedTuple):
     """Why a format is rejected: the refusal, what it means, and what to write instead of the specification.
 
     `side` is the index of the format, if two are compared. `types` is how their types compare, if numbered arguments are
-    all that is rejected.
+    all that is rejected. `at` is the offset of the byte as the program prints it: in string literals, if the format was
+    given as these.
     """
 
     format: bytes
@@ -80,6 +81,11 @@ class Rejection(NamedTuple):
     instead: Optional[bytes]
     side: Optional[int] = None
     types: Optional[Difference] = None
+    at: Optional[int] = None
+
+    def __str__(self) -> str:
+        at = self.refusal.byte if self.at is None else self.at
+        return str(Refused(self.refusal.kind, self.refusal.name, at))
 
 
 def explain(text: bytes, model: Model) -> Explanation:
@@ -190,6 +196,7 @@ def part_at(text: bytes, index: int, model: Model) -> Optional[Part]:
 
 def printed_unlike(formats: Tuple[bytes, bytes], arguments: Tuple[Argument, ...], model: Model) -> Difference:
     """Returns what two formats print for arguments that show a difference, and the first directives that do."""
+    arguments = telling_arguments(Library(), *formats, arguments, model)
     printed = tuple(it for it in (printed_by(it, arguments, model) for it in formats) if it is not None)
     first, second = (explain(it, model).parts for it in formats)
     unlike = ((one, two) for one, two in zip(first, second) if not is_alike(one, two, arguments, model))

@@ -2,7 +2,7 @@
 
 from __future__ import annotations
 
-from typing import Iterator, Mapping, Optional
+from typing import Iterator, Mapping, Optional, Tuple
 
 import fmtcanon
 from fmtcanon import Kind, Model, Refused
@@ -62,6 +62,12 @@ ADVICE: Mapping[Kind, str] = {
     Kind.MISSING_ARGUMENT: "Number the arguments from 1 on: `%1$d` instead of `%2$d`.",
     Kind.TWO_TYPES: "Give each argument a number of its own: `%1$d%2$s` instead of `%1$d%1$s`.",
 }
+
+
+def refused_span(text: bytes, refusal: Refused) -> Tuple[int, int]:
+    """Returns where a specification begins that is rejected, and the offset after the byte at which it is."""
+    begin = begin_of(text, refusal.byte)
+    return min(max(begin, 0), refusal.byte), refusal.byte + 1
 
 
 def sentence(text: bytes, refusal: Refused) -> str:

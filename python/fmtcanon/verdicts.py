@@ -18,6 +18,8 @@ from .visible import visible
 INNER = b"%0123456789$-+ #'*.hljztL"
 # A number of a format. One with more digits is no width or precision that is accepted.
 NUMBER = re.compile(rb"(?<!\d)0*(\d{1,6})(?!\d)")
+# How much of a text is shown, and how much of that comes before the first difference.
+SHOWN, BEFORE = 60, 20
 # Strings up to the first length are not shortened, and up to the second they are shown; how many arguments are shown.
 SHORT, LONGEST, ARGUMENTS = 8, 20, 8
 
@@ -169,7 +171,8 @@ def both_take(takers: Sequence[Optional[Taker]]) -> str:
 def directives_in(text: bytes) -> Iterator[Span]:
     """Yields where a text has specifications, also if it is not a format: then those before and after what is rejected."""
     done = 0
-    while True:
+    # Most texts have none.
+    while text.find(b"%", done) >= 0:
         try:
             found = fmtcanon.directives(text[done:])
         except fmtcanon.Refused as refusal:
@@ -267,3 +270,14 @@ def shown_arguments(arguments: Sequence[Argument]) -> str:
 def shown(text: bytes) -> str:
     """Returns a text as a string literal. What can't be seen, as a space that doesn't break, is an escape."""
     return visible(fmtcanon.encode_literal(text).decode(errors="backslashreplace"))
+
+
+def cut(first: str, second: str) -> List[str]:
+    """Returns two texts cut short, so that each shows where they begin to differ."""
+    at = shared_front(first, second)
+    found = []
+    for text in (first, second):
+        start = max(at - BEFORE, 0) if max(len(first), len(second)) > SHOWN else 0
+        piece = text[start : start + SHOWN]
+        found.append((".." if start else "") + piece + (".." if start + SHOWN < len(text) else ""))
+    return found

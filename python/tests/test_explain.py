@@ -145,6 +145,15 @@ class Lines(unittest.TestCase):
         self.assertEqual(run("--literal", r'"\x25i\n"')[1][0], r"%i\n")
         self.assertEqual(run("--literal", "%d")[0], 2)
 
+    def test_rejected_literals(self):
+        """The offset is that of the literals, as the program prints it, and the caret is under the byte."""
+        rows = [([r'"\t%y"'], r"\t%y", 4), (['"%d"', r'"\x41" "%d%y"'], "A%d%y", 11)]
+        for words, shown, at in rows:
+            status, lines = run("--literal", *words)
+            self.assertEqual((status, lines[0][-len(f"byte {at}") :]), (2, f"byte {at}"))
+            self.assertEqual((lines[1], lines[2].index("^")), (shown, len(shown) - 1))
+            self.assertEqual(asked("--literal", *words)[1]["refusal"]["at"], at)
+
 
 class Rejections(unittest.TestCase):
     def test_a_caret(self):
@@ -233,6 +242,15 @@ class Pairs(unittest.TestCase):
         self.assertEqual((status, found["refusal"]["kind"], found["refusal"]["side"]), (2, 6, 1))
         self.assertEqual((found["types"]["verdict"], found["types"]["argument"]), ("types", 1))
         self.assertNotIn("types", asked("%1$d", "%y")[1])
+
+    def test_short_arguments(self):
+        """Strings are as short as they can be, and of long lines what surrounds the difference is shown."""
+        lines = ['different: for "AAAA" they print', "  AAAA    %s: the string"]
+        lines += ["  AAA     %.3s: the string, 3 bytes of it at most", "     ^"]
+        self.assertEqual(run("%s", "%.3s"), (1, lines))
+        _, (_, first, second, mark) = run("%1000d|", "%1001d|")
+        self.assertLessEqual(max(map(len, [first, second])), 104)
+        self.assertEqual((first[mark.index("^")], second[mark.index("^")]), ("0", " "))
 
     def test_first_of_two(self):
         self.assertEqual(run("%y", "%d")[1][0], "first: refused 3 Unexpected at byte 1")

@@ -158,6 +158,18 @@ class Screens(InFolder):
         self.assertEqual(found["1"], found["3"])
         self.assertEqual(re.findall(r"^(\d+\.po):6:", found["1"][1], re.MULTILINE), names)
 
+    def test_charsets(self):
+        """Carets are at their places in catalogs of other charsets, also after escapes by number."""
+        head = 'msgid ""\nmsgstr "Content-Type: text/plain; charset=ISO-8859-1\\n"\n\n#, c-format\n'
+        for front, line in [("\u00e4\u00f6", ' 6 | msgstr "\u00e4\u00f6 %s"'), (r"\344", ' msgstr | "\u00e4 %s"')]:
+            text = head + f'msgid "%d"\nmsgstr "{front} %s"\n'
+            (self.work / "de.po").write_bytes(text.encode("iso-8859-1"))
+            _, text = self.shown("-m", "fmtcanon.po", "de.po", NO_COLOR="1")
+            lines = text.splitlines()
+            self.assertIn(line, lines)
+            mark = lines[lines.index(line) + 1]
+            self.assertEqual(line[mark.index("^") : mark.index("^") + 2], "%s")
+
     def test_missing_argument(self):
         """Of texts with other numbers of arguments, the first specification is marked that has no partner."""
         self.put("de.po", '#, c-format\nmsgid "%d of %5d"\nmsgstr "%d ist"\n')

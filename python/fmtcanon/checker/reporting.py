@@ -5,13 +5,13 @@ import os
 from dataclasses import replace
 from typing import Any, Dict, List, NamedTuple, Optional, Sequence, Tuple
 
-from .. import Refused, encode_literal
+from .. import Refused
 from ..command_line import model_names
-from ..excerpts import Excerpt
+from ..excerpts import Excerpt, literal_excerpt
 from ..findings import ERROR, NOTE, WARNING, Finding
 from ..kinds import TYPE_NAMES, Type
 from ..models import Model
-from ..rejections import advice_on, begin_of
+from ..rejections import advice_on, refused_span
 from ..replace.replacer import column_of
 from .calls import Call
 from .judging import ORDER, SIGNED, Fault, Fit, RefusedFormat, is_composed
@@ -175,10 +175,7 @@ def refused_finding(refused: RefusedFormat, models: Sequence[Model]) -> Finding:
     finding = finding_of_call(call, UNJUDGED, f"not judged: {why} of a format of {call.function}", models)
     if not isinstance(why, Refused):
         return finding
-    begin, end = begin_of(text, why.byte), why.byte + 1
-    start, stop = (len(encode_literal(text[:it])) - 1 for it in (min(max(begin, 0), why.byte), end))
-    line = encode_literal(text).decode(errors="surrogateescape")
-    excerpt = Excerpt("format", line, start, stop, why.name)
+    excerpt = literal_excerpt("format", text, *refused_span(text, why), why.name)
     return replace(finding, excerpts=(excerpt,), help=advice_on(text, why, models[0]))
 
 

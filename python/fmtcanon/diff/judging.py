@@ -10,13 +10,14 @@ from ..explaining import Marked, marked_parts
 from ..findings import ERROR, NOTE, WARNING, Finding
 from ..kinds import TYPE_NAMES
 from ..models import Model
-from ..rejections import advice_on, begin_of
+from ..rejections import advice_on, refused_span
 from ..verdicts import (
     Kind,
     Taker,
     Verdict,
     argument_words,
     both_take,
+    cut,
     narrowed,
     only_words_differ,
     shared_front,
@@ -45,8 +46,6 @@ NOTES = (Kind.SAME, Kind.WORDS)
 LONG = 10_000
 # How the two sides are named on a terminal.
 NAMES = ("old", "new")
-# How much of a text is shown, and how much of that comes before the first difference.
-SHOWN, BEFORE = 60, 20
 
 
 class Judged(NamedTuple):
@@ -231,8 +230,8 @@ class Wording:
         old, new = (text or b"" for _, text in sides)
         if verdict.refusal is not None and is_whole:
             side = verdict.refusal.side if verdict.kind is Kind.UNJUDGED else 1
-            text, at = (old, new)[side], verdict.refusal.byte
-            span = min(max(begin_of(text, at), 0), at), at + 1
+            text = (old, new)[side]
+            span = refused_span(text, verdict.refusal)
             excerpt = place_excerpt(NAMES[side], sides[side][0], span, verdict.refusal.name)
             return (excerpt,), advice_on(text, verdict.refusal, self.model)
         spans: Sequence[Optional[Marked]] = [None, None]
@@ -258,7 +257,7 @@ def place_excerpt(name: str, place: Place, span: Optional[Tuple[int, int]], word
     first, last = (offsets[0], offsets[1]) if len(offsets) == 2 else (None, None)
     first, last = (place.quote, place.end - 1) if first is None or last is None else (first, last)
     start, end = place.source.position(first), place.source.position(last)
-    line = place.source.line(start.line)
+    line = place.source.line(first)
     stop = end.column if end.line == start.line else len(line)
     return Excerpt(f"{name} {start.line}", line, start.column - 1, max(stop, start.column), words)
 
@@ -271,14 +270,3 @@ def text_of(place: Place, model: Model) -> str:
 
 def printable(text: bytes) -> str:
     return text.decode(errors="backslashreplace")
-
-
-def cut(first: str, second: str) -> List[str]:
-    """Returns two texts cut short, so that each shows where they begin to differ."""
-    at = shared_front(first, second)
-    found = []
-    for text in (first, second):
-        start = max(at - BEFORE, 0) if max(len(first), len(second)) > SHOWN else 0
-        piece = text[start : start + SHOWN]
-        found.append((".." if start else "") + piece + (".." if start + SHOWN < len(text) else ""))
-    return found

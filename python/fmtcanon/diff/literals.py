@@ -8,6 +8,7 @@ from typing import Any, Dict, Iterator, List, NamedTuple, Optional, Set, Tuple
 
 from .. import BadLiteral, decode_literal, source_offset
 from ..compiling.known import GETTEXT
+from ..excerpts import line_of
 from ..models import Model
 from ..replace.tokens import CHARACTER, COMMENT, NAME, NUMBER, SPLICE, STRING
 from ..verdicts import without_specifications
@@ -256,10 +257,9 @@ class Source:
         start = self.data.rfind(b"\n", 0, offset) + 1
         return Position(self.lines, len(self.data[start:offset].decode(errors="surrogateescape")) + 1)
 
-    def line(self, number: int) -> str:
-        """Returns the line of the file with this number, from 1."""
-        lines = self.data.split(b"\n", number)
-        return lines[number - 1].decode(errors="surrogateescape").rstrip("\r") if number <= len(lines) else ""
+    def line(self, at: int) -> str:
+        """Returns the line of the file that has an offset in the text."""
+        return line_of(self.data, self.offset(at))
 
     def raw(self, start: int, end: int) -> bytes:
         """Returns the bytes of the file between two offsets in the text: in a raw string no line is spliced."""

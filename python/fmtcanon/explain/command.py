@@ -80,6 +80,9 @@ def run(options: Any, formats: Sequence[str]) -> int:
         complain(str(fault))
         return USAGE
     found = found_of(texts, model_of(options.model))
+    if options.literal and isinstance(found, Rejection):
+        source = os.fsencode(formats[found.side or 0])
+        found = found._replace(at=fmtcanon.source_offset(source, found.refusal.byte))
     if options.output == "json":
         put(sys.stdout, json.dumps(as_json(found)))
     else:
@@ -164,6 +167,8 @@ def as_json(found: Found) -> Dict[str, Any]:
 
 def rejection_in_json(found: Rejection) -> Dict[str, Any]:
     refusal: Dict[str, Any] = {"kind": int(found.refusal.kind), "name": found.refusal.name, "at": found.refusal.byte}
+    if found.at is not None:
+        refusal["at"] = found.at
     refusal["help"] = found.help
     if found.side is not None:
         refusal["side"] = found.side

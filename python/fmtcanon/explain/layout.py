@@ -11,7 +11,7 @@ from fmtcanon import Model, Type, Verdict
 from ..explaining import Difference, Explanation, Part, Rejection
 from ..kinds import TYPE_NAMES
 from ..terminals import Style, beside, columns
-from ..verdicts import argument_words, shown_argument, shown_arguments
+from ..verdicts import argument_words, cut, shared_front, shown_argument, shown_arguments
 from ..visible import visible
 
 # Formats up to this many columns have the words beside the carets; the words of others are on lines of their own.
@@ -82,7 +82,7 @@ def bounds_words(bounds: fmtcanon.Bounds) -> str:
 
 def rejection_lines(found: Rejection, model: Model, style: Style) -> Iterator[str]:
     """Yields the error line, the format with a caret under the byte that is rejected, and what to write."""
-    yield f"{'' if found.side is None else SIDES[found.side]}{found.refusal}"
+    yield f"{'' if found.side is None else SIDES[found.side]}{found}"
     yield as_source(found.format)
     begin = column_of(found.format, found.refusal.byte)
     more = [f"Write {as_source(found.instead)}."] if found.instead else []
@@ -129,14 +129,13 @@ def printed_lines(found: Difference, style: Style) -> Iterator[str]:
     if len(found.printed) < len(found.formats):
         yield "  other bytes: the program that prints them can't be run"
         return
-    shown = [as_source(it) for it in found.printed]
+    shown = cut(*map(as_source, found.printed))
     width = max(map(columns, shown))
-    for text, part, line in zip(found.printed, found.parts or (None, None), shown):
+    for part, line in zip(found.parts or (None, None), shown):
         words = f"{as_source(part.text)}: {part.meaning}" if part else ""
-        yield f"  {line}{' ' * (width - columns(line))}    {words}".rstrip()
-    first, second = found.printed
-    at = next((i for i, (a, b) in enumerate(zip(first, second)) if a != b), min(len(first), len(second)))
-    yield "  " + " " * column_of(first, at) + style.carets(1)
+        yield from beside(f"  {line}", 2 + columns(line), 2 + width + INDENT, [words] if words else [], style.width)
+    same = shown[0][: shared_front(*shown)]
+    yield "  " + " " * columns(same) + style.carets(1)
 
 
 def apart_lines(found: Difference, model: Model, style: Style) -> Iterator[str]:

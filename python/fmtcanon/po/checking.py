@@ -9,8 +9,9 @@ import fmtcanon
 
 from ..command_line import model_names
 from ..findings import ERROR, WARNING, Finding
-from ..rejections import advice_on, begin_of
+from ..rejections import advice_on, refused_span
 from ..verdicts import argument_words
+from .charsets import charset_named
 from .formats import DEPENDENT, Format, shape_of, shown_kinds, shown_type
 from .plurals import PluralRule, rule_of
 from .reading import Catalog, Message, read_catalog
@@ -226,8 +227,6 @@ class Checker:
 
     def check_data(self, file: str, data: bytes) -> None:
         """Checks the catalog in a file's bytes."""
-        if self.is_shown:
-            self.source = CatalogSource(data)
         try:
             catalog = read_catalog(data)
             rule = rule_of(catalog.header)
@@ -236,6 +235,8 @@ class Checker:
         except ValueError as error:
             self.report(file, 0, f"it can't be read: {error}")
         else:
+            if self.is_shown:
+                self.source = CatalogSource(charset_named(catalog.charset).decode(data))
             self.check_catalog(file, catalog, rule)
 
     def check_catalog(self, file: str, catalog: Catalog, rule: Optional[PluralRule]) -> None:
@@ -385,8 +386,8 @@ def rejection_of(format: Format, models: Sequence[fmtcanon.Model]) -> Optional[R
 def marks_of(reason: Reason, texts: Sequence[Text], model: fmtcanon.Model) -> Iterator[Mark]:
     """Yields what a reason is about: the byte that is rejected, or the specifications that take an argument."""
     if reason.refusal is not None and texts:
-        text, at = texts[-1], reason.refusal.byte
-        yield Mark(text.name, text.text, min(max(begin_of(text.text, at), 0), at), at + 1, reason.refusal.name)
+        text = texts[-1]
+        yield Mark(text.name, text.text, *refused_span(text.text, reason.refusal), reason.refusal.name)
     elif reason.argument is not None:
         for text in texts:
             yield taken_in(text, reason.argument, model)

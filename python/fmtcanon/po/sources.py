@@ -4,8 +4,7 @@ from __future__ import annotations
 
 from typing import List, NamedTuple, Optional
 
-from .. import encode_literal
-from ..excerpts import Excerpt
+from ..excerpts import Excerpt, literal_excerpt
 from .tokens import ESCAPE, Scanner, Token, Unreadable
 
 # How many lines before a translation its message begins at most, and how many bytes after that are read.
@@ -24,7 +23,7 @@ class Mark(NamedTuple):
 
 
 class CatalogSource:
-    """The lines of a .po file."""
+    """The lines of a .po file in UTF-8."""
 
     def __init__(self, data: bytes) -> None:
         self.lines = data.split(b"\n")
@@ -35,7 +34,7 @@ class CatalogSource:
             found = self.found(line, mark)
         except Unreadable:
             found = None
-        return found or text_excerpt(mark)
+        return found or literal_excerpt(*mark)
 
     def found(self, line: int, mark: Mark) -> Optional[Excerpt]:
         begin = self.begin_of(line)
@@ -56,23 +55,20 @@ class CatalogSource:
                 return at
         return None
 
-    def marked(self, line: int, token: Token, start: int, mark: Mark) -> Excerpt:
-        """Returns a line with the part that begins at this byte of a string in it."""
+    def marked(self, line: int, token: Token, start: int, mark: Mark) -> Optional[Excerpt]:
+        """Returns a line with the part that begins at this byte of a string in it; None if other bytes are there."""
         ends = ends_of(token.text)
         # The column is that of the quote.
         front = token.column
         first = front + (ends[start - 1] if start else 0)
         last = front + ends[min(start + mark.end - mark.start, len(ends)) - 1]
         whole = self.lines[line - 1]
+        part = whole[first:last]
+        # Of another charset than UTF-8, an escape by number may be of more bytes.
+        if b"\\" not in part and not mark.text[mark.start : mark.end].startswith(part):
+            return None
         begin, end = (len(whole[:it].decode(errors="surrogateescape")) for it in (first, last))
         return Excerpt(str(line), whole.decode(errors="surrogateescape").rstrip("\r"), begin, end, mark.words)
-
-
-def text_excerpt(mark: Mark) -> Excerpt:
-    """Returns a part of a text by itself, as a catalog would have it."""
-    parts = mark.text[: mark.start], mark.text[mark.start : mark.end], mark.text[mark.end :]
-    before, inside, after = (encode_literal(it)[1:-1].decode(errors="surrogateescape") for it in parts)
-    return Excerpt(mark.name, f'"{before}{inside}{after}"', 1 + len(before), 1 + len(before + inside), mark.words)
 
 
 def ends_of(string: bytes) -> List[int]:

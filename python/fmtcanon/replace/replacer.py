@@ -5,14 +5,12 @@ import os
 from concurrent.futures import ThreadPoolExecutor
 from typing import Any, List, Mapping, NamedTuple, Optional, Sequence, Tuple, Union
 
-from .. import encode_literal
 from ..command_line import MODELS, model_names
 from ..compiling.left import Left
 from ..compiling.sources import Files, Name
 from ..compiling.stand_ins import Original, original
 from ..compiling.targets import check_model
-from ..excerpts import Excerpt
-from ..explaining import Marked
+from ..excerpts import Excerpt, line_of, literal_excerpt
 from ..findings import NOTE, WARNING, Finding, as_text
 from ..models import Model
 from ..progress import Progress
@@ -180,31 +178,18 @@ class Replacer(Rewriter):
         place, rule = change.place, self.pairs.rules.get(change.place.text)
         old, new = rule.marks if rule and len(rule.marks) == 2 else (None, None)
         span = span_in(place, old.start, old.end) if old else (place.start, place.end)
-        found = [line_excerpt(source, *span, old.words if old else "")]
+        found = [line_excerpt(source, place, span, old.words if old else "")]
         if rule and new:
-            before, inside = (
-                encode_literal(it)[1:-1].decode(errors="surrogateescape") for it in parts_of(rule.new, new)
-            )
-            whole = encode_literal(rule.new).decode(errors="surrogateescape")
-            found.append(Excerpt("NEW", whole, 1 + len(before), 1 + len(before + inside), new.words))
+            found.append(literal_excerpt("NEW", rule.new, *new))
         return tuple(found)
 
 
-def parts_of(text: bytes, part: Marked) -> Tuple[bytes, bytes]:
-    """Returns what comes before a part of a text, and the part."""
-    return text[: part.start], text[part.start : part.end]
-
-
-def line_excerpt(source: bytes, start: int, end: int, words: str) -> Excerpt:
-    """Returns the line of a source in which a part begins, with the part marked."""
-    begin = source.rfind(b"\n", 0, start) + 1
-    line = source[begin:].partition(b"\n")[0]
-    first, last = (
-        len(source[begin : max(min(it, begin + len(line)), begin)].decode(errors="surrogateescape"))
-        for it in (start, end)
-    )
-    number = source.count(b"\n", 0, start) + 1
-    return Excerpt(str(number), line.decode(errors="surrogateescape").rstrip("\r"), first, last, words)
+def line_excerpt(source: bytes, place: Place, span: Tuple[int, int], words: str) -> Excerpt:
+    """Returns the line of a source in which a part of a place begins, with the part marked."""
+    line, first = line_of(source, span[0]), column_of(source, span[0]) - 1
+    is_short = b"\n" not in source[span[0] : span[1]]
+    number = place.line + source.count(b"\n", place.start, span[0])
+    return Excerpt(str(number), line, first, column_of(source, span[1]) - 1 if is_short else len(line), words)
 
 
 def change_to(place: Place, text: bytes) -> Change:
