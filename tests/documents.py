@@ -22,6 +22,7 @@ import whole_types  # noqa: E402
 import bounds_peers  # noqa: E402
 import changes  # noqa: E402
 import definition_names  # noqa: E402
+import doc_comments  # noqa: E402
 import fewer_peers  # noqa: E402
 import grammar  # noqa: E402
 import library  # noqa: E402
@@ -491,6 +492,7 @@ def try_all(trials):
     try_names(trials)
     try_links(trials)
     try_contracts(trials)
+    doc_comments.try_doc_comments(trials)
     try_map(trials)
     try_graph(trials)
     try_callers(trials)

@@ -106,7 +106,7 @@ LIMITS = {
     "docs/internals/PROOF_NOTES.md": 3800,
     "docs/CONTRIBUTING.md": 1000,
     "SECURITY.md": 150,
-    "CHANGELOG.md": 850,
+    "CHANGELOG.md": 950,
     CALLING: 9000,
 }
 MARGIN = 10
