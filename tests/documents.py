@@ -475,9 +475,10 @@ def try_quoted(trials):
     trials.expect("documents show definitions", found >= 3, True)
 
 
-def try_chart(trials):
-    """The chart of docs/PERFORMANCE.md is drawn from its table."""
-    trials.expect("docs/ratios.svg", charts.RATIOS.read_text(encoding="utf-8"), charts.bars())
+def try_charts(trials):
+    """The charts of docs/PERFORMANCE.md are drawn from the tables."""
+    for path, chart in charts.charts().items():
+        trials.expect(f"docs/{path.name} as its table", path.read_text(encoding="utf-8"), chart)
 
 
 def try_remarks(trials):
@@ -497,7 +498,7 @@ def try_all(trials):
     try_graph(trials)
     try_callers(trials)
     try_quoted(trials)
-    try_chart(trials)
+    try_charts(trials)
     try_edits(trials)
     try_definitions(trials)
     try_numbers(trials)
