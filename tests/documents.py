@@ -22,6 +22,7 @@ import whole_types  # noqa: E402
 import bounds_peers  # noqa: E402
 import changes  # noqa: E402
 import definition_names  # noqa: E402
+import doc_comments  # noqa: E402
 import fewer_peers  # noqa: E402
 import grammar  # noqa: E402
 import library  # noqa: E402
@@ -489,9 +490,10 @@ def try_quoted(trials):
     trials.expect("documents show definitions", found >= 3, True)
 
 
-def try_chart(trials):
-    """The chart of docs/PERFORMANCE.md is drawn from its table."""
-    trials.expect("docs/ratios.svg", charts.RATIOS.read_text(encoding="utf-8"), charts.bars())
+def try_charts(trials):
+    """The charts of docs/PERFORMANCE.md are drawn from the tables."""
+    for path, chart in charts.charts().items():
+        trials.expect(f"docs/{path.name} as its table", path.read_text(encoding="utf-8"), chart)
 
 
 def try_remarks(trials):
@@ -507,11 +509,12 @@ def try_all(trials):
     try_links(trials)
     try_contracts(trials)
     try_changes(trials)
+    doc_comments.try_doc_comments(trials)
     try_map(trials)
     try_graph(trials)
     try_callers(trials)
     try_quoted(trials)
-    try_chart(trials)
+    try_charts(trials)
     try_edits(trials)
     try_definitions(trials)
     try_numbers(trials)

@@ -227,7 +227,7 @@ def try_reach(trials):
     )
     trials.expect(
         "lines in docs/DEFINITIONS.md",
-        counted(text, "All that the headline and a rejection depend on"),
+        counted(text, "The headline and a rejection depend on"),
         lines_there(FOLDER),
     )
     try_whole(trials, text, others)
@@ -260,7 +260,7 @@ def try_whole(trials, text, known):
     trials.expect("words of the library that the first headline doesn't use", of_library(others - known), set())
     trials.expect(
         "lines of the whole language in docs/DEFINITIONS.md",
-        counted(text, "What the headline of the whole language depends on"),
+        counted(text, "The headline of the whole language depends on"),
         lines_there(WHOLE_FOLDER),
     )
 

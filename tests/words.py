@@ -106,7 +106,7 @@ LIMITS = {
     "docs/internals/PROOF_NOTES.md": 3800,
     "docs/CONTRIBUTING.md": 1000,
     "SECURITY.md": 150,
-    "CHANGELOG.md": 920,
+    "CHANGELOG.md": 1100,
     CALLING: 9000,
 }
 MARGIN = 10
