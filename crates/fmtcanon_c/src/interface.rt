@@ -20,6 +20,12 @@ pub(crate) const NO_MODEL: i64 = -101;
 /// `FMTCANON_ERROR_NOPLACE`
 pub(crate) const NO_PLACE: i64 = -102;
 
+/// The kind of `FMTCANON_ERROR_COUNT`
+pub(crate) const WRONG_COUNT: u32 = 103;
+
+/// The kind of `FMTCANON_ERROR_TYPE`
+pub(crate) const WRONG_TYPE: u32 = 104;
+
 /// What is added to the number of a kind of faults of literals, so that it is no number of a kind of
 /// refusals of formats.
 pub(crate) const LITERAL_KINDS: u32 = 200;
