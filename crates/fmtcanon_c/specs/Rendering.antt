@@ -20,14 +20,14 @@ pub record IsArgumentError (kind at : ℕ) (code : ℤ) (error : CError) : Type 
   pub side_is : error.side ≡ 0
 
 -- the text takes another number of arguments, and the error has it
-abbrev pub IsWrongCount : Model → Text → List CArgument → ℤ → CError → Type 0
-IsWrongCount model t args code error =
+abbrev pub IsCountError : Model → Text → List CArgument → ℤ → CError → Type 0
+IsCountError model t args code error =
     HasWrongCount model t args error.at (length args)
     × IsArgumentError WRONG_COUNT error.at code error
 
 -- an argument is not of its type, and the error has the index of the first one
-abbrev pub IsWrongType : Model → Text → List CArgument → ℤ → CError → Type 0
-IsWrongType model t args code error =
+abbrev pub IsTypeError : Model → Text → List CArgument → ℤ → CError → Type 0
+IsTypeError model t args code error =
     HasWrongTypeBy type_in_c value_in_c model t args error.at
     × IsArgumentError WRONG_TYPE error.at code error
 
@@ -40,7 +40,7 @@ PutsPrinted model t args out error code out_now error_now =
     × (out_now ≡ put (printed ++ 0 ∷ []) out))
     ⊎ ((2 ^ 63 ≤ length printed) × (code ≡ NO_MEMORY) × (out_now ≡ out))))
     ⊎ ((out_now ≡ out) × (IsRefusedBy First t code error_now
-    ⊎ (IsWrongCount model t args code error_now ⊎ IsWrongType model t args code error_now)))
+    ⊎ (IsCountError model t args code error_now ⊎ IsTypeError model t args code error_now)))
 
 -- what is printed and a zero are put, where there is room for both, and its length is returned; or
 -- nothing is put
