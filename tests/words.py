@@ -56,7 +56,7 @@ LIMITS = {
     "docs/PERFORMANCE.md": 980,
     "docs/internals/ARCHITECTURE.md": 2800,
     "docs/internals/DECISIONS.md": 2200,
-    "docs/internals/PROOF_NOTES.md": 3600,
+    "docs/internals/PROOF_NOTES.md": 3750,
     "docs/CONTRIBUTING.md": 1000,
     "SECURITY.md": 150,
     "CHANGELOG.md": 900,
