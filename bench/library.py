@@ -5,7 +5,7 @@
 
 FOLDER has libfmtcanon.a, as `make library` leaves it. The formats are those of shapes.nul, and those of them alone that
 have a directive with a flag, a width, a precision, `i`, or a length modifier other than `h`, `hh`, `l` and `ll`.
-It needs gcc and valgrind, and prints the table of docs/PERFORMANCE.md.
+It needs gcc and valgrind, and prints the tables of docs/PERFORMANCE.md. The second one is of `printing.c`.
 """
 import re
 import subprocess
@@ -22,21 +22,36 @@ BENCH = Path(__file__).resolve().parent
 HEADERS = BENCH.parent / "include"
 ONE = ["check", "types", "bounds", "arguments", "is_canonical", "canonical", "canonical_length"]
 TWO = ["fits, itself", "fits_fewer, itself", "fits_fewer, the last directive left out", "same, itself", "same, first byte changed", "same, a byte appended", "same, last byte changed"]
+# The formats of printing.c, in its order.
+PRINTED = ["%d %s", r"Total: %5d of %-8s.\n", "%300d %s"]
 PLAIN = re.compile(rb"(?:[^%]|%(?:%|#?(?:hh?|ll?)?[duoxXbcs]))*")
 
 
-def build(folder, work):
-    driver = work / "library"
-    words = ["gcc", "-std=gnu11", "-Wall", "-Wextra", "-O2", f"-I{HEADERS}", BENCH / "library.c", folder / "libfmtcanon.a"]
+def build(folder, work, name):
+    driver = work / name
+    words = ["gcc", "-std=gnu11", "-Wall", "-Wextra", "-O2", f"-I{HEADERS}", BENCH / f"{name}.c", folder / "libfmtcanon.a"]
     subprocess.run([*words, "-Wl,-z,now", "-o", driver], check=True)
     return driver
 
 
-def count(driver, call, rounds, file):
+def count(*words):
     """The instructions of a whole process."""
-    words = ["valgrind", "--tool=callgrind", "--callgrind-out-file=/dev/null", driver, call, str(rounds), file]
+    words = ["valgrind", "--tool=callgrind", "--callgrind-out-file=/dev/null", *words]
     done = subprocess.run(words, capture_output=True, text=True, check=True)
     return int(re.search(r"Collected : (\d+)", done.stderr).group(1))
+
+
+def per_call(driver, call, number):
+    """The instructions of one call that prints a format of printing.c."""
+    return (count(driver, call, str(number), "1100") - count(driver, call, str(number), "100")) / 1000
+
+
+def printing_table(driver):
+    """The lines that compare the calls that print."""
+    yield "\n| Format | `fmtcanon_render` | `snprintf` | Ratio |\n|---|---|---|---|"
+    for number, format in enumerate(PRINTED):
+        ours, theirs = (per_call(driver, call, number) for call in ("fmtcanon_render", "snprintf"))
+        yield f"| `{format}` | {ours:,.0f} | {theirs:,.0f} | {ours / theirs:.2f} |"
 
 
 def named(call):
@@ -52,12 +67,12 @@ def main(words):
     calls = ["nothing", "parse_printf_format", *ONE, *TWO]
     with tempfile.TemporaryDirectory() as work, ThreadPoolExecutor() as workers:
         work = Path(work)
-        driver = build(Path(words[0]), work)
-        costs = []
+        driver, printing = (build(Path(words[0]), work, name) for name in ("library", "printing"))
+        table, costs = list(printing_table(printing)), []
         for place, formats in enumerate(sets):
             file = work / f"{place}.nul"
             file.write_bytes(records(formats))
-            counts = workers.map(lambda call: (count(driver, call, 3, file) - count(driver, call, 1, file)) / 2, calls)
+            counts = workers.map(lambda call: (count(driver, call, "3", file) - count(driver, call, "1", file)) / 2, calls)
             found = dict(zip(calls, counts))
             costs.append({call: (found[call] - found["nothing"]) / len(formats) for call in calls})
     print(f"| Call | {len(sets[0]):,} formats | Ratio | {len(sets[1])} of them | Ratio |\n|---|---|---|---|---|")
@@ -65,6 +80,7 @@ def main(words):
         known = [cost["parse_printf_format"] * (2 if call in TWO else 1) for cost in costs]
         cells = [f"{cost[call]:,.0f} | {cost[call] / base:.2f}" for cost, base in zip(costs, known)]
         print(f"| {named(call)} | {' | '.join(cells)} |")
+    print(*table, sep="\n")
 
 
 main(sys.argv[1:])

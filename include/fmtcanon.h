@@ -15,7 +15,8 @@
  * language, a numbered argument can have two types in one data model and one type in another.
  *
  * Results. A negative result is an error. -1 to -22: a format is rejected. -201 to -206: a text is not
- * string literals. For both, `*error` says why, where, and which of two formats it is. The others are
+ * string literals. For both, `*error` says why, where, and which of two formats it is. For
+ * FMTCANON_ERROR_COUNT and FMTCANON_ERROR_TYPE, of fmtcanon_render(), it has a number. The others are
  * FMTCANON_ERROR_NOMEMORY; FMTCANON_ERROR_MODEL, the only result for an invalid `model`; and
  * FMTCANON_ERROR_NOPLACE, of fmtcanon_source_offset(). They leave `*error` as it was.
  *
@@ -25,9 +26,9 @@
  *
  * Preconditions. `error` may be NULL; then only the result shows a rejection. `comparison` and `bounds`
  * must not be NULL. All three are aligned. `text` and `out` may be NULL if their length is 0; otherwise
- * they must point to at least `len` (`cap`) bytes, fewer than 2^63. `out`, `comparison`, `bounds` and
- * `error` must not overlap anything else that is passed. No other thread may write the texts during the
- * call, nor access what is written.
+ * they must point to at least `len` (`cap`) bytes, fewer than 2^63. So must `args`, to `count` aligned
+ * arguments, and `string` in each. `out`, `comparison`, `bounds` and `error` must not overlap anything
+ * else that is passed. No other thread may write the texts during the call, nor access what is written.
  *
  * Threads and memory. Calls have no state, keep no pointer, print nothing and never end the process, so
  * any number of threads may make them. A call that allocates says so; it uses `malloc`, `realloc` and
@@ -58,6 +59,13 @@ extern "C" {
 
 /* There is no such byte, or the text is not string literals. */
 #define FMTCANON_ERROR_NOPLACE (-102)
+
+/* fmtcanon_render(): the format takes another number of arguments, which `error->at` is. */
+#define FMTCANON_ERROR_COUNT (-103)
+
+/* fmtcanon_render(): the argument with the index `error->at` is the first one that is not of the type that
+ * the format takes there. */
+#define FMTCANON_ERROR_TYPE (-104)
 
 /* How many bits the integer types have, and which types the length modifiers name. */
 enum fmtcanon_model {
@@ -171,6 +179,16 @@ struct fmtcanon_bounds {
     uint64_t greatest; /* the largest number, or FMTCANON_UNBOUNDED */
 };
 
+/* An argument of a format of the profile, for fmtcanon_render(). `{FMTCANON_INT, 5, NULL, 0}` is an int, and
+ * `{FMTCANON_STRING, 0, name, strlen(name)}` a string. Any number may be assigned to `number`: C adds 2^64
+ * to one below 0, and the type says whether it did. */
+typedef struct fmtcanon_argument {
+    uint32_t kind;      /* its type, an enum fmtcanon_type from FMTCANON_INT to FMTCANON_STRING */
+    uint64_t number;    /* the number; 0 for a string */
+    const char *string; /* the bytes of the string; NULL for a number */
+    size_t len;         /* how many bytes it has, without a NUL; 0 for a number */
+} fmtcanon_argument;
+
 /* How two formats compare. */
 enum fmtcanon_verdict {
     FMTCANON_SAME = 1,     /* equal types, and equal bytes for all arguments */
@@ -182,7 +200,7 @@ enum fmtcanon_verdict {
 /* Why and where a format is rejected. */
 typedef struct fmtcanon_error {
     uint64_t at;   /* the offset; the length of a text that ends too early */
-    uint32_t kind; /* an enum fmtcanon_kind, or an enum fmtcanon_literal_kind */
+    uint32_t kind; /* an enum fmtcanon_kind, or an enum fmtcanon_literal_kind; 103 or 104 */
     uint32_t side; /* which format: 0 for the first or only one, 1 for the second */
 } fmtcanon_error;
 
@@ -225,6 +243,15 @@ int64_t fmtcanon_types(int model, const char *text, size_t len, unsigned char *o
  * fails, `*bounds` is left as it was. Allocates nothing. */
 int64_t fmtcanon_bounds(int model, const char *text, size_t len, struct fmtcanon_bounds *bounds,
                         fmtcanon_error *error);
+
+/* Returns the number of bytes that the format prints for the arguments, and writes them into `out` with a
+ * NUL after them. They fit if the number is below `cap`. The bytes are those of `snprintf` in the data
+ * model `model`, but no argument is read that isn't there: FMTCANON_ERROR_COUNT if there are more or fewer
+ * arguments than the format takes, and FMTCANON_ERROR_TYPE if one has another type, is a number out of the
+ * range of its type, or a string with a NUL. FMTCANON_ERROR_NOMEMORY if the number is 2^63 or more.
+ * Allocates nothing. */
+int64_t fmtcanon_render(int model, const char *text, size_t len, const fmtcanon_argument *args,
+                        size_t count, char *out, size_t cap, fmtcanon_error *error);
 
 /* Returns 1 if both formats take arguments of the same types and print the same bytes for all of them, 0
  * otherwise. They have the same canonical text exactly if it is 1. Allocates nothing. */

@@ -42,6 +42,11 @@ WITH_OPTIONAL_ERROR(fmtcanon_bounds,
                      fmtcanon_error *error),
                     (model, text, len, bounds, error))
 
+WITH_OPTIONAL_ERROR(fmtcanon_render,
+                    (int model, const char *text, size_t len, const fmtcanon_argument *args,
+                     size_t count, char *out, size_t cap, fmtcanon_error *error),
+                    (model, text, len, args, count, out, cap, error))
+
 WITH_OPTIONAL_ERROR(fmtcanon_same,
                     (int model, const char *first, size_t first_len, const char *second,
                      size_t second_len, fmtcanon_error *error),

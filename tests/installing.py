@@ -43,6 +43,7 @@ INSTALLED = {
     "share/doc/fmtcanon/SECURITY.md",
     "share/doc/fmtcanon/folders",
     "share/doc/fmtcanon/examples/buffer.c",
+    "share/doc/fmtcanon/examples/render.c",
     "share/doc/fmtcanon/examples/canon.c",
     "share/doc/fmtcanon/examples/compare.c",
     "share/doc/fmtcanon/examples/directives.c",

@@ -38,6 +38,7 @@ PARAMETERS = {
     "&[u8]": ["const char *", "size_t"],
     "&mut [u8]": ["char *", "size_t"],
     "&mut [CDirective]": ["fmtcanon_directive *", "size_t"],
+    "&[CArgument<'_>]": ["const fmtcanon_argument *", "size_t"],
     "&mut CError": ["fmtcanon_error *"],
     "&mut CComparison": ["fmtcanon_comparison *"],
     "&mut CBounds": ["struct fmtcanon_bounds *"],
@@ -57,6 +58,7 @@ PROGRAMS = [
     ("bounds", WRAPPED, "the numbers of bytes are as the header says"),
     ("fewer", WRAPPED, "formats from outside are as the header says"),
     ("outcomes", WRAPPED, "calls {}, pairs of texts {}, data models {}, rooms {}".format(*OUTCOMES)),
+    ("rendered", WRAPPED, "directives 12750, printed as by snprintf"),
     ("whole", ["-pthread"], "the whole language is as the header says"),
 ]
 # Of this number of formats, one is given to the program, too.
@@ -82,6 +84,11 @@ def source_calls():
         for name, listed, result in re.findall(r'pub extern "C" fn (\w+)\(([^)]*)\) -> (\w+)', text):
             kinds = [one.split(":")[1].strip() for one in listed.split(",") if ":" in one]
             yield name, (NUMBERS[result], [c_type for kind in kinds for c_type in PARAMETERS[kind]])
+
+
+def c_fields(field, kind):
+    """The fields of C that a field of a structure is: a slice is a pointer and a length."""
+    return [("const char", f"*{field}"), ("size_t", "len")] if kind == "&'a [u8]" else [(NUMBERS[kind], field)]
 
 
 def header_numbers(enum):
@@ -136,19 +143,22 @@ def try_header(trials):
         ("fmtcanon_comparison", "comparison", "CComparison"),
         ("fmtcanon_directive", "directives", "CDirective"),
         ("fmtcanon_bounds", "byte_counts", "CBounds"),
+        ("fmtcanon_argument", "arguments", "CArgument"),
     ]
     for name, source, struct in structs:
         fields = re.search(rf"^(?:typedef )?struct {name} \{{(.*?)\}}", header_text(), re.DOTALL | re.MULTILINE).group(1)
         text = (SOURCES / f"{source}.rt").read_text(encoding="utf-8")
-        code = re.search(rf"#\[repr\(C\)\][^{{]*struct {struct} \{{(.*?)\n\}}", text, flags=re.DOTALL).group(1)
-        wanted = [(NUMBERS[kind], field) for field, kind in re.findall(r"pub (\w+): (\w+),", code)]
-        trials.expect(f"fields of {name}", re.findall(r"(\w+) (\w+);", fields), wanted)
+        code = re.search(rf"#\[repr\(C\)\][^{{]*struct {struct}(?:<'a>)? \{{(.*?)\n\}}", text, flags=re.DOTALL).group(1)
+        wanted = [one for field, kind in re.findall(r"pub (\w+): ([^,]+),", code) for one in c_fields(field, kind)]
+        trials.expect(f"fields of {name}", re.findall(r"((?:const )?\w+) (\*?\w+);", fields), wanted)
     declared = dict(re.findall(r"FMTCANON_ERROR_(\w+) \((-\d+)\)", header_text()))
-    code = dict(re.findall(r"NO_(\w+): i64 = (-\d+);", (SOURCES / "interface.rt").read_text(encoding="utf-8")))
+    text = (SOURCES / "interface.rt").read_text(encoding="utf-8")
+    code = dict(re.findall(r"NO_(\w+): i64 = (-\d+);", text))
+    of_arguments = {name: f"-{kind}" for name, kind in re.findall(r"WRONG_(\w+): u32 = (\d+);", text)}
     trials.expect(
         "errors that are no refusal",
         declared,
-        {"NOMEMORY": code["MEMORY"], "MODEL": code["MODEL"], "NOPLACE": code["PLACE"]},
+        {"NOMEMORY": code["MEMORY"], "MODEL": code["MODEL"], "NOPLACE": code["PLACE"], **of_arguments},
     )
     numbers = re.findall(r"const (\w+): u64 = ([\d_]+);", (SOURCES / "byte_counts.rt").read_text(encoding="utf-8"))
     limits = {name: int(number) for name, number in numbers}

@@ -92,13 +92,13 @@ LIMITS = {
     # With a part for each kind, the table of flags, and the grammar.
     "docs/REFUSALS.md": 2000,
     # With an example of each error.
-    "docs/C.md": 1350,
+    "docs/C.md": 1450,
     "docs/PYTHON.md": 950,
     # With the theorem as it is written, the assumptions as a table, and the words of the last line of a check.
     "docs/VERIFICATION.md": 2600,
     # With one format read through the definitions.
     "docs/DEFINITIONS.md": 4750,
-    "docs/PERFORMANCE.md": 930,
+    "docs/PERFORMANCE.md": 980,
     # With a walk through one call, and tables of files by what they do.
     "docs/internals/ARCHITECTURE.md": 2900,
     "docs/internals/DECISIONS.md": 2200,

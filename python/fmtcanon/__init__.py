@@ -76,7 +76,8 @@ from typing import Any, Callable, List, NamedTuple, NoReturn, Optional, Sequence
 
 from .kinds import Kind, LiteralKind, Type, Verdict
 from .models import DataModel, Model, model_of
-from .printing import REFUSED, UNFIT, Directive, Failed, Percent, Shown, Text, run_format, run_show
+from .passing import passed
+from .printing import REFUSED, Directive, Failed, Percent, Shown, Text, run_show
 from .prototypes import CALLS, CBounds, CComparison, CDirective, CError
 from .sessions import Reply, Session
 
@@ -131,9 +132,12 @@ _VERSION = tuple(map(int, __version__.split(".")))[:2]
 _SONAME = f"libfmtcanon.so.{_VERSION[0]}"
 _NO_MEMORY = -100
 _NO_PLACE = -102
+_WRONG_TYPE = -104
 _NO_ARGUMENT = 2**64 - 1
 _UNBOUNDED = 2**64 - 1
 _LONGEST_NAME = 18
+# The room of `format` at first, which is enough for most lines.
+_FIRST_ROOM = 256
 
 
 class Refused(ValueError):
@@ -474,8 +478,6 @@ def _raise(fault: Failed) -> NoReturn:
     found = re.fullmatch(r"refused (\d+) (\w+) at byte (\d+)", fault.line)
     if fault.status == REFUSED and found:
         raise Refused(Kind(int(found[1])), found[2], int(found[3])) from None
-    if fault.status == UNFIT:
-        raise ValueError(fault.line) from None
     raise OSError(fault.line or f"the program ended with status {fault.status}") from None
 
 
@@ -483,19 +485,22 @@ def format(format: Format, *arguments: _Argument, model: DataModel = Model.LP64)
     """Returns the bytes that `printf` prints for the format and these arguments, in the POSIX locale.
 
     Pass an `int` for each integer argument, and a `str` or bytes for a string. Raises `ValueError` if the
-    arguments don't fit the format: by their count, by a type, or by a number that its type can't hold. The
-    program accepts only UTF-8 as its arguments, so other bytes raise `UnicodeDecodeError`. Raises `OSError`
-    if the program can't be run, or if the arguments are longer than the system allows.
+    arguments don't fit the format: by their count, by a type, or by a number that its type can't hold.
     """
     return _output(_bytes(format), arguments, model_of(model))
 
 
 def _output(text: bytes, arguments: Sequence[_Argument], model: Model) -> bytes:
-    check(text)
-    try:
-        return run_format(model.name.lower(), text, arguments)
-    except Failed as fault:
-        _raise(fault)
+    given = passed(arguments, types(text, model=model))
+    room = _FIRST_ROOM
+    while True:
+        error, out = CError(), ctypes.create_string_buffer(room)
+        size = _library().fmtcanon_render(model, text, len(text), given, len(given), out, room, error)
+        if size == _WRONG_TYPE:
+            raise ValueError(f"argument {error.at}: wrong type")
+        if _answer(size, error) < room:
+            return out.raw[:size]
+        room = size + 1
 
 
 def _is_in_profile(specification: bytes) -> bool:
@@ -511,7 +516,7 @@ def printed(format: Format, arguments: Sequence[Optional[_Argument]], *, model: 
 
     A directive that only the whole language has prints its normal spelling, as `%f`. So does one whose argument is
     None. The arguments are those that `compare` returns with `whole=True`, or others of the types that `arguments`
-    returns. It runs the program, and raises what `format` raises.
+    returns. It raises what `format` raises.
     """
     text, number = _bytes(format), model_of(model)
     canonical(text, model=number, whole=True)
@@ -519,14 +524,7 @@ def printed(format: Format, arguments: Sequence[Optional[_Argument]], *, model: 
     if len(arguments) != count:
         raise ValueError(f"the format takes {count} arguments, and not {len(arguments)}")
     words, known, given = _parts_of(text, arguments, number)
-    plain = _alternated(words, known)
-    try:
-        plain.decode()
-    except UnicodeDecodeError:
-        # The program accepts only UTF-8, but words print themselves.
-        words = [it.replace(b"%%", b"%") for it in words]
-        return _alternated(words, [_output(one, [it], number) for one, it in zip(known, given)])
-    return _output(plain, given, number)
+    return _output(_alternated(words, known), given, number)
 
 
 def _parts_of(

@@ -1,6 +1,6 @@
-"""Runs the commands `format` and `show` of the program.
+"""Runs the command `show` of the program.
 
-The C library has no calls for them, so each call runs the program once. It is the one that the environment
+The C library has no call for it, so each call runs the program once. It is the one that the environment
 variable FMTCANON_PROGRAM names, otherwise the file `program` next to this module, where an installation puts
 it, otherwise `fmtcanon` on the search path.
 """
@@ -11,10 +11,10 @@ import os
 import re
 import subprocess
 from pathlib import Path
-from typing import Any, List, NamedTuple, Sequence, Union
+from typing import List, NamedTuple, Union
 
-# The exit status of the program for a rejected format, and for arguments that don't fit.
-REFUSED, UNFIT = 2, 3
+# The exit status of the program for a rejected format.
+REFUSED = 2
 OUT_OF_MEMORY = "out of memory"
 
 
@@ -65,26 +65,6 @@ def program() -> str:
     return os.environ.get("FMTCANON_PROGRAM") or (str(beside) if beside.exists() else "fmtcanon")
 
 
-def _word(text: Union[str, bytes, bytearray, memoryview]) -> bytes:
-    """Returns an argument of the program's command line: UTF-8 without a NUL.
-
-    The bytes are passed as they are. Text would be encoded for the locale, which need not use UTF-8.
-    """
-    word = text.encode() if isinstance(text, str) else bytes(text)
-    word.decode()
-    if b"\0" in word:
-        raise ValueError("a string argument of a C program has no NUL byte")
-    return word
-
-
-def _argument(argument: Any) -> bytes:
-    if isinstance(argument, int):
-        return b"n:%d" % argument
-    if isinstance(argument, (str, bytes, bytearray, memoryview)):
-        return b"s:" + _word(argument)
-    raise TypeError(f"an argument is an int, a str or bytes, not {type(argument).__name__}")
-
-
 def _run(words: List[bytes], records: bytes = b"") -> "subprocess.CompletedProcess[bytes]":
     return subprocess.run(
         [os.fsencode(program()), *words], input=records, stdout=subprocess.PIPE, stderr=subprocess.PIPE, check=False
@@ -95,14 +75,6 @@ def _failed(done: "subprocess.CompletedProcess[bytes]") -> Exception:
     """Returns the exception for a run that gave no answer."""
     line = done.stderr.decode(errors="replace").strip()
     return MemoryError(line) if line == OUT_OF_MEMORY else Failed(done.returncode, line)
-
-
-def run_format(model: str, format: bytes, arguments: Sequence[Any]) -> bytes:
-    """Returns the bytes that the format prints for the arguments."""
-    done = _run([b"format", b"--model", model.encode(), b"--", _word(format), *map(_argument, arguments)])
-    if done.returncode != 0:
-        raise _failed(done)
-    return done.stdout
 
 
 def run_show(model: str, format: bytes) -> List[Shown]:

@@ -30,6 +30,15 @@ class CDirective(ctypes.Structure):
     ]
 
 
+class CArgument(ctypes.Structure):
+    _fields_ = [
+        ("kind", ctypes.c_uint32),
+        ("number", ctypes.c_uint64),
+        ("string", ctypes.c_char_p),
+        ("len", ctypes.c_size_t),
+    ]
+
+
 _MODEL = (ctypes.c_int,)
 _TEXT = (ctypes.c_char_p, ctypes.c_size_t)
 _ERROR = (ctypes.POINTER(CError),)
@@ -41,6 +50,10 @@ CALLS = {
     "canonical": ((*_MODEL, *_TEXT, *_TEXT, *_ERROR), ctypes.c_int64),
     "types": ((*_MODEL, *_TEXT, *_TEXT, *_ERROR), ctypes.c_int64),
     "bounds": ((*_MODEL, *_TEXT, ctypes.POINTER(CBounds), *_ERROR), ctypes.c_int64),
+    "render": (
+        (*_MODEL, *_TEXT, ctypes.POINTER(CArgument), ctypes.c_size_t, *_TEXT, *_ERROR),
+        ctypes.c_int64,
+    ),
     "same": ((*_MODEL, *_TEXT, *_TEXT, *_ERROR), ctypes.c_int64),
     "same_models": ((*_TEXT, *_TEXT, *_ERROR), ctypes.c_int64),
     "compare": (

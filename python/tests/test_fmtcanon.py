@@ -106,6 +106,7 @@ class Calls(unittest.TestCase):
             ("%n%p", [None, None], b"%n%p"),
             ("\u00e9 %.2s", ["\u00e9"], "\u00e9 \u00e9".encode()),
             (b"\xe9%% %d%s %f", [-5, "\u00e9", None], b"\xe9% -5\xc3\xa9 %f"),
+            ("%s", [b"\xe9"], b"\xe9"),
             ("", [], b""),
         ]:
             self.assertEqual(fmtcanon.printed(text, arguments), wanted, text)
@@ -130,8 +131,6 @@ class Calls(unittest.TestCase):
                 fmtcanon.printed(text, arguments)
         for text in ["%y", "%1$d", "a\0"]:
             self.assertRaises(Refused, fmtcanon.printed, text, [None])
-        with self.assertRaises(UnicodeDecodeError):
-            fmtcanon.printed("%s", [b"\xe9"])
         with self.assertRaises(TypeError):
             fmtcanon.printed("%d", [1.5])
         with self.assertRaises(ValueError):
@@ -182,12 +181,22 @@ class Calls(unittest.TestCase):
             fmtcanon.format("%s", b"a\0b")
         with self.assertRaises(TypeError):
             fmtcanon.format("%d", 1.5)
-        with self.assertRaises(UnicodeDecodeError):
-            fmtcanon.format(b"\xff")
         with self.assertRaises(UnicodeEncodeError):
             fmtcanon.format("%s", "\udcff")
-        with self.assertRaises(OSError):
-            fmtcanon.format("a" * 200000)
+
+    def test_format_of_any_bytes(self):
+        self.assertEqual(fmtcanon.format(b"\xff%s", b"\x80"), b"\xff\x80")
+        self.assertEqual(fmtcanon.format("a" * 200000), b"a" * 200000)
+        self.assertEqual(fmtcanon.format("%4095d|%s", 7, "b" * 5000), b"7".rjust(4095) + b"|" + b"b" * 5000)
+
+    def test_numbers_of_formats(self):
+        for text, number in [("%llu", 2**64 - 1), ("%lld", -(2**63)), ("%ld", 2**63 - 1), ("%u", 2**32 - 1)]:
+            self.assertEqual(fmtcanon.format(text, number), b"%d" % number)
+        for text, number in [("%llu", -1), ("%lld", 2**63), ("%ld", 2**64 - 1), ("%u", 2**32), ("%s", 0)]:
+            with self.assertRaisesRegex(ValueError, "argument 0: wrong type"):
+                fmtcanon.format(text, number)
+        with self.assertRaisesRegex(ValueError, "argument 0: not an argument"):
+            fmtcanon.format("%lld", -(2**63) - 1)
 
     def test_show(self):
         wanted = [fmtcanon.Text(1), fmtcanon.Directive("%20d", "int", 9, 0, "%11d", 0), fmtcanon.Percent()]

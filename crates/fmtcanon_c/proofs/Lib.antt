@@ -6,3 +6,5 @@ mod ArgumentTypeLemmas
 pub mod WholeComparingLemmas
 mod WholeLemmas
 mod HeaderLemmas
+mod EndedLemmas
+mod PassedLemmas

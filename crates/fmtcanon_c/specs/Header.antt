@@ -5,7 +5,7 @@ use Rattle.pf_literals.specs.declared.faults.LiteralKind.{LiteralKind}
 use Rattle.pf_literals.specs.declared.faults.LiteralKind.TheVariants.{NoLiteral, Unterminated, BadEscape, EscapeTooLarge, ZeroByte, Trigraph}
 use Rattle.fmtcanon_c.specs.declared.byte_counts.TheConstants.{UNBOUNDED}
 use Rattle.fmtcanon_c.specs.declared.directives.TheConstants.{NO_ARGUMENT}
-use Rattle.fmtcanon_c.specs.declared.interface.TheConstants.{LITERAL_KINDS, NO_MEMORY, NO_MODEL, NO_PLACE}
+use Rattle.fmtcanon_c.specs.declared.interface.TheConstants.{LITERAL_KINDS, NO_MEMORY, NO_MODEL, NO_PLACE, WRONG_COUNT, WRONG_TYPE}
 
 -- FMTCANON_ERROR_NOMEMORY
 abbrev pub error_nomemory : ℤ
@@ -18,6 +18,14 @@ error_model = neg_ℤ (pos 101)
 -- FMTCANON_ERROR_NOPLACE
 abbrev pub error_noplace : ℤ
 error_noplace = neg_ℤ (pos 102)
+
+-- FMTCANON_ERROR_COUNT
+abbrev pub error_count : ℤ
+error_count = neg_ℤ (pos 103)
+
+-- FMTCANON_ERROR_TYPE
+abbrev pub error_type : ℤ
+error_type = neg_ℤ (pos 104)
 
 -- enum fmtcanon_literal_kind
 abbrev pub literal_kind_in_header : LiteralKind → ℕ
@@ -33,6 +41,8 @@ pub record AreErrorsOfHeader : Type 0 where
   pub memory : NO_MEMORY ≡ error_nomemory
   pub model : NO_MODEL ≡ error_model
   pub place : NO_PLACE ≡ error_noplace
+  pub count : neg_ℤ (pos WRONG_COUNT) ≡ error_count
+  pub type : neg_ℤ (pos WRONG_TYPE) ≡ error_type
 
 -- what the code makes of the number of a kind of faults of literals is its number in the header
 abbrev pub HasNumberOfHeader : LiteralKind → Type 0

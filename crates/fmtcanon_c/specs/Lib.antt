@@ -7,5 +7,7 @@ pub mod Calls
 pub mod Literals
 pub mod ArgumentTypes
 pub mod ByteCounts
+pub mod Arguments
+pub mod Rendering
 pub mod Whole
 pub mod WholeComparisons

@@ -20,6 +20,12 @@ pub(crate) const NO_MODEL: i64 = -101;
 /// `FMTCANON_ERROR_NOPLACE`
 pub(crate) const NO_PLACE: i64 = -102;
 
+/// The kind of `FMTCANON_ERROR_COUNT`
+pub(crate) const WRONG_COUNT: u32 = 103;
+
+/// The kind of `FMTCANON_ERROR_TYPE`
+pub(crate) const WRONG_TYPE: u32 = 104;
+
 /// Added to the number of a literal kind, to keep it apart from the kinds of refusals.
 pub(crate) const LITERAL_KINDS: u32 = 200;
 

@@ -2,6 +2,7 @@
 #![tactic(auto)]
 
 mod argument_types;
+mod arguments;
 mod byte_counts;
 mod canonical_texts;
 mod comparison;
@@ -9,5 +10,6 @@ mod directives;
 mod interface;
 mod laws;
 mod literals;
+mod rendering;
 mod whole_comparison;
 mod whole_texts;

@@ -1,11 +1,9 @@
 -- What a format prints, and the pieces of it that are written.
-use Rattle.std.proofs.Common.{◌≡◌, ◌+◌, ◌*◌, ◌^◌, ◌≤◌, List, [], ◌∷◌, ◌++◌, length, map, sym, ap, ◌∙◌, subst, arith, Some, None, Ok, Err, Result, refl}
+use Rattle.std.proofs.Common.{◌≡◌, ℕ, ◌+◌, ◌*◌, ◌^◌, ◌≤◌, List, [], ◌∷◌, ◌++◌, length, map, sym, ap, ◌∙◌, subst, arith, Some, None, Ok, Err, Result, refl}
 use Rattle.std.proofs.lemmas.List.{append-nil, append_assoc, append_cancel_left, length-append}
-use Rattle.pf_values.specs.declared.arguments.Arg.{Arg}
-use Rattle.pf_values.specs.declared.counted.Counted.{Counted}
 use Rattle.pf_values.specs.declared.models.Model.{Model}
-use Rattle.pf_values.specs.meaning.Arguments.{HasTypes}
-use Rattle.pf_values.specs.Counting.{Known, WritesAll}
+use Rattle.pf_values.specs.declared.types.ArgType.{ArgType}
+use Rattle.pf_values.specs.meaning.Arguments.{Argument, HasTypes}
 use Rattle.pf_values.specs.meaning.Items.{Item, Byte, Reads, types}
 use Rattle.pf_values.specs.meaning.Printing.{PrintsAll}
 use Rattle.pf_values.specs.meaning.Text.{Text}
@@ -19,33 +17,35 @@ use Rattle.pf_render.specs.declared.format_parts.FormatPart.{FormatPart}
 use Rattle.pf_render.specs.declared.progress.Progress.{Progress}
 use Rattle.pf_render.specs.FormatParts.{items_of_part}
 use Rattle.pf_render.specs.Matching.{TakesArguments}
+use Rattle.pf_render.specs.Outputs.{IsOutput}
 use Rattle.pf_render.specs.Progressing.{WritesOn, arity, next_arguments}
-use Rattle.pf_render.specs.Rendering.{Renders, RendersTo}
+use Rattle.pf_render.specs.Rendering.{RendersBy, RendersToBy}
 use Rattle.pf_render.proofs.ItemLemmas.{Begin, front_items, length_items}
 use Rattle.pf_render.proofs.PrintingLemmas.{PrintsAll-exists, same_printed}
-use Rattle.pf_render.proofs.ProgressLemmas.{IsPrinting, all_written, arguments, nothing_yet, wrote_on}
+use Rattle.pf_render.proofs.ProgressLemmas.{IsPrinting, all_written, nothing_yet, wrote_on}
 
--- an accepted text takes these arguments
-module _ (model : Model) (t : Text) (args : List Arg) (h : TakesArguments model t args) where
-  module _ (items : List Item) (reads : Reads t items) where
-    same_items : items ≡ h.takes.items
-    same_items = Reads-unique t items h.takes.items reads h.takes.accepted.reads
+module _ {A : Type 0} (type_of : A → ArgType) (argument_of : A → Argument) where
+  -- an accepted text takes these arguments
+  module _ (model : Model) (t : Text) (args : List A) (h : TakesArguments type_of argument_of model t args) where
+    module _ (items : List Item) (reads : Reads t items) where
+      same_items : items ≡ h.takes.items
+      same_items = Reads-unique t items h.takes.items reads h.takes.accepted.reads
 
-    pub typed_items : HasTypes model (arguments args) (types model items)
-    typed_items = subst (HasTypes model (arguments args)) (h.takes.types_are ∙ ap (types model) (sym same_items)) h.typed
+      pub typed_items : HasTypes model (map argument_of args) (types model items)
+      typed_items = subst (HasTypes model (map argument_of args)) (h.takes.types_are ∙ ap (types model) (sym same_items)) h.typed
 
-    pub renders_items : (out : Text) → PrintsAll model items (arguments args) out → Renders model t args out
-    renders_items out prints =
-        let here = subst (λ i. PrintsAll model i (arguments args) out) same_items prints in
-        let typed = subst (λ i. HasTypes model (arguments args) (types model i)) same_items typed_items in
-        record { takes = h.takes; typed = h.typed; prints = here; only = λ other g. same_printed model h.takes.items (arguments args) other out typed g here }
+      pub renders_items : (out : Text) → PrintsAll model items (map argument_of args) out → RendersBy type_of argument_of model t args out
+      renders_items out prints =
+          let here = subst (λ i. PrintsAll model i (map argument_of args) out) same_items prints in
+          let typed = subst (λ i. HasTypes model (map argument_of args) (types model i)) same_items typed_items in
+          record { takes = h.takes; typed = h.typed; prints = here; only = λ other g. same_printed model h.takes.items (map argument_of args) other out typed g here }
 
-  -- it prints something
-  pub renders : (out : Text) × Renders model t args out
-  renders =
-      let out = PrintsAll-exists model h.takes.items (arguments args)
-      (typed_items h.takes.items h.takes.accepted.reads) in
-      (out.0, renders_items h.takes.items h.takes.accepted.reads out.0 out.1)
+    -- it prints something
+    pub renders : (out : Text) × RendersBy type_of argument_of model t args out
+    renders =
+        let out = PrintsAll-exists model h.takes.items (map argument_of args)
+        (typed_items h.takes.items h.takes.accepted.reads) in
+        (out.0, renders_items h.takes.items h.takes.accepted.reads out.0 out.1)
 
 some_items : (piece : Piece) (read rest : Text) → IsPieceBefore piece read rest → 1 ≤ length (items_of piece)
 some_items (pieces.Literal run) read rest h = go run.now h.some where
@@ -55,24 +55,26 @@ some_items (pieces.Literal run) read rest h = go run.now h.some where
 some_items pieces.Percent read rest h = omega arith
 some_items (pieces.Directive d) read rest h = omega arith
 
-module _ (model : Model) {W : Type 0} (contents : W → Known) (old : Counted W) (t : Text) (args : List Arg) where
+module _ {A O : Type 0} (type_of : A → ArgType) (argument_of : A → Argument) (wrote : O → O → Text → Type 0) (model : Model) (old : O) (t : Text)
+    (args : List A) where
   -- The pieces so far were written, for the first arguments. What is printed is that, and what the others print.
-  pub record IsUnderWay (now : Counted W) (pieces : Pieces) (progress : Progress) : Type 0 where
+  pub record IsUnderWay (now : O) (pieces : Pieces) (progress : Progress) : Type 0 where
     pub out : Text
-    pub renders : Renders model t args out
+    pub renders : RendersBy type_of argument_of model t args out
     pub read : Text
     pub items : List Item
     pub others : List Item
     pub given : HasGiven pieces t read items
     pub whole : renders.takes.items ≡ items ++ others
     pub few : progress.written ≤ length items * 2 ^ 64
-    pub printing : IsPrinting model contents old args out now progress others
+    pub printing : IsPrinting argument_of wrote model old args out now progress others
 
-module _ (model : Model) {W : Type 0} {contents : W → Known} {old : Counted W} {t : Text} {args : List Arg} where
-  pub under_way : (pieces : Pieces) (progress : Progress) → TakesArguments model t args → HasGiven pieces t [] []
-      → (progress.taken ≡ 0) × (progress.written ≡ 0) → IsUnderWay model contents old t args old pieces progress
+module _ (model : Model) {A O : Type 0} {type_of : A → ArgType} {argument_of : A → Argument} {wrote : O → O → Text → Type 0}
+    {stopped : O → O → Text → ℕ → Type 0} (laws : IsOutput wrote stopped) {old : O} {t : Text} {args : List A} where
+  pub under_way : (pieces : Pieces) (progress : Progress) → TakesArguments type_of argument_of model t args → HasGiven pieces t [] []
+      → (progress.taken ≡ 0) × (progress.written ≡ 0) → IsUnderWay type_of argument_of wrote model old t args old pieces progress
   under_way pieces progress h g none =
-      let r = renders model t args h in
+      let r = renders type_of argument_of model t args h in
       record {
         out = r.0;
         renders = r.1;
@@ -82,23 +84,23 @@ module _ (model : Model) {W : Type 0} {contents : W → Known} {old : Counted W}
         given = g;
         whole = refl;
         few = omega (arith, none.1);
-        printing = nothing_yet model progress r.1.takes.items none
-            (typed_items model t args h r.1.takes.items r.1.takes.accepted.reads) r.1.prints;
+        printing = nothing_yet model laws progress r.1.takes.items none
+            (typed_items type_of argument_of model t args h r.1.takes.items r.1.takes.accepted.reads) r.1.prints;
       }
 
-  module _ {now : Counted W} {before : Pieces} {progress : Progress} (h : IsUnderWay model contents old t args now before progress) where
+  module _ {now : O} {before : Pieces} {progress : Progress} (h : IsUnderWay type_of argument_of wrote model old t args now before progress) where
     -- the bytes written so far are few enough to be counted
     pub counts : progress.written + 2 ^ 64 ≤ 2 ^ 128
     counts = omega (arith, h.few, length_items h.read h.items h.given.reads, h.given.scanned.limit)
 
     -- what a format prints has been written
-    pub text_written : {new : Pieces} → NextReturns before None new → RendersTo model t args (λ out. WritesAll contents old now out)
+    pub text_written : {new : Pieces} → NextReturns before None new → RendersToBy type_of argument_of model t args (λ out. wrote old now out)
     text_written steps =
         let end = steps.next t h.read h.items h.given in
         let same : h.items ++ h.others ≡ h.items ++ [] = sym h.whole
         ∙ Reads-unique t h.renders.takes.items h.items h.renders.takes.accepted.reads end.reads
         ∙ sym (append-nil h.items) in
-        (h.out, h.renders, all_written model h.printing (append_cancel_left h.items h.others [] same))
+        (h.out, h.renders, all_written model laws h.printing (append_cancel_left h.items h.others [] same))
 
     module _ {new : Pieces} {r : Result Piece Refusal} (steps : NextReturns before (Some r) new) where
       -- an accepted text isn't refused
@@ -125,10 +127,10 @@ module _ (model : Model) {W : Type 0} {contents : W → Known} {old : Counted W}
         others_are = append_cancel_left h.items h.others (items_of piece ++ later) (sym h.whole ∙ all_items.1 ∙ append_assoc h.items (items_of piece) later)
             ∙ ap (λ i. i ++ later) (sym same)
 
-        pub piece_written : (after : Progress) (writer : Counted W) (text : Text)
-            → PrintsAll model (items_of_part part) (next_arguments model progress part args) text
-            → WritesOn contents now writer progress after text (arity model part)
-            → IsUnderWay model contents old t args writer new after
+        pub piece_written : (after : Progress) (writer : O) (text : Text)
+            → PrintsAll model (items_of_part part) (next_arguments argument_of model progress part args) text
+            → WritesOn wrote stopped now writer progress after text (arity model part)
+            → IsUnderWay type_of argument_of wrote model old t args writer new after
         piece_written after writer text prints w =
             record {
               out = h.out;
@@ -139,5 +141,5 @@ module _ (model : Model) {W : Type 0} {contents : W → Known} {old : Counted W}
               given = piece_given.given;
               whole = all_items.1;
               few = omega (arith, h.few, w.small, w.written, length-append h.items (items_of piece), some_items piece _ _ piece_given.whole);
-              printing = wrote_on model h.printing part later others_are writer after text prints w;
+              printing = wrote_on model laws h.printing part later others_are writer after text prints w;
             }

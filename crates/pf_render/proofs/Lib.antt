@@ -8,3 +8,4 @@ pub mod MatchingLemmas
 mod ProgressLemmas
 mod FormatLemmas
 mod GatheringLemmas
+mod BufferLemmas

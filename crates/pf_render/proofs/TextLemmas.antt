@@ -1,11 +1,7 @@
 -- What is written of bytes and strings is what is printed of them.
 use Rattle.std.proofs.Common.{◌≡◌, ℕ, false, [], ◌∷◌, refl, subst, sym, ℤ, pos}
-use Rattle.pf_values.specs.declared.arguments.Arg.{Arg}
-use Rattle.pf_values.specs.declared.arguments.Arg.TheVariants as variants
-use Rattle.pf_values.specs.declared.arguments.CBytes.{CBytes}
 use Rattle.pf_values.specs.declared.conversions.Kind.TheVariants as kinds
 use Rattle.pf_values.specs.declared.models.Model.{Model}
-use Rattle.pf_values.specs.Arg.{argument_of}
 use Rattle.pf_values.specs.meaning.Arguments.{Number, String, IsConverted}
 use Rattle.pf_values.specs.meaning.Conversions.{kind_of}
 use Rattle.pf_values.specs.meaning.DataModel.{B8, bit_count}
@@ -23,13 +19,3 @@ pub Prints-string : (model : Model) (s : Specification) (bytes text : Text) → 
     → text ≡ printed_front s.precision bytes → Prints model s (String bytes) (field s text)
 Prints-string model s bytes text e h =
     (text, subst (λ k. PrintsKind model k s (String bytes) text) (sym e) h, refl)
-
--- an argument that isn't a number is a string
-pub is_string : (arg : Arg) → ((n : ℤ) → argument_of arg ≡ Number n → ⊥) → ((x : CBytes) → arg ≡ variants.Str x → ⊥) → ⊥
-is_string (variants.Str x) h g = g x refl
-is_string (variants.Int n) h g = h n refl
-is_string (variants.UInt n) h g = h (pos n) refl
-is_string (variants.Long n) h g = h n refl
-is_string (variants.ULong n) h g = h (pos n) refl
-is_string (variants.LongLong n) h g = h n refl
-is_string (variants.ULongLong n) h g = h (pos n) refl

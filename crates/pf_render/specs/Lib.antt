@@ -2,9 +2,11 @@ pub mod Values
 pub mod Zeros
 pub mod IntegerParts
 pub mod Parts
-pub mod Counts
+pub mod Outputs
+pub mod OutputLaws
 pub mod Matching
 pub mod Rendering
 pub mod Gathering
+pub mod Buffers
 pub mod FormatParts
 pub mod Progressing

@@ -6,21 +6,23 @@ ghost use Rattle.pf_values.specs.declared.types.ArgType.{ArgType};
 ghost use Rattle.pf_values.specs.meaning.Text.{Text};
 ghost use Rattle.pf_text.specs.Signatures.{TakesTypes};
 ghost use Rattle.pf_render.specs.Matching.{IsOfTypeAt, TakesArguments, HasChecked};
-ghost use Rattle.pf_render.specs.Rendering.{FaultForRender, IsOfType};
+ghost use Rattle.pf_render.specs.Rendering.{FaultForRenderBy};
 
+use crate::arguments::FormatArgument;
 use crate::faults::RenderFault;
 use pf_text::{Piece, Pieces};
-use pf_values::{Arg, ArgType, Model};
+use pf_values::{ArgType, Model};
 
 /// Whether the text is a format that takes these arguments.
 #[inline(never)]
-pub(crate) fn check_arguments(
+pub(crate) fn check_arguments<A: FormatArgument>(
     model: Model,
     text: &[u8],
-    args: &[Arg<'_>],
+    args: &[A],
 ) -> Result<(), RenderFault>
-    ensures { MatchResult result (λ _. TakesArguments model text.now args.now)
-        (FaultForRender model text.now args.now) }
+    ensures { MatchResult result
+        (λ _. TakesArguments A.type_of A.argument_of model text.now args.now)
+        (FaultForRenderBy A.type_of A.argument_of model text.now args.now) }
 {
     let mut check = ArgumentCheck {
         wanted: 0,
@@ -35,7 +37,7 @@ pub(crate) fn check_arguments(
             check = check.with_next(model, directive.arg_type(model), args);
         }
     }
-    check.conclude(args.len())
+    check.conclude(args)
 }
 
 // How many arguments the directives so far take (`wanted`), and how many of the given arguments
@@ -48,10 +50,16 @@ struct ArgumentCheck {
 
 impl ArgumentCheck {
     // The check after one more directive, which takes an argument of this type.
-    fn with_next(self, model: Model, wanted: ArgType, args: &[Arg<'_>]) -> ArgumentCheck
+    fn with_next<A: FormatArgument>(
+        self,
+        model: Model,
+        wanted: ArgType,
+        args: &[A],
+    ) -> ArgumentCheck
         requires few { self.wanted ≤ MAX_TEXT_LEN }
-        ensures { (types : List ArgType) → HasChecked model self args.now types
-            → HasChecked model result args.now (types ++ wanted ∷ []) }
+        ensures { (types : List ArgType)
+            → HasChecked A.type_of A.argument_of model self args.now types
+            → HasChecked A.type_of A.argument_of model result args.now (types ++ wanted ∷ []) }
     {
         let count = self.wanted + 1;
         if self.next_matches(model, wanted, args) {
@@ -67,22 +75,24 @@ impl ArgumentCheck {
     }
 
     // Whether the arguments so far all have their types, and the next one has this type.
-    fn next_matches(self, model: Model, wanted: ArgType, args: &[Arg<'_>]) -> bool
-        ensures yes { IsTrue result
-            → (self.matched ≡ self.wanted) × IsOfTypeAt model args.now self.matched wanted }
+    fn next_matches<A: FormatArgument>(self, model: Model, wanted: ArgType, args: &[A]) -> bool
+        ensures yes { IsTrue result → (self.matched ≡ self.wanted)
+            × IsOfTypeAt A.type_of A.argument_of model args.now self.matched wanted }
         ensures other { IsFalse result → self.matched ≡ self.wanted
-            → IsOfTypeAt model args.now self.matched wanted → ⊥ }
+            → IsOfTypeAt A.type_of A.argument_of model args.now self.matched wanted → ⊥ }
     {
         self.matched == self.wanted && is_of_type_at(model, args, self.matched, wanted)
     }
 
-    // Whether `given` arguments are as many as the directives take, each of its type.
-    fn conclude(self, given: usize) -> Result<(), RenderFault>
-        ensures { (model : Model) (t : Text) (args : List Arg) (types : List ArgType)
-            → given ≡ length args
-            → TakesTypes model t types → HasChecked model self args types
-            → MatchResult result (λ _. TakesArguments model t args) (FaultForRender model t args) }
+    // Whether the given arguments are as many as the directives take, each of its type.
+    fn conclude<A: FormatArgument>(self, args: &[A]) -> Result<(), RenderFault>
+        ensures { (model : Model) (t : Text) (types : List ArgType)
+            → TakesTypes model t types
+            → HasChecked A.type_of A.argument_of model self args.now types
+            → MatchResult result (λ _. TakesArguments A.type_of A.argument_of model t args.now)
+            (FaultForRenderBy A.type_of A.argument_of model t args.now) }
     {
+        let given = args.len();
         if self.wanted != given {
             return Err(RenderFault::WrongCount {
                 wanted: self.wanted as u64,
@@ -97,28 +107,14 @@ impl ArgumentCheck {
 }
 
 // Whether there is an argument with this number, and of this type.
-fn is_of_type_at(model: Model, args: &[Arg<'_>], index: usize, wanted: ArgType) -> bool
-    ensures yes { IsTrue result → IsOfTypeAt model args.now index wanted }
-    ensures other { IsFalse result → IsOfTypeAt model args.now index wanted → ⊥ }
+fn is_of_type_at<A: FormatArgument>(model: Model, args: &[A], index: usize, wanted: ArgType) -> bool
+    ensures yes { IsTrue result
+        → IsOfTypeAt A.type_of A.argument_of model args.now index wanted }
+    ensures other { IsFalse result
+        → IsOfTypeAt A.type_of A.argument_of model args.now index wanted → ⊥ }
 {
     match args.get(index) {
-        Some(arg) => is_of_type(model, *arg, wanted),
+        Some(arg) => arg.has_type(model, wanted),
         None => false,
-    }
-}
-
-/// Whether an argument is of this type, and a number is in its range.
-#[inline(always)]
-pub(crate) fn is_of_type(model: Model, arg: Arg<'_>, wanted: ArgType) -> bool
-    ensures yes { IsTrue result → IsOfType model arg.entry wanted }
-    ensures other { IsFalse result → IsOfType model arg.entry wanted → ⊥ }
-{
-    if arg.arg_type() != wanted {
-        return false;
-    }
-    match model {
-        // Each argument is in the range of its type there, so its number isn't asked for.
-        Model::Lp64 => true,
-        Model::Ilp32 | Model::Llp64 => arg.fits(model),
     }
 }

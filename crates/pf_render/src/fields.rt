@@ -1,26 +1,26 @@
 //! Fields: texts with spaces up to a width.
 ghost use Rattle.std.specs.Prelude.{◌≡◌, ◌+◌, ◌++◌, ◌<◌, ◌^◌, length};
-ghost use Rattle.pf_render.specs.Counts.{WritesCounted};
+ghost use Rattle.pf_render.specs.Outputs.{WritesCounted};
 ghost use Rattle.pf_render.specs.Parts.{join};
 ghost use Rattle.pf_values.specs.meaning.Printing.{field, padding};
 ghost use Rattle.pf_values.specs.meaning.Specification.{width_of};
 
+use crate::outputs::Output;
 use pf_values::padding::spaces;
-use pf_values::{Counted, Directive, Flag, ShortWrite, write_bytes};
-use std::io::Write;
+use pf_values::{Directive, Flag, ShortWrite};
 
 /// Writes a text of three parts in the field of the directive (C11 7.21.6.1, paragraph 4), and
 /// returns how many bytes that were.
 #[inline(always)]
-pub(crate) fn write_field<'a, W: Write>(
+pub(crate) fn write_field<'a, O: Output>(
     directive: &Directive,
     first: &'a [u8],
     second: &'a [u8],
     third: &'a [u8],
-    writer: &mut Counted<W>,
+    writer: &mut O,
 ) -> Result<usize, ShortWrite>
     requires { length (first.now ++ (second.now ++ third.now)) < 2 ^ 63 }
-    ensures { WritesCounted W.contents writer.old writer.new
+    ensures { WritesCounted O.wrote O.stopped writer.old writer.new
         (field directive.now (first.now ++ (second.now ++ third.now))) result }
 {
     // Most numbers have no sign, no prefix and no zeros before them.
@@ -32,15 +32,15 @@ pub(crate) fn write_field<'a, W: Write>(
 
 // Writes a text of three parts in the field of the directive, whatever their lengths.
 #[inline(never)]
-fn write_three<'a, W: Write>(
+fn write_three<'a, O: Output>(
     directive: &Directive,
     first: &'a [u8],
     second: &'a [u8],
     third: &'a [u8],
-    writer: &mut Counted<W>,
+    writer: &mut O,
 ) -> Result<usize, ShortWrite>
     requires { length (first.now ++ (second.now ++ third.now)) < 2 ^ 63 }
-    ensures { WritesCounted W.contents writer.old writer.new
+    ensures { WritesCounted O.wrote O.stopped writer.old writer.new
         (field directive.now (first.now ++ (second.now ++ third.now))) result }
 {
     let len = first.len() + second.len() + third.len();
@@ -55,13 +55,13 @@ fn write_three<'a, W: Write>(
 
 /// Writes a text of one part in the field of the directive, and returns how many bytes that were.
 #[inline(always)]
-pub(crate) fn write_text<W: Write>(
+pub(crate) fn write_text<O: Output>(
     directive: &Directive,
     text: &[u8],
-    writer: &mut Counted<W>,
+    writer: &mut O,
 ) -> Result<usize, ShortWrite>
     requires { length text.now < 2 ^ 63 }
-    ensures { WritesCounted W.contents writer.old writer.new (field directive.now text.now) result }
+    ensures { WritesCounted O.wrote O.stopped writer.old writer.new (field directive.now text.now) result }
 {
     let width = usize::from(directive.width().unwrap_or(0));
     if width <= text.len() {
@@ -72,15 +72,15 @@ pub(crate) fn write_text<W: Write>(
 
 // Writes a text and these spaces, which fill up the field of the directive.
 #[inline(never)]
-fn write_filled<W: Write>(
+fn write_filled<O: Output>(
     directive: &Directive,
     fill: &[u8],
     text: &[u8],
-    writer: &mut Counted<W>,
+    writer: &mut O,
 ) -> Result<usize, ShortWrite>
     requires small { length text.now < 2 ^ 63 }
     requires fill { fill.now ≡ padding (width_of directive.now) text.now }
-    ensures { WritesCounted W.contents writer.old writer.new (field directive.now text.now) result }
+    ensures { WritesCounted O.wrote O.stopped writer.old writer.new (field directive.now text.now) result }
 {
     if directive.flags().has(Flag::Minus) {
         write_two(text, fill, writer)
@@ -90,13 +90,9 @@ fn write_filled<W: Write>(
 }
 
 // Writes a text, and another one after it.
-fn write_two<W: Write>(
-    first: &[u8],
-    second: &[u8],
-    writer: &mut Counted<W>,
-) -> Result<usize, ShortWrite>
+fn write_two<O: Output>(first: &[u8], second: &[u8], writer: &mut O) -> Result<usize, ShortWrite>
     requires { length (first.now ++ second.now) < 2 ^ 64 }
-    ensures { WritesCounted W.contents writer.old writer.new (first.now ++ second.now) result }
+    ensures { WritesCounted O.wrote O.stopped writer.old writer.new (first.now ++ second.now) result }
 {
     let before = match write_counted(first, writer) {
         Ok(count) => count,
@@ -112,26 +108,23 @@ fn write_two<W: Write>(
 
 /// Writes bytes, and returns how many they are.
 #[inline(always)]
-pub(crate) fn write_counted<W: Write>(
-    bytes: &[u8],
-    writer: &mut Counted<W>,
-) -> Result<usize, ShortWrite>
-    ensures { WritesCounted W.contents writer.old writer.new bytes.now result }
+pub(crate) fn write_counted<O: Output>(bytes: &[u8], writer: &mut O) -> Result<usize, ShortWrite>
+    ensures { WritesCounted O.wrote O.stopped writer.old writer.new bytes.now result }
 {
-    match write_bytes(writer, bytes) {
+    match writer.put(bytes) {
         Ok(()) => Ok(bytes.len()),
         Err(short) => Err(short),
     }
 }
 
 // Writes the parts, one after another.
-fn write_parts<W: Write>(parts: &[&[u8]], writer: &mut Counted<W>) -> Result<usize, ShortWrite>
+fn write_parts<O: Output>(parts: &[&[u8]], writer: &mut O) -> Result<usize, ShortWrite>
     requires { length (join parts.now) < 2 ^ 64 }
-    ensures { WritesCounted W.contents writer.old writer.new (join parts.now) result }
+    ensures { WritesCounted O.wrote O.stopped writer.old writer.new (join parts.now) result }
 {
     let mut written = 0;
     for part in parts {
-        if let Err(short) = write_bytes(writer, part) {
+        if let Err(short) = writer.put(part) {
             return Err(ShortWrite {
                 written: written + short.written,
             });

@@ -1,13 +1,15 @@
 //! What a format prints for arguments.
-ghost use Rattle.pf_values.specs.Counting.{WritesUpTo};
 ghost use Rattle.pf_render.specs.Matching.{TakesArguments};
-ghost use Rattle.pf_render.specs.Rendering.{RendersInto, RendersTo};
+ghost use Rattle.pf_render.specs.Outputs.{PutsUpTo};
+ghost use Rattle.pf_render.specs.Rendering.{RendersInto, RendersIntoBy, RendersToBy};
 
 use crate::argument_lists::check_arguments;
+use crate::arguments::FormatArgument;
 use crate::faults::{RenderFault, WriteFault};
 use crate::format_parts::FormatPart;
 use crate::gathered_text::GatheredText;
 use crate::gathering::{gather, write_gathered};
+use crate::outputs::Output;
 use crate::progress::Progress;
 use pf_text::Pieces;
 use pf_values::{Arg, Counted, Model};
@@ -27,40 +29,40 @@ pub fn render<W: Write>(
     ensures { RendersInto model W.contents writer.old writer.new text.now args.now result }
 {
     let mut room = GatheredText::new();
-    let mut gathered = Counted::new(&mut room);
-    if gather(model, text, args, &mut gathered) {
-        return write_gathered(gathered.into_inner().as_slice(), writer);
+    if gather(model, text, args, &mut room) {
+        return write_gathered(room.as_slice(), args, writer);
     }
     render_checked(model, text, args, writer)
 }
 
-// `render` of a format that is read before it is written: what it prints may be long, and a fault is
-// found there.
+/// `render` of a format that is read before it is written: what it prints may be long, and a fault is
+/// found there.
 #[inline(never)]
-fn render_checked<W: Write>(
+pub(crate) fn render_checked<A: FormatArgument, O: Output>(
     model: Model,
     text: &[u8],
-    args: &[Arg<'_>],
-    writer: &mut Counted<W>,
+    args: &[A],
+    writer: &mut O,
 ) -> Result<(), RenderFault>
-    ensures { RendersInto model W.contents writer.old writer.new text.now args.now result }
+    ensures { RendersIntoBy A.type_of A.argument_of O.wrote O.stopped model writer.old writer.new
+        text.now args.now result }
 {
     check_arguments(model, text, args)?;
     write_pieces(model, text, args, writer)?;
     Ok(())
 }
 
-// Writes what a format prints for the arguments that it takes.
+/// Writes what a format prints for the arguments that it takes.
 #[inline(never)]
-fn write_pieces<W: Write>(
+pub(crate) fn write_pieces<A: FormatArgument, O: Output>(
     model: Model,
     text: &[u8],
-    args: &[Arg<'_>],
-    writer: &mut Counted<W>,
+    args: &[A],
+    writer: &mut O,
 ) -> Result<(), WriteFault>
-    requires { TakesArguments model text.now args.now }
-    ensures { RendersTo model text.now args.now
-        (λ out. WritesUpTo W.contents writer.old writer.new out (λ fault. fault.written) result) }
+    requires { TakesArguments A.type_of A.argument_of model text.now args.now }
+    ensures { RendersToBy A.type_of A.argument_of model text.now args.now
+        (λ out. PutsUpTo O.wrote O.stopped (λ fault. fault.written) writer.old writer.new out result) }
 {
     let mut progress = Progress::new();
     for piece in Pieces::new(text) {

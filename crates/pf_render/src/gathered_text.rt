@@ -1,14 +1,14 @@
-//! A writer into memory of fixed size.
-ghost use Rattle.std.specs.Prelude.{◌≡◌, ◌≤◌};
+//! A text in memory of fixed size.
+ghost use Rattle.std.specs.Prelude.{◌≡◌, ◌≤◌, length};
 ghost use Rattle.pf_render.specs.declared.gathered_text.TheConstants.{MAX_GATHERED};
 
-use std::io;
-use std::io::Write;
+use crate::outputs::Output;
+use pf_values::ShortWrite;
 
 /// The most bytes that are gathered. Most formats print less, and more room isn't cleared inline.
 const MAX_GATHERED: usize = 240;
 
-/// A text of at most 240 bytes. A write of more than there is room for takes none of them.
+/// A text of at most 240 bytes. If there is no room for all bytes of a `put`, it takes none.
 #[derive(Drop)]
 pub(crate) struct GatheredText {
     bytes: [u8; MAX_GATHERED],
@@ -34,39 +34,32 @@ impl GatheredText {
     /// Its bytes.
     #[inline(always)]
     pub(crate) fn as_slice(&self) -> &[u8]
-        ensures { result.now ≡ gathered_bytes self.now }
+        ensures bytes { result.now ≡ gathered_bytes self.now }
+        ensures few { length result.now ≤ MAX_GATHERED }
     {
         &self.bytes[..self.len]
     }
 }
 
-impl Write for GatheredText {
-    ghost use Rattle.std.specs.Prelude.{Some};
-    ghost use Rattle.std.specs.Io.{WritesAtMost};
-    ghost use Rattle.std.specs.Io.KnownBytes.{Keeps, WriteAppends};
-    ghost use Rattle.pf_render.specs.Gathering.{gathered_bytes};
+impl Output for GatheredText {
+    ghost use Rattle.pf_render.specs.Gathering.{IsKept, IsKeptInPart};
+    ghost use Rattle.pf_render.specs.OutputLaws.{gathers};
 
-    ghost contents = { λ text. Some (gathered_bytes text) };
+    ghost wrote = { IsKept };
+
+    ghost stopped = { IsKeptInPart };
+
+    ghost laws = { gathers };
 
     #[inline(always)]
-    fn write(&mut self, buf: &[u8]) -> io::Result<usize>
-        ensures bound { WritesAtMost result buf.now }
-        ensures bytes { WriteAppends
-            (Some (gathered_bytes self.old)) (Some (gathered_bytes self.new)) result buf.now }
-    {
+    fn put(&mut self, bytes: &[u8]) -> Result<(), ShortWrite> {
         let start = self.len;
-        if MAX_GATHERED - start < buf.len() {
-            return Ok(0);
+        if MAX_GATHERED - start < bytes.len() {
+            return Err(ShortWrite { written: 0 });
         }
-        let end = start + buf.len();
-        self.bytes[start..end].copy_from_slice(buf);
+        let end = start + bytes.len();
+        self.bytes[start..end].copy_from_slice(bytes);
         self.len = end;
-        Ok(buf.len())
-    }
-
-    fn flush(&mut self) -> io::Result<()>
-        ensures bytes { Keeps (Some (gathered_bytes self.old)) (Some (gathered_bytes self.new)) }
-    {
         Ok(())
     }
 }

@@ -1,32 +1,30 @@
 //! What a short format prints, gathered in memory before any of it is written.
-ghost use Rattle.std.specs.Prelude.{◌≡◌, [], ◌∷◌, IsTrue, List, Some, slice_get};
-ghost use Rattle.pf_values.specs.declared.arguments.Arg.{Arg};
+ghost use Rattle.std.specs.Prelude.{◌≡◌, [], ◌∷◌, IsTrue, Some, slice_get};
 ghost use Rattle.pf_values.specs.declared.models.Model.{Model};
-ghost use Rattle.pf_values.specs.Counting.{WritesAll};
 ghost use Rattle.pf_values.specs.meaning.Items as items;
 ghost use Rattle.pf_values.specs.meaning.Text.{Text};
 ghost use Rattle.pf_render.specs.Gathering.{IsGatheredSoFar};
-ghost use Rattle.pf_render.specs.Rendering.{Renders, RendersInto, RendersTo};
+ghost use Rattle.pf_render.specs.Rendering.{RendersBy, RendersIntoBy, RendersToBy};
 
-use crate::argument_lists::is_of_type;
+use crate::arguments::FormatArgument;
 use crate::directives::write_argument;
 use crate::faults::RenderFault;
+use crate::outputs::Output;
 use pf_text::{Piece, Pieces};
-use pf_values::{Arg, Counted, Directive, Model, write_bytes};
-use std::io::Write;
+use pf_values::{Directive, Model};
 
 /// Checks the arguments and writes what the format prints for them, in one go. False if the text is
 /// refused, if the arguments are not those that it takes, or if the writer fails; then some of it may
 /// have been written.
 #[inline(always)]
-pub(crate) fn gather<W: Write>(
+pub(crate) fn gather<A: FormatArgument, O: Output>(
     model: Model,
     text: &[u8],
-    args: &[Arg<'_>],
-    writer: &mut Counted<W>,
+    args: &[A],
+    writer: &mut O,
 ) -> bool
-    ensures { IsTrue result → RendersTo model text.now args.now
-        (λ out. WritesAll W.contents writer.old writer.new out) }
+    ensures { IsTrue result → RendersToBy A.type_of A.argument_of model text.now args.now
+        (λ out. O.wrote writer.old writer.new out) }
 {
     let given = args.len();
     let mut taken = 0;
@@ -60,21 +58,21 @@ pub(crate) fn gather<W: Write>(
 // Writes what a directive prints for the argument at this index, and returns whether there is one of its
 // type, and all was written.
 #[inline(always)]
-fn gather_directive<W: Write>(
+fn gather_directive<A: FormatArgument, O: Output>(
     model: Model,
     directive: &Directive,
-    args: &[Arg<'_>],
+    args: &[A],
     index: usize,
-    writer: &mut Counted<W>,
+    writer: &mut O,
 ) -> bool
-    ensures { IsTrue result → (arg : Arg) × (slice_get args.now index ≡ Some arg)
-        × IsGatheredSoFar model W.contents writer.old writer.new (items.Directive directive.now ∷ [])
-        (arg ∷ []) }
+    ensures { IsTrue result → (arg : A) × (slice_get args.now index ≡ Some arg)
+        × IsGatheredSoFar A.type_of A.argument_of O.wrote model writer.old writer.new
+        (items.Directive directive.now ∷ []) (arg ∷ []) }
 {
     let Some(arg) = args.get(index) else {
         return false;
     };
-    if !is_of_type(model, *arg, directive.arg_type(model)) {
+    if !arg.has_type(model, directive.arg_type(model)) {
         return false;
     }
     match write_argument(model, directive, arg, writer) {
@@ -85,25 +83,28 @@ fn gather_directive<W: Write>(
 
 // Writes literal bytes, and returns whether all were written.
 #[inline(always)]
-fn gather_bytes<W: Write>(bytes: &[u8], writer: &mut Counted<W>) -> bool
-    ensures { IsTrue result → WritesAll W.contents writer.old writer.new bytes.now }
+fn gather_bytes<O: Output>(bytes: &[u8], writer: &mut O) -> bool
+    ensures { IsTrue result → O.wrote writer.old writer.new bytes.now }
 {
-    match write_bytes(writer, bytes) {
+    match writer.put(bytes) {
         Ok(()) => true,
         Err(_) => false,
     }
 }
 
-/// Writes what a format prints, once that was gathered.
+/// Writes what a format prints for these arguments, once that was gathered.
 #[inline(always)]
-pub(crate) fn write_gathered<W: Write>(
+pub(crate) fn write_gathered<A: FormatArgument, O: Output>(
     bytes: &[u8],
-    writer: &mut Counted<W>,
+    _args: &[A],
+    writer: &mut O,
 ) -> Result<(), RenderFault>
-    ensures { (model : Model) (t : Text) (args : List Arg) → Renders model t args bytes.now
-        → RendersInto model W.contents writer.old writer.new t args result }
+    ensures { (model : Model) (t : Text)
+        → RendersBy A.type_of A.argument_of model t _args.now bytes.now
+        → RendersIntoBy A.type_of A.argument_of O.wrote O.stopped model writer.old writer.new t
+        _args.now result }
 {
-    match write_bytes(writer, bytes) {
+    match writer.put(bytes) {
         Ok(()) => Ok(()),
         Err(short) => Err(RenderFault::Write(short.written as u128)),
     }

@@ -4,25 +4,25 @@ ghost use Rattle.pf_values.specs.meaning.Arguments.{Number};
 ghost use Rattle.pf_values.specs.meaning.Conversions.{is_text};
 ghost use Rattle.pf_values.specs.meaning.Printing.{Prints};
 ghost use Rattle.pf_values.specs.meaning.Text.{Text};
-ghost use Rattle.pf_render.specs.Counts.{WritesCounted};
+ghost use Rattle.pf_render.specs.Outputs.{WritesCounted};
 
 use crate::digits::{MAX_DIGITS, write_digits_of};
 use crate::fields::write_field;
 use crate::integer_parts::IntegerParts;
+use crate::outputs::Output;
 use crate::values::Value;
-use pf_values::{Counted, Directive, Model, ShortWrite, padding};
-use std::io::Write;
+use pf_values::{Directive, Model, ShortWrite, padding};
 
 /// Writes what the directive prints of a number (C11 7.21.6.1, paragraphs 4 to 8).
-pub(crate) fn write_integer<W: Write>(
+pub(crate) fn write_integer<O: Output>(
     model: Model,
     directive: &Directive,
     number: i128,
-    writer: &mut Counted<W>,
+    writer: &mut O,
 ) -> Result<usize, ShortWrite>
     requires integer { IsFalse (is_text directive.now.conv) }
     ensures { (out : Text) × Prints model directive.now (Number number) out
-        × WritesCounted W.contents writer.old writer.new out result }
+        × WritesCounted O.wrote O.stopped writer.old writer.new out result }
 {
     let value = Value::of(model, directive, number);
     let mut buf = [0; MAX_DIGITS];

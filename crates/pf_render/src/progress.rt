@@ -1,20 +1,20 @@
 //! How far the writing of a format has come.
 ghost use Rattle.std.specs.Prelude.{◌≡◌, ◌+◌, ◌≤◌, ◌^◌, length, map};
-ghost use Rattle.pf_values.specs.Arg.{argument_of};
 ghost use Rattle.pf_values.specs.meaning.Arguments.{HasTypes};
 ghost use Rattle.pf_values.specs.meaning.Items.{types};
 ghost use Rattle.pf_values.specs.meaning.Printing.{PrintsAll};
 ghost use Rattle.pf_values.specs.meaning.Text.{Text};
-ghost use Rattle.pf_render.specs.Counts.{WritesCounted};
+ghost use Rattle.pf_render.specs.Outputs.{WritesCounted};
 ghost use Rattle.pf_render.specs.FormatParts.{items_of_part};
 ghost use Rattle.pf_render.specs.Progressing.{WritesNext, next_arguments};
 
+use crate::arguments::FormatArgument;
 use crate::directives::write_argument;
 use crate::faults::WriteFault;
 use crate::fields::write_counted;
 use crate::format_parts::FormatPart;
-use pf_values::{Arg, Counted, Model, ShortWrite};
-use std::io::Write;
+use crate::outputs::Output;
+use pf_values::{Model, ShortWrite};
 
 /// How far the writing of a format has come.
 #[derive(Clone, Copy)]
@@ -38,21 +38,21 @@ impl Progress {
 
     /// Writes what a part prints for the arguments that come next.
     #[inline(always)]
-    pub(crate) fn write<W: Write>(
+    pub(crate) fn write<A: FormatArgument, O: Output>(
         &mut self,
         model: Model,
         part: &FormatPart<'_>,
-        args: &[Arg<'_>],
-        writer: &mut Counted<W>,
+        args: &[A],
+        writer: &mut O,
     ) -> Result<(), WriteFault>
         requires few { self.old.written + 2 ^ 64 ≤ 2 ^ 128 }
         requires within { self.old.taken + length (types model (items_of_part part.now)) ≤ length
             args.now }
-        requires typed { HasTypes model (next_arguments model self.old part.now args.now)
+        requires typed { HasTypes model
+            (next_arguments A.argument_of model self.old part.now args.now)
             (types model (items_of_part part.now)) }
-        ensures { WritesNext model W.contents writer.old writer.new self.old self.new part.now
-            args.now
-            result }
+        ensures { WritesNext O.wrote O.stopped writer.old writer.new self.old self.new
+            A.argument_of model part.now args.now result }
     {
         let end = self.taken + part.argument_count();
         match write_part(model, part, &args[self.taken..end], writer) {
@@ -70,16 +70,17 @@ impl Progress {
 
 // Writes what a part prints for its own arguments, and returns how many bytes that were.
 #[inline(always)]
-fn write_part<W: Write>(
+fn write_part<A: FormatArgument, O: Output>(
     model: Model,
     part: &FormatPart<'_>,
-    own: &[Arg<'_>],
-    writer: &mut Counted<W>,
+    own: &[A],
+    writer: &mut O,
 ) -> Result<usize, ShortWrite>
-    requires typed { HasTypes model (map argument_of own.now)
+    requires typed { HasTypes model (map A.argument_of own.now)
         (types model (items_of_part part.now)) }
-    ensures { (out : Text) × PrintsAll model (items_of_part part.now) (map argument_of own.now) out
-        × WritesCounted W.contents writer.old writer.new out result }
+    ensures { (out : Text)
+        × PrintsAll model (items_of_part part.now) (map A.argument_of own.now) out
+        × WritesCounted O.wrote O.stopped writer.old writer.new out result }
 {
     match part.directive {
         Some(directive) => write_argument(model, &directive, &own[0], writer),

@@ -38,8 +38,8 @@ fn render_vec_in<A: Allocator>(
     }
 }
 
-// The fault of a call that renders into memory: a vector fails only if an allocation does.
-fn memory_fault(fault: RenderFault) -> RenderVecFault
+/// The fault of a call that renders into memory: a vector fails only if an allocation does.
+pub(crate) fn memory_fault(fault: RenderFault) -> RenderVecFault
     ensures { result ≡ memory_fault fault }
 {
     match fault {

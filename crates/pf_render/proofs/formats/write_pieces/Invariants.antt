@@ -6,5 +6,5 @@ abbrev pub invariant-loop-piece : goal.invariant-loop-piece
 invariant-loop-piece g l = record {
   can : (goal.iterator-loop-piece g).can_next l.piece-iterator;
   finite : (goal.iterator-loop-piece g).is_finite l.piece-iterator;
-  so_far : IsUnderWay l.model g.W.Write.contents l.fn.writer l.text l.args l.writer l.piece-iterator l.progress;
+  so_far : IsUnderWay g.A.FormatArgument.type_of g.A.FormatArgument.argument_of g.O.Output.wrote l.model l.fn.writer l.text l.args l.writer l.piece-iterator l.progress;
 }

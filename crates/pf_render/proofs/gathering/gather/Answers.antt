@@ -10,7 +10,7 @@ loop-piece-preserved-in-Directive g c =
     record {
       can = tt;
       finite = tt;
-      so_far = argument_gathered c.args.model c.loop-piece.invariant.so_far c.in-Some.ensures.steps c.in-Ok.is _ _ (ap items_of c.in-Directive.is) taken.0 taken.1
+      so_far = argument_gathered c.args.model g.met.O.Output.laws c.loop-piece.invariant.so_far c.in-Some.ensures.steps c.in-Ok.is _ _ (ap items_of c.in-Directive.is) taken.0 taken.1
           taken.2;
     }
 
@@ -19,8 +19,8 @@ loop-piece-preserved-else-not-gather_bytes g c =
     record {
       can = tt;
       finite = tt;
-      so_far = literal_gathered c.args.model c.loop-piece.invariant.so_far c.in-Some.ensures.steps c.in-Ok.is _ _ (ap items_of c.in-Literal.is)
-          (bytes_gathered c.args.model _ _ _ _ (c.gather_bytes.ensures (search rules)));
+      so_far = literal_gathered c.args.model g.met.O.Output.laws c.loop-piece.invariant.so_far c.in-Some.ensures.steps c.in-Ok.is _ _ (ap items_of c.in-Literal.is)
+          (bytes_gathered c.args.model g.met.O.Output.laws _ _ _ (c.gather_bytes.ensures (search rules)));
     }
 
 pub loop-piece-preserved : goal.loop-piece-preserved
@@ -28,9 +28,9 @@ loop-piece-preserved g c =
     record {
       can = tt;
       finite = tt;
-      so_far = literal_gathered c.args.model c.loop-piece.invariant.so_far c.in-Some.ensures.steps c.in-Ok.is _ _ (ap items_of c.in-Percent.is)
-          (bytes_gathered c.args.model _ _ _ _ (c.gather_bytes-in-Percent.ensures (search rules)));
+      so_far = literal_gathered c.args.model g.met.O.Output.laws c.loop-piece.invariant.so_far c.in-Some.ensures.steps c.in-Ok.is _ _ (ap items_of c.in-Percent.is)
+          (bytes_gathered c.args.model g.met.O.Output.laws _ _ _ (c.gather_bytes-in-Percent.ensures (search rules)));
     }
 
 pub returns : goal.returns
-returns g c all = all_gathered c.args.model c.loop-piece.invariant.so_far c.in-None.ensures.steps (grind (arith, nat_tests))
+returns g c all = all_gathered c.args.model g.met.O.Output.laws c.loop-piece.invariant.so_far c.in-None.ensures.steps (grind (arith, nat_tests))
