@@ -48,8 +48,16 @@ def is_specification(text: bytes) -> bool:
     try:
         return len(fmtcanon.directives(text)) == 1
     except fmtcanon.Refused as refusal:
-        kinds = (fmtcanon.Kind.MISSING_ARGUMENT, fmtcanon.Kind.MIXED, fmtcanon.Kind.TWO_TYPES)
-        return refusal.kind in kinds
+        return refusal.kind in (fmtcanon.Kind.MISSING_ARGUMENT, fmtcanon.Kind.TWO_TYPES)
+
+
+def is_unexpected(text: bytes) -> bool:
+    """Returns whether a byte of a specification can't continue it."""
+    try:
+        fmtcanon.directives(text)
+    except fmtcanon.Refused as refusal:
+        return refusal.kind is fmtcanon.Kind.UNEXPECTED
+    return False
 
 
 def errno_parts(item: Item) -> Optional[Specification]:
@@ -57,7 +65,9 @@ def errno_parts(item: Item) -> Optional[Specification]:
 
     It has any flags, a width and a precision. The flag I, for other digits, does nothing.
     """
-    # `f` has all flags, and needs no length modifier.
-    text = b"%" + item.inner.replace(b"I", b"-") + b"f"
-    is_errno = item.last == b"m" and not item.has_length and is_specification(text)
-    return specification_of(text) if is_errno else None
+    if item.last != b"m" or item.has_length:
+        return None
+    # `f` has all flags, and needs no length modifier. Its number is only there for that of a `*`.
+    inner = item.inner.replace(b"I", b"-") + b"f"
+    texts = [b"%" + inner, b"%1$" + inner]
+    return next((specification_of(it) for it in texts if is_specification(it)), None)

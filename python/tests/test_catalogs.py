@@ -154,6 +154,22 @@ class Shapes(unittest.TestCase):
         ]:
             self.assertEqual(Format(text).two_types(Model.LP64), said, text)
 
+    def test_rejected(self):
+        """Where a text with `%m` or the flag I is rejected: by hand. I is a flag of translations, and no number."""
+        for text, is_translation, wanted in [
+            (b"%*0m", False, (20, 2)),
+            (b"%5-m", False, (3, 2)),
+            (b"%lm", False, (3, 2)),
+            (b"%Id", False, (3, 1)),
+            (b"%I2$d", True, (3, 1)),
+            (b"%5Id", True, (3, 2)),
+            (b"%-Is", True, (3, 2)),
+            (b"%m %<PRIu64> %y", False, (3, 14)),
+        ]:
+            with self.assertRaises(fmtcanon.Refused) as caught:
+                Format(text, is_translation).codes(Model.LP64)
+            self.assertEqual((int(caught.exception.kind), caught.exception.byte), wanted, text)
+
     def test_uses(self):
         """The arguments that specifications take, with where these are in the text: by hand."""
         for text, wanted in [

@@ -103,7 +103,10 @@ class Directives(unittest.TestCase):
         self.assertEqual(asked("--model", "ilp32", "%ld")[1]["bounds"], {"least": 1, "greatest": 11})
 
     def test_each_part_is_read(self):
-        rows = [("%2$-+ #0'*1$.*3$lld", ("2$", "-+ #0'", "*1$", ".*3$", "ll", "d")), ("%.s", ("", "", "", ".", "", "s"))]
+        rows = [
+            ("%2$-+ #0'*1$.*3$lld", ("2$", "-+ #0'", "*1$", ".*3$", "ll", "d")),
+            ("%.s", ("", "", "", ".", "", "s")),
+        ]
         for text, parts in rows:
             self.assertEqual(tuple(specification_of(text.encode())), parts)
 
@@ -257,7 +260,10 @@ class Pairs(unittest.TestCase):
 
     def test_signs(self):
         """Of a number with a sign it is said which columns or digits the sign is among, by C11 7.21.6.1 p6."""
-        rows = [("%+05d", "%+d", "the sign is one of the 5 columns"), ("%.3d", "%03d", "3 digits, and the sign before them")]
+        rows = [
+            ("%+05d", "%+d", "the sign is one of the 5 columns"),
+            ("%.3d", "%03d", "3 digits, and the sign before them"),
+        ]
         for first, second, said in rows:
             [one, _] = asked(first, second)[1]["directives"]
             self.assertEqual(one["meaning"], said, first)

@@ -6,7 +6,7 @@ from typing import Dict, Iterator, List, NamedTuple, Optional
 
 import fmtcanon
 
-from ..items import MACRO, Item, errno_parts, items_of
+from ..items import MACRO, Item, errno_parts, is_unexpected, items_of
 from ..kinds import TYPE_NAMES
 
 # The conversions for which the GNU C library has the flag I, other digits. It is for translations, and changes no type.
@@ -159,9 +159,11 @@ def replacement(item: Item, is_translation: bool) -> Optional[bytes]:
     macro = MACRO.fullmatch(last)
     if macro and not item.has_length:
         last = macro[1]
-    if is_translation and last != b"" and last in WITH_OTHER_DIGITS:
-        inner = inner.replace(b"I", b"-")
     new = b"%" + inner + last
+    if is_translation and b"I" in inner and last != b"" and last in WITH_OTHER_DIGITS:
+        with_flag = b"%" + inner.replace(b"I", b"-") + last
+        # After the flags, I is what is rejected.
+        new = new if is_unexpected(with_flag) else with_flag
     return None if new == item.text else new
 
 
