@@ -22,9 +22,10 @@ LEFT, RIGHT, UPPER, LOWER = 60, WIDTH - 190, 20, HEIGHT - 45
 
 
 def rows_below(path, heading):
-    """The rows of the table below a heading of a page, each as its cells without backquotes."""
+    """The rows of the first table below a heading of a page, each as its cells without backquotes."""
     part = path.read_text(encoding="utf-8").split(f"## {heading}\n")[1].split("\n## ")[0]
-    rows = [line.replace("`", "").strip("| ").split(" | ") for line in part.splitlines() if line.startswith("|")]
+    table = part[part.index("\n|") + 1 :].split("\n\n")[0]
+    rows = [line.replace("`", "").strip("| ").split(" | ") for line in table.splitlines()]
     return rows[0], rows[2:]
 
 

@@ -19,7 +19,7 @@ type_with_number n =
     else if n == 7 then Some Str
     else None
 
--- What has a number that is no type's is of no type: it is a string that is said to be an int.
+-- An argument whose number isn't that of a type has no type: it is a string that is said to be an int.
 abbrev pub type_or_int : Option ArgType → ArgType
 type_or_int (Some type) = type
 type_or_int None = Int

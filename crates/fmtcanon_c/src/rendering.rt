@@ -13,7 +13,7 @@ use pf_text::Side;
 use pf_values::Model;
 
 /// Puts what a format prints for arguments, and a zero after it, into a buffer that has room for
-/// both. The number of bytes printed, or the code of an error. It takes no memory.
+/// both. Returns the number of bytes printed, or the code of an error. Allocates nothing.
 #[unsafe(no_mangle)]
 pub extern "C" fn fmtcanon_render(
     model: i32,

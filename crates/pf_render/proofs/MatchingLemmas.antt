@@ -86,7 +86,7 @@ module _ {A : Type 0} (type_of : A → ArgType) (argument_of : A → Argument) w
   match_more model [] (t ∷ types) type arg h e g = absurd h
   match_more model (a ∷ args) (t ∷ types) type arg h e g = (h.0, match_more model args types type arg h.1 e g)
 
-  -- the argument with this number, if there is one, is not of the type that is wanted there
+  -- the argument with this number, if there is one, is not of the type expected there
   abbrev IsWrongAt : Model → List A → List ArgType → ℕ → Type 0
   IsWrongAt model args types index =
       (type : ArgType) → slice_get types index ≡ Some type → IsOfTypeAt type_of argument_of model args index type → ⊥
@@ -135,7 +135,7 @@ module _ {A : Type 0} (type_of : A → ArgType) (argument_of : A → Argument) w
           wrong = wrong_still model args types type matched wanted h.wrong h.wanted_is h.within other;
         }
 
-  -- what `check.wanted` arguments are, once every type is checked
+  -- what as many arguments are as there are types, once every type is checked
   module _ (model : Model) (check : ArgumentCheck) (t : Text) (args : List A) (types : List ArgType) (h : HasChecked type_of argument_of model check args types)
       (takes : signatures.TakesTypes model t types) (same : check.wanted ≡ length args) where
     pub wrong_type : (check.matched ≡ check.wanted → ⊥) → HasWrongTypeBy type_of argument_of model t args check.matched

@@ -15,8 +15,8 @@ module _ {A : Type 0} (type_of : A → ArgType) (argument_of : A → Argument) w
   IsOfTypeAt model args index type =
       (arg : A) × (slice_get args index ≡ Some arg) × IsOfTypeBy type_of argument_of model arg type
 
-  -- So many types are wanted. The first arguments are of them, and the next one is not, unless those
-  -- are all. This project's own.
+  -- These are the types of a format. The first `matched` arguments are of them, and the next one is
+  -- not, unless those are all. This project's own.
   pub record HasChecked (model : Model) (check : ArgumentCheck) (args : List A)
       (types : List ArgType) : Type 0 where
     pub wanted_is : check.wanted ≡ length types

@@ -52,8 +52,8 @@ pub record DifferFirstAt {A : Type 0} (xs ys : List A) (index : ℕ) : Type 0 wh
   pub differ : slice_get xs index ≢ slice_get ys index
 
 module _ {A : Type 0} (type_of : A → ArgType) (argument_of : A → Argument) where
-  -- an accepted text takes as many arguments, and this is the first one that is not of the type
-  -- wanted there (C11 7.21.6.1 p9)
+  -- an accepted text takes as many arguments, and this is the first one that is not of its type (C11
+  -- 7.21.6.1 p9)
   pub record HasWrongTypeBy (model : Model) (t : Text) (args : List A) (index : ℕ) : Type 0 where
     pub types : List ArgType
     pub takes : TakesTypes model t types

@@ -54,7 +54,7 @@ pub(crate) fn write_argument<A: FormatArgument, O: Output>(
     }
 }
 
-// The number that an argument is, where it is no string.
+// The number that an argument is, if it isn't a string.
 #[inline(always)]
 fn number_of<A: FormatArgument>(argument: &A) -> i128
     requires { (bytes : Text) → A.argument_of argument.now ≢ String bytes }
@@ -66,7 +66,7 @@ fn number_of<A: FormatArgument>(argument: &A) -> i128
     }
 }
 
-// The bytes of the string that an argument is, where it is no number.
+// The bytes of the string that an argument is, if it isn't a number.
 #[inline(always)]
 fn string_of<A: FormatArgument>(argument: &A) -> &[u8]
     requires { (number : ℤ) → A.argument_of argument.now ≢ Number number }

@@ -7,7 +7,7 @@ use pf_values::ShortWrite;
 /// No text in memory has this many bytes.
 const TOO_LONG: usize = 1 << 63;
 
-/// How many bytes were put, of which none is kept. More than 2^63 - 1 aren't counted.
+/// How many bytes were put, and none of them kept. More than 2^63 - 1 aren't counted.
 #[derive(Clone, Copy)]
 pub(crate) struct TextLength {
     pub(crate) len: usize,
