@@ -147,6 +147,7 @@ endef
 check-more: program library $(C)/second.a
 	python3 tests/outside_tools.py $(PROGRAM) $(C)
 	python3 tests/short_streams.py --each $(PROGRAM)
+	python3 bench/paths.py $(C)
 	$(MAKE) library TARGET=aarch64
 	python3 tests/aarch64.py $(C) out/c-aarch64
 	cd $(C_CRATE) && rt lib $(CPU)

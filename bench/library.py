@@ -83,4 +83,5 @@ def main(words):
     print(*table, sep="\n")
 
 
-main(sys.argv[1:])
+if __name__ == "__main__":
+    main(sys.argv[1:])
