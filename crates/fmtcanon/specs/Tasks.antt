@@ -31,7 +31,7 @@ pub record Names (words : List Text) (command : Text) (rows : List Row) : Type 0
 abbrev pub HasValue : List Row → Text → Text → Type 0
 HasValue rows id text = first_of id rows ≡ Some text
 
--- an argument has these values, of which there may be none
+-- an argument has these values; there may be none
 abbrev pub HasAllValues : List Row → Text → List Text → Type 0
 HasAllValues rows id texts = texts ≡ unwrap_or (all_of id rows) []
 
@@ -77,7 +77,8 @@ HasFault words =
     (app : App) × IsCommand app × (k : ErrorKind) × (k ≢ kind.OutOfMemory)
     × IsAmong k (fault_of app words)
 
--- the words have a wrong number of formats: some beside `--null`, or not as many as are wanted
+-- the arguments have a wrong number of formats: some with `--null`, or not as many as the question
+-- needs
 abbrev pub IsMisplaced : RecordQuestion → List Row → Type 0
 IsMisplaced asked rows =
     length (formats_in rows) ≢ (if is_null rows then 0 else formats_wanted asked)
@@ -103,7 +104,7 @@ IsTaskOn asked rows (Records of_each) =
     (of_each ≡ asked) × (is_null rows ≡ true) × (formats_in rows ≡ [])
 IsTaskOn asked rows (Stream model) = ⊥
 
--- why it has none: formats are misplaced, which takes no memory to say
+-- why it has none: formats are misplaced, which is said without an allocation
 abbrev pub IsNoTaskOn : RecordQuestion → List Row → NoTask → Type 0
 IsNoTaskOn asked rows Misplaced = IsMisplaced asked rows
 IsNoTaskOn asked rows _ = ⊥

@@ -13,7 +13,8 @@ use pf_values::Model;
 use std::alloc::{AllocError, Global};
 
 /// Says whether two formats are interchangeable in a data model; otherwise where their types differ,
-/// or arguments for which they print different bytes, each as the word that gives it.
+/// or arguments for which they print different bytes, each as the word that gives it. `Err` if one
+/// of them or memory is refused.
 pub fn comparison_in(
     alloc: Global,
     model: Model,
@@ -64,7 +65,7 @@ fn witness_lines(alloc: Global, args: &[OwnedArg]) -> Result<Vec<u8>, AllocError
     Ok(out)
 }
 
-/// Returns the line of the first argument at which types differ.
+/// Returns the line of the first argument at which types differ. `Err` if memory is refused.
 pub fn types_line(alloc: Global, index: u64) -> Result<Vec<u8>, AllocError>
     ensures { IfOk result
         (λ out. out.items ≡ line (codes "types differ at argument " ++ decimal index)) }

@@ -11,7 +11,8 @@ use pf_text::signature;
 use pf_values::{ArgType, Model};
 use std::alloc::{AllocError, Global};
 
-/// A line for each argument of a format in a data model, or its refusal.
+/// Returns a line for each argument of a format in a data model. `Err` if the format or memory is
+/// refused.
 pub fn type_lines(alloc: Global, model: Model, format: &[u8]) -> Result<Vec<u8>, Fault>
     ensures { MatchResult result (λ out. HasTypeLines model format.now out.items)
         (IsFormatFault Profile model format.now) }
@@ -31,7 +32,7 @@ fn lines_of_types(alloc: Global, types: &[ArgType]) -> Result<Vec<u8>, AllocErro
     Ok(out)
 }
 
-/// The name of a type, as C spells it; that of a string is `string`.
+/// Returns the name of a type, as C spells it; that of a string is `string`.
 pub fn type_name(arg_type: ArgType) -> &'static str
     ensures { result.now ≡ type_name arg_type }
 {
@@ -46,7 +47,8 @@ pub fn type_name(arg_type: ArgType) -> &'static str
     }
 }
 
-/// A line for each argument of a format of the whole language in a data model, or its refusal.
+/// Returns a line for each argument of a format of the whole language in a data model. `Err` if the
+/// format or memory is refused.
 pub fn whole_type_lines(alloc: Global, model: Model, format: &[u8]) -> Result<Vec<u8>, Fault>
     ensures { MatchResult result (λ out. HasArgumentLines model format.now out.items)
         (IsFormatFault Numbered model format.now) }
