@@ -15,8 +15,6 @@ VERBS = set(
 """.split()
 )
 HEAD = re.compile(r'^ *pub (?:const |unsafe |extern "C" )*fn (\w+)')
-# A crate whose comments are still otherwise.
-NOT_YET = "/crates/fmtcanon/"
 # What has to be in a comment, by the type that comes after the arrow.
 RESULTS = {"Result": r"\bErr\b", "Option": r"\bNone\b"}
 
@@ -35,8 +33,6 @@ def doc_above(lines):
 def public_functions():
     """Yields the public functions, each as its file, its name, its doc comment and the type that it returns."""
     for path in sorted(TOP.glob("crates/*/src/**/*.rt")):
-        if NOT_YET in str(path):
-            continue
         lines = path.read_text(encoding="utf-8").splitlines()
         for at, line in enumerate(lines):
             if head := HEAD.match(line):
@@ -57,4 +53,4 @@ def try_doc_comments(trials):
                 silent.append(f"{file}: {name} returns {kind}")
     trials.expect("doc comments that begin with no verb", no_verb, [])
     trials.expect("doc comments that don't say when a result is Err or None", silent, [])
-    trials.expect("public functions", count > 250, True)
+    trials.expect("public functions", count > 300, True)

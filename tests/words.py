@@ -69,7 +69,6 @@ NOT_YET = {
     ],
     "man/": ["compared with, next to", "whose, one of them"],
     "docs/EXPLAINING.md": ["compared with, next to"],
-    "crates/fmtcanon/": list(PHRASES),
 }
 # Files whose docstrings are part of the mutants' keys: an edit would make all of them be tried again.
 KEPT = ["tests/rattle_functions.py"]

@@ -1,4 +1,4 @@
--- What a question is answered with, and why it is not. This project's own.
+-- The answers to questions, and why there is none. This project's own.
 use Rattle.std.specs.Prelude.{◌≡◌, ℕ, ◌≤◌, List, ◌∷◌, ◌++◌, ◌⊎◌, length, Option, None, Some, map}
 use Rattle.std.specs.List.{AllByRecursion}
 use Rattle.pf_values.specs.declared.models.Model.{Model}

@@ -35,7 +35,7 @@ first_model (One model) = model
 first_model Both = Lp64
 first_model All = Lp64
 
--- the first of some data models that has a name, else LP64
+-- the first of some data models that has a name, otherwise LP64
 abbrev pub model_among : List Model → Text → Model
 model_among [] name = Lp64
 model_among (model ∷ models) name =

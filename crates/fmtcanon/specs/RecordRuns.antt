@@ -49,7 +49,7 @@ abbrev pub first_of : Bool → Text → List Text
 first_of false text = []
 first_of true text = text ∷ []
 
--- Of a question this has come in whole records: the first format, if two are wanted.
+-- The part of a question that has come in whole records: the first format, if it is about two.
 pub record HasFirst (p : PartialQuestion) (asked : RecordQuestion) (first : List Text) : Type 0 where
   pub asked_is : p.asked ≡ asked
   pub few : length first < formats_wanted asked

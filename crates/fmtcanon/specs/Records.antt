@@ -83,7 +83,7 @@ module _ (asked : RecordQuestion) {W : Type 0} (contents : W → Known) (old new
     pub writes : WritesAll contents old new (replies_text replies)
     pub flushed : is_flushed new ≡ true
 
-  -- Just the first bytes of replies went out, and a call failed. The count stays at the greatest
+  -- Just the first bytes of replies went out, and a call failed. The count stays at the largest
   -- `u128`.
   pub record RepliesFirst (records : List Text) (count : ℕ) : Type 0 where
     pub replies : List Reply
@@ -116,15 +116,16 @@ module _ (asked : RecordQuestion) {R W : Type 0} (remaining : R → Known) (cont
   ReadFails = HasFailed reader left ⊎ (max_count ≤ calls_of left)
 
   -- Each whole record that it has handed out has its reply, which went out and was flushed, except
-  -- one that wants a second. No call failed.
+  -- one that needs a second. No call failed.
   abbrev pub AllReplied : Type 0
   AllReplied =
       (whole : List Text) × (rest : Text) × (first : List Text) × (greatest : ℕ)
       × HandsOut whole rest × ReadWell × (length first < formats_wanted asked)
       × RepliesAll asked contents old new whole first greatest
 
-  -- What a run over records leaves. At Read each whole record has its reply, but one that wants a
-  -- second. At Memory the first of them have theirs: for which one it was wanted, this doesn't say.
+  -- The state that a run over records leaves. At Read each whole record has its reply, except one
+  -- that needs a second. At Memory the first of them have theirs: it doesn't say which one needed
+  -- the memory.
   abbrev pub RecordsEnd : Outcome → Type 0
   RecordsEnd (Answered greatest) =
       (records : List Text) × HandsOutAll records × ReadWell

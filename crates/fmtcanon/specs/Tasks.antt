@@ -31,7 +31,7 @@ pub record Names (words : List Text) (command : Text) (rows : List Row) : Type 0
 abbrev pub HasValue : List Row → Text → Text → Type 0
 HasValue rows id text = first_of id rows ≡ Some text
 
--- an argument has these values, of which there may be none
+-- an argument has these values; there may be none
 abbrev pub HasAllValues : List Row → Text → List Text → Type 0
 HasAllValues rows id texts = texts ≡ unwrap_or (all_of id rows) []
 
@@ -77,15 +77,15 @@ HasFault words =
     (app : App) × IsCommand app × (k : ErrorKind) × (k ≢ kind.OutOfMemory)
     × IsAmong k (fault_of app words)
 
--- not as many formats are among the words as are wanted, and `--null` isn't
+-- `--null` isn't among the arguments, and not as many formats as the question needs
 abbrev pub IsMissing : RecordQuestion → List Row → Type 0
 IsMissing asked rows = (is_null rows ≡ false) × (length (formats_in rows) ≢ formats_wanted asked)
 
--- formats are among the words besides `--null`
+-- formats are among the arguments besides `--null`
 abbrev pub IsMisplaced : RecordQuestion → List Row → Type 0
 IsMisplaced asked rows = (is_null rows ≡ true) × (length (formats_in rows) ≢ 0)
 
--- the words name a command about formats, of which this holds
+-- the words name a command about formats, and this holds of what it is asked
 abbrev pub NameFormats : (RecordQuestion → List Row → Type 0) → List Text → Type 0
 NameFormats Holds words =
     (command : Text) × (rows : List Row) × Names words command rows
@@ -107,7 +107,7 @@ IsTaskOn asked rows (Records of_each) =
     (of_each ≡ asked) × (is_null rows ≡ true) × (formats_in rows ≡ [])
 IsTaskOn asked rows (Stream model) = ⊥
 
--- why it has none: a format is missing or misplaced, which takes no memory to say
+-- why it has none: a format is missing or misplaced, which is said without an allocation
 abbrev pub IsNoTaskOn : RecordQuestion → List Row → NoTask → Type 0
 IsNoTaskOn asked rows Missing = IsMissing asked rows
 IsNoTaskOn asked rows Misplaced = IsMisplaced asked rows

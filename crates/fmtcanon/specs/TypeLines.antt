@@ -7,7 +7,7 @@ use Rattle.pf_values.specs.meaning.Items.{HasItems, Item, types}
 use Rattle.pf_values.specs.meaning.Text.{Text}
 use Rattle.fmtcanon.specs.Lines.{line}
 
--- a type as C names it, but for a string
+-- a type as C names it, except for a string
 abbrev pub type_name : ArgType → Text
 type_name Int = codes "int"
 type_name UInt = codes "unsigned int"

@@ -15,7 +15,7 @@ use Rattle.fmtcanon.specs.declared.command.Shape.TheVariants.{Nothing, Records, 
 use Rattle.fmtcanon.specs.declared.command.Row.{Row}
 use Rattle.fmtcanon.specs.Models.{model_names, model_names_or_more}
 
--- an argument that is wanted
+-- a required argument
 abbrev pub wanted : Text → Rule
 wanted id = record (new_rule id) { required = true }
 
@@ -91,8 +91,8 @@ on_shape FewerPairs name models = with_rule (on_pairs name models) fewer_option
 on_shape WholePairs name models = with_rule (on_pairs name models) whole_option
 on_shape Format name models = with_rule (on_format name models) any_arguments
 
--- The words come without the program's name, a subcommand is wanted, and `--version` is answered
--- beside `--help`.
+-- The arguments come without the program's name, a subcommand is required, and `--version` is an
+-- option next to `--help`.
 abbrev pub top_app : App
 top_app = on_top (λ s. record s {
   no_binary_name = true;

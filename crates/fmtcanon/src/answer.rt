@@ -66,7 +66,7 @@ pub struct Answer {
     pub ending: Ending,
 }
 
-/// Returns the answer to a question, or why it can't be answered.
+/// Returns the answer to a question. `Err` with the reason if there is none.
 pub fn answer_to(alloc: Global, question: &Question<'_>) -> Result<Answer, Fault>
     ensures { MatchResult result
         (λ answer. IsAnswer question.now (output_bytes answer.output) answer.ending)
@@ -99,7 +99,8 @@ fn answer_of_one(
     })
 }
 
-/// Returns the bytes that answer a question about one format that is given.
+/// Returns the answer to a question about one format that is given, as bytes. `Err` with the reason if
+/// there is none.
 pub fn answer_about_one(
     alloc: Global,
     asked: &OneQuestion<'_>,
@@ -155,7 +156,8 @@ fn lines_about(
     }
 }
 
-/// Answers a question about two formats that are given.
+/// Answers a question about two formats that are given. `Err` with the reason if there is no
+/// answer.
 pub fn answer_about_two(
     alloc: Global,
     asked: PairQuestion,
@@ -289,12 +291,12 @@ fn canonical_line(
     ensures { MatchResult result (λ out. HasCanonicalLine notation model format.now out.items)
         (IsFormatFault Profile model format.now) }
 {
-    // With room for the newline, so that it needs no growth of its own.
+    // With room for the newline, so that it needs no allocation of its own.
     let canonical = canonical_with_room(alloc, model, format, 1)?;
     Ok(with_newline(notation.write(alloc, canonical)?)?)
 }
 
-/// Returns a text with a newline after it.
+/// Returns a text with a newline after it. `Err` if memory is refused.
 pub fn with_newline(mut text: Vec<u8>) -> Result<Vec<u8>, AllocError>
     ensures { IfOk result (λ out. out.items ≡ line text.items) }
 {

@@ -59,7 +59,7 @@ fn number_as(model: Model, number: i128, arg_type: ArgType) -> Option<Arg<'stati
 /// The most digits of a number, zeros in front included.
 pub const MAX_DIGITS: usize = 20;
 
-/// The argument that a word gives, or `None` if it gives none.
+/// Returns the argument that a word gives, or `None` if it gives none.
 pub fn read_argument(word: &[u8]) -> Option<UntypedArg<'_>>
     ensures some { IfSome result (λ given. SpellsArgument word.now (argument_given given)) }
     ensures none { IfNone result ((argument : Argument) → ¬ SpellsArgument word.now argument) }
@@ -101,7 +101,8 @@ fn magnitude_of(digits: &[u8]) -> Option<i128>
     Some(magnitude)
 }
 
-/// The arguments for a format, each of its type in a data model.
+/// Returns the arguments for a format, each of its type in a data model. `Err` with the reason if
+/// there are none.
 pub fn arguments_for<'a>(
     alloc: Global,
     model: Model,

@@ -10,8 +10,8 @@ use pf_bounds::{Bounds, bounds};
 use pf_values::Model;
 use std::alloc::{AllocError, Global};
 
-/// Returns the line of `bounds`: how many bytes a format prints at least and at most in a data model,
-/// or its refusal.
+/// Returns the line of `bounds`: how many bytes a format prints at least and at most in a data model.
+/// `Err` if the format or memory is refused.
 pub fn bounds_line(alloc: Global, model: Model, format: &[u8]) -> Result<Vec<u8>, Fault>
     ensures { MatchResult result (λ out. HasBoundsLine model format.now out.items)
         (IsFormatFault Profile model format.now) }

@@ -19,7 +19,7 @@ pub enum Shape {
     Records,
     /// A format, or records, perhaps of the whole language.
     WholeRecords,
-    /// Two formats, or records, of which the second may take fewer arguments.
+    /// Two formats, or records. The second of two may take fewer arguments.
     FewerPairs,
     /// Two formats, or records, perhaps of the whole language.
     WholePairs,
@@ -44,7 +44,7 @@ pub struct Row<'a> {
     pub model_help: &'a str,
 }
 
-/// The command, as `clap` sees it.
+/// Returns the command, as `clap` sees it. `Err` if memory is refused.
 pub fn definition<'a>(alloc: Global) -> Result<Command<'a>, AllocError>
     ensures { IfOk result (λ command. IsCommand (app_of command)) }
 {

@@ -13,7 +13,8 @@ use pf_values::Model;
 use std::alloc::{AllocError, Global};
 
 /// Says whether two formats are interchangeable in a data model; otherwise where their types differ,
-/// or arguments for which they print different bytes, each as the word that gives it.
+/// or arguments for which they print different bytes, each as the word that gives it. `Err` if one
+/// of them or memory is refused.
 pub fn comparison_in(
     alloc: Global,
     model: Model,

@@ -20,7 +20,7 @@ pub enum Notation {
 }
 
 impl Notation {
-    /// Some bytes as this notation gives them.
+    /// Returns some bytes in this notation. `Err` if memory is refused.
     pub fn write(self, alloc: Global, bytes: Vec<u8>) -> Result<Vec<u8>, AllocError>
         ensures { IfOk result (λ out. out.items ≡ written_in self bytes.items) }
     {
@@ -41,7 +41,7 @@ pub struct GivenFormat<'a> {
 }
 
 impl<'a> GivenFormat<'a> {
-    /// The format that a text gives.
+    /// Returns the format that a text gives.
     pub fn new(notation: Notation, text: &'a [u8]) -> GivenFormat<'a>
         ensures notation { result.notation ≡ notation }
         ensures text { result.text.now ≡ text.now }
@@ -49,7 +49,7 @@ impl<'a> GivenFormat<'a> {
         GivenFormat { notation, text }
     }
 
-    /// The bytes of the format.
+    /// Returns the bytes of the format. `Err` if it is not a source, or if memory is refused.
     pub fn bytes(&self, alloc: Global) -> Result<CowSlice<'a, u8>, LiteralFault>
         ensures { MatchResult result (λ bytes. IsFormat self.now (cow_slice_items bytes))
             (IsBytesFault self.now) }

@@ -9,23 +9,24 @@ ghost use Rattle.pf_values.specs.meaning.Specification.{Specification};
 ghost use Rattle.pf_values.specs.meaning.Text.{Text};
 ghost use Rattle.std.specs.Prelude.{◌≡◌};
 
-/// A word gives one argument at most.
+/// Proves that a word gives one argument at most.
 pub fn spells_one_argument()
     ensures { SpellsOneArgument }
 {}
 
-/// The word that is printed for an argument is read as that argument.
+/// Proves that the word that is printed for an argument is read as that argument.
 pub fn printed_word_is_read()
     ensures { (model : Model) → PrintedWordIsRead model }
 {}
 
-/// A directive has one reduction in each data model.
+/// Proves that a directive has one reduction in each data model.
 pub fn one_reduction()
     ensures { (model : Model) (s : Specification) (r q : Reduced) → IsReducedTo model s r
         → IsReducedTo model s q → r ≡ q }
 {}
 
-/// The canonical literal of a format that is given as literals is its own canonical literal.
+/// Proves that the canonical literal of a format that is given as literals is its own canonical
+/// literal.
 pub fn canonical_literal_is_its_own()
     ensures { (model : Model) (t literal : Text) → IsCanonicalLiteralOf model t literal
         → IsCanonicalLiteralOf model literal literal }

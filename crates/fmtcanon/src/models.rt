@@ -24,7 +24,7 @@ pub enum Models {
 }
 
 impl Models {
-    /// The first of them.
+    /// Returns the first of them.
     pub fn first(self) -> Model
         ensures { result ≡ first_model self }
     {
@@ -35,7 +35,7 @@ impl Models {
     }
 }
 
-/// The name of a data model.
+/// Returns the name of a data model.
 pub fn name_of(model: Model) -> &'static str
     ensures { result.now ≡ model_name model }
 {
@@ -46,7 +46,7 @@ pub fn name_of(model: Model) -> &'static str
     }
 }
 
-/// The data model of a command.
+/// Returns the data model of a command.
 pub fn model_of(inner: &ArgMatches<'_>) -> Model
     ensures { result ≡ model_in (rows_in inner.now) }
 {
@@ -56,7 +56,7 @@ pub fn model_of(inner: &ArgMatches<'_>) -> Model
     }
 }
 
-/// The data models of a command about two formats.
+/// Returns the data models of a command about two formats.
 pub fn models_of(inner: &ArgMatches<'_>) -> Models
     ensures { result ≡ models_in (rows_in inner.now) }
 {

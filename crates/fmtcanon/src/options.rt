@@ -17,7 +17,7 @@ pub fn notation_of(inner: &ArgMatches<'_>) -> Notation
     }
 }
 
-/// Whether an option without a value is given.
+/// Returns whether an option without a value is given.
 pub fn is_set(inner: &ArgMatches<'_>, id: &str) -> bool
     ensures { result ≡ is_set id.now (rows_in inner.now) }
 {

@@ -57,7 +57,7 @@ pub enum Outcome {
     },
     /// The argument with this index is not of its type.
     WrongType(u64),
-    /// A growth was refused.
+    /// Memory was refused.
     Memory,
     /// A record is left over that needs a second one, and all before it were answered.
     NoSecond,
@@ -147,7 +147,7 @@ pub enum Fault {
     },
     /// The argument with this index is not of its type.
     WrongType(u64),
-    /// A growth was refused.
+    /// Memory was refused.
     Memory,
 }
 
@@ -270,7 +270,7 @@ fn write_line<E: Write>(errors: &mut Counted<E>, line: &Line) -> Result<(), Shor
     write_bytes(errors, line.as_str().as_bytes())
 }
 
-/// The line of a fault.
+/// Returns the line of a fault.
 pub fn fault_line(fault: &Fault) -> Line
     ensures { result.bytes ≡ fault_text fault.now }
 {

@@ -19,7 +19,7 @@ use pf_values::Model;
 use std::alloc::{AllocError, Global};
 
 /// Answers a question about two formats in the data models that are asked for. In more than one, each
-/// answer comes below the name of its model.
+/// answer comes below the name of its model. `Err` with the reason if there is no answer.
 pub fn pair_answer(
     alloc: Global,
     question: PairQuestion,
@@ -84,7 +84,7 @@ fn pair_answer_in(
     }
 }
 
-/// Returns the refusal of the bytes of the first of two formats, if it is refused.
+/// Returns the refusal of the bytes of the first of two formats, or `None` if it is accepted.
 pub fn refusal_of_first(question: PairQuestion, model: Model, bytes: &[u8]) -> Option<Fault>
     ensures { MatchOption result (AcceptsText (language_of question) model bytes.now)
         (IsRefusalOfFirst (language_of question) model bytes.now) }

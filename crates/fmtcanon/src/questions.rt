@@ -112,7 +112,7 @@ impl RecordQuestion {
     }
 }
 
-/// Returns what a command asks about formats, whichever they are.
+/// Returns what a command asks about formats, whichever they are, or `None` if it asks nothing.
 pub fn question_of(name: &str, inner: &ArgMatches<'_>) -> Option<RecordQuestion>
     ensures { MatchOption result (IsNoQuestionName name.now)
         (IsAsked name.now (rows_in inner.now)) }
@@ -152,8 +152,8 @@ fn about_canonical(inner: &ArgMatches<'_>) -> FormatQuestion
     }
 }
 
-// What the command about the arguments of two formats asks: whether they are the same, or whether the
-// second takes no others.
+// The question of the command about the arguments of two formats: whether the second takes just the
+// arguments of the first, or no others.
 fn about_fits(inner: &ArgMatches<'_>) -> PairQuestion
     ensures { IsAskedOfTwo (codes "fits") (rows_in inner.now) result }
 {

@@ -41,7 +41,8 @@ impl RecordAnswers {
         }
     }
 
-    /// Takes a whole record. If it completes a question, the reply to that is added.
+    /// Takes a whole record. If it completes a question, the reply to that is added. `Err` if
+    /// memory is refused or a write fails.
     pub fn take<W: Write>(
         &mut self,
         alloc: Global,

@@ -20,14 +20,14 @@ const REPLY_BLOCK: usize = 65_536;
 #[derive(Drop)]
 pub struct Replies {
     buffer: Vec<u8>,
-    // The greatest status.
+    // The highest status.
     greatest: u8,
     // How many bytes have gone out.
     written: u128,
 }
 
 impl Replies {
-    /// None came.
+    /// Returns the replies before the first one.
     pub fn new(alloc: Global) -> Replies
         ensures { HasReplies result [] [] }
     {
@@ -38,14 +38,14 @@ impl Replies {
         }
     }
 
-    /// The greatest status of all that came, and 0 where none did.
+    /// Returns the highest status of all that came, and 0 if none did.
     pub fn greatest(&self) -> u8
         ensures { result ≡ self.now.greatest }
     {
         self.greatest
     }
 
-    /// Adds the reply to a question. Where a growth is refused, nothing is added.
+    /// Adds the reply to a question. `Err` if memory is refused: then nothing is added.
     pub fn add(&mut self, alloc: Global, question: &Question<'_>) -> Result<(), AllocError>
         ensures { (asked : RecordQuestion) (formats : List Text) (sent : Text)
             (replies : List Reply)
@@ -87,7 +87,7 @@ impl Replies {
         Ok(())
     }
 
-    /// Writes those that wait, if they are a block.
+    /// Writes those that wait, if they are a block. `Err` if a write fails.
     pub fn write_block<W: Write>(&mut self, writer: &mut Counted<W>) -> Result<(), u128>
         ensures { (start : Counted W) (replies : List Reply)
             → HasSaid W.contents self.old start writer.old replies
@@ -138,7 +138,7 @@ impl Replies {
     }
 }
 
-// Where a growth is refused, a part of the reply may be left after the bytes.
+// If memory is refused, a part of the reply may be left after the bytes.
 fn push_reply(out: &mut Vec<u8>, status: u8, said: &[u8]) -> Result<(), AllocError>
     requires { status ≤ 9 }
     ensures ok { OnOk result (out.new.items ≡ out.old.items ++ reply_bytes status said.now) }

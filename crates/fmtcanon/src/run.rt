@@ -64,7 +64,7 @@ fn run_found<R: Read, W: Write, I: Input<R, W>>(
     }
 }
 
-// Answers a question. All growths come before the first byte goes out.
+// Answers a question. All allocations come before the first byte goes out.
 fn answer<W: Write>(alloc: Global, question: &Question<'_>, writer: &mut Counted<W>) -> Outcome
     ensures { AnswerEnds W.contents writer.old writer.new question.now result }
 {

@@ -19,8 +19,8 @@ use pf_text::{Piece, Pieces, check, spell};
 use pf_values::{Directive, Model};
 use std::alloc::{AllocError, Global};
 
-/// A line for each run of literal bytes, each `%%` and each directive of a format in a data model,
-/// or its refusal.
+/// Returns a line for each run of literal bytes, each `%%` and each directive of a format in a data
+/// model. `Err` if the format or memory is refused.
 pub fn show_lines(alloc: Global, model: Model, format: &[u8]) -> Result<Vec<u8>, Fault>
     ensures { MatchResult result (λ out. HasShownLines model format.now out.items)
         (IsFormatFault Profile model format.now) }

@@ -9,7 +9,7 @@ use crate::command::{Row, Shape};
 use clap::{Arg, ArgAction, Command};
 use std::alloc::{AllocError, Global};
 
-/// Returns the subcommand of a row.
+/// Returns the subcommand of a row. `Err` if memory is refused.
 pub fn subcommand<'a>(alloc: Global, row: &Row<'a>) -> Result<Command<'a>, AllocError>
     ensures { IfOk result (λ command. (app_of command ≡ row_app (row_of row.now))
         × ((fields_of command).has_globals ≡ false)) }

@@ -20,9 +20,9 @@ use std::alloc::{AllocError, Global};
 /// What a command does.
 #[derive(Drop)]
 pub enum Task<'a> {
-    /// It answers a question about formats that are among the words.
+    /// Answer a question about formats that are among the arguments.
     Answer(Question<'a>),
-    /// It answers the same question about each record that the reader hands out, or each two.
+    /// Answer the same question about each record that the reader hands out, or each two.
     Records(RecordQuestion),
     /// It copies the canonical text of what the reader hands out, in this data model.
     Stream(Model),
@@ -37,11 +37,11 @@ pub enum NoTask {
     Missing,
     /// Formats are given besides the option `--null`.
     Misplaced,
-    /// A growth was refused.
+    /// Memory was refused.
     Memory,
 }
 
-/// The task that the words ask for.
+/// Returns the task that the arguments ask for. `Err` if there is none.
 pub fn task_of<'a>(alloc: Global, words: &'a [&'a str]) -> Result<Task<'a>, NoTask>
     ensures ok { IfOk result (Asks (map (λ s. s.now) words.now)) }
     ensures err { IfErr result (IsNoTaskOf (map (λ s. s.now) words.now)) }

@@ -12,7 +12,8 @@ use pf_text::{Signature, check, signature};
 use pf_values::{ArgType, Model};
 use std::alloc::{AllocError, Global};
 
-/// A line for each argument of a format in a data model, or its refusal.
+/// Returns a line for each argument of a format in a data model. `Err` if the format or memory is
+/// refused.
 pub fn type_lines(alloc: Global, model: Model, format: &[u8]) -> Result<Vec<u8>, Fault>
     ensures { MatchResult result (λ out. HasTypeLines model format.now out.items)
         (IsFormatFault Profile model format.now) }
@@ -21,7 +22,8 @@ pub fn type_lines(alloc: Global, model: Model, format: &[u8]) -> Result<Vec<u8>,
     Ok(lines_of_types(alloc, types.as_slice())?)
 }
 
-/// Returns the types of a format's arguments in a data model, or its refusal, which takes no memory.
+/// Returns the types of a format's arguments in a data model. `Err` if it is refused, or memory is, for
+/// an accepted format.
 pub fn types_of(alloc: Global, model: Model, format: &[u8]) -> Result<Signature, Fault>
     ensures { MatchResult result (λ signature. TakesTypes model format.now (types_of signature))
         (IsFormatFault Profile model format.now) }
@@ -41,7 +43,7 @@ fn lines_of_types(alloc: Global, types: &[ArgType]) -> Result<Vec<u8>, AllocErro
     Ok(out)
 }
 
-/// The name of a type, as C spells it; that of a string is `string`.
+/// Returns the name of a type, as C spells it; that of a string is `string`.
 pub fn type_name(arg_type: ArgType) -> &'static str
     ensures { result.now ≡ type_name arg_type }
 {
@@ -56,7 +58,8 @@ pub fn type_name(arg_type: ArgType) -> &'static str
     }
 }
 
-/// A line for each argument of a format of the whole language in a data model, or its refusal.
+/// Returns a line for each argument of a format of the whole language in a data model. `Err` if the
+/// format or memory is refused.
 pub fn whole_type_lines(alloc: Global, model: Model, format: &[u8]) -> Result<Vec<u8>, Fault>
     ensures { MatchResult result (λ out. HasArgumentLines model format.now out.items)
         (IsFormatFault Numbered model format.now) }

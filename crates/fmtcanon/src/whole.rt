@@ -19,6 +19,7 @@ use pf_whole::{WholeVerdict, canonical_with_room, compare};
 use std::alloc::{AllocError, Global};
 
 /// Returns the line of `canon --whole`: the canonical text of a format in a notation, and a newline.
+/// `Err` if the format or memory is refused.
 pub fn whole_canonical_line(
     alloc: Global,
     notation: Notation,
@@ -28,13 +29,13 @@ pub fn whole_canonical_line(
     ensures { MatchResult result (λ out. HasWholeCanonicalLine notation model format.now out.items)
         (IsFormatFault Unnumbered model format.now) }
 {
-    // With room for the newline, so that it needs no growth of its own.
+    // With room for the newline, so that it needs no allocation of its own.
     let canonical = canonical_with_room(alloc, model, format, 1)?;
     Ok(with_newline(notation.write(alloc, canonical)?)?)
 }
 
 /// Says whether the second format takes just the arguments of the first; otherwise the first index at
-/// which they differ.
+/// which they differ. `Err` if one of them is refused.
 pub fn fit_in(model: Model, first: &[u8], second: &[u8]) -> Result<Answer, Fault>
     ensures { MatchResult result
         (λ answer. IsFitAnswer (ComparesArgumentTypes model first.now second.now)
@@ -49,7 +50,7 @@ pub fn fit_in(model: Model, first: &[u8], second: &[u8]) -> Result<Answer, Fault
 }
 
 /// Says whether the second format takes no other arguments than the first, from which it may leave out
-/// the last ones; otherwise the first index at which it takes another.
+/// the last ones; otherwise the first index at which it takes another. `Err` if one of them is refused.
 pub fn fewer_in(model: Model, first: &[u8], second: &[u8]) -> Result<Answer, Fault>
     ensures { MatchResult result
         (λ answer. IsFitAnswer (ComparesBeginning model first.now second.now)
@@ -93,7 +94,7 @@ fn fit_ending(index: Option<u64>) -> Ending
 }
 
 /// Says whether two formats are interchangeable; otherwise where their types or their calls differ, or
-/// arguments for which they print different bytes.
+/// arguments for which they print different bytes. `Err` if one of them or memory is refused.
 pub fn alike_in(alloc: Global, model: Model, first: &[u8], second: &[u8]) -> Result<Answer, Fault>
     ensures { MatchResult result
         (λ answer. IsAlikeAnswer model first.now second.now (output_bytes answer.output)
