@@ -9,6 +9,8 @@ from .kinds import Type
 from .prototypes import CArgument
 
 _SIGNED = (Type.INT, Type.LONG, Type.LONG_LONG)
+# The program accepts no number of more digits.
+_MOST_DIGITS = 20
 
 
 def passed(arguments: Sequence[Any], kinds: Sequence[Type]) -> "ctypes.Array[CArgument]":
@@ -25,10 +27,10 @@ def passed(arguments: Sequence[Any], kinds: Sequence[Type]) -> "ctypes.Array[CAr
 
 def _passed(index: int, argument: Any, kind: Type) -> CArgument:
     if isinstance(argument, int):
-        if not -(2**63) <= argument < 2**64:
+        if abs(argument) >= 10**_MOST_DIGITS:
             raise ValueError(f"argument {index}: not an argument")
-        # Of the numbers that 64 bits hold, these have the bits of another number of the type.
-        if kind is Type.STRING or (argument >= 2**63 if kind in _SIGNED else argument < 0):
+        least = -(2**63) if kind in _SIGNED else 0
+        if kind is Type.STRING or not least <= argument < least + 2**64:
             raise ValueError(f"argument {index}: wrong type")
         return CArgument(kind, argument % 2**64, None, 0)
     string = _string(argument)

@@ -192,11 +192,12 @@ class Calls(unittest.TestCase):
     def test_numbers_of_formats(self):
         for text, number in [("%llu", 2**64 - 1), ("%lld", -(2**63)), ("%ld", 2**63 - 1), ("%u", 2**32 - 1)]:
             self.assertEqual(fmtcanon.format(text, number), b"%d" % number)
-        for text, number in [("%llu", -1), ("%lld", 2**63), ("%ld", 2**64 - 1), ("%u", 2**32), ("%s", 0)]:
+        for text, number in [("%llu", -1), ("%lld", 2**63), ("%ld", 2**64 - 1), ("%u", 2**32), ("%s", 0), ("%lld", -(2**63) - 1)]:
             with self.assertRaisesRegex(ValueError, "argument 0: wrong type"):
                 fmtcanon.format(text, number)
-        with self.assertRaisesRegex(ValueError, "argument 0: not an argument"):
-            fmtcanon.format("%lld", -(2**63) - 1)
+        for number in [10**20, -(10**20)]:
+            with self.assertRaisesRegex(ValueError, "argument 0: not an argument"):
+                fmtcanon.format("%lld", number)
 
     def test_show(self):
         wanted = [fmtcanon.Text(1), fmtcanon.Directive("%20d", "int", 9, 0, "%11d", 0), fmtcanon.Percent()]

@@ -7,7 +7,9 @@ ghost use Rattle.fmtcanon_c.specs.Models.{InModel};
 ghost use Rattle.fmtcanon_c.specs.Rendering.{IsArgumentError, PrintsInto, PutsPrinted};
 
 use crate::arguments::CArgument;
-use crate::interface::{CError, NO_MEMORY, NO_MODEL, WRONG_COUNT, WRONG_TYPE, model_of, put_refusal};
+use crate::interface::{
+    CError, NO_MEMORY, NO_MODEL, WRONG_COUNT, WRONG_TYPE, model_of, put_refusal,
+};
 use pf_render::{RenderVecFault, render_into};
 use pf_text::Side;
 use pf_values::Model;

@@ -20,7 +20,7 @@ abbrev pub unfilled_of : Filling → Text
 unfilled_of filling = drop filling.len filling.buffer.now
 
 -- the bytes were put after those at the front
-pub record HasPut (old new : Filling) (bytes : Text) : Type 0 where
+pub record HasFilled (old new : Filling) (bytes : Text) : Type 0 where
   pub filled : filled_of new ≡ filled_of old ++ bytes
   pub unfilled : unfilled_of new ≡ drop (length bytes) (unfilled_of old)
   pub same : new.buffer.ghost_name ≡ old.buffer.ghost_name

@@ -7,7 +7,7 @@ use Rattle.pf_values.specs.Counting.{Known, WritesAll, WritesFirst, device_of}
 use Rattle.pf_values.specs.meaning.Text.{Text}
 use Rattle.pf_values.proofs.WriteLemmas.{WritesFirst-more}
 use Rattle.pf_render.specs.declared.filling.Filling.{Filling}
-use Rattle.pf_render.specs.Buffers.{HasNoRoom, HasPut, IsMeasured, IsTooLong, filled_of, unfilled_of}
+use Rattle.pf_render.specs.Buffers.{HasNoRoom, HasFilled, IsMeasured, IsTooLong, filled_of, unfilled_of}
 use Rattle.pf_render.specs.Gathering.{IsKept, IsKeptInPart, gathered_bytes}
 use Rattle.pf_render.specs.Outputs.{IsOutput}
 
@@ -32,8 +32,8 @@ counted_writes contents = record {
 }
 
 -- the text that is gathered in memory
-pub gathers_text : IsOutput IsKept IsKeptInPart
-gathers_text = record {
+pub keeps : IsOutput IsKept IsKeptInPart
+keeps = record {
   nothing = λ o. sym (append-nil (gathered_bytes o));
   joined = λ old mid new first second h g.
       g ∙ ap (λ t. t ++ second) h ∙ append_assoc (gathered_bytes old) first second;
@@ -50,8 +50,8 @@ measures = record {
 }
 
 -- the front of a buffer
-fills_joined : (old mid new : Filling) (first second : Text) → HasPut old mid first
-    → HasPut mid new second → HasPut old new (first ++ second)
+fills_joined : (old mid new : Filling) (first second : Text) → HasFilled old mid first
+    → HasFilled mid new second → HasFilled old new (first ++ second)
 fills_joined old mid new first second h g =
     record {
       filled = g.filled ∙ ap (λ t. t ++ second) h.filled
@@ -62,7 +62,7 @@ fills_joined old mid new first second h g =
       same = g.same ∙ h.same;
     }
 
-pub fills : IsOutput HasPut HasNoRoom
+pub fills : IsOutput HasFilled HasNoRoom
 fills = record {
   nothing = λ o. record { filled = sym (append-nil (filled_of o)); unfilled = refl; same = refl };
   joined = fills_joined;

@@ -15,10 +15,10 @@ pub(crate) struct Filling<'a> {
 }
 
 impl<'a> Output for Filling<'a> {
-    ghost use Rattle.pf_render.specs.Buffers.{HasNoRoom, HasPut};
+    ghost use Rattle.pf_render.specs.Buffers.{HasNoRoom, HasFilled};
     ghost use Rattle.pf_render.specs.OutputLaws.{fills};
 
-    ghost wrote = { HasPut };
+    ghost wrote = { HasFilled };
 
     ghost stopped = { HasNoRoom };
 

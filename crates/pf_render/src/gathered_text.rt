@@ -43,13 +43,13 @@ impl GatheredText {
 
 impl Output for GatheredText {
     ghost use Rattle.pf_render.specs.Gathering.{IsKept, IsKeptInPart};
-    ghost use Rattle.pf_render.specs.OutputLaws.{gathers_text};
+    ghost use Rattle.pf_render.specs.OutputLaws.{keeps};
 
     ghost wrote = { IsKept };
 
     ghost stopped = { IsKeptInPart };
 
-    ghost laws = { gathers_text };
+    ghost laws = { keeps };
 
     #[inline(always)]
     fn put(&mut self, bytes: &[u8]) -> Result<(), ShortWrite> {

@@ -8,4 +8,4 @@ pub returns-in-Some : goal.returns-in-Some
 returns-in-Some c =
     let same = value_of_type c.args.self.now c.type_with_number.result c.type_with_number.ensures c.in-Some.own c.in-Some.is in
     subst (λ v. MatchOption c.string_from.result ((x : ℤ) × (v ≡ Number x)) (λ bytes. v ≡ String bytes.now)) (sym same)
-        (c.string_from.ensures c.args.self.now.number)
+    (c.string_from.ensures c.args.self.now.number)
