@@ -11,7 +11,7 @@ use Rattle.pf_compare.specs.declared.comparisons.Comparison.{Comparison}
 use Rattle.pf_compare.specs.declared.comparisons.Verdict.{Verdict}
 use Rattle.pf_compare.specs.declared.comparisons.Verdict.TheVariants as verdicts
 use Rattle.pf_whole.specs.Answers as answers
-use Rattle.pf_whole.specs.Comparisons.{FaultForWholeCompare, IsComparison, verdict_of}
+use Rattle.pf_whole.specs.Comparisons.{FaultForWholeCompare, IsComparison}
 use Rattle.pf_whole.specs.declared.verdicts.WholeVerdict.{WholeVerdict}
 use Rattle.pf_whole.specs.declared.verdicts.WholeVerdict.TheVariants as whole
 use Rattle.pf_whole.proofs.Telling.{calls_give_shape}
@@ -58,6 +58,9 @@ module _ (model : Model) (first second : Text) where
   shown_needed (whole.Directives index) h has = absurd has
   shown_needed (whole.Args shown) h has =
       let a = h.is.first in
-      let b = h.is.second in
-      (a, b, calls_give_shape model first second a.stretches b.stretches a.reads b.reads h.is.is.0 h.is.is.1,
-      λ alike. subst IsDifferent (h.is.same.1 alike) tt)
+      let b = h.is.second in (
+        a,
+        b,
+        calls_give_shape model first second a.stretches b.stretches a.reads b.reads h.is.is.0 h.is.is.1,
+        λ alike. subst IsDifferent (h.is.same.1 alike) tt,
+      )

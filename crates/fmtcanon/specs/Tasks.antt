@@ -1,5 +1,5 @@
 -- What the words ask for, as a task. This project's own.
-use Rattle.std.specs.Prelude.{◌≡◌, ◌≢◌, true, false, List, [], Option, None, Some, codes, if◌then◌else◌, length, map, unwrap_or, ⊤}
+use Rattle.std.specs.Prelude.{◌≡◌, ◌≢◌, true, false, List, [], Option, None, Some, codes, length, map, unwrap_or, ⊤}
 use Rattle.clap.specs.Faults.{fault_of}
 use Rattle.clap.specs.Kinds.{IsAmong}
 use Rattle.clap.specs.Simple.{App, subcommand_of}

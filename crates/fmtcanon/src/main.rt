@@ -1,5 +1,6 @@
 //! The program: it runs the command of its words over the standard streams.
 #![tactic(auto)]
+
 ghost use Rattle.std.specs.Prelude.{◌≡◌};
 ghost use Rattle.std.specs.Process.{exit_status};
 ghost use Rattle.fmtcanon.specs.Outcomes.{status_of};

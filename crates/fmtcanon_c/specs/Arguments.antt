@@ -1,5 +1,5 @@
 -- The arguments of a C program, each with its type and its value. This project's own.
-use Rattle.std.specs.Prelude.{ℕ, ◌==◌, ℤ, pos, Option, Some, None, if◌then◌else◌}
+use Rattle.std.specs.Prelude.{ℕ, ◌==◌, pos, Option, Some, None, if◌then◌else◌}
 use Rattle.std.specs.Int.{cast_signed, w64}
 use Rattle.pf_values.specs.declared.types.ArgType.{ArgType}
 use Rattle.pf_values.specs.declared.types.ArgType.TheVariants.{Int, UInt, Long, ULong, LongLong, ULongLong, Str}

@@ -1,8 +1,5 @@
 //! What a format prints for arguments.
-ghost use Rattle.std.specs.Prelude.{◌≡◌, ◌≤◌, ◌<◌, ◌^◌, ◌++◌, ◌∷◌, [], length, neg_ℤ, pos};
-ghost use Rattle.pf_render.specs.Rendering.{FaultForRenderIntoBy, RendersToBy};
-ghost use Rattle.fmtcanon_c.specs.Arguments.{type_in_c, value_in_c};
-ghost use Rattle.fmtcanon_c.specs.Buffers.{put};
+ghost use Rattle.std.specs.Prelude.{◌≡◌, ◌<◌};
 ghost use Rattle.fmtcanon_c.specs.Models.{InModel};
 ghost use Rattle.fmtcanon_c.specs.Rendering.{IsArgumentError, PrintsInto, PutsPrinted};
 

@@ -1,5 +1,5 @@
 -- What follows of a canonical text, and of whether two texts are alike.
-use Rattle.std.proofs.Common.{◌≡◌, Bool, refl, subst, sym}
+use Rattle.std.proofs.Common.{◌≡◌, Bool, subst, sym}
 use Rattle.std.specs.Prelude.{◌↔◌, IsTrue}
 use Rattle.pf_values.specs.declared.models.Model.{Model}
 use Rattle.pf_values.specs.meaning.Text.{Text}

@@ -51,12 +51,7 @@ pub fn canonical_with_room(
 }
 
 // Builds the canonical text, and allocates room for `more` bytes after it.
-fn build(
-    alloc: Global,
-    model: Model,
-    text: &[u8],
-    more: usize,
-) -> Result<Vec<u8>, TextFault>
+fn build(alloc: Global, model: Model, text: &[u8], more: usize) -> Result<Vec<u8>, TextFault>
     ensures { MatchResult result (λ c. IsWholeCanonicalFor model text.now c.items)
         (FaultForWholeCanonical model text.now) }
 {
