@@ -92,7 +92,7 @@ def try_usage(program, trials):
     for words, text in usage_texts():
         found += 1
         trials.expect(f"usage of {words}", run(program, words), (3, b"", text.encode()))
-    trials.expect("texts of usage", found, 21)
+    trials.expect("texts of usage", found, 23)
     trials.expect("the version of the program", run(program, ["--version"])[2].decode(), f"fmtcanon {VERSION}\n")
 
 

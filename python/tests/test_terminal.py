@@ -16,7 +16,7 @@ from fmtcanon.excerpts import Excerpt, excerpt_lines, shown_finding
 from fmtcanon.po.sources import CatalogSource, Mark
 from fmtcanon.terminals import Style, columns, style_of
 
-from .terminal import on_terminal, plain
+from .terminal import MODULES, on_terminal, plain
 
 TOP = Path(__file__).resolve().parents[2]
 
@@ -115,7 +115,8 @@ class InFolder(unittest.TestCase):
     def piped(self, words):
         """The status of a command, and all that it writes into a pipe."""
         run = [sys.executable, "-B", *words]
-        done = subprocess.run(run, cwd=self.work, stdout=subprocess.PIPE, stderr=subprocess.STDOUT, check=False)
+        streams = {"stdout": subprocess.PIPE, "stderr": subprocess.STDOUT}
+        done = subprocess.run(run, cwd=self.work, env={**os.environ, "PYTHONPATH": MODULES}, check=False, **streams)
         return done.returncode, done.stdout.decode()
 
     def shown(self, *words, **names):

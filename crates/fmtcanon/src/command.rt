@@ -95,7 +95,7 @@ fn definition_with<'a>(
         },
         Row {
             name: "bounds",
-            about: "Prints how many bytes a format prints at least and at most",
+            about: "Prints the smallest and the largest number of bytes that it prints",
             below: BOUNDS_HELP,
             shape: Shape::Records,
             models: one,
