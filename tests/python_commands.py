@@ -32,7 +32,8 @@ def help_of(program, words):
     parts = {"Usage": re.findall(r"^Usage: (.*)$", text, flags=re.MULTILINE)}
     for part in ["Commands", "Arguments", "Options", "Example", "Exit status"]:
         block = re.search(rf"^{part}:\n((?:  .*\n)+)", text, flags=re.MULTILINE)
-        lines = block.group(1).splitlines() if block else []
+        # A line far to the right goes on with the one before.
+        lines = re.sub(r"\n {20,}", " ", block.group(1)).splitlines() if block else []
         parts[part] = [tuple(re.split(r"  +", line.strip(), maxsplit=1)) for line in lines]
         if part == "Example":
             parts[part] = [line.strip() for line in lines]
@@ -55,9 +56,10 @@ def synopsis_lines(page):
             yield re.sub(r" (\[) (\w+) (\])", r" \1\2\3", line)
 
 
-def model_values(help_parts):
-    """The values of the option --model of a command."""
-    return re.search(r"possible values: (.*?)\]", dict(help_parts["Options"])["--model <MODEL>"]).group(1).split(", ")
+def model_values(program, command):
+    """The values of the option --model of a command, as it lists them for another one."""
+    text = run(program, [command, "--model", "none"])[2].decode()
+    return re.search(r"possible values: (.*?)\]", text).group(1).split(", ")
 
 
 def try_page(program, trials):
@@ -74,9 +76,9 @@ def try_page(program, trials):
     trials.expect("the synopsis", synopsis, usages)
     given = {re.sub("[<>]", "", name) for one in [top, *helps.values()] for name, _ in one["Options"]}
     trials.expect("options of the manual page", sorted(page_tags(page, "OPTIONS")), sorted(given))
-    trials.expect("values that same and fits take", model_values(helps["fits"]), model_values(helps["same"]))
+    trials.expect("values that same and fits take", model_values(program, "fits"), model_values(program, "same"))
     section = page[page.index(".SH OPTIONS") : page.index(".SH EXIT STATUS")]
-    for value in model_values(helps["same"]):
+    for value in model_values(program, "same"):
         trials.expect(
             f"--model {value} in the manual page",
             re.search(rf"^\.BR? {value}\b", section, flags=re.MULTILINE) is not None,
@@ -181,7 +183,7 @@ def try_completions(program, trials):
     for name in commands:
         listed = dict(help_of(program, [name])["Options"])
         one = [option.split()[0] for names in listed for option in names.split(", ")]
-        models = re.search(r"possible values: (.*)\]", listed["--model <MODEL>"]).group(1).split(", ")
+        models = model_values(program, name)
         trials.expect(f"bash: {name} --model", completed([name, "--model", ""]), models)
         trials.expect(f"bash: {name} --model=", completed([name, "--model", "="]), models)
         trials.expect(f"bash: {name} --model=i", completed([name, "--model", "=", "i"]), ["ilp32"])
