@@ -67,7 +67,8 @@ LIMITS = {
     "docs/INSTALL.md": 430,
     # With tables of types and kinds.
     "docs/CHEATSHEET.md": 520,
-    "docs/USING.md": 2050,
+    # With recipes.
+    "docs/USING.md": 2280,
     "docs/TRANSLATIONS.md": 1100,
     "docs/EXPLAINING.md": 420,
     "docs/PORTING.md": 1200,
@@ -87,7 +88,8 @@ LIMITS = {
     "docs/internals/DECISIONS.md": 2200,
     # With an index by what rt prints.
     "docs/internals/PROOF_NOTES.md": 4000,
-    "docs/CONTRIBUTING.md": 1000,
+    # With what rt prints for an open goal.
+    "docs/CONTRIBUTING.md": 1180,
     "SECURITY.md": 150,
     "CHANGELOG.md": 1100,
     CALLING: 9000,
