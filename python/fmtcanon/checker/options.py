@@ -28,9 +28,9 @@ Examples:
   fmtcanon-check -p build --model ilp32
   fmtcanon-check -p build --diff
 
-Functions of the C library's printf family and those with the attribute format(printf, m, n) are known. Types are \
-compared between integers; of other types it is only said if one of the two is an integer. In JSON, the arguments of a \
-format are counted from 1, as in %1$d.
+Functions of the C library's printf family and those with the attribute format(printf, m, n) are known. Integers are \
+compared by size, rank and sign; other arguments must have the type that the directive takes. In JSON, the arguments \
+of a format are counted from 1, as in %1$d.
 
 The kinds of findings are {', '.join(RULES)}.
 
