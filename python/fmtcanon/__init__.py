@@ -1,8 +1,8 @@
 """Brings printf formats to a canonical text, and says whether two are interchangeable.
 
-This is a binding of the C library `libfmtcanon` by ctypes. `show` runs the program instead, once for each call,
-because the library has no such call. A `Session` asks one process of the program about many formats, and needs
-no library.
+This is a binding of the C library `libfmtcanon` by ctypes. `format` and `show` run the program instead, once
+for each call, because the library has no such calls. A `Session` asks one process of the program about many
+formats, and needs no library.
 
 A format is a `str` or bytes. A `str` is passed in UTF-8, and offsets count bytes. Pass bytes if a format isn't
 UTF-8. Each call raises `Refused` if the format is rejected, `MemoryError` if it is out of memory, and
