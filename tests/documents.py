@@ -1,6 +1,6 @@
 #!/usr/bin/env python3
-"""Checks the documents against the code: their names, paths, callers, numbers, words and versions, and the map; and
-that definitions have distinct names.
+"""Checks the documents against the code: their names, paths, options, callers, numbers, words and versions, and the map;
+and that definitions have distinct names.
 
 Usage: tests/documents.py
 
@@ -51,7 +51,7 @@ FOREIGN_NAMES = set(
     xargs git sort msgfmt pipefail SOURCE_DATE_EPOCH fix plant PKG_CONFIG_PATH PYTHONPATH ldconfig pkg config cflags libs pkgconfig sudo iconv
     axiom axioms abort incremental nat trusted
     AllocFailed WHAT strsim dac8208d650f15bf ed8637e01fc3206ec782c5daf8d913b1fcd4ddf4efb850537416d13256281534 the_type write_all
-    NAME PATH allow holes lemma is_left_justified expect assert_eq tidy XDG_CACHE_HOME
+    NAME PATH allow holes lemma is_left_justified echo_of cexpr expect assert_eq tidy XDG_CACHE_HOME
 """.split()
 )
 # Folders whose files are the code that names are looked up in.
@@ -503,8 +503,24 @@ def try_remarks(trials):
     trials.expect("remarks after commands, without a #", found, [])
 
 
+def try_options(trials):
+    """Each option that a document shows after a command is one of its manual page."""
+    manual = {path.stem: path.read_text(encoding="utf-8").replace("\\-", "-") for path in (TOP / "man").glob("*.1")}
+    options = {name: set(re.findall(r"(?<![\w-])--?[a-zA-Z][\w-]*", text)) for name, text in manual.items()}
+    count = 0
+    for document, text in documents():
+        code = re.sub(r"'[^'\n]*'", "", "\n".join(re.findall(r"^    .*$|`[^`\n]+`", text, re.MULTILINE)))
+        shown = re.findall(r"\b(fmtcanon(?:-[a-z]+)?)(?= )([^`|;&)\n]*)", code)
+        found = [(name, it) for name, words in shown for it in re.findall(r"(?<= )--?[a-zA-Z][\w-]*", words)]
+        count += len(found)
+        missing = [f"{name} {it}" for name, it in found if it not in options.get(name, set())]
+        trials.expect(f"options of {document} that the manual pages lack", missing, [])
+    trials.expect("documents show options of commands", count > 50, True)
+
+
 def try_all(trials):
     try_remarks(trials)
+    try_options(trials)
     try_names(trials)
     try_links(trials)
     try_contracts(trials)

@@ -54,22 +54,6 @@ PHRASES = {
     "otherwise": r"(?<!nothing )(?<!anything )(?<!something )(?<!everything )(?<!somebody )(?<!what )(?<!or )(?<!one )else"
     r"(?! if)",
 }
-# Where some of them are still written, by the beginning of a path.
-NOT_YET = {
-    "python/": [
-        "allocates",
-        "largest, smallest, first",
-        "is, replaces",
-        "after",
-        "compared with, next to",
-        "again, at random, together",
-        "not a",
-        "whose, one of them",
-        "otherwise",
-    ],
-    "man/": ["compared with, next to", "whose, one of them"],
-    "docs/EXPLAINING.md": ["compared with, next to"],
-}
 # Files whose docstrings are part of the mutants' keys: an edit would make all of them be tried again.
 KEPT = ["tests/rattle_functions.py"]
 # What may have a docstring.
@@ -83,7 +67,8 @@ LIMITS = {
     "docs/INSTALL.md": 430,
     # With tables of types and kinds.
     "docs/CHEATSHEET.md": 520,
-    "docs/USING.md": 2050,
+    # With recipes.
+    "docs/USING.md": 2280,
     "docs/TRANSLATIONS.md": 1100,
     "docs/EXPLAINING.md": 420,
     "docs/PORTING.md": 1200,
@@ -103,7 +88,8 @@ LIMITS = {
     "docs/internals/DECISIONS.md": 2200,
     # With an index by what rt prints.
     "docs/internals/PROOF_NOTES.md": 4000,
-    "docs/CONTRIBUTING.md": 1000,
+    # With what rt prints for an open goal.
+    "docs/CONTRIBUTING.md": 1180,
     "SECURITY.md": 150,
     "CHANGELOG.md": 1100,
     CALLING: 9000,
@@ -121,11 +107,20 @@ def pages():
     return files("*.md", "docs/**/*.md", "crates/*/CALLING.md", "bench/*.md", "python/*.md")
 
 
+def words_of_string(string):
+    """The words of a string literal of Python, without those of bytes, of a name alone, and of code in an f-string."""
+    prefix, text = re.fullmatch(r"(\w*)((?:\"|').*)", string, re.DOTALL).groups()
+    if "b" in prefix or re.fullmatch(r"(\"|')\w+\1", text):
+        return ""
+    text = text.replace("\\\n", "").strip("\"'")
+    return re.sub(r"\{[^{}]*\}", "", text) if "f" in prefix else text
+
+
 def words_of_python(text, kinds=(tokenize.COMMENT, tokenize.STRING)):
     """The comments and the texts of a file of Python: docstrings, help and messages."""
-    tokens = tokenize.generate_tokens(io.StringIO(text).readline)
+    tokens = [it for it in tokenize.generate_tokens(io.StringIO(text).readline) if it.type in kinds]
     # Texts that come one after another are one text.
-    return "\n".join(it.string.strip("rbfu\"'") for it in tokens if it.type in kinds)
+    return "\n".join(it.string if it.type == tokenize.COMMENT else words_of_string(it.string) for it in tokens)
 
 
 def comments_of_python(text):
@@ -177,12 +172,12 @@ def texts():
 def phrases_in(name, text):
     """The phrases that the text of a file has, each with what is written for it, in the order of PHRASES."""
     line = plain(text)
-    skipped = [it for path, those in NOT_YET.items() if name.startswith(path) for it in those]
     return [
         f"{found[0]} ({instead})"
         for instead, phrase in PHRASES.items()
-        if instead not in skipped and name not in KEPT
-        for found in re.finditer(rf"(?<![\w-])(?:{phrase})(?!\w)", line, re.IGNORECASE)
+        if name not in KEPT
+        # What comes before `=` is the name of an argument.
+        for found in re.finditer(rf"(?<![\w-])(?:{phrase})(?![\w=])", line, re.IGNORECASE)
     ]
 
 

@@ -62,7 +62,7 @@ class Parser(argparse.ArgumentParser):
         self.add_argument("--version", action="version", version=f"fmtcanon {__version__}", help="print the version")
 
     def add_model(self, what: str, default: str = "all", choices: Sequence[str] = tuple(MODELS)) -> None:
-        """Adds --model, whose data models are those of which this is said."""
+        """Adds --model; `what` says what its data models are for."""
         listed = "; ".join(MODEL_WORDS[it] + (", the default" if it == default else "") for it in choices)
         noun = "the data models" if "all" in choices else "the data model"
         self.add_argument("--model", choices=choices, default=default, metavar="MODEL", help=f"{noun} {what}: {listed}")

@@ -11,7 +11,7 @@ from .visible import visible
 # What is left out of a long line, and how much of a line comes before what is marked.
 DOTS, BEFORE = "..", 20
 TAB = "    "
-# The narrowest room beside carets for words.
+# The narrowest room for words next to carets.
 ROOM = 24
 
 

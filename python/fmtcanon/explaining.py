@@ -205,7 +205,7 @@ def printed_unlike(formats: Tuple[bytes, bytes], arguments: Tuple[Argument, ...]
 
 
 def about_argument(part: Part, arguments: Sequence[Argument]) -> Part:
-    """Returns a directive, of which it is said what it does with its own argument, if that is a number with a sign."""
+    """Returns a directive. If its argument is a number with a sign, its meaning is that for this number."""
     argument = arguments[part.argument - 1]
     said = meaning_of_number(specification_of(part.text), argument) if isinstance(argument, int) else None
     return part._replace(meaning=said or part.meaning)

@@ -16,7 +16,7 @@ _MOST_DIGITS = 20
 def passed(arguments: Sequence[Any], kinds: Sequence[Type]) -> "ctypes.Array[CArgument]":
     """Returns the arguments with the types that a format takes, one for each.
 
-    Raises `TypeError` for one that is no int, str or bytes, and `ValueError` for one that no argument of its type
+    Raises `TypeError` for one that isn't an int, str or bytes, and `ValueError` for one that no argument of its type
     is. Numbers out of a type's range are passed, except those that 64 bits can't hold.
     """
     if len(arguments) != len(kinds):

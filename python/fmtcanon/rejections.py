@@ -30,8 +30,8 @@ HELP: Mapping[Kind, str] = {
     Kind.TOO_LONG: "A format has at most 2^62 bytes.",
     Kind.COUNT_UNDEFINED: "`n` with `-`, `+`, a space or a width is undefined.",
     Kind.MIXED: "One format can't have numbered arguments and others. Number all or none.",
-    Kind.MISSING_ARGUMENT: "Every argument up to the highest number is used: otherwise its type can't be known.",
-    Kind.TWO_TYPES: "An argument has one type.",
+    Kind.MISSING_ARGUMENT: "Every argument up to the highest number must be used: otherwise its type can't be known.",
+    Kind.TWO_TYPES: "An argument can't have two types.",
 }
 # What is left out of a specification that has too much.
 NEEDLESS: Mapping[Kind, bytes] = {

@@ -46,14 +46,14 @@ def columns(text: str) -> int:
 
 
 def wrapped(text: str, width: int, indent: str = "") -> List[str]:
-    """Returns a text as lines, of which all but the first are indented. A word that is too long keeps its line."""
+    """Returns a text as lines, all but the first indented. A word that is too long keeps its line."""
     return textwrap.wrap(
         text, max(width, NARROWEST), subsequent_indent=indent, break_long_words=False, break_on_hyphens=False
     )
 
 
 def beside(mark: str, mark_columns: int, start: int, words: Sequence[str], width: int) -> Iterator[str]:
-    """Yields a mark, with wrapped words beside it that begin in a column."""
+    """Yields a mark, with wrapped words to its right that begin in a column."""
     lines = [line for it in words for line in wrapped(it, width - start)] or [""]
     yield f"{mark}{' ' * (start - mark_columns)}{lines[0]}".rstrip()
     for line in lines[1:]:

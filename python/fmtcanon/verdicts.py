@@ -16,7 +16,7 @@ from .visible import visible
 
 # What a specification has before its last byte. So after every other byte a piece of a format ends.
 INNER = b"%0123456789$-+ #'*.hljztL"
-# A number of a format. One with more digits is no width or precision that is accepted.
+# A number of a format. One with more digits is rejected as a width or a precision.
 NUMBER = re.compile(rb"(?<!\d)0*(\d{1,6})(?!\d)")
 # How much of a text is shown, and how much of that comes before the first difference.
 SHOWN, BEFORE = 60, 20
@@ -124,7 +124,7 @@ class Library:
         return Verdict(Kind[found.verdict.name], at=index, arguments=found.arguments or ())
 
     def by_types(self, old: bytes, new: bytes, model: Model, refusal: fmtcanon.Refused) -> Verdict:
-        """Returns the verdict on formats of which the comparison rejects one: only their types can be judged."""
+        """Returns the verdict on formats if the comparison rejects one of them: only their types can be judged."""
         if old == new:
             return Verdict(Kind.SAME)
         unjudged = Verdict(Kind.UNJUDGED, reason=f"{refusal} of {shown([old, new][refusal.side])}", refusal=refusal)
@@ -262,7 +262,7 @@ def shown_argument(argument: Argument) -> str:
 
 
 def shown_arguments(arguments: Sequence[Argument]) -> str:
-    """Returns a list of arguments, of which no more than some are shown."""
+    """Returns a list of arguments, cut after `ARGUMENTS` of them."""
     listed = [shown_argument(it) for it in arguments[:ARGUMENTS]]
     return ", ".join([*listed, ".."] if len(arguments) > ARGUMENTS else listed)
 

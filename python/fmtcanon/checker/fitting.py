@@ -39,7 +39,7 @@ class Fitting:
         return found
 
     def noted(self, path: str, findings: Sequence[Finding]) -> List[Finding]:
-        """Returns findings, of which those of other types are notes if the new format fits its call."""
+        """Returns findings, and makes notes of those of other types if the new format fits its call."""
         if not any(it.kind == Kind.TYPES.value for it in findings):
             return list(findings)
         places = self.places_of(path)

@@ -209,7 +209,7 @@ def judged(units: Sequence[Mapping[Key, Call]]) -> Judged:
 
 
 def is_composed(fault: Fault) -> bool:
-    """Returns whether a directive is in several literals, none of which a PRI macro made: then `#if` may have chosen
+    """Returns whether a directive is in several literals, and no PRI macro made one of them: then `#if` may have chosen
     its modifier.
     """
     listed = spans_of(fault.call.formats[fault.format].tokens)

@@ -19,19 +19,18 @@ is compiled, on 32-bit systems, also with a 64-bit time_t, and on 64-bit Windows
 on all of them.
 
 Each file is preprocessed by its own compiler, for 64-bit Unix. In that text, the types of the C library get those of \
-each platform, and libclang (the package python3-clang) parses it for that platform, of which no headers are needed.
+each platform, and libclang (the package python3-clang) parses it for that platform, whose headers are not needed.
 
-FILE is a file or a folder, of which all C files are read. Without one, all files of the compile commands in -p are \
-read."""
+FILE is a file or a folder, whose C files are all read. Without one, all files of the compile commands in -p are read."""
 EPILOG = f"""\
 Examples:
   fmtcanon-check src/*.c
   fmtcanon-check -p build --model ilp32
   fmtcanon-check -p build --diff
 
-Functions of the C library's printf family and those with the attribute format(printf, m, n) are known. Types are \
-compared between integers; of other types it is only said if one of the two is an integer. In JSON, the arguments of a \
-format are counted from 1, as in %1$d.
+Functions of the C library's printf family and those with the attribute format(printf, m, n) are known. Integers are \
+compared by size, rank and sign; other arguments must have the type that the directive takes. In JSON, the arguments \
+of a format are counted from 1, as in %1$d.
 
 The kinds of findings are {', '.join(RULES)}.
 
@@ -39,7 +38,7 @@ Exit status:
   0  nothing is an error
   1  something is an error
   2  usage error, a file was left, or an output can't be written"""
-# Types of C that --type may name, beside typedefs of the C library.
+# Types of C that --type may name, apart from typedefs of the C library.
 INTEGER = re.compile(r"(?:(?:un)?signed )?(?:char|short|int|long|long long)")
 
 

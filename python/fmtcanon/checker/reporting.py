@@ -23,7 +23,7 @@ SIZE, KIND, RANK, SIGN, COMPOSED = "size", "kind", "rank", "sign", "composed"
 LOST, UNJUDGED, LEFT, FIXED = "lost", "unjudged", "left", "fixed"
 RULES = {
     SIZE: "An argument has another size than its directive takes on some platform.",
-    KIND: "An argument is missing, or neither is it an integer nor of the type that its directive takes.",
+    KIND: "An argument is missing, or of another kind than its directive takes, as a double for %d.",
     RANK: "An argument has the size that its directive takes, and another type, on some platform.",
     SIGN: "An argument is signed and its directive takes an unsigned one, or the other way round.",
     COMPOSED: "An argument doesn't fit a directive whose length modifier may have been chosen by #if.",

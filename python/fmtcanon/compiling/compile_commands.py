@@ -58,7 +58,7 @@ class CompileCommand:
         return os.path.realpath(os.path.join(self.folder, word)) == self.file
 
     def run(self, stand_in: Optional[StandIn], *more: str) -> "subprocess.CompletedProcess[bytes]":
-        """Runs the compiler with more words on the file, or on a stand-in beside it, whose name in the output becomes
+        """Runs the compiler with more words on the file, or on a stand-in next to it, whose name in the output becomes
         the file's.
         """
         words, at = self.used()
@@ -164,7 +164,7 @@ def default_command(file: str, flags: Sequence[str]) -> CompileCommand:
 def commands_in(folder: str) -> Dict[str, List[CompileCommand]]:
     """Returns the compile commands of the `compile_commands.json` in a folder, by the real path of their file.
 
-    All are asked for at once: asked for one file, libclang makes up a command from another file's if it has none.
+    All are asked for together: asked for one file, libclang makes up a command from another file's if it has none.
     """
     found: Dict[str, List[CompileCommand]] = {}
     try:

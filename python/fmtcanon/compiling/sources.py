@@ -25,7 +25,7 @@ class Files:
 
     def names(self, with_headers: bool = False) -> Iterator[Name]:
         """Yields the files to read, each once. Of a folder, they are those that are compiled, or with what they
-        include. A copy that a killed run left behind is not read.
+        include. A copy that a killed run left is not read.
         """
         seen = set()
         for name in self.named(with_headers):

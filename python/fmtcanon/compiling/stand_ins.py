@@ -1,4 +1,4 @@
-"""The files that are read and replaced, and the stand-ins beside them, which take their place.
+"""The files that are read and replaced, and the stand-ins next to them, which take their place.
 
 Others may be able to write to the folder, and put a link or another file where a stand-in is. So a stand-in is written,
 given its owner and its rights by its descriptor, and its name is used only while it is still that file's.
@@ -41,12 +41,12 @@ def original(path: str) -> Original:
 
 
 def is_stand_in(path: str) -> bool:
-    """Returns whether a file is a stand-in: one that is left of a run that was killed is no source."""
+    """Returns whether a file is a stand-in: one that a killed run left is not a source."""
     return os.path.basename(path).startswith(PREFIX)
 
 
 class StandIn:
-    """An empty file beside another, with an ending that compilers take alike. It is removed unless it was renamed."""
+    """An empty file next to another, with an ending that compilers take alike. It is removed unless it was renamed."""
 
     # Those that are there, to be removed when the command ends early.
     existing: Set["StandIn"] = set()
@@ -115,7 +115,7 @@ class StandIn:
                     raise
 
     def rename(self) -> None:
-        """Puts it in the place of the file that it is beside. Raises Left if another file got there."""
+        """Puts it in the place of the file next to it. Raises Left if another file got there."""
         self.checked()
         os.replace(self.name, self.own, src_dir_fd=self.folder, dst_dir_fd=self.folder)
         self.name = self.own

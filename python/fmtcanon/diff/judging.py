@@ -85,7 +85,7 @@ def verdict_in(library: Any, old: Place, new: Place, model: Model) -> Judged:
 
 
 def long_verdict(library: Any, old: bytes, new: bytes, model: Model) -> Judged:
-    """Returns the verdict on long formats, of which only what they don't share is compared."""
+    """Returns the verdict on long formats, by comparing only the parts that they don't share."""
     front, back = narrowed(old, new)
     texts = [it[front : len(it) - back] for it in (old, new)]
     types: List[bytes] = []

@@ -19,7 +19,7 @@ ANY_COMMENT = COMMENT + rb"|/\*[\s\S]*"
 RAW_START = rb"(?P<prefix>u8|[uUL])?R\"(?P<delimiter>[^()\\\s\"]{0,16})\("
 RAW_END = re.compile(rb"\)([^()\\\s\"]{0,16})\"")
 # What is of no interest. Each part goes as far as it can, so that a text matches in one way only. Their number has a
-# bound, since a pattern takes memory for each.
+# bound, since a match keeps a state for each.
 MARKLESS = rb"[^\w\"'/(),;{}#$\x80-\xff]"
 PLAIN = MARKLESS + rb"+(?!" + MARKLESS + rb")|" + NUMBER + rb"(?![\w.])|/(?![/*])"
 OTHER_NAME = NAME + rb"(?![\w$\x80-\xff])(?!\s*[(\"])"
@@ -182,7 +182,7 @@ def joined(
     return out, ""
 
 
-# A statement, or the front of a long one: what it is made of has no bound, and a pattern takes memory for each part.
+# A statement, or the front of a long one: its parts have no bound, and a match keeps a state for each.
 STATEMENT = re.compile(
     rb"(?:[^\"'/#;{}]+|"
     + STRING
@@ -228,7 +228,7 @@ class Source:
         self.counted, self.lines = 0, 1
 
     def read(self, begin: int = 0, end: Optional[int] = None) -> "Source":
-        """Reads the places between two offsets in the text, at each of which a statement may begin."""
+        """Reads the places between two offsets in the text, where statements may begin."""
         self.begin, self.end = begin, len(self.plain) if end is None else end
         self.places = Reader(self).places()
         return self

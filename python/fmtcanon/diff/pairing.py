@@ -264,7 +264,7 @@ def aligned(old: List[Place], new: List[Place]) -> List[Pair]:
 
 
 def best_pairs(old: List[Place], new: List[Place]) -> List[Pair]:
-    """Returns the pairs, in order, with the greatest sum of likeness; none if there are too many to try."""
+    """Returns the pairs, in order, with the largest sum of likeness; none if there are too many to try."""
     if len(old) == len(new) == 1 and old[0].call == new[0].call and is_in_place(old[0].rest, new[0].rest):
         return [(old[0], new[0])]
     if len(old) * len(new) > MANY_PAIRS:
@@ -313,7 +313,7 @@ def is_in_place(old: bytes, new: bytes) -> bool:
 
 
 def likeness(matcher: "difflib.SequenceMatcher[int]", old: bytes, new: bytes, is_placed: bool) -> float:
-    """Returns how alike two texts are, the second of which the matcher has; 0 if they are too unlike."""
+    """Returns how alike two texts are, or 0 if they are too unlike. The matcher has the second."""
     if old == new:
         return 2.0 + is_placed
     # A ratio takes the square of the length.

@@ -234,7 +234,7 @@ class Git:
 
     @staticmethod
     def text(name: str, entry: Entry, side: int, blob: Any, path: Optional[str] = None) -> Optional[bytes]:
-        """Returns the bytes of a file: of git's object or, without one, of a path. None for what is no file."""
+        """Returns the bytes of a file: of git's object or, without one, of a path. None if it isn't a file."""
         found = entry.objects[side]
         if entry.modes[side] not in FILES:
             return None

@@ -130,7 +130,7 @@ def explain_kind(word: str, style: Style, is_json: bool) -> int:
     names = {it.name.replace("_", "").lower(): it for it in Kind}
     kind = names.get(word.lower()) or (Kind(int(word)) if word.isdecimal() and int(word) in set(Kind) else None)
     if kind is None:
-        complain(f"{NAME}: {word} is no kind: give a number from 1 to {len(Kind)}, or a name such as Star")
+        complain(f"{NAME}: {word} is not a kind: give a number from 1 to {len(Kind)}, or a name such as Star")
         return USAGE
     if is_json:
         found = {"kind": int(kind), "name": fmtcanon._name(kind), "help": HELP[kind], "advice": ADVICE.get(kind)}

@@ -14,7 +14,7 @@ from ..terminals import Style, beside, columns
 from ..verdicts import argument_words, cut, shared_front, shown_argument, shown_arguments
 from ..visible import visible
 
-# Formats up to this many columns have the words beside the carets; the words of others are on lines of their own.
+# Formats up to this many columns have the words next to the carets; the words of others are on lines of their own.
 BESIDE, GAP, INDENT = 40, 3, 4
 SIDES = ("first: ", "second: ")
 
@@ -97,7 +97,7 @@ def rejection_lines(found: Rejection, model: Model, style: Style) -> Iterator[st
 
 
 def types_lines(found: Difference, model: Model, style: Style) -> Iterator[str]:
-    """Yields how two formats compare by their types, of which one has numbered arguments."""
+    """Yields how the types of two formats compare, if one has numbered arguments."""
     if found.verdict is Verdict.SAME:
         yield "only the types of the arguments can be compared: they are the same"
     else:

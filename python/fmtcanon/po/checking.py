@@ -47,7 +47,7 @@ RULES = {
 }
 
 
-# The shapes of pairs of texts of which nothing is reported, with what else decides that.
+# The shapes of pairs of texts about which nothing is reported, with the rest that decides it.
 Right = Set[Tuple[Optional[bytes], Optional[bytes], bool, bool]]
 
 

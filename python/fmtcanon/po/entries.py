@@ -1,7 +1,7 @@
 """Entries of a .po file of the common shape, found by one pattern each, so that a catalog takes little time.
 
-The pattern is for comments, keywords and strings in their usual order, and not for very many of them: what a pattern
-repeats takes memory. All other entries are read by their tokens.
+The pattern is for comments, keywords and strings in their usual order, and not for very many of them: a match
+keeps a state for each repetition. All other entries are read by their tokens.
 """
 
 import re

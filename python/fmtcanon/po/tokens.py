@@ -16,7 +16,7 @@ TOKEN = re.compile(
     rb"|(?P<keyword>domain|msgctxt|msgid_plural|msgid|msgstr)\b"
     rb"|(?P<form>\[\s*[0-9]+\s*\])"
 )
-# Some parts of a string. With no bound on how many, the pattern would take memory for each.
+# Some parts of a string. Without a bound on their number, a match would keep a state for each.
 PARTS = re.compile(rb'(?:[^"\\\n]+|\\[^\n]){1,1000}')
 ESCAPE = re.compile(rb"\\(?:([0-7]{1,3})|x([0-9A-Fa-f]+)|(.))", re.DOTALL)
 # An escape that may be of a number above 127.
@@ -94,7 +94,7 @@ def end_of_string(text: bytes, at: int, line: int) -> int:
 
 
 def unquoted(string: bytes, charset: Optional[Charset], line: int) -> bytes:
-    """Returns the bytes that a string stands for, in UTF-8.
+    """Returns the bytes that a string means, in UTF-8.
 
     An escape by number is a byte in the charset of the file. What isn't of the charset is not UTF-8.
     """

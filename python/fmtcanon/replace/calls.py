@@ -15,7 +15,7 @@ SCOPES = ("NAMESPACE", "CLASS_DECL", "STRUCT_DECL", "CLASS_TEMPLATE", "UNION_DEC
 
 
 class Marker:
-    """The text of the literal that stands for a place, while libclang looks at a file."""
+    """The text of the literal that replaces a place, while libclang looks at a file."""
 
     def __init__(self) -> None:
         self.tag = os.urandom(8).hex()
@@ -25,7 +25,7 @@ class Marker:
         return f'"fmtcanon_{self.tag}_{number}_"'.encode()
 
     def number(self, literal: str) -> Optional[int]:
-        """Returns the number of the place that a literal stands for, or None if it isn't just a marker."""
+        """Returns the number of the place that a literal replaces, or None if it isn't just a marker."""
         found = self.pattern.fullmatch(literal)
         return int(found[1]) if found else None
 

@@ -25,7 +25,7 @@ The file's own compiler preprocesses it, and libclang (the package python3-clang
 result is preprocessed again, and checked with the warnings of the compile command: only the replaced literals may \
 differ. Parts that OLD and NEW share keep their spelling.
 
-FILE is a file or a folder, of which all C and C++ files are read; links out of it are not followed. Without one, all \
+FILE is a file or a folder, whose C and C++ files are all read; links out of it are not followed. Without one, all \
 files of the compile commands in -p are read. All files are reported before the first is replaced."""
 EPILOG = """\
 Examples:

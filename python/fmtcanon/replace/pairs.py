@@ -118,7 +118,7 @@ class Pairs:
         return GROUPING if not found and not self.is_posix and (has_grouping(old) or has_grouping(new)) else found
 
     def meaning(self, text: bytes) -> Optional[Hashable]:
-        """Returns what all texts of one meaning have in common, or None for a text that is no format."""
+        """Returns what all texts of one meaning have in common, or None for a text that isn't a format."""
         try:
             found = tuple(LIBRARY.canonical(text, it) for it in self.models)
         except fmtcanon.Refused:

@@ -40,7 +40,7 @@ def places_in(source: bytes) -> Iterator[Place]:
 
 
 def decoded(source: bytes) -> Optional[bytes]:
-    """Returns the bytes of string literals, or None if they are no source."""
+    """Returns the bytes of string literals, or None if they can't be decoded."""
     try:
         return decode_literal(plain_literals(source)[0])
     except BadLiteral:

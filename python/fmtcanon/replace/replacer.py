@@ -64,7 +64,7 @@ class Rewriter:
         self.progress = Progress()
 
     def changes_in(self, name: Name, source: bytes) -> List[Change]:
-        """Returns the places of a source of which something is to be said."""
+        """Returns the places of a source about which something is to be said."""
         raise NotImplementedError
 
     def findings_of(self, name: str, source: bytes, changes: Sequence[Change]) -> Sequence[Finding]:
@@ -85,7 +85,7 @@ class Rewriter:
         return list(self.progress.each(pool.map(self.report_on, scanned)))
 
     def scanned(self, name: Name) -> Union[Scanned, Report]:
-        """Reads a file, and returns its places of which something is to be said."""
+        """Reads a file, and returns its places about which something is to be said."""
         try:
             read = original(name.path)
         except OSError as error:

@@ -79,8 +79,8 @@ def common_front(first: bytes, second: bytes) -> int:
 class Tokens:
     """The tokens of preprocessed text, with the line of the text that each is in.
 
-    Line markers are no tokens. Static assertions, which begin with one of these keywords, are left out: they may have
-    the text of a literal in them, and are evaluated when the result is compiled.
+    Line markers don't count as tokens. Static assertions, which begin with one of these keywords, are left out: they
+    may have the text of a literal in them, and are evaluated when the result is compiled.
     """
 
     def __init__(self, text: bytes, assertions: Sequence[bytes]) -> None:
