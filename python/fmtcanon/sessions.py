@@ -17,7 +17,7 @@ from .pipes import Conversation
 from .printing import OUT_OF_MEMORY, program
 
 # The commands that accept `--null`, and how many formats each question has.
-_FORMATS = {"canon": 1, "types": 1, "show": 1, "fits": 2, "same": 2}
+_FORMATS = {"bounds": 1, "canon": 1, "types": 1, "show": 1, "fits": 2, "same": 2}
 _REPLY = re.compile(rb"[0-2] ")
 # The exit status of the program for a usage error.
 _USAGE = 3
@@ -37,7 +37,7 @@ class Reply(NamedTuple):
 
 
 class Session:
-    """One process of the command "canon", "types", "show", "fits" or "same".
+    """One process of the command "bounds", "canon", "types", "show", "fits" or "same".
 
     `ask` sends one format, or two for "fits" and "same", and returns the `Reply`. A `str` is sent in UTF-8.
 

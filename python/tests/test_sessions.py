@@ -127,6 +127,8 @@ def of_compare(first, second, model):
 class Answers(unittest.TestCase):
     def test_each_command(self):
         rows = [
+            ("bounds", ["%d"], (0, b"1 11")),
+            ("bounds", ["%s"], (0, b"0 unbounded")),
             ("canon", ["%i"], (0, b"%d")),
             ("canon", [b"\xff%5c"], (0, b"\xff    %c")),
             ("canon", [bytearray(b"%i")], (0, b"%d")),
