@@ -353,27 +353,6 @@ class Loading(unittest.TestCase):
                     )
 
 
-class Running(unittest.TestCase):
-    def test_no_program(self):
-        before = os.environ["FMTCANON_PROGRAM"]
-        os.environ["FMTCANON_PROGRAM"] = "/nothing/fmtcanon"
-        try:
-            with self.assertRaises(FileNotFoundError):
-                fmtcanon.show("%d")
-        finally:
-            os.environ["FMTCANON_PROGRAM"] = before
-
-    def test_another_program(self):
-        before = os.environ["FMTCANON_PROGRAM"]
-        try:
-            for other in ["/bin/false", "/bin/echo"]:
-                os.environ["FMTCANON_PROGRAM"] = other
-                with self.assertRaises(OSError):
-                    fmtcanon.show("%d")
-        finally:
-            os.environ["FMTCANON_PROGRAM"] = before
-
-
 class Threads(unittest.TestCase):
     def test_calls_from_threads(self):
         formats = [f"%0{width}i|%{width}c" for width in range(1, 60)]

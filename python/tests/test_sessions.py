@@ -1,5 +1,6 @@
 """Tests of sessions: over the program, and over a stand-in that is slow, silent or wrong."""
 
+import errno
 import itertools
 import os
 import signal
@@ -262,9 +263,17 @@ class Opening(unittest.TestCase):
             fmtcanon.Session("show", whole=True)
 
     def test_another_program(self):
-        for other in ["/nothing/fmtcanon", "/bin/false", "/bin/echo"]:
+        for other in ["/bin/false", "/bin/echo"]:
             with environment(FMTCANON_PROGRAM=other), self.assertRaises(OSError):
                 fmtcanon.Session("canon")
+
+    def test_no_program(self):
+        for other, number in [("/nothing/fmtcanon", errno.ENOENT), ("/dev/null", errno.EACCES)]:
+            with environment(FMTCANON_PROGRAM=other), self.assertRaises(OSError) as raised:
+                fmtcanon.Session("canon")
+            self.assertEqual(raised.exception.errno, number)
+            self.assertIn(f"{other} can't be run: {os.strerror(number)}; `Session` and", str(raised.exception))
+            self.assertIn("need the program, which is for x86-64: install it", str(raised.exception))
 
     def test_wrong_calls_leave_it_open(self):
         with fmtcanon.Session("canon") as session:

@@ -93,8 +93,11 @@ class Command(unittest.TestCase):
     def test_no_program(self):
         done = python(["-m", "fmtcanon", "canon", "%i"], FMTCANON_PROGRAM="/nothing/fmtcanon")
         self.assertEqual(done.returncode, 127)
-        self.assertIn(b"FMTCANON_PROGRAM", done.stderr)
-        self.assertNotIn(b"Traceback", done.stderr)
+        wanted = (
+            b"fmtcanon: /nothing/fmtcanon can't be run: No such file or directory; `Session` and `python -m fmtcanon` need "
+            b"the program, which is for x86-64: install it, or name its file by FMTCANON_PROGRAM\n"
+        )
+        self.assertEqual(done.stderr, wanted)
 
     def test_a_command_that_would_find_itself(self):
         # As pip installs it, with no program next to the module and none on the search path.
@@ -108,7 +111,7 @@ class Command(unittest.TestCase):
                 [str(command), "canon", "%i"], env=environment, stderr=subprocess.PIPE, timeout=20, check=False
             )
         self.assertEqual(done.returncode, 127)
-        self.assertIn(b"can't be found", done.stderr)
+        self.assertIn(b"fmtcanon can't be run: ", done.stderr)
 
 
 class Refusals(unittest.TestCase):
