@@ -32,7 +32,7 @@ STRICT = ["-Wall", "-Wextra", "-pedantic", "-Werror", f"-I{HEADER.parent}"]
 DOCUMENTS = [("docs/C.md", None), ("docs/PYTHON.md", None), ("docs/EXPLAINING.md", None), ("docs/TRANSLATIONS.md", "Check a catalog")]
 # The manual pages whose examples need no libclang.
 PAGES = ["fmtcanon.1", "fmtcanon-explain.1", "fmtcanon-po.1", "fmtcanon-diff.1"]
-WRAPPED = ["-pthread", "-Wl,--wrap=malloc,--wrap=realloc,--wrap=free"]
+WRAPPED = ["-Wl,--wrap=malloc,--wrap=realloc,--wrap=free"]
 # What a parameter of Rattle is in C.
 PARAMETERS = {
     "&[u8]": ["const char *", "size_t"],
@@ -59,7 +59,7 @@ PROGRAMS = [
     ("fewer", WRAPPED, "formats from outside are as the header says"),
     ("outcomes", WRAPPED, "calls {}, pairs of texts {}, data models {}, rooms {}".format(*OUTCOMES)),
     ("rendered", WRAPPED, "directives 12750, printed as by snprintf"),
-    ("whole", ["-pthread"], "the whole language is as the header says"),
+    ("whole", [], "the whole language is as the header says"),
 ]
 # Of this number of formats, one is given to the program, too.
 STEP = 16
