@@ -382,7 +382,7 @@ def try_program(program, module, trials):
         one, other = formats[at], formats[at + 1]
         model = list(module.Model)[at // STEP % 3]
         name = ["--model", model.name.lower()]
-        for command, words in [("canon", [one]), ("types", [one]), ("same", [one, other])]:
+        for command, words in [("canon", [one]), ("types", [one]), ("show", [one]), ("same", [one, other])]:
             wanted = program_answer(module, command, words, [model])
             trials.expect(f"{command} {name} {words}", run(program, [command, *name, "--", *words]), wanted)
     refused = [
@@ -468,6 +468,7 @@ def try_unit_tests(program, folder, trials):
     if status != 0:
         print(lines)
     trials.expect("the tests of the Python module", status, 0)
+    trials.expect("tests of the Python module that are skipped", re.findall(r"skipped=\d+", lines), [])
 
 
 def try_all(program, folder, trials):

@@ -10,6 +10,8 @@ import unittest
 import fmtcanon
 from fmtcanon import Kind, Model, Refused, Type, Verdict
 
+from . import needs_program
+
 
 class Calls(unittest.TestCase):
     def test_canonical(self):
@@ -259,6 +261,9 @@ class Calls(unittest.TestCase):
 
     def test_examples(self):
         self.assertEqual(doctest.testmod(fmtcanon).failed, 0)
+
+    @needs_program
+    def test_examples_of_sessions(self):
         self.assertEqual(doctest.testmod(fmtcanon.sessions).failed, 0)
         self.assertGreater(doctest.testmod(fmtcanon.sessions).attempted, 0)
 

@@ -6,6 +6,8 @@ import unittest
 import fmtcanon
 from fmtcanon import Model, Refused
 
+from . import needs_program
+
 FORMATS = 2000
 WORDS = ["a", "%%", "  ", "0", "\u00e9", "\n", "a%%%%"]
 WIDTHS = ["", "1", "5", "12", "20", "33", "70", "100", "4095", "005"]
@@ -35,6 +37,7 @@ def line(piece):
     return f"directive {piece.spelling}: {piece.type}: {piece.spaces} {piece.zeros} {piece.core} {piece.trail}"
 
 
+@needs_program
 class Pieces(unittest.TestCase):
     def test_random_formats(self):
         for model in Model:

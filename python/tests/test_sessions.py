@@ -17,6 +17,8 @@ from pathlib import Path
 import fmtcanon
 from fmtcanon import Model, Verdict
 
+from . import needs_program
+
 HERE = Path(__file__).resolve().parent
 # A call that takes longer than this many seconds hangs.
 SOON = 5.0
@@ -125,6 +127,7 @@ def of_compare(first, second, model):
     return int(found.verdict is not Verdict.SAME), b"\n".join(lines)
 
 
+@needs_program
 class Answers(unittest.TestCase):
     def test_each_command(self):
         rows = [
@@ -239,6 +242,7 @@ class Answers(unittest.TestCase):
         self.assertEqual(wrong, [])
 
 
+@needs_program
 class Opening(unittest.TestCase):
     def test_what_the_program_refuses(self):
         rows = [
@@ -290,6 +294,7 @@ class Opening(unittest.TestCase):
             session.ask("%i")
 
 
+@needs_program
 class Faults(unittest.TestCase):
     def closed(self, session):
         """A session answers nothing more, and its process is gone."""
@@ -401,6 +406,7 @@ class Faults(unittest.TestCase):
             self.assertEqual(session.ask(format).text == format, True)
 
 
+@needs_program
 class Children(unittest.TestCase):
     def forked(self):
         """A child of this process that has all its descriptors, for a while."""

@@ -10,6 +10,8 @@ from pathlib import Path
 import fmtcanon
 from fmtcanon import Model, Refused, Type
 
+from . import needs_program
+
 # A locale whose encoding is ASCII, in a Python that believes it.
 ASCII = {"LC_ALL": "C", "PYTHONUTF8": "0", "PYTHONCOERCECLOCALE": "0"}
 
@@ -75,6 +77,7 @@ class Names(unittest.TestCase):
 
 
 class Command(unittest.TestCase):
+    @needs_program
     def test_it_runs_the_program(self):
         done = python(["-m", "fmtcanon", "canon", "Total: %i"])
         self.assertEqual((done.returncode, done.stdout, done.stderr), (0, b"Total: %d\n", b""))
@@ -83,6 +86,7 @@ class Command(unittest.TestCase):
         done = python(["-m", "fmtcanon", "stream"], b"%5c\xff\n")
         self.assertEqual((done.returncode, done.stdout), (0, b"    %c\xff\n"))
 
+    @needs_program
     def test_bytes_stay_in_each_locale(self):
         for names in [ASCII, {"LC_ALL": "C.UTF-8"}]:
             done = python(["-m", "fmtcanon", "canon", "\u00e9%i".encode()], **names)
