@@ -4,8 +4,8 @@
 # make test              the gate: everything is proved and tested, a sample of the mutants is tried, then the
 #                        program and the library are tried
 # make check-more        tries the library with tools that the gate doesn't need: clang, valgrind,
-#                        gettext, libclang, mypy, lintian, debootstrap, meson, CMake, and the shells of the
-#                        completions
+#                        gettext, libclang, mypy, lintian, debootstrap, meson, CMake, the shells of the
+#                        completions, and a cross compiler and an emulator of AArch64
 # make mutants           tries the mutants that the records don't have as refused, and writes them there
 # make library           builds the C library alone
 # make install PREFIX=   installs what `make` built: the program, the C library, the Python module
@@ -204,4 +204,4 @@ tables:
 	FMTCANON_LIBRARY=$(C)/$(SONAME) python3 tests/field/catalogs.py
 	FMTCANON_LIBRARY=$(C)/$(SONAME) python3 tests/field/mutations.py
 	$(if $(SOURCES),FMTCANON_LIBRARY=$(C)/$(SONAME) python3 tests/field/sources.py $(SOURCES))
-	$(if $(RELEASES),FMTCANON_LIBRARY=$(C)/$(SONAME) FMTCANON_PROGRAM=$(PROGRAM) python3 tests/field/releases.py $(RELEASES))
+	$(if $(RELEASES),FMTCANON_LIBRARY=$(C)/$(SONAME) python3 tests/field/releases.py $(RELEASES))

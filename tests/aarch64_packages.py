@@ -3,14 +3,13 @@
 `tests/aarch64.py` calls it. It needs dpkg-deb and binutils for the processor.
 """
 
-import json
 import re
 import tarfile
 import zipfile
 
 import installing
 from emulated_python import environment_of
-from harness import SONAME, VERSION
+from harness import NO_PROGRAM, SONAME, VERSION
 from installing import BUILT_FOR_AARCH64, COMMANDS, MODULE, OF_PROGRAM, PLACES, files_below, make, wanted_files
 from library import lines_of
 
@@ -18,16 +17,16 @@ PATTERNS = {"dist": "*.tar.gz", "deb": "*.deb", "wheel": "*.whl"}
 LIBRARIES = "lib/aarch64-linux-gnu"
 # The number of the processor in an ELF file (e_machine): EM_AARCH64.
 AARCH64 = 183
-# What the Debian package has under other names, and what it adds.
+# What the Debian package has under other names, what it adds, and what it leaves out.
 RENAMED = [
     (r"^lib/(?!python3/)", f"{LIBRARIES}/"),
     (r"^(share/man/.*)$", r"\1.gz"),
     ("zsh/site-functions", "zsh/vendor-completions"),
     ("fmtcanon/CHANGELOG.md", "fmtcanon/changelog.gz"),
     ("fmtcanon/LICENSE", "fmtcanon/copyright"),
-    ("share/doc/fmtcanon/folders", "share/lintian/overrides/fmtcanon"),
 ]
-ADDED = {"share/doc/fmtcanon/changelog.Debian.gz"}
+ADDED = {"share/doc/fmtcanon/changelog.Debian.gz", "share/lintian/overrides/fmtcanon"}
+LEFT_OUT = {"share/doc/fmtcanon/folders"}
 
 
 def processors(files):
@@ -48,6 +47,13 @@ def below(folder):
 def installed():
     """Each file of an installation for AArch64, below its prefix."""
     return wanted_files() - OF_PROGRAM
+
+
+def in_package(name):
+    """The name that the Debian package has for a file of an installation."""
+    for pattern, other in RENAMED:
+        name = re.sub(pattern, other, name)
+    return name
 
 
 def oldest_glibc(cross):
@@ -79,11 +85,7 @@ def try_package(file, glibc, trials, work):
     trials.expect("Architecture", fields.get("Architecture"), "arm64")
     trials.expect("Depends", fields.get("Depends"), "libc6 (>= {}.{}), python3 (>= 3.8)".format(*glibc))
     trials.expect("dpkg-deb -x", lines_of(["dpkg-deb", "-x", file, work / "deb"]), (0, ""))
-    wanted = ADDED
-    for name in installed():
-        for pattern, other in RENAMED:
-            name = re.sub(pattern, other, name)
-        wanted = wanted | {name}
+    wanted = ADDED | {in_package(name) for name in installed() - LEFT_OUT}
     trials.expect("its files", sorted(files_below(work / "deb/usr") ^ wanted), [])
     binaries = {f"{LIBRARIES}/libfmtcanon.a": AARCH64, f"{LIBRARIES}/libfmtcanon.so.{VERSION}": AARCH64}
     trials.expect("its binaries", processors(below(work / "deb/usr")), binaries)
@@ -109,10 +111,10 @@ def try_wheel(file, glibc, python, trials, work):
 
 def try_module(python, folder, trials, work):
     """The module of a folder answers on AArch64, and says what needs the program."""
-    environment = environment_of(PYTHONPATH=str(folder), PATH="/usr/bin:/bin")
-    script = "import fmtcanon, json; print(json.dumps([fmtcanon.canonical('%i'), fmtcanon.format('%05d', 7).decode(), fmtcanon.show('%#o')[0].core]))"
-    status, output = lines_of([python, "-c", script], env=environment, cwd=work)
-    trials.expect(f"the module of the wheel: {output}", (status, status == 0 and json.loads(output)), (0, ["%d", "00007", "%.0o"]))
+    environment = environment_of(PYTHONPATH=str(folder), FMTCANON_PROGRAM=NO_PROGRAM)
+    script = "import fmtcanon; print(fmtcanon.canonical('%i'), fmtcanon.format('%05d', 7), fmtcanon.show('%#o')[0].core)"
+    answers = lines_of([python, "-c", script], env=environment, cwd=work)
+    trials.expect("the module of the wheel", answers, (0, "%d b'00007' %.0o\n"))
     explained = lines_of([python, "-m", "fmtcanon.explain", "%5d"], env=environment, cwd=work)
     wanted = "%5d\n^^^   argument 1, int: decimal, on the right of 5 columns\ncanonical text: %5d\nit prints 5 to 11 bytes\n"
     trials.expect("fmtcanon-explain of the wheel", explained, (0, wanted))
@@ -132,6 +134,7 @@ def try_packages(cross, python, trials, work):
     if None in made.values():
         return
     glibc = oldest_glibc(cross)
+    trials.expect("the C library that docs/INSTALL.md names", installing.needed_by_page()[1], "{}.{}".format(*glibc))
     try_archive(made["dist"], trials, work)
     try_package(made["deb"], glibc, trials, work)
     try_wheel(made["wheel"], glibc, python, trials, work)

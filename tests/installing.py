@@ -140,6 +140,11 @@ def wanted_files():
     )
 
 
+def needed_by_page():
+    """The versions of the GNU C library that docs/INSTALL.md says are needed: on x86-64, and on AArch64."""
+    return re.findall(r" from (\d+\.\d+) on\b", (TOP / "docs/INSTALL.md").read_text(encoding="utf-8"))
+
+
 def make(words, folder=TOP, path=None):
     # A make above says through these that it prints the folders that it enters.
     environment = {
