@@ -33,9 +33,9 @@ WRAPPER = """\
 #!/bin/sh
 exec '{emulator}' -0 "$0" -L '{root}' '{root}/usr/bin/python3' "$@"
 """
-# The tests that call the library. The others are of the program, of files, terminals and compilers, and start many processes,
-# which takes long here. Of these some need the program.
-TESTS = ["catalogs", "check", "diff_findings", "diff_literals", "explain", "fmtcanon", "replace", "surroundings", "without_program"]
+# Tests of the module: those that call the library, measure no time, and start few processes, which an emulator takes long for.
+TESTS = ["check", "diff_findings", "explain", "fmtcanon", "surroundings", "without_program"]
+# How many of them need the program.
 SKIPPED = 3
 
 
