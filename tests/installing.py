@@ -355,6 +355,9 @@ def try_missing(work, trials):
         (status != 0, "crates/fmtcanon/out/fmtcanon is missing: make builds it" in output),
         (True, True),
     )
+    status, output = make(["install", "TARGET=aarch64", f"DESTDIR={stage}", *PLACES], folder=tree)
+    wanted = "out/c-aarch64/libfmtcanon.a is missing: make TARGET=aarch64 builds it\n"
+    trials.expect("make install of nothing for AArch64", (status != 0, output.startswith(wanted)), (True, True))
     trials.expect("nothing is installed", stage.exists(), False)
 
 
