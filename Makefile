@@ -1,12 +1,13 @@
-# make                   builds the program and the C library
+# make                   builds the program and the C library. With TARGET=aarch64, this target and those below that
+#                        install or package make what there is for AArch64: the library, by a cross compiler,
+#                        and no program
 # make test              the gate: everything is proved and tested, a sample of the mutants is tried, then the
 #                        program and the library are tried
 # make check-more        tries the library with tools that the gate doesn't need: clang, valgrind,
-#                        gettext, libclang, mypy, lintian, debootstrap, meson, CMake, and the shells of the
-#                        completions
+#                        gettext, libclang, mypy, lintian, debootstrap, meson, CMake, the shells of the
+#                        completions, and a cross compiler and an emulator of AArch64
 # make mutants           tries the mutants that the records don't have as refused, and writes them there
-# make library TARGET=aarch64
-#                        builds the C library for AArch64, with the tools of a cross compiler
+# make library           builds the C library alone
 # make install PREFIX=   installs what `make` built: the program, the C library, the Python module
 #                        with its five commands, manual pages, completions and documents; below
 #                        DESTDIR=, where that is given. It builds nothing
@@ -19,24 +20,26 @@
 #                        what the commands say of a machine's own catalogs, of source trees with a
 #                        compile_commands.json in these folders, and of releases in pairs of folders
 
-PROGRAM = crates/fmtcanon/out/fmtcanon
-
 # The file VERSION has the version; tests/versions.py compares every other copy of it. The major version names the ABI.
 VERSION := $(file < VERSION)
 SONAME = libfmtcanon.so.$(firstword $(subst ., ,$(VERSION)))
-# The processor of the C library: x86_64, or aarch64 by a cross compiler.
+# The processor: x86_64, or aarch64. An archive has no sources of the library, and is for one of them.
+ifeq ($(wildcard library out/c-aarch64),out/c-aarch64)
+TARGET = aarch64
+else
 TARGET = x86_64
-# What the names of its tools begin with, if it is another than that of the program, and the folder that it is made in.
-# `rt ci` keeps only its own files in a crate's out/.
-ifeq ($(TARGET),x86_64)
-CROSS =
-C = out/c
-else ifeq ($(TARGET),aarch64)
-CROSS = aarch64-linux-gnu-
-C = out/c-aarch64
-ifeq ($(origin CC),default)
-CC = $(CROSS)gcc
 endif
+# The program, if there is one for the processor; the folder that the C library is made in; and what the names of its
+# tools begin with, if they are a cross compiler's. `rt ci` keeps only its own files in a crate's out/.
+ifeq ($(TARGET),x86_64)
+PROGRAM = crates/fmtcanon/out/fmtcanon
+C = out/c
+CROSS =
+else ifeq ($(TARGET),aarch64)
+PROGRAM =
+C = out/c-aarch64
+CROSS = aarch64-linux-gnu-
+CC = $(CROSS)gcc
 else
 $(error TARGET is x86_64 or aarch64)
 endif
@@ -56,7 +59,7 @@ BESIDE = $(shell echo $$(( $(JOBS) > 4 ? $(JOBS) / 2 : $(JOBS) > 1 ? 2 : 1 )))
 .PHONY: all program library archive test gate beside-gate tried trials check-more mutants tools c-tools
 .PHONY: built places install uninstall dist deb wheel tables
 
-all: program library
+all: $(if $(PROGRAM),program) library
 
 # Building proves what it builds.
 program: tools
@@ -173,11 +176,11 @@ c-tools:
 # The targets below need what only `make` builds.
 built:
 	@for file in $(PROGRAM) $(C)/libfmtcanon.a $(SHARED); do test -f $$file || \
-	    { echo "$$file is missing: make builds it" >&2; exit 1; }; done
+	    { echo "$$file is missing: make$(if $(CROSS), TARGET=$(TARGET)) builds it" >&2; exit 1; }; done
 
 include packaging/install.mk
 
-ARCHIVE = fmtcanon-$(VERSION)-linux-x86_64
+ARCHIVE = fmtcanon-$(VERSION)-linux-$(TARGET)
 PACKED = LICENSE README.md CHANGELOG.md SECURITY.md VERSION Makefile include python/fmtcanon python/pyproject.toml \
     python/README.md man completions docs examples packaging $(PROGRAM) $(C)/libfmtcanon.a $(SHARED)
 
@@ -186,19 +189,19 @@ CHECKSUMS = @cd out && LC_ALL=C sha256sum fmtcanon[-_]$(VERSION)-*.* > SHA256SUM
 
 # The archive depends only on the names and bytes of the files.
 dist: built
-	python3 packaging/make_dist.py out/$(ARCHIVE).tar.gz $(ARCHIVE) $(PROGRAM) $(PACKED)
+	python3 packaging/make_dist.py out/$(ARCHIVE).tar.gz $(ARCHIVE) '$(PROGRAM)' $(PACKED)
 	$(CHECKSUMS)
 
 deb: built
-	packaging/make_deb.sh out
+	packaging/make_deb.sh out $(TARGET) $(CROSS)
 	$(CHECKSUMS)
 
 wheel: built
-	python3 packaging/make_wheel.py $(SHARED) $(PROGRAM) out
+	python3 -B packaging/make_wheel.py out $(TARGET) $(SHARED) $(PROGRAM)
 	$(CHECKSUMS)
 
 tables:
 	FMTCANON_LIBRARY=$(C)/$(SONAME) python3 tests/field/catalogs.py
 	FMTCANON_LIBRARY=$(C)/$(SONAME) python3 tests/field/mutations.py
 	$(if $(SOURCES),FMTCANON_LIBRARY=$(C)/$(SONAME) python3 tests/field/sources.py $(SOURCES))
-	$(if $(RELEASES),FMTCANON_LIBRARY=$(C)/$(SONAME) FMTCANON_PROGRAM=$(PROGRAM) python3 tests/field/releases.py $(RELEASES))
+	$(if $(RELEASES),FMTCANON_LIBRARY=$(C)/$(SONAME) python3 tests/field/releases.py $(RELEASES))

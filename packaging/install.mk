@@ -37,12 +37,13 @@ CALLS = sed -n 's/^[a-z0-9_][a-z0-9_ ]* \**\(fmtcanon_[a-z_]*\)(.*/\1/p' include
 MODULES = fmtcanon fmtcanon/checker fmtcanon/compiling fmtcanon/diff fmtcanon/explain fmtcanon/po fmtcanon/replace
 # The commands that are written in Python.
 COMMANDS = check diff explain po replace
+# The manual pages of commands. That of the program comes with it.
+PAGES = $(if $(PROGRAM),man/fmtcanon.1) $(COMMANDS:%=man/fmtcanon-%.1)
 
 install: places built
 	python3 packaging/folders.py make "$(DESTDIR)" $(MADE) $(BINDIR) $(INCLUDEDIR) $(LIBDIR)/pkgconfig $(PYTHONDIR) \
 	    $(addprefix $(PYTHONDIR)/,$(MODULES)) $(MANDIR)/man1 $(MANDIR)/man3 $(BASHDIR) $(ZSHDIR) $(FISHDIR) \
 	    $(DOCDIR)/docs $(DOCDIR)/docs/internals $(DOCDIR)/examples $(DOCDIR)/examples/ci
-	install -m 755 $(PROGRAM) $(DESTDIR)$(BINDIR)/fmtcanon
 	install -m 644 include/fmtcanon.h $(DESTDIR)$(INCLUDEDIR)
 	install -m 644 $(C)/libfmtcanon.a $(DESTDIR)$(LIBDIR)
 	install -m 644 $(SHARED) $(DESTDIR)$(LIBDIR)
@@ -53,16 +54,12 @@ install: places built
 	for part in $(MODULES); do install -m 644 python/$$part/*.py $(DESTDIR)$(PYTHONDIR)/$$part || exit 1; done
 	install -m 644 python/fmtcanon/py.typed $(DESTDIR)$(PYTHONDIR)/fmtcanon
 	ln -sfr $(DESTDIR)$(LIBDIR)/$(SONAME) $(DESTDIR)$(PYTHONDIR)/fmtcanon/$(SONAME)
-	ln -sfr $(DESTDIR)$(BINDIR)/fmtcanon $(DESTDIR)$(PYTHONDIR)/fmtcanon/program
 	for name in $(COMMANDS); do printf '%s\n' $(COMMAND) > $(DESTDIR)$(BINDIR)/fmtcanon-$$name && \
 	    chmod 755 $(DESTDIR)$(BINDIR)/fmtcanon-$$name || exit 1; done
-	install -m 644 man/*.1 $(DESTDIR)$(MANDIR)/man1
+	install -m 644 $(PAGES) $(DESTDIR)$(MANDIR)/man1
 	install -m 644 man/*.3 $(DESTDIR)$(MANDIR)/man3
 	for call in $$($(CALLS)); do echo '.so man3/fmtcanon.3' > $(DESTDIR)$(MANDIR)/man3/$$call.3 && \
 	    chmod 644 $(DESTDIR)$(MANDIR)/man3/$$call.3 || exit 1; done
-	install -m 644 completions/fmtcanon.bash $(DESTDIR)$(BASHDIR)/fmtcanon
-	install -m 644 completions/_fmtcanon $(DESTDIR)$(ZSHDIR)
-	install -m 644 completions/fmtcanon.fish $(DESTDIR)$(FISHDIR)
 	for name in $(COMMANDS); do \
 	    install -m 644 completions/fmtcanon-commands.bash $(DESTDIR)$(BASHDIR)/fmtcanon-$$name && \
 	    install -m 644 completions/fmtcanon-commands.fish $(DESTDIR)$(FISHDIR)/fmtcanon-$$name.fish || exit 1; done
@@ -72,6 +69,13 @@ install: places built
 	install -m 644 docs/internals/*.md $(DESTDIR)$(DOCDIR)/docs/internals
 	install -m 644 examples/*.c $(DESTDIR)$(DOCDIR)/examples
 	install -m 644 examples/ci/* $(DESTDIR)$(DOCDIR)/examples/ci
+ifneq ($(PROGRAM),)
+	install -m 755 $(PROGRAM) $(DESTDIR)$(BINDIR)/fmtcanon
+	ln -sfr $(DESTDIR)$(BINDIR)/fmtcanon $(DESTDIR)$(PYTHONDIR)/fmtcanon/program
+	install -m 644 completions/fmtcanon.bash $(DESTDIR)$(BASHDIR)/fmtcanon
+	install -m 644 completions/_fmtcanon $(DESTDIR)$(ZSHDIR)
+	install -m 644 completions/fmtcanon.fish $(DESTDIR)$(FISHDIR)
+endif
 
 # Removes the files that an installation would make, and then the folders that it made, if they are empty. An
 # installation of an older version has no list of them: then the folders with its name are removed.

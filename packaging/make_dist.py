@@ -3,7 +3,8 @@
 
 Usage: make_dist.py ARCHIVE FOLDER PROGRAM FILE..
 
-FOLDER is the one that the archive unpacks to. PROGRAM is the one file that is executable without being a script.
+FOLDER is the one that the archive unpacks to. PROGRAM is the one file that is executable without being a script, or
+empty.
 """
 
 import gzip

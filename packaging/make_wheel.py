@@ -1,8 +1,8 @@
 #!/usr/bin/env python3
-"""Makes a wheel of the Python module with the C library and the program inside. It installs without a compiler or a
-network.
+"""Makes a wheel of the Python module with the C library inside, and the program if there is one. It installs without a
+compiler or a network.
 
-Usage: make_wheel.py LIBRARY PROGRAM FOLDER
+Usage: make_wheel.py FOLDER PROCESSOR LIBRARY [PROGRAM]
 
 LIBRARY is the shared library. The metadata comes from python/pyproject.toml and the file VERSION. The name says which
 version of the GNU C library the wheel needs: the latest that the library or the program needs.
@@ -11,30 +11,18 @@ version of the GNU C library the wheel needs: the latest that the library or the
 import base64
 import hashlib
 import re
-import shutil
-import subprocess
 import sys
 import zipfile
 from pathlib import Path
+
+from needed_glibc import needed_glibc
 
 TOP = Path(__file__).resolve().parent.parent
 VERSION = (TOP / "VERSION").read_text(encoding="utf-8").strip()
 SONAME = f"libfmtcanon.so.{VERSION.split('.')[0]}"
 PROGRAM = "fmtcanon/program"
-# The oldest that a wheel can be tagged for, with the program or without.
-OLDEST_GLIBC = (2, 17)
 # Each file of a wheel has one time, so that the same files make the same wheel.
 TIME = (1980, 1, 1, 0, 0, 0)
-
-
-def needed_glibc(*files):
-    """The version of the C library that these files need."""
-    if shutil.which("objdump") is None:
-        sys.exit("objdump is missing: the package binutils has it")
-    words = ["objdump", "-T", *files]
-    table = subprocess.run(words, check=True, stdout=subprocess.PIPE).stdout.decode()
-    found = (tuple(map(int, version.split("."))) for version in re.findall(r"GLIBC_([0-9.]+)", table))
-    return max([OLDEST_GLIBC, *(version[:2] for version in found)])
 
 
 def project():
@@ -64,28 +52,36 @@ def metadata(texts, lists):
     return "\n".join(lines) + "\n\n" + readme
 
 
-def files_of(library, program, information, tag, texts, lists):
+def entry_points(texts, has_program):
+    """The commands, each with the function that it calls; `fmtcanon` runs the program."""
+    commands = {name: call for name, call in texts.items() if name.startswith("fmtcanon")}
+    if not has_program:
+        del commands["fmtcanon"]
+    return "\n".join(["[console_scripts]", *(f"{name} = {call}" for name, call in commands.items()), ""])
+
+
+def files_of(binaries, information, tag, texts, lists):
     """The files of the wheel, except their record: names and bytes."""
     for path in sorted((TOP / "python/fmtcanon").rglob("*")):
         if path.suffix == ".py" or path.name == "py.typed":
             yield str(path.relative_to(TOP / "python")), path.read_bytes()
-    yield f"fmtcanon/{SONAME}", library.read_bytes()
-    yield PROGRAM, program.read_bytes()
-    commands = [f"{name} = {call}" for name, call in texts.items() if name.startswith("fmtcanon")]
+    yield from ((name, file.read_bytes()) for name, file in binaries.items())
     yield f"{information}/METADATA", metadata(texts, lists).encode()
     yield f"{information}/WHEEL", f"Wheel-Version: 1.0\nGenerator: make_wheel\nRoot-Is-Purelib: false\nTag: {tag}\n".encode()
-    yield f"{information}/entry_points.txt", "\n".join(["[console_scripts]", *commands, ""]).encode()
+    yield f"{information}/entry_points.txt", entry_points(texts, PROGRAM in binaries).encode()
     yield f"{information}/LICENSE", (TOP / "LICENSE").read_bytes()
 
 
-def main(library, program, folder):
+def main(folder, processor, *files):
     texts, lists = project()
-    tag = "py3-none-manylinux_{}_{}_x86_64".format(*needed_glibc(library, program))
+    tag = "py3-none-manylinux_{}_{}_{}".format(*needed_glibc(*files), processor)
+    # Without a program, `zip` ends after the library.
+    binaries = dict(zip([f"fmtcanon/{SONAME}", PROGRAM], map(Path, files)))
     name = f"fmtcanon-{VERSION}"
     information, record = f"{name}.dist-info", []
     wheel = Path(folder) / f"{name}-{tag}.whl"
     with zipfile.ZipFile(wheel, "w", zipfile.ZIP_DEFLATED) as archive:
-        for path, data in files_of(Path(library), Path(program), information, tag, texts, lists):
+        for path, data in files_of(binaries, information, tag, texts, lists):
             digest = base64.urlsafe_b64encode(hashlib.sha256(data).digest()).rstrip(b"=").decode()
             record.append(f"{path},sha256={digest},{len(data)}")
             add(archive, path, data)
@@ -101,6 +97,6 @@ def add(archive, path, data):
 
 
 if __name__ == "__main__":
-    if len(sys.argv) != 4:
+    if len(sys.argv) not in (4, 5):
         sys.exit(__doc__)
     main(*sys.argv[1:])

@@ -1,10 +1,11 @@
 #!/usr/bin/env python3
-"""Tries the C library for AArch64 in an emulator: against its header, and against the library for x86-64.
+"""Tries the C library for AArch64 in an emulator: against its header, and against the library for x86-64; the tests of the
+Python module over it (emulated_python.py), and the packages (aarch64_packages.py).
 
 Usage: tests/aarch64.py FOLDER CROSS
 
-FOLDER and CROSS have libfmtcanon.a, as `make library` and `make library TARGET=aarch64` leave them, and CROSS has
-libfmtcanon.so, too. It needs Debian's gcc-aarch64-linux-gnu, libc6-dev-arm64-cross and qemu-user. Its last line is
+FOLDER and CROSS have libfmtcanon.a and libfmtcanon.so, as `make library` and `make library TARGET=aarch64` leave them;
+CROSS is that of the tree. It needs Debian's gcc-aarch64-linux-gnu, libc6-dev-arm64-cross and qemu-user. Its last line is
 'N passed, M failed', and it exits with 1 where M isn't 0.
 """
 
@@ -17,6 +18,8 @@ from pathlib import Path
 sys.dont_write_bytecode = True
 sys.path.insert(0, str(Path(__file__).resolve().parent))
 
+from aarch64_packages import try_packages  # noqa: E402
+from emulated_python import emulated_python, try_unit_tests  # noqa: E402
 from harness import SONAME, main  # noqa: E402
 from library import PROGRAMS, SHAPES, TOP, WRAPPED, compile_with, header_calls, lines_of  # noqa: E402
 from sizes import CALLS, TIMES  # noqa: E402
@@ -28,6 +31,7 @@ EMULATOR = ["qemu-aarch64", "-L", "/usr/aarch64-linux-gnu"]
 # How much slower than this processor the emulator may be.
 SLOWER = 60
 SOURCES = TOP / "tests/library"
+RANDOM = 100_000
 
 
 def try_programs(archive, trials, work):
@@ -35,6 +39,15 @@ def try_programs(archive, trials, work):
     for program, options, line in PROGRAMS:
         trials.expect(f"{program}.c", compile_with(COMPILER, SOURCES / f"{program}.c", work / program, archive, *options), (0, ""))
         trials.expect(program, lines_of([*EMULATOR, work / program]), (0, f"{line}\n"))
+
+
+def try_random(archive, trials, work):
+    """The C library of the processor prints what the answers of random texts say."""
+    program = work / "random"
+    trials.expect("random.c", compile_with(COMPILER, SOURCES / "random.c", program, archive), (0, ""))
+    status, line = lines_of([*EMULATOR, program, str(RANDOM)])
+    print(line, end="")
+    trials.expect("random texts", status, 0)
 
 
 def answers_of(compiler, emulator, program, *library):
@@ -75,11 +88,18 @@ def try_exports(cross, trials):
 
 
 def try_all(folder, cross, trials):
-    with tempfile.TemporaryDirectory() as work:
+    archive = cross / "libfmtcanon.a"
+    with tempfile.TemporaryDirectory() as name:
+        work = Path(name)
         try_exports(cross, trials)
-        try_programs(cross / "libfmtcanon.a", trials, Path(work))
-        print(f"{try_answers(folder, cross, trials, Path(work)):,} lines of answers compared")
-        try_sizes(cross / "libfmtcanon.a", trials, Path(work))
+        try_programs(archive, trials, work)
+        print(f"{try_answers(folder, cross, trials, work):,} lines of answers compared")
+        try_random(archive, trials, work)
+        try_sizes(archive, trials, work)
+        python = emulated_python(work / "python", trials)
+        if python:
+            try_unit_tests(python, cross, trials)
+        try_packages(cross, python, trials, work)
 
 
 if __name__ == "__main__":

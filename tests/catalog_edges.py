@@ -11,7 +11,7 @@ import sys
 import tempfile
 from pathlib import Path
 
-from harness import SONAME, TIMEOUT, TOP
+from harness import NO_PROGRAM, SONAME, TIMEOUT, TOP
 
 HEADER = 'msgid ""\nmsgstr ""\n"Content-Type: text/plain; charset=%s\\n"\n"Plural-Forms: nplurals=2; plural=%s;\\n"\n\n'
 # A message begins in this line after the header, and its first msgstr comes this many lines later.
@@ -215,6 +215,7 @@ def checked(folder, words, where):
     environment = {
         **os.environ,
         "FMTCANON_LIBRARY": str(folder / SONAME),
+        "FMTCANON_PROGRAM": NO_PROGRAM,
         "PYTHONDONTWRITEBYTECODE": "1",
         "PYTHONPATH": str(TOP / "python"),
         "PYTHONIOENCODING": "utf-8",

@@ -15,7 +15,7 @@ import tempfile
 from collections import Counter
 from pathlib import Path
 
-from harness import PACKAGES, SONAME, TIMEOUT, TOP, examples, page_examples
+from harness import NO_PROGRAM, PACKAGES, SONAME, TIMEOUT, TOP, examples, page_examples
 
 SOURCE = TOP / "tests/platforms/expressions.c"
 LARGE = ["-D_TIME_BITS=64", "-D_FILE_OFFSET_BITS=64"]
@@ -53,6 +53,7 @@ class Tool:
         self.environment = {
             **os.environ,
             "FMTCANON_LIBRARY": str(folder / SONAME),
+            "FMTCANON_PROGRAM": NO_PROGRAM,
             "PYTHONPATH": str(TOP / "python"),
             "PYTHONDONTWRITEBYTECODE": "1",
             "LC_ALL": "C.UTF-8",

@@ -250,11 +250,11 @@ def try_outputs(tool, trials):
     trials.expect("closed standard error", (done.returncode, done.stdout.decode()), (status, output))
 
 
-def try_trees(program, folder, trials):
+def try_trees(folder, trials):
     with_git = [try_cached, try_renamed, try_revisions, try_configuration, try_ignored, try_excluded]
     if not shutil.which("git"):
         print(f"not run, since there is no git here: {', '.join(it.__name__ for it in with_git)}")
         with_git = []
     for part in [try_statuses, try_left_out, try_names, try_outputs, *with_git]:
         with tempfile.TemporaryDirectory() as work:
-            part(Tool(program, folder, os.path.realpath(work)), trials)
+            part(Tool(folder, os.path.realpath(work)), trials)

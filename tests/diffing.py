@@ -27,7 +27,7 @@ from compiled_formats import (
     spelled,
     unlike_pairs,
 )
-from harness import SONAME, TIMEOUT, TOP, VERSION, examples
+from harness import NO_PROGRAM, SONAME, TIMEOUT, TOP, VERSION, examples
 
 # Two files, and what is said of the second.
 OLD = """\
@@ -109,13 +109,13 @@ FILES, LINES_OF_FILE, LONG_LINE = 1_000, 1_000, 10_000_000
 class Tool:
     """The command in a folder."""
 
-    def __init__(self, program, folder, work):
+    def __init__(self, folder, work):
         self.work = Path(work)
         self.words = [sys.executable, "-m", "fmtcanon.diff"]
         self.environment = {
             **os.environ,
             "FMTCANON_LIBRARY": str(folder / SONAME),
-            "FMTCANON_PROGRAM": program,
+            "FMTCANON_PROGRAM": NO_PROGRAM,
             "PYTHONPATH": str(TOP / "python"),
             "PYTHONDONTWRITEBYTECODE": "1",
             "GIT_CONFIG_GLOBAL": os.devnull,
@@ -434,8 +434,6 @@ def try_faults(tool, trials):
         (status, output, fault.startswith("fmtcanon-diff: the library of fmtcanon isn't there: ")),
         (2, "", True),
     )
-    found = tool.run("a.c", "folder/a.c", FMTCANON_PROGRAM="nowhere")
-    trials.expect("no program", found[:2], (1, f"folder/a.c:1:8: {UNSIGNED}\n"))
     # One file that can't be read doesn't hide what is found in another.
     tool.put("old/a.c", 'printf("%d", x);')
     tool.put("old/b.c", "x")
@@ -485,14 +483,14 @@ def try_no_repository(tool, trials):
     )
 
 
-def try_diffing(program, folder, trials):
+def try_diffing(folder, trials):
     with_git = [try_git, try_no_repository]
     if not shutil.which("git"):
         print(f"not run, since there is no git here: {', '.join(it.__name__ for it in with_git)}")
         with_git = []
     for part in [try_changes, try_lines, try_whole, *with_git, try_faults, try_document]:
         with tempfile.TemporaryDirectory() as work:
-            part(Tool(program, folder, os.path.realpath(work)), trials)
+            part(Tool(folder, os.path.realpath(work)), trials)
 
 
 def timed(tool, *words):
@@ -516,7 +514,7 @@ def string_pairs(count):
         yield (*(spelled(chosen, parts) + it for it in ends), [*kinds_of(parts), "string"])
 
 
-def try_pairs(program, folder, argument_of, trials):
+def try_pairs(folder, argument_of, trials):
     """Pairs of the whole language have the verdict that they are made for; for the shortened arguments gcc's program
     prints other bytes.
     """
@@ -526,7 +524,7 @@ def try_pairs(program, folder, argument_of, trials):
     unlike = [*unlike_pairs(PAIRS), *string_pairs(PAIRS)]
     pairs = [*((*it, ["same"]) for it in alike_pairs(PAIRS)), *((*it, ["different"]) for it in unlike)]
     with tempfile.TemporaryDirectory() as work:
-        tool = Tool(program, folder, os.path.realpath(work))
+        tool = Tool(folder, os.path.realpath(work))
         for number, pair in enumerate(pairs):
             for side, text in zip(["old", "new"], pair):
                 tool.put(f"{side}/{number:03}.c", f"f({literal(text)}, x);")
@@ -550,10 +548,10 @@ def try_pairs(program, folder, argument_of, trials):
             trials.expect(f"other bytes for shortened arguments: {one}", mark, "#")
 
 
-def try_times(program, folder, trials):
+def try_times(folder, trials):
     """A tree of a million lines with a thousand changed files, and lines of ten million bytes."""
     with tempfile.TemporaryDirectory() as work:
-        tool = Tool(program, folder, os.path.realpath(work))
+        tool = Tool(folder, os.path.realpath(work))
         body = "".join(
             f'    if (x > {n}) printf("line %d of {n}: %s\\n", x + {n}, "text"); /* a comment */\n'
             for n in range(LINES_OF_FILE - 2)

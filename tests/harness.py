@@ -14,6 +14,8 @@ TIMEOUT = 60
 VERSION = (TOP / "VERSION").read_text(encoding="utf-8").strip()
 # The name by which programs ask for the C library.
 SONAME = f"libfmtcanon.so.{VERSION.split('.')[0]}"
+# What the commands in Python are given as the program, which none of them needs.
+NO_PROGRAM = "/nothing/fmtcanon"
 # The packages of the commands that have another name: `check` is a function of the module.
 PACKAGES = {"check": "checker"}
 

@@ -60,6 +60,15 @@ INSTALLED = {
     "share/zsh/site-functions/_fmtcanon",
     "share/zsh/site-functions/_fmtcanon-commands",
 }
+# The files that come with the program.
+OF_PROGRAM = {
+    "bin/fmtcanon",
+    f"{MODULE}/program",
+    "share/bash-completion/completions/fmtcanon",
+    "share/fish/vendor_completions.d/fmtcanon.fish",
+    "share/man/man1/fmtcanon.1",
+    "share/zsh/site-functions/_fmtcanon",
+}
 PLACES = ["PREFIX=/usr", "PYTHONDIR=/usr/lib/python3/dist-packages"]
 # Folders that can't be passed through a shell, or that would be below the current one.
 REFUSED = [
@@ -100,6 +109,7 @@ TREE = [
 # Who makes the packages of these trials.
 MAINTAINER = "MAINTAINER=A Tester <tester@example.org>"
 BUILT = ["crates/fmtcanon/out/fmtcanon", "out/c/libfmtcanon.a", f"out/c/libfmtcanon.so.{VERSION}"]
+BUILT_FOR_AARCH64 = ["out/c-aarch64/libfmtcanon.a", f"out/c-aarch64/libfmtcanon.so.{VERSION}"]
 
 
 def prototypes(text):
@@ -128,6 +138,11 @@ def wanted_files():
         | {f"share/doc/fmtcanon/examples/ci/{path.name}" for path in (TOP / "examples/ci").iterdir()}
         | {f"share/man/man3/{name}.3" for name in calls()}
     )
+
+
+def needed_by_page():
+    """The versions of the GNU C library that docs/INSTALL.md says are needed: on x86-64, and on AArch64."""
+    return re.findall(r" from (\d+\.\d+) on\b", (TOP / "docs/INSTALL.md").read_text(encoding="utf-8"))
 
 
 def make(words, folder=TOP, path=None):
@@ -219,7 +234,7 @@ def try_places(work, trials):
     trials.expect("nothing is made", (sorted(tree.rglob("*")) == before, (work / "fifth").exists()), (True, False))
 
 
-def copy_tree(tree):
+def copy_tree(tree, built=BUILT):
     """Copies what an archive is made of, with what was built."""
     tree.mkdir()
     for part in TREE:
@@ -227,7 +242,7 @@ def copy_tree(tree):
         (shutil.copytree if (TOP / part).is_dir() else shutil.copy)(
             TOP / part, tree / part, **({"ignore": skip} if (TOP / part).is_dir() else {})
         )
-    for part in BUILT:
+    for part in built:
         (tree / part).parent.mkdir(parents=True, exist_ok=True)
         shutil.copy(TOP / part, tree / part)
 
@@ -255,11 +270,11 @@ def try_checksums(folder, trials):
     )
 
 
-def packages_of(work, target, pattern, trials):
+def packages_of(work, target, pattern, trials, built=BUILT):
     """The bytes of the package that is made of the tree, and of a copy with other times and rights."""
     for name in ["tree", "spoiled"]:
         tree = work / f"{name} for {target}".replace(" ", "-")
-        copy_tree(tree)
+        copy_tree(tree, built)
         if name == "spoiled":
             spoil_tree(tree)
         status, output = make([target, MAINTAINER], folder=tree)
@@ -311,9 +326,9 @@ def try_no_binutils(work, trials):
         (tools / name).symlink_to(shutil.which(name))
     (tools / "python3").symlink_to(sys.executable)
     status, output = make(["wheel"], path=str(tools))
-    wanted = "objdump is missing: the package binutils has it\n"
+    wanted = "readelf is missing: the package binutils has it\n"
     trials.expect(
-        "make wheel without objdump",
+        "make wheel without readelf",
         (status != 0, output.startswith(wanted), "Traceback" in output),
         (True, True, False),
     )
@@ -340,6 +355,9 @@ def try_missing(work, trials):
         (status != 0, "crates/fmtcanon/out/fmtcanon is missing: make builds it" in output),
         (True, True),
     )
+    status, output = make(["install", "TARGET=aarch64", f"DESTDIR={stage}", *PLACES], folder=tree)
+    wanted = "out/c-aarch64/libfmtcanon.a is missing: make TARGET=aarch64 builds it\n"
+    trials.expect("make install of nothing for AArch64", (status != 0, output.startswith(wanted)), (True, True))
     trials.expect("nothing is installed", stage.exists(), False)
 
 

@@ -32,7 +32,7 @@ STRICT = ["-Wall", "-Wextra", "-pedantic", "-Werror", f"-I{HEADER.parent}"]
 DOCUMENTS = [("docs/C.md", None), ("docs/PYTHON.md", None), ("docs/EXPLAINING.md", None), ("docs/TRANSLATIONS.md", "Check a catalog")]
 # The manual pages whose examples need no libclang.
 PAGES = ["fmtcanon.1", "fmtcanon-explain.1", "fmtcanon-po.1", "fmtcanon-diff.1"]
-WRAPPED = ["-pthread", "-Wl,--wrap=malloc,--wrap=realloc,--wrap=free"]
+WRAPPED = ["-Wl,--wrap=malloc,--wrap=realloc,--wrap=free"]
 # What a parameter of Rattle is in C.
 PARAMETERS = {
     "&[u8]": ["const char *", "size_t"],
@@ -59,7 +59,7 @@ PROGRAMS = [
     ("fewer", WRAPPED, "formats from outside are as the header says"),
     ("outcomes", WRAPPED, "calls {}, pairs of texts {}, data models {}, rooms {}".format(*OUTCOMES)),
     ("rendered", WRAPPED, "directives 12750, printed as by snprintf"),
-    ("whole", ["-pthread"], "the whole language is as the header says"),
+    ("whole", [], "the whole language is as the header says"),
 ]
 # Of this number of formats, one is given to the program, too.
 STEP = 16
@@ -382,7 +382,7 @@ def try_program(program, module, trials):
         one, other = formats[at], formats[at + 1]
         model = list(module.Model)[at // STEP % 3]
         name = ["--model", model.name.lower()]
-        for command, words in [("canon", [one]), ("types", [one]), ("same", [one, other])]:
+        for command, words in [("canon", [one]), ("types", [one]), ("show", [one]), ("same", [one, other])]:
             wanted = program_answer(module, command, words, [model])
             trials.expect(f"{command} {name} {words}", run(program, [command, *name, "--", *words]), wanted)
     refused = [
@@ -468,6 +468,7 @@ def try_unit_tests(program, folder, trials):
     if status != 0:
         print(lines)
     trials.expect("the tests of the Python module", status, 0)
+    trials.expect("tests of the Python module that are skipped", re.findall(r"skipped=\d+", lines), [])
 
 
 def try_all(program, folder, trials):

@@ -225,9 +225,9 @@ def try_all(program, folder, trials):
     try_annotations(tools, trials)
     try_locale(program, folder, trials)
     try_libclang(folder, tools, trials)
-    try_pairs(program, folder, argument_of, trials)
-    try_times(program, folder, trials)
-    try_recipes(program, folder, tools, trials)
+    try_pairs(folder, argument_of, trials)
+    try_times(folder, trials)
+    try_recipes(folder, tools, trials)
     try_shells(tools, trials)
     packages.try_all(program, tools, trials)
 

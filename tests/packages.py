@@ -152,7 +152,8 @@ def try_wheel(trials):
         environment = {"PATH": str(folder) + ":/nowhere", "LC_ALL": "C.UTF-8", "HOME": work}
         # Without a network, and with no compiler to be found.
         wheels = list((TOP / "out").glob(f"fmtcanon-{VERSION}-py3-none-manylinux_*_x86_64.whl"))
-        trials.expect("one wheel", len(wheels), 1)
+        tag = installing.needed_by_page()[0].replace(".", "_")
+        trials.expect("the wheel", [it.name for it in wheels], [f"fmtcanon-{VERSION}-py3-none-manylinux_{tag}_x86_64.whl"])
         words = [folder / "pip", "install", "--no-index", "--quiet", "--disable-pip-version-check", *wheels]
         if shutil.which("unshare") and os.geteuid() == 0:
             words = [shutil.which("unshare"), "--net", *words]

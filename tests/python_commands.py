@@ -215,8 +215,8 @@ def try_completions(program, trials):
 
 def try_all(program, folder, trials):
     try_without_libclang(folder, trials)
-    try_diffing(program, folder, trials)
-    try_trees(program, folder, trials)
+    try_diffing(folder, trials)
+    try_trees(folder, trials)
     try_catalogs(folder, trials)
     try_edges(folder, trials)
     try_reading(folder, trials)

@@ -164,9 +164,9 @@ def try_build(tool, name, tools, steps, trials):
     trials.expect(f"{name}: {check}: {output}", status, 0)
 
 
-def try_recipes(program, folder, tools, trials):
+def try_recipes(folder, tools, trials):
     with tempfile.TemporaryDirectory() as work:
-        tool = Tool(program, folder, os.path.realpath(work))
+        tool = Tool(folder, os.path.realpath(work))
         installed(tool)
         tool.git("init", "-q")
         tool.put(

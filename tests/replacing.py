@@ -13,7 +13,7 @@ import sys
 import tempfile
 from pathlib import Path
 
-from harness import SONAME, TIMEOUT, TOP, examples
+from harness import NO_PROGRAM, SONAME, TIMEOUT, TOP, examples
 
 FOLDER = TOP / "tests/rewrites"
 OLD, NEW = "%i\\n", "%d\\n"
@@ -225,6 +225,7 @@ class Tool:
         self.environment = {
             **os.environ,
             "FMTCANON_LIBRARY": str(folder / SONAME),
+            "FMTCANON_PROGRAM": NO_PROGRAM,
             "PYTHONPATH": paths,
             "PYTHONDONTWRITEBYTECODE": "1",
             "LC_ALL": "C.UTF-8",

@@ -12,7 +12,7 @@ import sys
 import tempfile
 from pathlib import Path
 
-from harness import SONAME, TIMEOUT, TOP
+from harness import NO_PROGRAM, SONAME, TIMEOUT, TOP
 
 CATALOGS = TOP / "tests/catalogs"
 # A catalog with its exit status, and what is printed of it.
@@ -229,6 +229,7 @@ def check_po(folder, words, stdin=b"", where=CATALOGS):
     environment = {
         **os.environ,
         "FMTCANON_LIBRARY": str(folder / SONAME),
+        "FMTCANON_PROGRAM": NO_PROGRAM,
         "PYTHONDONTWRITEBYTECODE": "1",
         "PYTHONPATH": str(TOP / "python"),
         "PYTHONIOENCODING": "utf-8",

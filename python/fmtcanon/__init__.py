@@ -1,8 +1,7 @@
 """Brings printf formats to a canonical text, and says whether two are interchangeable.
 
-This is a binding of the C library `libfmtcanon` by ctypes. `format` and `show` run the program instead, once
-for each call, because the library has no such calls. A `Session` asks one process of the program about many
-formats, and needs no library.
+This is a binding of the C library `libfmtcanon` by ctypes. Only a `Session` runs the program, which is for x86-64:
+it asks one process about many formats, and needs no library.
 
 A format is a `str` or bytes. A `str` is passed in UTF-8, and offsets count bytes. Pass bytes if a format isn't
 UTF-8. Each call raises `Refused` if the format is rejected, `MemoryError` if it is out of memory, and
@@ -70,14 +69,13 @@ import ctypes
 import functools
 import operator
 import os
-import re
 from pathlib import Path
-from typing import Any, Callable, List, NamedTuple, NoReturn, Optional, Sequence, Tuple, TypeVar, Union
+from typing import Any, Callable, List, NamedTuple, Optional, Sequence, Tuple, TypeVar, Union
 
 from .kinds import Kind, LiteralKind, Type, Verdict
 from .models import DataModel, Model, model_of
 from .passing import passed
-from .printing import REFUSED, Directive, Failed, Percent, Shown, Text, run_show
+from .pieces import Directive, Percent, Shown, Text, directive_of, words_of
 from .prototypes import CALLS, CBounds, CComparison, CDirective, CError
 from .sessions import Reply, Session
 
@@ -473,14 +471,6 @@ def source_offset(source: Format, index: int) -> Optional[int]:
     return None if place == _NO_PLACE else place
 
 
-def _raise(fault: Failed) -> NoReturn:
-    """Raises the exception for what the program says."""
-    found = re.fullmatch(r"refused (\d+) (\w+) at byte (\d+)", fault.line)
-    if fault.status == REFUSED and found:
-        raise Refused(Kind(int(found[1])), found[2], int(found[3])) from None
-    raise OSError(fault.line or f"the program ended with status {fault.status}") from None
-
-
 def format(format: Format, *arguments: _Argument, model: DataModel = Model.LP64) -> bytes:
     """Returns the bytes that `printf` prints for the format and these arguments, in the POSIX locale.
 
@@ -551,16 +541,17 @@ def _alternated(words: List[bytes], others: List[bytes]) -> bytes:
 
 
 def show(format: Format, *, model: DataModel = Model.LP64) -> List[Shown]:
-    """Returns the pieces of the format in order. Each is a `Text`, a `Percent` or a `Directive`.
-
-    It runs the program, and accepts any bytes and any length.
-    """
-    number = model_of(model)
-    check(format)
-    try:
-        return run_show(number.name.lower(), _bytes(format))
-    except Failed as fault:
-        _raise(fault)
+    """Returns the pieces of the format in order. Each is a `Text`, a `Percent` or a `Directive`."""
+    text, number = _bytes(format), model_of(model)
+    check(text)
+    shown: List[Shown] = []
+    done = 0
+    for one in directives(text, model=number):
+        spelling = text[one.start : one.end]
+        reduced = canonical(spelling, model=number).decode()
+        shown += [*words_of(text[done : one.start]), directive_of(spelling, one.type, reduced)]
+        done = one.end
+    return [*shown, *words_of(text[done:])]
 
 
 def version() -> Tuple[int, int, int]:

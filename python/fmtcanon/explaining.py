@@ -53,8 +53,8 @@ class Explanation(NamedTuple):
 class Difference(NamedTuple):
     """How two formats compare.
 
-    `arguments` are some that they print differently, and `printed` is what each prints for them, if the program can be
-    run. `at` is the index from 0 of the first argument at which their types or directives differ. `parts` are the
+    `arguments` are some that they print differently, and `printed` is what each prints for them, if it can be had.
+    `at` is the index from 0 of the first argument at which their types or directives differ. `parts` are the
     directives there: of each format one, or None.
     """
 
@@ -235,5 +235,5 @@ def is_alike(first: Part, second: Part, arguments: Sequence[Argument], model: Mo
 
 
 def printed_by(text: bytes, arguments: Sequence[Argument], model: Model) -> Optional[bytes]:
-    """Returns what a format prints, or None if the program can't be run."""
+    """Returns what a format prints, or None if it can't be had."""
     return Library().printed(text, arguments, model)

@@ -1,7 +1,6 @@
 """Asks one process of the program about many formats.
 
-A session needs the program and not the library. It also gives the answers of `show`, for which the library
-has no call. The program is the one that `fmtcanon.show` runs.
+A session needs the program, which is for x86-64, and not the library.
 """
 
 from __future__ import annotations
@@ -14,7 +13,7 @@ from typing import List, NamedTuple, NoReturn, Optional, Union
 
 from .models import DataModel, Model, option_of
 from .pipes import Conversation
-from .printing import OUT_OF_MEMORY, program
+from .program import OUT_OF_MEMORY, not_run, program
 
 # The commands that accept `--null`, and how many formats each question has.
 _FORMATS = {"bounds": 1, "canon": 1, "types": 1, "show": 1, "fits": 2, "same": 2}
@@ -174,6 +173,8 @@ def _check_options(words: List[str], timeout: Optional[float]) -> None:
         )
     except subprocess.TimeoutExpired:
         raise TimeoutError(f"{words[0]} did not end within {timeout} seconds") from None
+    except OSError as error:
+        raise not_run(words[0], error) from None
     line = done.stderr.decode(errors="replace").partition("\n")[0]
     if done.returncode == _USAGE:
         raise ValueError(f"the program refuses `{' '.join(words[1:])}`: {line}")

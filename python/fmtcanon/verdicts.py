@@ -144,7 +144,7 @@ class Library:
         """Returns what a format prints, with placeholders, or None if it can't be had."""
         try:
             return fmtcanon.printed(text, arguments, model=model)
-        except (OSError, ValueError, MemoryError):
+        except (ValueError, MemoryError):
             return None
 
 

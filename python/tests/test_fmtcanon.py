@@ -10,6 +10,8 @@ import unittest
 import fmtcanon
 from fmtcanon import Kind, Model, Refused, Type, Verdict
 
+from . import needs_program
+
 
 class Calls(unittest.TestCase):
     def test_canonical(self):
@@ -259,6 +261,9 @@ class Calls(unittest.TestCase):
 
     def test_examples(self):
         self.assertEqual(doctest.testmod(fmtcanon).failed, 0)
+
+    @needs_program
+    def test_examples_of_sessions(self):
         self.assertEqual(doctest.testmod(fmtcanon.sessions).failed, 0)
         self.assertGreater(doctest.testmod(fmtcanon.sessions).attempted, 0)
 
@@ -351,27 +356,6 @@ class Loading(unittest.TestCase):
                     self.assertIn(
                         f"has the version {major}.{minor}.{patch}, and the module needs {other[0]}.{other[1]}", line
                     )
-
-
-class Running(unittest.TestCase):
-    def test_no_program(self):
-        before = os.environ["FMTCANON_PROGRAM"]
-        os.environ["FMTCANON_PROGRAM"] = "/nothing/fmtcanon"
-        try:
-            with self.assertRaises(FileNotFoundError):
-                fmtcanon.show("%d")
-        finally:
-            os.environ["FMTCANON_PROGRAM"] = before
-
-    def test_another_program(self):
-        before = os.environ["FMTCANON_PROGRAM"]
-        try:
-            for other in ["/bin/false", "/bin/echo"]:
-                os.environ["FMTCANON_PROGRAM"] = other
-                with self.assertRaises(OSError):
-                    fmtcanon.show("%d")
-        finally:
-            os.environ["FMTCANON_PROGRAM"] = before
 
 
 class Threads(unittest.TestCase):

@@ -1,5 +1,6 @@
 """Tests of sessions: over the program, and over a stand-in that is slow, silent or wrong."""
 
+import errno
 import itertools
 import os
 import signal
@@ -15,6 +16,8 @@ from pathlib import Path
 
 import fmtcanon
 from fmtcanon import Model, Verdict
+
+from . import needs_program
 
 HERE = Path(__file__).resolve().parent
 # A call that takes longer than this many seconds hangs.
@@ -124,6 +127,7 @@ def of_compare(first, second, model):
     return int(found.verdict is not Verdict.SAME), b"\n".join(lines)
 
 
+@needs_program
 class Answers(unittest.TestCase):
     def test_each_command(self):
         rows = [
@@ -240,6 +244,7 @@ class Answers(unittest.TestCase):
         self.assertEqual(wrong, [])
 
 
+@needs_program
 class Opening(unittest.TestCase):
     def test_what_the_program_refuses(self):
         rows = [
@@ -264,9 +269,17 @@ class Opening(unittest.TestCase):
             fmtcanon.Session("show", whole=True)
 
     def test_another_program(self):
-        for other in ["/nothing/fmtcanon", "/bin/false", "/bin/echo"]:
+        for other in ["/bin/false", "/bin/echo"]:
             with environment(FMTCANON_PROGRAM=other), self.assertRaises(OSError):
                 fmtcanon.Session("canon")
+
+    def test_no_program(self):
+        for other, number in [("/nothing/fmtcanon", errno.ENOENT), ("/dev/null", errno.EACCES)]:
+            with environment(FMTCANON_PROGRAM=other), self.assertRaises(OSError) as raised:
+                fmtcanon.Session("canon")
+            self.assertEqual(raised.exception.errno, number)
+            self.assertIn(f"{other} can't be run: {os.strerror(number)}; `Session` and", str(raised.exception))
+            self.assertIn("need the program, which is for x86-64: install it", str(raised.exception))
 
     def test_wrong_calls_leave_it_open(self):
         with fmtcanon.Session("canon") as session:
@@ -283,6 +296,7 @@ class Opening(unittest.TestCase):
             session.ask("%i")
 
 
+@needs_program
 class Faults(unittest.TestCase):
     def closed(self, session):
         """A session answers nothing more, and its process is gone."""
@@ -394,6 +408,7 @@ class Faults(unittest.TestCase):
             self.assertEqual(session.ask(format).text == format, True)
 
 
+@needs_program
 class Children(unittest.TestCase):
     def forked(self):
         """A child of this process that has all its descriptors, for a while."""

@@ -10,6 +10,8 @@ from pathlib import Path
 import fmtcanon
 from fmtcanon import Model, Refused, Type
 
+from . import needs_program
+
 # A locale whose encoding is ASCII, in a Python that believes it.
 ASCII = {"LC_ALL": "C", "PYTHONUTF8": "0", "PYTHONCOERCECLOCALE": "0"}
 
@@ -75,6 +77,7 @@ class Names(unittest.TestCase):
 
 
 class Command(unittest.TestCase):
+    @needs_program
     def test_it_runs_the_program(self):
         done = python(["-m", "fmtcanon", "canon", "Total: %i"])
         self.assertEqual((done.returncode, done.stdout, done.stderr), (0, b"Total: %d\n", b""))
@@ -83,6 +86,7 @@ class Command(unittest.TestCase):
         done = python(["-m", "fmtcanon", "stream"], b"%5c\xff\n")
         self.assertEqual((done.returncode, done.stdout), (0, b"    %c\xff\n"))
 
+    @needs_program
     def test_bytes_stay_in_each_locale(self):
         for names in [ASCII, {"LC_ALL": "C.UTF-8"}]:
             done = python(["-m", "fmtcanon", "canon", "\u00e9%i".encode()], **names)
@@ -93,8 +97,11 @@ class Command(unittest.TestCase):
     def test_no_program(self):
         done = python(["-m", "fmtcanon", "canon", "%i"], FMTCANON_PROGRAM="/nothing/fmtcanon")
         self.assertEqual(done.returncode, 127)
-        self.assertIn(b"FMTCANON_PROGRAM", done.stderr)
-        self.assertNotIn(b"Traceback", done.stderr)
+        wanted = (
+            b"fmtcanon: /nothing/fmtcanon can't be run: No such file or directory; `Session` and `python -m fmtcanon` need "
+            b"the program, which is for x86-64: install it, or name its file by FMTCANON_PROGRAM\n"
+        )
+        self.assertEqual(done.stderr, wanted)
 
     def test_a_command_that_would_find_itself(self):
         # As pip installs it, with no program next to the module and none on the search path.
@@ -108,7 +115,7 @@ class Command(unittest.TestCase):
                 [str(command), "canon", "%i"], env=environment, stderr=subprocess.PIPE, timeout=20, check=False
             )
         self.assertEqual(done.returncode, 127)
-        self.assertIn(b"can't be found", done.stderr)
+        self.assertIn(b"fmtcanon can't be run: ", done.stderr)
 
 
 class Refusals(unittest.TestCase):

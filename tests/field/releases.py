@@ -4,7 +4,7 @@
 Usage: tests/field/releases.py OLD NEW [OLD NEW]..
 
 Each OLD and NEW are folders with two releases of one package. With --list it prints what is found instead. It needs the
-module fmtcanon with its library, and the program.
+module fmtcanon with its library.
 """
 
 import functools

@@ -2,7 +2,7 @@
  * numbers are worked out by hand. It is linked with malloc, realloc and free wrapped. */
 #define _GNU_SOURCE
 #include "fmtcanon.h"
-#include <pthread.h>
+#include "small_stack.h"
 #include <stdio.h>
 #include <stdlib.h>
 #include <string.h>
@@ -159,24 +159,19 @@ static void sums(void)
     WANT(b.least == (uint64_t)4095 * DIRECTIVES + 1 && b.greatest == NONE);
 }
 
-static void *in_small_stack(void *p)
+static void in_small_stack(void)
 {
     static struct fmtcanon_bounds b;
-    (void)p;
     fmtcanon_bounds(LP64, "%4095d%.4095s%#o%zd", 19, &b, NULL);
-    return NULL;
 }
 
 int main(void)
 {
-    pthread_attr_t attr;
-    pthread_t thread;
     layout();
     numbers();
     errors();
     sums();
-    WANT(!pthread_attr_init(&attr) && !pthread_attr_setstacksize(&attr, 24 * 1024));
-    if (pthread_create(&thread, &attr, in_small_stack, NULL) || pthread_join(thread, NULL)) failed("there is a thread", __LINE__);
+    WANT(on_small_stack(in_small_stack, 20 * 1024));
     puts("the numbers of bytes are as the header says");
     return 0;
 }

@@ -3,7 +3,7 @@
  * small stack. It is linked with malloc, realloc and free wrapped. */
 #define _GNU_SOURCE
 #include "fmtcanon.h"
-#include <pthread.h>
+#include "small_stack.h"
 #include <stdio.h>
 #include <stdlib.h>
 #include <string.h>
@@ -555,7 +555,7 @@ static void without_memory(void)
 }
 
 /* Each call, of formats that take its longest ways. */
-static void *in_small_stack(void *p)
+static void in_small_stack(void)
 {
     static const char a[] = "%4095d%.4095s%#o%zd", b[] = "%4095d%.4094s%#o%ld", w[] = "%4095d%f%-*.3i%.4095s", v[] = "%4095d%f%-*.3i%.4094s";
     static char out[16384];
@@ -565,7 +565,7 @@ static void *in_small_stack(void *p)
     fmtcanon_error e;
     fmtcanon_comparison found;
     size_t n = strlen(a), m = strlen(w);
-    WANT(p == NULL && fmtcanon_check(a, n, &e) == 0 && fmtcanon_is_canonical(LP64, a, n, &e) == 0);
+    WANT(fmtcanon_check(a, n, &e) == 0 && fmtcanon_is_canonical(LP64, a, n, &e) == 0);
     WANT(fmtcanon_canonical(LP64, a, n, out, sizeof out, &e) == fmtcanon_canonical_length(LP64, a, n, &e));
     WANT(fmtcanon_types(LP64, a, n, bytes, sizeof out, &e) == 4 && fmtcanon_bounds(LP64, a, n, &bounds, &e) == 0);
     WANT(fmtcanon_same(LP64, a, n, b, n, &e) == 0 && fmtcanon_same_models(a, n, b, n, &e) == 0);
@@ -579,7 +579,6 @@ static void *in_small_stack(void *p)
     WANT(fmtcanon_whole_compare(LP64, w, m, v, m, out, sizeof out, &found, &e) > 4094);
     WANT(fmtcanon_encode_literal(w, m, out, sizeof out) == (int64_t)m + 2 && fmtcanon_source_offset(out, m + 2, m) > 0);
     WANT(fmtcanon_decode_literal("\"\\t%d\"", 6, out, sizeof out, &e) == 3 && fmtcanon_kind_name(1, out, sizeof out) == 7);
-    return NULL;
 }
 
 /* Each call answers the same where `error` is NULL, of formats that are refused and of one that isn't. */
@@ -610,8 +609,6 @@ static void no_place_for_an_error(void)
 
 int main(void)
 {
-    pthread_attr_t attr;
-    pthread_t thread;
     layout();
     numbers();
     models();
@@ -627,9 +624,7 @@ int main(void)
     memory_given_back();
     without_memory();
     thresholds();
-    WANT(!pthread_attr_init(&attr) && !pthread_attr_setstacksize(&attr, 24 * 1024));
-    WANT(!pthread_create(&thread, &attr, in_small_stack, NULL));
-    WANT(!pthread_join(thread, NULL));
+    WANT(on_small_stack(in_small_stack, 20 * 1024));
     puts("the edges are as the header says");
     return 0;
 }

@@ -3,7 +3,7 @@
  * malloc, realloc and free wrapped. */
 #define _GNU_SOURCE
 #include "fmtcanon.h"
-#include <pthread.h>
+#include "small_stack.h"
 #include <stdio.h>
 #include <stdlib.h>
 #include <string.h>
@@ -153,22 +153,17 @@ static void checked(void)
     }
 }
 
-static void *in_small_stack(void *p)
+static void in_small_stack(void)
 {
-    (void)p;
     fmtcanon_fits_fewer(LP64, "%d%s%f%p", 8, "%*d%s", 5, NULL);
-    return NULL;
 }
 
 int main(void)
 {
-    pthread_attr_t attr;
-    pthread_t thread;
     pairs();
     errors();
     checked();
-    WANT(!pthread_attr_init(&attr) && !pthread_attr_setstacksize(&attr, 24 * 1024));
-    if (pthread_create(&thread, &attr, in_small_stack, NULL) || pthread_join(thread, NULL)) failed("there is a thread", __LINE__);
+    WANT(on_small_stack(in_small_stack, 20 * 1024));
     puts("formats from outside are as the header says");
     return 0;
 }

@@ -2,8 +2,8 @@
  * with malloc, realloc and free wrapped. */
 #define _GNU_SOURCE
 #include "fmtcanon.h"
+#include "small_stack.h"
 #include <limits.h>
-#include <pthread.h>
 #include <stdio.h>
 #include <stdlib.h>
 #include <string.h>
@@ -262,19 +262,15 @@ static void errors(void)
     refuses(LP64, "%4095d%s", args, 3, FMTCANON_ERROR_COUNT, 2);
 }
 
-static void *in_small_stack(void *p)
+static void in_small_stack(void)
 {
     static char out[ROOM];
     fmtcanon_argument args[2] = {number(FMTCANON_INT, 1), string("x")};
-    (void)p;
     WANT(fmtcanon_render(LP64, "%4095d%.4095s", 13, args, 2, out, sizeof out, NULL) == 4096);
-    return NULL;
 }
 
 int main(void)
 {
-    pthread_attr_t attr;
-    pthread_t thread;
     int accepted;
     layout();
     several();
@@ -283,8 +279,7 @@ int main(void)
     ranges();
     errors();
     accepted = directives();
-    WANT(pthread_attr_init(&attr) == 0 && pthread_attr_setstacksize(&attr, 16384) == 0);
-    WANT(pthread_create(&thread, &attr, in_small_stack, NULL) == 0 && pthread_join(thread, NULL) == 0);
+    WANT(on_small_stack(in_small_stack, 12 * 1024));
     printf("directives %d, printed as by snprintf\n", accepted);
     return 0;
 }

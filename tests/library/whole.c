@@ -2,7 +2,7 @@
  * what they don't write. Expected answers are worked out by hand. */
 #define _GNU_SOURCE
 #include "fmtcanon.h"
-#include <pthread.h>
+#include "small_stack.h"
 #include <stdio.h>
 #include <stdlib.h>
 #include <string.h>
@@ -183,27 +183,21 @@ static void models(void)
     WANT(fmtcanon_whole_compare(LP64, NULL, 0, NULL, 0, NULL, 0, &c, NULL) == 0 && c.verdict == FMTCANON_SAME && c.number == 0);
 }
 
-static void *in_small_stack(void *p)
+static void in_small_stack(void)
 {
     static char out[8192];
     fmtcanon_comparison c;
-    (void)p;
     fmtcanon_whole_canonical(LP64, "%4095d%*.4095s%#o%zd%f", 22, out, sizeof out, NULL);
     fmtcanon_whole_compare(LP64, "%f%4095d%s", 10, "%f%4095d%.4095s", 15, out, sizeof out, &c, NULL);
-    return NULL;
 }
 
 int main(void)
 {
-    pthread_attr_t attr;
-    pthread_t thread;
     canonical_texts();
     refusals();
     comparisons();
     models();
-    WANT(!pthread_attr_init(&attr) && !pthread_attr_setstacksize(&attr, 24 * 1024));
-    WANT(!pthread_create(&thread, &attr, in_small_stack, NULL));
-    WANT(!pthread_join(thread, NULL));
+    WANT(on_small_stack(in_small_stack, 20 * 1024));
     puts("the whole language is as the header says");
     return 0;
 }

@@ -127,7 +127,7 @@ def printed_lines(found: Difference, style: Style) -> Iterator[str]:
     given = " and ".join(map(shown_argument, found.arguments)) if len(found.arguments) < 3 else ""
     yield f"different: for {given or shown_arguments(found.arguments)} they print" if found.arguments else "different:"
     if len(found.printed) < len(found.formats):
-        yield "  other bytes: the program that prints them can't be run"
+        yield "  other bytes, which can't be shown"
         return
     shown = cut(*map(as_source, found.printed))
     width = max(map(columns, shown))
