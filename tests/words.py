@@ -63,7 +63,7 @@ CALLING = "crates/*/CALLING.md"
 # How many words each page may have, and how many percent more are let pass.
 LIMITS = {
     # With the table of questions, the picture, and what other tools answer.
-    "README.md": 1250,
+    "README.md": 1300,
     "docs/INSTALL.md": 430,
     # With tables of types and kinds.
     "docs/CHEATSHEET.md": 520,
@@ -77,7 +77,7 @@ LIMITS = {
     "docs/REFUSALS.md": 2000,
     # With an example of each error.
     "docs/C.md": 1450,
-    "docs/PYTHON.md": 950,
+    "docs/PYTHON.md": 1000,
     # With the theorem as it is written, the assumptions as a table, and the words of the last line of a check.
     "docs/VERIFICATION.md": 2700,
     # With one format read through the definitions.

@@ -49,7 +49,7 @@ def words_of(text: bytes) -> Iterator[Union[Text, Percent]]:
 
 
 def directive_of(text: bytes, type: Type, canonical: str) -> Directive:
-    """Returns a directive of the profile, of which the type of the argument and the canonical text are known."""
+    """Returns a directive of the profile, by the type of its argument and its canonical text."""
     found = _PARTS.fullmatch(canonical)
     assert found is not None
     spaces, zeros, core, trail = found.groups()

@@ -7,13 +7,8 @@ import re
 import struct
 import sys
 import termios
-from pathlib import Path
-
-import fmtcanon
 
 COLOUR = re.compile(r"\x1b\[[0-9;]*m")
-# The folder of the module, since commands run in another one.
-MODULES = str(Path(fmtcanon.__file__).resolve().parent.parent)
 
 
 def on_terminal(words, columns=80, folder=None, python=sys.executable, **names):
@@ -23,7 +18,7 @@ def on_terminal(words, columns=80, folder=None, python=sys.executable, **names):
         try:
             os.chdir(folder or ".")
             environment = {it: value for it, value in os.environ.items() if it not in ("NO_COLOR", "COLUMNS")}
-            environment.update({"LC_ALL": "C.UTF-8", "PYTHONPATH": MODULES, **names})
+            environment.update({"LC_ALL": "C.UTF-8", **names})
             fcntl.ioctl(1, termios.TIOCSWINSZ, struct.pack("HHHH", 24, columns, 0, 0))
             os.execve(python, [python, "-B", *words], environment)
         finally:

@@ -16,7 +16,7 @@ from fmtcanon.excerpts import Excerpt, excerpt_lines, shown_finding
 from fmtcanon.po.sources import CatalogSource, Mark
 from fmtcanon.terminals import Style, columns, style_of
 
-from .terminal import MODULES, on_terminal, plain
+from .terminal import on_terminal, plain
 
 TOP = Path(__file__).resolve().parents[2]
 
@@ -116,7 +116,7 @@ class InFolder(unittest.TestCase):
         """The status of a command, and all that it writes into a pipe."""
         run = [sys.executable, "-B", *words]
         streams = {"stdout": subprocess.PIPE, "stderr": subprocess.STDOUT}
-        done = subprocess.run(run, cwd=self.work, env={**os.environ, "PYTHONPATH": MODULES}, check=False, **streams)
+        done = subprocess.run(run, cwd=self.work, check=False, **streams)
         return done.returncode, done.stdout.decode()
 
     def shown(self, *words, **names):
