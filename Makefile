@@ -121,8 +121,7 @@ gate: tools
 	RT_JOBS=$(JOBS) rt ci
 
 beside-gate: tools c-tools
-	python3 tests/mutants.py --gate --jobs $(BESIDE)
-	python3 tests/mutants_test.py
+	tests/both.sh 'python3 tests/mutants.py --gate --jobs $(BESIDE)' 'python3 tests/mutants_test.py'
 	python3 tests/statements.py
 
 trials: program library
