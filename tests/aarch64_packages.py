@@ -66,10 +66,10 @@ def oldest_glibc(cross):
 def try_archive(file, trials, work):
     """It installs all that isn't the program's, with the library for the processor."""
     with tarfile.open(file) as archive:
-        archive.extractall(work / "archive")
-    folders = [path.name for path in (work / "archive").iterdir()]
+        archive.extractall(work / "unpacked")
+    folders = [path.name for path in (work / "unpacked").iterdir()]
     trials.expect("folders of the archive", folders, [f"fmtcanon-{VERSION}-linux-aarch64"])
-    folder, stage = work / "archive" / folders[0], work / "stage"
+    folder, stage = work / "unpacked" / folders[0], work / "stage"
     trials.expect("make install of the archive", make(["install", f"DESTDIR={stage}", *PLACES], folder=folder), (0, ""))
     trials.expect("its files", sorted(files_below(stage / "usr") ^ installed()), [])
     binaries = {"lib/libfmtcanon.a": AARCH64, f"lib/libfmtcanon.so.{VERSION}": AARCH64}
