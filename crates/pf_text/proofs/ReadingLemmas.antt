@@ -1,7 +1,8 @@
 -- What is read where a walk has come to an offset.
-use Rattle.std.proofs.Common.{◌≡◌, ℕ, ◌+◌, ◌-◌, ◌≤◌, List, [], ◌∷◌, ◌++◌, length, get_or, take, drop, Some, refl, sym, ap, ap₂, ◌∙◌, subst, arith}
+use Rattle.std.proofs.Common.{◌≡◌, ℕ, ◌+◌, ◌-◌, ◌≤◌, max, List, [], ◌∷◌, ◌++◌, length, get_or, take, drop, Some, refl, sym, ap, ap₂, ◌∙◌, subst, arith, inl, inr}
 use Rattle.std.specs.Prelude.{⊤}
-use Rattle.std.proofs.lemmas.List.{append-nil, length-take, take_all}
+use Rattle.std.proofs.lemmas.Bool.{cases_lt}
+use Rattle.std.proofs.lemmas.List.{append-nil, drop-take, length-drop, length-take, take_all}
 use Rattle.pf_values.specs.declared.limits.TheConstants.{MAX_TEXT_LEN}
 use Rattle.pf_values.specs.declared.conversions.Conv.{Conv}
 use Rattle.pf_values.specs.declared.models.Model.{Model}
@@ -14,7 +15,7 @@ use Rattle.pf_values.proofs.ItemTypes.{types-append}
 use Rattle.pf_text.specs.CanonicalRuns.{IsCanonicalRun}
 use Rattle.pf_text.specs.Letters.{conv_of}
 use Rattle.pf_text.specs.Signatures.{ReadsTyped, TakesTypes}
-use Rattle.pf_text.specs.Walks.{HasPassed, HasPercent, IsItemsEnd, IsNormalInEach, IsPassedRun, IsWalkOver}
+use Rattle.pf_text.specs.Walks.{HasPassed, HasPercent, IsCanonicalEnd, IsItemsEnd, IsNormalInEach, IsPassedRun, IsWalkOver}
 use Rattle.pf_text.specs.declared.walk.Walk.{Walk}
 use Rattle.pf_text.proofs.CanonicalRunLemmas.{bare, take_front}
 use Rattle.pf_text.proofs.ItemLemmas.{one_read, read_more}
@@ -44,7 +45,7 @@ read_passed_too passes text old new h g =
     let before : Reads (take old.at t) h.items = subst (λ u. Reads (take old.at u) h.items) (sym g.text) h.reads in
     record {
       over = record { walk_is = g.walk; text_is = g.text ∙ h.over.text_is };
-      within = g.within (subst (λ u. old.at ≤ length u) (sym g.text) h.within);
+      within = (let low : old.at ≤ length t = subst (λ u. old.at ≤ length u) (sym g.text) h.within in omega (arith, low, g.within));
       items = h.items ++ g.items;
       reads = subst (λ k. Reads (take k t) (h.items ++ g.items)) place
           (read_more t old.at (new.at - old.at) h.items g.items before (run_is_read passes _ g.items g.run));
@@ -82,18 +83,50 @@ all_items text stop h e = (
   record { reads = subst (λ u. Reads u h.items) (take_all stop text (omega (arith, e))) h.reads; limit = omega (arith, h.few, e) },
 )
 
--- the canonical items at the front of a text
-pub canonical_front : (text : Text) (old new : Walk) → IsWalkOver text old → old.at ≡ 0 → HasPassed IsNormalInEach old new
-    → (new.at ≤ length text) × ((model : Model) → (items : List Item) × IsCanonicalRun model (take new.at text) items)
-canonical_front text old new over at h =
-    let t : new.text.now ≡ take MAX_TEXT_LEN text = h.text ∙ over.text_is in
-    let low : new.at ≤ length (take MAX_TEXT_LEN text) = subst (λ u. new.at ≤ length u) t (h.within (omega (arith, at))) in
-    let run : IsPassedRun IsNormalInEach (take new.at text) h.items =
-    subst (λ u. IsPassedRun IsNormalInEach u h.items) (take_front new.at MAX_TEXT_LEN text low)
-    (subst (λ u. IsPassedRun IsNormalInEach (take new.at u) h.items) t
-    (subst (λ k. IsPassedRun IsNormalInEach (take k new.text.now) h.items) (omega arith)
-    (subst (λ k. IsPassedRun IsNormalInEach (take (new.at - k) (drop k new.text.now)) h.items) at h.run))) in
-    (omega (arith, low, length-take MAX_TEXT_LEN text), λ model. (h.items, run_is_canonical model (take new.at text) h.items run))
+-- a front of what comes after an offset, in a front of the text
+part_of_front : (text : Text) (most start stop : ℕ) → start ≤ stop → stop ≤ length (take most text)
+    → take (stop - start) (drop start (take most text)) ≡ take (stop - start) (drop start text)
+part_of_front text most start stop up within =
+    let long = length-take most text in
+    let left = most - start in
+    let place : start + left ≡ most = omega (arith, up, within, long) in
+    let rest : drop start (take most text) ≡ take left (drop start text) = sym (ap (λ k. drop start (take k text)) place) ∙ drop-take start left text in
+    ap (take (stop - start)) rest
+    ∙ take_front (stop - start) left (drop start text) (omega (arith, up, within, long, place, length-take left (drop start text), length-drop start text))
+
+-- a walk over a text from another offset on
+pub moved_over : (text : Text) (walk : Walk) (at : ℕ) → IsWalkOver text walk → IsWalkOver text (record walk { at = at })
+moved_over text walk at h = record { walk_is = record { few = h.walk_is.few; runs = h.walk_is.runs }; text_is = h.text_is }
+
+-- canonical items that a walk has passed
+pub canonical_between : (text : Text) (old new : Walk) → IsWalkOver text old → old.at ≤ length text → HasPassed IsNormalInEach old new
+    → IsCanonicalEnd text old.at new.at
+canonical_between text old new over low h =
+    let start = old.at in
+    let stop = new.at in
+    let text_is : new.text.now ≡ take MAX_TEXT_LEN text = h.text ∙ over.text_is in
+    let within : stop ≤ max start (length (take MAX_TEXT_LEN text)) = subst (λ u. stop ≤ max start (length u)) text_is h.within in
+    let run : IsPassedRun IsNormalInEach (take (stop - start) (drop start (take MAX_TEXT_LEN text))) h.items =
+    subst (λ u. IsPassedRun IsNormalInEach (take (stop - start) (drop start u)) h.items) text_is h.run in
+    let long = length-take MAX_TEXT_LEN text in
+    elim (cases_lt (length (take MAX_TEXT_LEN text)) stop) [
+      | inl behind ↦
+          let none : stop - start ≡ 0 = omega (arith, behind, within, h.from) in
+          record {
+            from = h.from;
+            within = omega (arith, within, low, long);
+            canonical = λ model. ([], subst (λ k. IsCanonicalRun model (take k (drop start text)) []) (sym none) (record { canonical = tt; whole = refl }));
+          }
+      | inr inside ↦ record {
+        from = h.from;
+        within = omega (arith, inside, long);
+        canonical = λ model. (
+          h.items,
+          run_is_canonical model (take (stop - start) (drop start text)) h.items
+              (subst (λ u. IsPassedRun IsNormalInEach u h.items) (part_of_front text MAX_TEXT_LEN start stop h.from inside) run),
+        );
+      }
+    ]
 
 -- a directive takes an argument of its type
 pub directive_typed : (model : Model) (t : Text) (d : Specification) (type : ArgType) → IsReadAs t (Directive d) → type ≡ arg_type model d

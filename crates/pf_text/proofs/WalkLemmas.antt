@@ -146,7 +146,7 @@ module _ (passes : Specification → Type 0) (old now : Walk) where
     walk = walk;
     text = text;
     from = omega (arith, at);
-    within = λ w. omega (arith, w, at);
+    within = omega (arith, at);
     items = [];
     run = subst (λ k. IsPassedRun passes (take (k - old.at) (drop old.at now.text.now)) []) (sym at) (none_between passes now.text.now old.at);
   }
@@ -158,7 +158,7 @@ module _ (passes : Specification → Type 0) (old now : Walk) where
       walk = record { few = h.walk.few; runs = h.walk.runs };
       text = h.text;
       from = omega (arith, h.from);
-      within = λ w. within;
+      within = omega (arith, within);
       items = h.items ++ more;
       run = more_between passes now.text.now old.at now.at len h.items more h.from h.run g;
     }
@@ -169,7 +169,7 @@ module _ (passes : Specification → Type 0) (old now : Walk) where
       walk = record { few = h.walk.few; runs = h.walk.runs };
       text = h.text;
       from = omega (arith, h.from, up);
-      within = λ w. within;
+      within = omega (arith, within);
       items = h.items ++ map Byte (take (stop - now.at) (drop now.at now.text.now));
       run = literals_between passes now.text.now old.at now.at stop h.items h.from up within none h.run;
     }

@@ -1,5 +1,5 @@
 -- The walk over the items of a text in memory. This project's own.
-use Rattle.std.specs.Prelude.{◌≡◌, ◌≢◌, ℕ, Bool, ◌+◌, ◌-◌, ◌<◌, ◌≤◌, List, drop, flat_map, get_or, length, min, take, Option, Some, None, IfSome, IsTrue}
+use Rattle.std.specs.Prelude.{◌≡◌, ◌≢◌, ℕ, Bool, ◌+◌, ◌-◌, ◌<◌, ◌≤◌, List, drop, flat_map, get_or, length, max, min, take, Option, Some, None, IfSome, IsTrue}
 use Rattle.std.specs.List.{AllByRecursion}
 use Rattle.memchr.specs.Find.{Nowhere, Passes, is_byte2}
 use Rattle.pf_values.specs.declared.limits.TheConstants.{MAX_TEXT_LEN}
@@ -13,6 +13,7 @@ use Rattle.pf_values.specs.meaning.Text.{Text, percent}
 use Rattle.pf_text.specs.declared.literal_runs.LiteralRuns.{LiteralRuns}
 use Rattle.pf_text.specs.declared.marks.TheConstants.{MAX_MARKED}
 use Rattle.pf_text.specs.declared.walk.Walk.{Walk}
+use Rattle.pf_text.specs.CanonicalRuns.{IsCanonicalRun}
 use Rattle.pf_text.specs.Marks.{AreMarksOf}
 
 -- the runs are this text's
@@ -57,7 +58,7 @@ pub record HasPassed (passes : Specification → Type 0) (old new : Walk) : Type
   pub walk : IsWalk new
   pub text : new.text.now ≡ old.text.now
   pub from : old.at ≤ new.at
-  pub within : old.at ≤ length new.text.now → new.at ≤ length new.text.now
+  pub within : new.at ≤ max old.at (length new.text.now)
   pub items : List Item
   pub run : IsPassedRun passes (take (new.at - old.at) (drop old.at new.text.now)) items
 
@@ -65,6 +66,12 @@ pub record HasPassed (passes : Specification → Type 0) (old new : Walk) : Type
 pub record Finds (passes : Specification → Type 0) (old new : Walk) (found : Bool) : Type 0 where
   pub passed : HasPassed passes old new
   pub stopped : IsTrue found → HasPercent new.text.now new.at
+
+-- between two offsets there are canonical items
+pub record IsCanonicalEnd (t : Text) (start stop : ℕ) : Type 0 where
+  pub from : start ≤ stop
+  pub within : stop ≤ length t
+  pub canonical : (model : Model) → (items : List Item) × IsCanonicalRun model (take (stop - start) (drop start t)) items
 
 -- the bytes up to an offset are whole items, and aren't too many
 pub record IsItemsEnd (t : Text) (stop : ℕ) : Type 0 where

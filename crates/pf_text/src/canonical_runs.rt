@@ -1,9 +1,11 @@
-//! What a stream passes at once: a run of canonical items, or of `%.0s`.
+//! Runs of canonical items, and of `%.0s`.
 ghost use Rattle.std.specs.Prelude.{◌<◌, ◌≤◌, ◌*◌, List, drop, length, take, IsTrue, ◌↔◌};
 ghost use Rattle.memchr.specs.Find.{Passes, is_byte2};
 ghost use Rattle.pf_values.specs.declared.models.Model.{Model};
 ghost use Rattle.pf_values.specs.meaning.Items.{Item, Reads};
+ghost use Rattle.pf_values.specs.meaning.Text.{Text};
 ghost use Rattle.pf_text.specs.CanonicalRuns.{BeginsSilent, IsCanonicalRun, silents};
+ghost use Rattle.pf_text.specs.Walks.{IsCanonicalEnd, IsWalk, IsWalkOver};
 
 use crate::passed::Canonical;
 use crate::search::literal_len;
@@ -18,18 +20,18 @@ pub(crate) fn canonical_run_len(text: &[u8]) -> usize
         → (items : List Item) × IsCanonicalRun model (take result text.now) items }
     ensures ended { result < length text.now → Passes (is_byte2 37 0) text.now result }
 {
-    let end = canonical_end(text);
+    let end = canonical_end(Walk::new(text), 0);
     end + literal_len(&text[end..])
 }
 
-// Where a walk stops that passes canonical items.
+/// Returns where the canonical items end that begin at an offset of a walk's text.
 #[inline(always)]
-fn canonical_end(text: &[u8]) -> usize
-    ensures within { result ≤ length text.now }
-    ensures canonical { (model : Model)
-        → (items : List Item) × IsCanonicalRun model (take result text.now) items }
+pub fn canonical_end(walk: Walk<'_>, from: usize) -> usize
+    requires { IsWalk walk }
+    ensures { (text : Text) → IsWalkOver text walk.entry → from ≤ length text → IsCanonicalEnd text from result }
 {
-    let mut walk = Walk::new(text);
+    let mut walk = walk;
+    walk.at = from;
     walk.find::<Canonical>();
     walk.at
 }

@@ -23,6 +23,7 @@ mod state;
 mod walk;
 
 pub use argument_types::signature;
+pub use canonical_runs::canonical_end;
 pub use checking::{check, is_known_accepted};
 pub use known_argument_types::known_types;
 pub use letters::{conv_of, flag_of, modifier_of};

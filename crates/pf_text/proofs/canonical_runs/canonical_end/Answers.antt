@@ -1,8 +1,5 @@
-use Rattle.pf_text.proofs.ReadingLemmas.{canonical_front}
+use Rattle.pf_text.proofs.ReadingLemmas.{canonical_between, moved_over}
 use Rattle.pf_text.proofs.canonical_runs.canonical_end.Goals as goal
 
-pub returns-clause-within : goal.returns-clause-within
-returns-clause-within c = (canonical_front c.args.text.now c.new-walk.result c.find.new.self c.new-walk.ensures.over c.new-walk.ensures.at c.find.ensures.passed).0
-
-pub returns-clause-canonical : goal.returns-clause-canonical
-returns-clause-canonical c = (canonical_front c.args.text.now c.new-walk.result c.find.new.self c.new-walk.ensures.over c.new-walk.ensures.at c.find.ensures.passed).1
+pub returns : goal.returns
+returns c text over within = canonical_between text (record c.args.walk { at = c.args.from }) c.find.new.self (moved_over text c.args.walk c.args.from over) within c.find.ensures.passed
