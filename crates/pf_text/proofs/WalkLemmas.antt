@@ -1,5 +1,5 @@
 -- The walk over the items of a text.
-use Rattle.std.proofs.Common.{◌≡◌, ℕ, ◌+◌, ◌-◌, ◌<◌, ◌≤◌, min, List, [], ◌∷◌, ◌++◌, length, get_or, map, take, drop, flat_map, Option, Some, None, refl, sym, ap, ap₂, ◌∙◌, subst, arith}
+use Rattle.std.proofs.Common.{◌≡◌, ℕ, ◌+◌, ◌-◌, ◌^◌, ◌<◌, ◌≤◌, List, [], ◌∷◌, ◌++◌, length, get_or, map, take, drop, flat_map, Option, Some, None, refl, sym, ap, ap₂, ◌∙◌, subst, arith}
 use Rattle.std.specs.Prelude.{Bool, IfSome, IsTrue, MatchOption, false, true, is_some, ◌≢◌}
 use Rattle.std.specs.List.{AllByRecursion}
 use Rattle.std.proofs.Math.Seq.{take-add}
@@ -20,7 +20,7 @@ use Rattle.pf_values.specs.meaning.Lengths.{length_letters}
 use Rattle.pf_text.specs.CanonicalRuns.{IsCanonicalItem, IsCanonicalRun, alternative_bytes, has_canonical_parts}
 use Rattle.pf_text.specs.History.{IsLiteral}
 use Rattle.pf_text.specs.Letters.{conv_of}
-use Rattle.pf_text.specs.Marks.{AreMarksOf, HasNoMark}
+use Rattle.pf_text.specs.Marks.{AreMarksOf, HasMark, HasNoMark}
 use Rattle.pf_text.specs.Offsets.{HasBytes}
 use Rattle.pf_text.specs.Walks.{AreRunsOf, HasPassed, HasPercent, IsNextEnd, IsNormalInEach, IsPassed, IsPassedRun, IsWalk}
 use Rattle.pf_text.specs.declared.walk.Walk.{Walk}
@@ -29,6 +29,7 @@ use Rattle.pf_text.specs.declared.marks.Marks.{Marks}
 use Rattle.pf_text.specs.declared.marks.TheConstants.{MAX_MARKED}
 use Rattle.pf_text.proofs.CanonicalRunLemmas.{bare, byte_read, conv_defined, conv_normal, first_bytes, literal_written, parts, parts_are_canonical}
 use Rattle.pf_text.proofs.LiteralLemmas.{goes_on, literal_take}
+use Rattle.pf_text.proofs.MarkLemmas.{marked_within}
 use Rattle.pf_text.proofs.MarkedRunLemmas.{literal_between, no_end_between}
 use Rattle.pf_text.proofs.ReadBack.{spelled_read}
 use Rattle.pf_text.proofs.Sound.{byte_of_conv}
@@ -44,15 +45,18 @@ none_in_rest text from stop n place none k low high ends =
 
 -- the marks, if there are some
 pub marks_of_runs : (runs : LiteralRuns) (text : Text) (marks : Marks) → runs.marks ≡ Some marks → AreRunsOf runs text
-    → (length text ≤ MAX_MARKED) × AreMarksOf marks text
-marks_of_runs runs text marks e h = subst (λ o. IfSome o (λ m. (length text ≤ MAX_MARKED) × AreMarksOf m text)) e h
+    → (length text ≤ MAX_MARKED) × (marks.bits < 2 ^ length text) × AreMarksOf marks text
+marks_of_runs runs text marks e h = subst (λ o. IfSome o (λ m. (length text ≤ MAX_MARKED) × (m.bits < 2 ^ length text) × AreMarksOf m text)) e h
 
--- and what the marks say
-pub next_end_of : (marks : Marks) (text : Text) (from : ℕ) (found : Option ℕ) → length text ≤ MAX_MARKED → AreMarksOf marks text
-    → MatchOption found (HasNoMark marks from 64) (λ stop. (from ≤ stop) × (stop < 128) × HasNoMark marks from stop) → IsNextEnd text from found
-next_end_of marks text from None few are h = no_end_between marks text from (length text) (omega arith) are (λ k low high. h k low (omega (arith, few, high)))
-next_end_of marks text from (Some stop) few are h =
-    (h.0, no_end_between marks text from (min stop (length text)) (omega arith) are (λ k low high. h.2 k low (omega (arith, high))))
+-- and what they say
+pub next_end_of : (marks : Marks) (text : Text) (from : ℕ) (found : Option ℕ) → length text ≤ MAX_MARKED → marks.bits < 2 ^ length text
+    → AreMarksOf marks text
+    → MatchOption found (HasNoMark marks from 64) (λ stop. (from ≤ stop) × (stop < 128) × HasNoMark marks from stop × HasMark marks stop)
+    → IsNextEnd text from found
+next_end_of marks text from None few bits are h = no_end_between marks text from (length text) (omega arith) are (λ k low high. h k low (omega (arith, few, high)))
+next_end_of marks text from (Some stop) few bits are h =
+    let within = marked_within marks.bits stop (length text) bits h.3 in
+    (h.0, within, no_end_between marks text from stop (omega (arith, within)) are h.2)
 
 -- two bytes of a text, of which the first is `%`
 pub two_bytes : (text : Text) (at : ℕ) → HasPercent text at → take 2 (drop at text) ≡ percent ∷ get_or text (at + 1) 0 ∷ []
@@ -175,8 +179,8 @@ module _ (passes : Specification → Type 0) (old now : Walk) where
     }
 
     -- up to the byte that ends a run
-    pub passed_to : (stop : ℕ) → stop < length now.text.now → IsNextEnd now.text.now now.at (Some stop) → HasPassed passes old (record now { at = stop })
-    passed_to stop less next = passed_literals stop next.0 (omega (arith, less)) (λ k low high. next.1 k low (omega (arith, high, less)))
+    pub passed_to : (stop : ℕ) → IsNextEnd now.text.now now.at (Some stop) → HasPassed passes old (record now { at = stop })
+    passed_to stop next = passed_literals stop next.0 (omega (arith, next.1)) next.2
 
 -- nothing is found
 pub not_found : (t : Text) (at : ℕ) → IsTrue false → HasPercent t at

@@ -1,5 +1,5 @@
 -- The walk over the items of a text in memory. This project's own.
-use Rattle.std.specs.Prelude.{◌≡◌, ◌≢◌, ℕ, Bool, ◌+◌, ◌-◌, ◌<◌, ◌≤◌, List, drop, flat_map, get_or, length, max, min, take, Option, Some, None, IfSome, IsTrue}
+use Rattle.std.specs.Prelude.{◌≡◌, ◌≢◌, ℕ, Bool, ◌+◌, ◌-◌, ◌^◌, ◌<◌, ◌≤◌, List, drop, flat_map, get_or, length, max, take, Option, Some, None, IfSome, IsTrue}
 use Rattle.std.specs.List.{AllByRecursion}
 use Rattle.memchr.specs.Find.{Nowhere, Passes, is_byte2}
 use Rattle.pf_values.specs.declared.limits.TheConstants.{MAX_TEXT_LEN}
@@ -18,12 +18,12 @@ use Rattle.pf_text.specs.Marks.{AreMarksOf}
 
 -- the runs are this text's
 abbrev pub AreRunsOf : LiteralRuns → Text → Type 0
-AreRunsOf runs text = IfSome runs.marks (λ marks. (length text ≤ MAX_MARKED) × AreMarksOf marks text)
+AreRunsOf runs text = IfSome runs.marks (λ marks. (length text ≤ MAX_MARKED) × (marks.bits < 2 ^ length text) × AreMarksOf marks text)
 
 -- from an offset on, no byte of a text ends a run of literal bytes before this one
 abbrev pub IsNextEnd : Text → ℕ → Option ℕ → Type 0
 IsNextEnd t from None = Nowhere (Passes (is_byte2 37 0) t) from (length t)
-IsNextEnd t from (Some stop) = (from ≤ stop) × Nowhere (Passes (is_byte2 37 0) t) from (min stop (length t))
+IsNextEnd t from (Some stop) = (from ≤ stop) × (stop < length t) × Nowhere (Passes (is_byte2 37 0) t) from stop
 
 -- an item that a walk passes: a literal byte or `%%`, or one of these directives
 abbrev pub IsPassed : (Specification → Type 0) → Item → Type 0

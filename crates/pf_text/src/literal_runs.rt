@@ -38,8 +38,7 @@ impl LiteralRuns {
         LiteralRuns { marks: None }
     }
 
-    /// The first offset from one on that has a `%` or a zero byte, or one behind the end. `None` if
-    /// there is none.
+    /// The first offset from one on that has a `%` or a zero byte. `None` if there is none.
     #[inline(always)]
     pub(crate) fn next_end(self, text: &[u8], from: usize) -> Option<usize>
         requires runs { AreRunsOf self text.now }

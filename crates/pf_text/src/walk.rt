@@ -55,12 +55,8 @@ impl<'a> Walk<'a> {
                 self.at = self.text.len();
                 return false;
             };
-            if offset >= self.text.len() {
-                self.at = self.text.len();
-                return false;
-            }
             self.at = offset;
-            if offset + 1 == self.text.len() {
+            if offset + 1 >= self.text.len() {
                 return false;
             }
             if self.text[offset] != b'%' {

@@ -18,40 +18,24 @@ returns-in_default g c =
     }
 
 pub returns-then-offset-self : goal.returns-then-offset-self
-returns-then-offset-self g c =
-    let here = c.loop-self.self in
-    record {
-      passed = passed_literals g.P.Passed.passes c.args.self.now here c.loop-self.invariant (length here.text.now)
-          (omega (arith, c.loop-self-test.true)) (omega arith)
-          (λ k low high. c.in-Some.ensures.1 k low (omega (arith, high, c.if-offset-self.true)));
-      stopped = not_found here.text.now (length here.text.now);
-    }
-
-pub returns-then-offset-self-2 : goal.returns-then-offset-self-2
-returns-then-offset-self-2 g c =
-    let here = c.loop-self.self in
-    record {
-      passed = passed_to g.P.Passed.passes c.args.self.now here c.loop-self.invariant c.in-Some.offset (omega (arith, c.if-offset-self.false)) c.in-Some.ensures;
-      stopped = not_found here.text.now c.in-Some.offset;
-    }
+returns-then-offset-self g c = record {
+  passed = passed_to g.P.Passed.passes c.args.self.now c.loop-self.self c.loop-self.invariant c.in-Some.offset c.in-Some.ensures;
+  stopped = not_found c.loop-self.self.text.now c.in-Some.offset;
+}
 
 pub returns-then-self-offset-ne37 : goal.returns-then-self-offset-ne37
-returns-then-self-offset-ne37 g c =
-    let here = c.loop-self.self in
-    record {
-      passed = passed_to g.P.Passed.passes c.args.self.now here c.loop-self.invariant c.in-Some.offset (omega (arith, c.if-offset-self.false)) c.in-Some.ensures;
-      stopped = not_found here.text.now c.in-Some.offset;
-    }
+returns-then-self-offset-ne37 g c = record {
+  passed = passed_to g.P.Passed.passes c.args.self.now c.loop-self.self c.loop-self.invariant c.in-Some.offset c.in-Some.ensures;
+  stopped = not_found c.loop-self.self.text.now c.in-Some.offset;
+}
 
 pub returns-then-len-eq0 : goal.returns-then-len-eq0
 returns-then-len-eq0 g c = record {
-  passed = passed_to g.P.Passed.passes c.args.self.now c.loop-self.self c.loop-self.invariant c.in-Some.offset
-      (omega (arith, c.if-offset-self.false)) c.in-Some.ensures;
-  stopped = λ found. (omega (arith, c.if-offset-self.false, c.if-offset-self-2.false), c.if-self-offset-ne37.false);
+  passed = passed_to g.P.Passed.passes c.args.self.now c.loop-self.self c.loop-self.invariant c.in-Some.offset c.in-Some.ensures;
+  stopped = λ found. (omega (arith, c.if-offset-self.false), c.if-self-offset-ne37.false);
 }
 
 pub loop-self-preserved : goal.loop-self-preserved
 loop-self-preserved g c =
-    let now = passed_to g.P.Passed.passes c.args.self.now c.loop-self.self c.loop-self.invariant c.in-Some.offset
-    (omega (arith, c.if-offset-self.false)) c.in-Some.ensures in
+    let now = passed_to g.P.Passed.passes c.args.self.now c.loop-self.self c.loop-self.invariant c.in-Some.offset c.in-Some.ensures in
     passed_more g.P.Passed.passes c.args.self.now _ now c.len-len.result c.len-len.ensures.passed.0 c.len-len.ensures.within c.len-len.ensures.passed.1
