@@ -41,7 +41,7 @@ use Rattle.pf_text.proofs.ReadBack.{spelled_read}
 use Rattle.pf_text.proofs.Texts.{Reads-push}
 
 -- a byte that is written as it is
-run_written : (byte : ℕ) → IsLiteral byte → item_spelling (Byte byte) ≡ byte ∷ []
+pub run_written : (byte : ℕ) → IsLiteral byte → item_spelling (Byte byte) ≡ byte ∷ []
 run_written byte h = let other = h.0 in grind (arith, nat_tests)
 
 pub literal_written : (bytes : Text) → AllByRecursion IsLiteral bytes → flat_map item_spelling (map Byte bytes) ≡ bytes

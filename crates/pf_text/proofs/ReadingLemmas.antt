@@ -15,7 +15,7 @@ use Rattle.pf_values.proofs.ItemTypes.{types-append}
 use Rattle.pf_text.specs.CanonicalRuns.{IsCanonicalRun}
 use Rattle.pf_text.specs.Letters.{conv_of}
 use Rattle.pf_text.specs.Signatures.{ReadsTyped, TakesTypes}
-use Rattle.pf_text.specs.Walks.{HasPassed, HasPercent, IsCanonicalEnd, IsItemsEnd, IsNormalInEach, IsPassedRun, IsWalkOver}
+use Rattle.pf_text.specs.Walks.{HasPassed, HasPercent, IsCanonicalEnd, IsItemsEnd, IsNormalInEach, IsPassedRun, IsPercent, IsWalkOver}
 use Rattle.pf_text.specs.declared.walk.Walk.{Walk}
 use Rattle.pf_text.proofs.CanonicalRunLemmas.{bare, take_front}
 use Rattle.pf_text.proofs.ItemLemmas.{one_read, read_more}
@@ -38,7 +38,7 @@ read_none text walk over at = record {
 }
 
 -- then what it has passed
-pub read_passed_too : (passes : Specification → Type 0) (text : Text) (old new : Walk) → HasRead text old → HasPassed passes old new → HasRead text new
+pub read_passed_too : (passes : Item → Type 0) (text : Text) (old new : Walk) → HasRead text old → HasPassed passes old new → HasRead text new
 read_passed_too passes text old new h g =
     let t = new.text.now in
     let place : old.at + (new.at - old.at) ≡ new.at = omega (arith, g.from) in
@@ -140,7 +140,7 @@ bare_typed model text at conv type h e is =
     let two : at + 2 - at ≡ 2 = omega arith in
     subst (λ k. ReadsTyped model (take k (drop at text)) (type ∷ [])) (sym two) (record {
       items = Directive (bare conv) ∷ [];
-      reads = run_is_read (λ s. ⊤) (take 2 (drop at text)) (Directive (bare conv) ∷ []) (conv_run (λ s. ⊤) text at conv h e tt);
+      reads = run_is_read (λ item. ⊤) (take 2 (drop at text)) (Directive (bare conv) ∷ []) (conv_run (λ item. ⊤) text at conv h e tt);
       types_are = ap (λ w. w ∷ []) is;
     })
 
@@ -156,10 +156,10 @@ typed_none model text walk over at = record { read = read_none text walk over at
 
 -- a walk over no directive changes none
 pub typed_passed_too : (model : Model) (text : Text) (old new : Walk) (found : List ArgType) → HasTyped model text old found
-    → HasPassed (λ s. ⊥) old new → HasTyped model text new found
+    → HasPassed IsPercent old new → HasTyped model text new found
 unfolding read_passed_too
 typed_passed_too model text old new found h g = record {
-  read = read_passed_too (λ s. ⊥) text old new h.read g;
+  read = read_passed_too IsPercent text old new h.read g;
   types_are = h.types_are ∙ sym (types-append model h.read.items g.items
       ∙ ap (λ w. types model h.read.items ++ w) (run_takes_none model g.items g.run.passed) ∙ append-nil (types model h.read.items));
 }

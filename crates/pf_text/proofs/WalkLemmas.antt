@@ -13,7 +13,6 @@ use Rattle.pf_values.specs.declared.models.Model.TheVariants.{Lp64}
 use Rattle.pf_values.specs.meaning.Canonical.{item_spelling}
 use Rattle.pf_values.specs.meaning.Conversions.{conv_letter}
 use Rattle.pf_values.specs.meaning.Items.{Item, Byte, Directive, Reads, types}
-use Rattle.pf_values.specs.meaning.Specification.{Specification}
 use Rattle.pf_values.specs.meaning.Spelling.{spelling_of}
 use Rattle.pf_values.specs.meaning.Text.{Text, percent}
 use Rattle.pf_values.specs.meaning.Lengths.{length_letters}
@@ -22,12 +21,12 @@ use Rattle.pf_text.specs.History.{IsLiteral}
 use Rattle.pf_text.specs.Letters.{conv_of}
 use Rattle.pf_text.specs.Marks.{AreMarksOf, HasMark, HasNoMark}
 use Rattle.pf_text.specs.Offsets.{HasBytes}
-use Rattle.pf_text.specs.Walks.{AreRunsOf, HasPassed, HasPercent, IsNextEnd, IsNormalInEach, IsPassed, IsPassedRun, IsWalk}
+use Rattle.pf_text.specs.Walks.{AreRunsOf, HasPassed, HasPercent, IsNextEnd, IsNormalInEach, IsPassed, IsPassedRun, IsPercent, IsWalk}
 use Rattle.pf_text.specs.declared.walk.Walk.{Walk}
 use Rattle.pf_text.specs.declared.literal_runs.LiteralRuns.{LiteralRuns}
 use Rattle.pf_text.specs.declared.marks.Marks.{Marks}
 use Rattle.pf_text.specs.declared.marks.TheConstants.{MAX_MARKED}
-use Rattle.pf_text.proofs.CanonicalRunLemmas.{bare, byte_read, conv_defined, conv_normal, first_bytes, literal_written, parts, parts_are_canonical}
+use Rattle.pf_text.proofs.CanonicalRunLemmas.{bare, byte_read, conv_defined, conv_normal, first_bytes, literal_written, parts, run_written, parts_are_canonical}
 use Rattle.pf_text.proofs.LiteralLemmas.{goes_on, literal_take}
 use Rattle.pf_text.proofs.MarkLemmas.{marked_within}
 use Rattle.pf_text.proofs.MarkedRunLemmas.{literal_between, no_end_between}
@@ -72,14 +71,14 @@ bytes_between t bytes start stop h =
     let place : start + n ≡ stop = omega (arith, h.from) in
     append_cancel_left (take start t) (take n (drop start t)) bytes (sym (take-add start n t) ∙ ap (λ k. take k t) place ∙ h.whole)
 
-module _ (passes : Specification → Type 0) where
+module _ (passes : Item → Type 0) where
   -- `%%`, and a directive that is a conversion alone
-  pub percent_passed : (text : Text) (at : ℕ) → HasPercent text at → get_or text (at + 1) 0 ≡ percent
+  pub percent_passed : (text : Text) (at : ℕ) → HasPercent text at → get_or text (at + 1) 0 ≡ percent → passes (Byte percent)
       → (items : List Item) × IsPassedRun passes (take 2 (drop at text)) items
-  percent_passed text at h e =
-      (Byte percent ∷ [], record { passed = ((λ z. cc), tt); whole = two_bytes text at h ∙ ap (λ b. percent ∷ b ∷ []) e })
+  percent_passed text at h e p =
+      (Byte percent ∷ [], record { passed = (((λ z. cc), λ same. p), tt); whole = two_bytes text at h ∙ ap (λ b. percent ∷ b ∷ []) e })
 
-  pub conv_run : (text : Text) (at : ℕ) (conv : Conv) → HasPercent text at → conv_of (get_or text (at + 1) 0) ≡ Some conv → passes (bare conv)
+  pub conv_run : (text : Text) (at : ℕ) (conv : Conv) → HasPercent text at → conv_of (get_or text (at + 1) 0) ≡ Some conv → passes (Directive (bare conv))
       → IsPassedRun passes (take 2 (drop at text)) (Directive (bare conv) ∷ [])
   conv_run text at conv h e p = record {
     passed = ((conv_defined conv, p), tt);
@@ -102,7 +101,7 @@ module _ (passes : Specification → Type 0) where
 
   bytes_passed : (bytes : Text) → AllByRecursion IsLiteral bytes → AllByRecursion (IsPassed passes) (map Byte bytes)
   bytes_passed [] h = tt
-  bytes_passed (byte ∷ bytes) h = (h.0.1, bytes_passed bytes h.1)
+  bytes_passed (byte ∷ bytes) h = ((h.0.1, λ e. absurd (h.0.0 e)), bytes_passed bytes h.1)
 
   pub literals_passed : (bytes : Text) → AllByRecursion IsLiteral bytes → IsPassedRun passes bytes (map Byte bytes)
   literals_passed bytes h = record { passed = bytes_passed bytes h; whole = sym (literal_written bytes h) }
@@ -110,7 +109,7 @@ module _ (passes : Specification → Type 0) where
   -- such a run is read as its items
   read_passed : (items : List Item) → AllByRecursion (IsPassed passes) items → Reads (flat_map item_spelling items) items
   read_passed [] h = refl
-  read_passed (Byte byte ∷ items) h = (item_spelling (Byte byte), flat_map item_spelling items, byte_read byte h.0, read_passed items h.1, refl)
+  read_passed (Byte byte ∷ items) h = (item_spelling (Byte byte), flat_map item_spelling items, byte_read byte h.0.0, read_passed items h.1, refl)
   read_passed (Directive s ∷ items) h = (spelling_of s, flat_map item_spelling items, (spelled_read s h.0.0, h.0.0), read_passed items h.1, refl)
 
   pub run_is_read : (t : Text) (items : List Item) → IsPassedRun passes t items → Reads t items
@@ -144,7 +143,7 @@ module _ (passes : Specification → Type 0) where
       (literals_passed (take n (drop at text)) (literal_between text at stop up within none)))
 
 -- A walk comes from one offset to another.
-module _ (passes : Specification → Type 0) (old now : Walk) where
+module _ (passes : Item → Type 0) (old now : Walk) where
   pub passed_none : IsWalk now → now.text.now ≡ old.text.now → now.at ≡ old.at → HasPassed passes old now
   passed_none walk text at = record {
     walk = walk;
@@ -189,17 +188,27 @@ not_found t at never = absurd (cc)
 -- a run of directives that are normal in each data model is canonical
 canonical_items : (model : Model) (items : List Item) → AllByRecursion (IsPassed IsNormalInEach) items → AllByRecursion (IsCanonicalItem model) items
 canonical_items model [] h = tt
-canonical_items model (Byte byte ∷ items) h = (h.0, canonical_items model items h.1)
+canonical_items model (Byte byte ∷ items) h = (h.0.0, canonical_items model items h.1)
 canonical_items model (Directive s ∷ items) h = (h.0.1 model, canonical_items model items h.1)
 
 pub run_is_canonical : (model : Model) (t : Text) (items : List Item) → IsPassedRun IsNormalInEach t items → IsCanonicalRun model t items
 run_is_canonical model t items h = record { canonical = canonical_items model items h.passed; whole = h.whole }
 
 -- a run without directives takes no arguments
-pub run_takes_none : (model : Model) (items : List Item) → AllByRecursion (IsPassed (λ s. ⊥)) items → types model items ≡ []
+pub run_takes_none : (model : Model) (items : List Item) → AllByRecursion (IsPassed IsPercent) items → types model items ≡ []
 run_takes_none model [] h = refl
 run_takes_none model (Byte byte ∷ items) h = run_takes_none model items h.1
 run_takes_none model (Directive s ∷ items) h = absurd h.0.1
+
+-- a run of literal bytes alone
+literals_only : (items : List Item) → AllByRecursion (IsPassed (λ item. ⊥)) items → AllByRecursion IsLiteral (flat_map item_spelling items)
+literals_only [] h = tt
+literals_only (Byte byte ∷ items) h =
+    subst (λ t. AllByRecursion IsLiteral (t ++ flat_map item_spelling items)) (sym (run_written byte (h.0.1, h.0.0))) ((h.0.1, h.0.0), literals_only items h.1)
+literals_only (Directive s ∷ items) h = absurd h.0.1
+
+pub run_is_literal : (t : Text) (items : List Item) → IsPassedRun (λ item. ⊥) t items → AllByRecursion IsLiteral t
+run_is_literal t items h = subst (AllByRecursion IsLiteral) (sym h.whole) (literals_only items h.passed)
 
 -- what is normal in each data model after the byte `%`
 pub letter_passed : (letter : ℕ) (o : Option Conv) → conv_of letter ≡ o → letter ≢ 105 → is_some o ≡ true

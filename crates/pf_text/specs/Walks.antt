@@ -1,5 +1,5 @@
 -- The walk over the items of a text in memory. This project's own.
-use Rattle.std.specs.Prelude.{◌≡◌, ◌≢◌, ℕ, Bool, ◌+◌, ◌-◌, ◌^◌, ◌<◌, ◌≤◌, List, drop, flat_map, get_or, length, max, take, Option, Some, None, IfSome, IsTrue}
+use Rattle.std.specs.Prelude.{◌≡◌, ◌≢◌, ℕ, Bool, ◌+◌, ◌-◌, ◌^◌, ◌<◌, ◌≤◌, List, drop, flat_map, get_or, length, max, take, Option, Some, None, IfSome, IsTrue, ⊤}
 use Rattle.std.specs.List.{AllByRecursion}
 use Rattle.memchr.specs.Find.{Nowhere, Passes, is_byte2}
 use Rattle.pf_values.specs.declared.limits.TheConstants.{MAX_TEXT_LEN}
@@ -8,7 +8,6 @@ use Rattle.pf_values.specs.meaning.Canonical.{item_spelling}
 use Rattle.pf_values.specs.meaning.Defined.{IsDefined}
 use Rattle.pf_values.specs.meaning.Items.{Item, Byte, Directive, Reads}
 use Rattle.pf_values.specs.meaning.Normal.{IsNormal}
-use Rattle.pf_values.specs.meaning.Specification.{Specification}
 use Rattle.pf_values.specs.meaning.Text.{Text, percent}
 use Rattle.pf_text.specs.declared.literal_runs.LiteralRuns.{LiteralRuns}
 use Rattle.pf_text.specs.declared.marks.TheConstants.{MAX_MARKED}
@@ -25,19 +24,25 @@ abbrev pub IsNextEnd : Text → ℕ → Option ℕ → Type 0
 IsNextEnd t from None = Nowhere (Passes (is_byte2 37 0) t) from (length t)
 IsNextEnd t from (Some stop) = (from ≤ stop) × (stop < length t) × Nowhere (Passes (is_byte2 37 0) t) from stop
 
--- an item that a walk passes: a literal byte or `%%`, or one of these directives
-abbrev pub IsPassed : (Specification → Type 0) → Item → Type 0
-IsPassed passes (Byte byte) = byte ≢ 0
-IsPassed passes (Directive s) = IsDefined s × passes s
+-- an item that a walk passes: a literal byte, or one of these others
+abbrev pub IsPassed : (Item → Type 0) → Item → Type 0
+IsPassed passes (Byte byte) = (byte ≢ 0) × (byte ≡ percent → passes (Byte percent))
+IsPassed passes (Directive s) = IsDefined s × passes (Directive s)
 
 -- a text of such items, each written in the one way
-pub record IsPassedRun (passes : Specification → Type 0) (t : Text) (items : List Item) : Type 0 where
+pub record IsPassedRun (passes : Item → Type 0) (t : Text) (items : List Item) : Type 0 where
   pub passed : AllByRecursion (IsPassed passes) items
   pub whole : t ≡ flat_map item_spelling items
 
--- a directive that is normal in each data model
-abbrev pub IsNormalInEach : Specification → Type 0
-IsNormalInEach s = (model : Model) → IsNormal model s
+-- no directive
+abbrev pub IsPercent : Item → Type 0
+IsPercent (Byte byte) = ⊤
+IsPercent (Directive s) = ⊥
+
+-- no directive, or one that is normal in each data model
+abbrev pub IsNormalInEach : Item → Type 0
+IsNormalInEach (Byte byte) = ⊤
+IsNormalInEach (Directive s) = (model : Model) → IsNormal model s
 
 -- an offset has a `%` that isn't the last byte
 abbrev pub HasPercent : Text → ℕ → Type 0
@@ -54,7 +59,7 @@ pub record IsWalkOver (text : Text) (walk : Walk) : Type 0 where
   pub text_is : walk.text.now ≡ take MAX_TEXT_LEN text
 
 -- a walk has come from one offset to another, over items that it passes
-pub record HasPassed (passes : Specification → Type 0) (old new : Walk) : Type 0 where
+pub record HasPassed (passes : Item → Type 0) (old new : Walk) : Type 0 where
   pub walk : IsWalk new
   pub text : new.text.now ≡ old.text.now
   pub from : old.at ≤ new.at
@@ -63,7 +68,7 @@ pub record HasPassed (passes : Specification → Type 0) (old new : Walk) : Type
   pub run : IsPassedRun passes (take (new.at - old.at) (drop old.at new.text.now)) items
 
 -- and has found a `%` that begins something else, or not
-pub record Finds (passes : Specification → Type 0) (old new : Walk) (found : Bool) : Type 0 where
+pub record Finds (passes : Item → Type 0) (old new : Walk) (found : Bool) : Type 0 where
   pub passed : HasPassed passes old new
   pub stopped : IsTrue found → HasPercent new.text.now new.at
 

@@ -28,7 +28,7 @@ pub use checking::{check, is_known_accepted};
 pub use known_argument_types::known_types;
 pub use letters::{conv_of, flag_of, modifier_of};
 pub use marks::{MAX_MARKED, MIN_MARKED, Marks};
-pub use passed::{Bare, Canonical, Passed, Percents};
+pub use passed::{Bare, Canonical, Nothing, Passed, Percents};
 pub use pieces::{Piece, Pieces};
 pub use refusals::{Refusal, Side, TextFault};
 pub use scanner::{Scanner, Step};

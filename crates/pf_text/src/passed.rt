@@ -1,19 +1,18 @@
 //! The items that a walk passes.
 ghost use Rattle.std.specs.Prelude.{◌≡◌, ◌+◌, ◌≤◌, List, [], ◌∷◌, drop, length, take, IsTrue, ⊤};
 ghost use Rattle.pf_values.specs.meaning.Items.{Item};
-ghost use Rattle.pf_values.specs.meaning.Specification.{Specification};
 ghost use Rattle.pf_text.specs.CanonicalRuns.{alternative_bytes, has_canonical_parts, is_kept_modifier};
 ghost use Rattle.pf_text.specs.Offsets.{HasBytes};
-ghost use Rattle.pf_text.specs.Walks.{HasPercent, IsNormalInEach, IsPassedRun};
+ghost use Rattle.pf_text.specs.Walks.{HasPercent, IsNormalInEach, IsPassedRun, IsPercent};
 
 use crate::letters::conv_of;
 use crate::specification::{conv_at, modifier_at};
 use pf_values::{Conv, Length};
 
-/// Items that a walk passes without a look at their parts: literal bytes, `%%`, and some directives.
+/// Items that a walk passes without a look at their parts, beside literal bytes.
 pub trait Passed {
-    // these directives
-    ghost passes: { Specification → Type 0 };
+    // these items
+    ghost passes: { Item → Type 0 };
 
     /// Returns how many bytes the item has that begins with the `%` at an offset, if it is passed. If not, 0.
     fn len(text: &[u8], at: usize) -> usize
@@ -22,21 +21,34 @@ pub trait Passed {
         ensures passed { (items : List Item) × IsPassedRun passes (take result (drop at text.now)) items };
 }
 
-/// No directive.
+/// None.
+#[derive(Clone, Copy, Debug)]
+pub struct Nothing;
+
+/// `%%`
 #[derive(Clone, Copy, Debug)]
 pub struct Percents;
 
-/// Directives of a conversion alone.
+/// `%%`, and directives of a conversion alone.
 #[derive(Clone, Copy, Debug)]
 pub struct Bare;
 
-/// Directives that are normal in each data model, if they have a conversion alone, or are a number's with
-/// `#` or a length modifier.
+/// `%%`, and directives that are normal in each data model, if they have a conversion alone, or are a
+/// number's with `#` or a length modifier.
 #[derive(Clone, Copy, Debug)]
 pub struct Canonical;
 
+impl Passed for Nothing {
+    ghost passes = { λ item. ⊥ };
+
+    #[inline(always)]
+    fn len(_: &[u8], _: usize) -> usize {
+        0
+    }
+}
+
 impl Passed for Percents {
-    ghost passes = { λ s. ⊥ };
+    ghost passes = { IsPercent };
 
     #[inline(always)]
     fn len(text: &[u8], at: usize) -> usize {
@@ -48,7 +60,7 @@ impl Passed for Percents {
 }
 
 impl Passed for Bare {
-    ghost passes = { λ s. ⊤ };
+    ghost passes = { λ item. ⊤ };
 
     #[inline(always)]
     fn len(text: &[u8], at: usize) -> usize {

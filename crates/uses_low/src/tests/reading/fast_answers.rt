@@ -1,6 +1,6 @@
 //! What is known of a text without its reader: marks, where walks stop, whole directives, and types.
 use pf_text::{
-    Bare, Canonical, Marks, Passed, Percents, Refusal, Scanner, Walk, canonical_end,
+    Bare, Canonical, Marks, Nothing, Passed, Percents, Refusal, Scanner, Walk, canonical_end,
     directive_at_front, is_known_accepted, known_types, literal_len, spell, spelled_at_front,
 };
 use pf_values::{ArgType, Model, RefusalKind};
@@ -44,6 +44,7 @@ fn stop<P: Passed>(text: &[u8]) -> (usize, bool) {
 fn a_walk_stops(rt: HostRuntime) {
     assert!(rt;
         [
+            stop::<Nothing>(b"100%% of %d"),
             stop::<Percents>(b"100%% of %d"),
             stop::<Bare>(b"100%% of %d"),
             stop::<Bare>(b"%d%i%s%5d"),
@@ -52,6 +53,7 @@ fn a_walk_stops(rt: HostRuntime) {
             stop::<Canonical>(b"ab\0"),
             stop::<Bare>(b"%"),
         ] == [
+            (3, true),
             (9, true),
             (11, false),
             (6, true),
