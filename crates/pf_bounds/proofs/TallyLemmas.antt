@@ -23,7 +23,7 @@ use Rattle.pf_text.proofs.Sound.{byte_of_conv}
 use Rattle.pf_text.proofs.Texts.{Reads-push}
 use Rattle.pf_bounds.specs.Bounds.{AreBounds, AreBoundsOf, CanPrint, CanPrintAll, sum_of}
 use Rattle.pf_bounds.specs.FieldLengths.{item_limit}
-use Rattle.pf_bounds.specs.Tallies.{IsTallied, greatest_of}
+use Rattle.pf_bounds.specs.Tallies.{IsTallied, largest_of}
 use Rattle.pf_bounds.specs.declared.tallies.Tally.{Tally}
 use Rattle.pf_bounds.proofs.BoundsLemmas.{items_append}
 use Rattle.pf_bounds.proofs.NumberBounds.{number_bounds}
@@ -86,7 +86,7 @@ pub record IsSum (sum one other : Tally) : Type 0 where
   pub spread : sum.spread ≡ one.spread + other.spread
   pub bounded : sum.is_bounded ≡ (one.is_bounded && other.is_bounded)
 
-sum_greatest : (sum one other : Tally) → IsSum sum one other → greatest_of sum ≡ sum_of (greatest_of one) (greatest_of other)
+sum_greatest : (sum one other : Tally) → IsSum sum one other → largest_of sum ≡ sum_of (largest_of one) (largest_of other)
 sum_greatest sum one other h =
     rw (h.least, h.spread, h.bounded) (greatest_summed one.is_bounded other.is_bounded one.least other.least one.spread other.spread)
 
@@ -95,7 +95,7 @@ module _ (model : Model) where
   pub tallied_append : (t u : Text) (sum one other : Tally) → IsTallied model t one → IsTallied model u other → IsSum sum one other
       → IsTallied model (t ++ u) sum
   tallied_append t u sum one other h g e =
-      let both = items_append model h.items g.items one.least other.least (greatest_of one) (greatest_of other) h.bounds g.bounds in
+      let both = items_append model h.items g.items one.least other.least (largest_of one) (largest_of other) h.bounds g.bounds in
       let long = length-append t u in
       record {
         items = h.items ++ g.items;
@@ -113,7 +113,7 @@ module _ (model : Model) where
       subst (λ t. IsTallied model t sum) (sym (take-add at n text)) (tallied_append (take at text) (take n (drop at text)) sum one other h g e)
 
   -- a text that is one item
-  pub item_tallied : (t : Text) (item : Item) (tally : Tally) → IsReadAs t item → AreBoundsOf (CanPrintAll model (item ∷ [])) tally.least (greatest_of tally)
+  pub item_tallied : (t : Text) (item : Item) (tally : Tally) → IsReadAs t item → AreBoundsOf (CanPrintAll model (item ∷ [])) tally.least (largest_of tally)
       → 0 < length t → tally.least ≤ item_limit → tally.spread ≤ item_limit → IsTallied model t tally
   item_tallied t item tally read bounds some least spread =
       record {
@@ -123,10 +123,10 @@ module _ (model : Model) where
         short = record { least_is = omega (arith, some, least); spread_is = omega (arith, some, spread) };
       }
 
-  pub directive_tallied : (t : Text) (d : Specification) (tally : Tally) → IsReadAs t (Directive d) → AreBoundsOf (CanPrint model d) tally.least (greatest_of tally)
+  pub directive_tallied : (t : Text) (d : Specification) (tally : Tally) → IsReadAs t (Directive d) → AreBoundsOf (CanPrint model d) tally.least (largest_of tally)
       → 0 < length t → tally.least ≤ item_limit → tally.spread ≤ item_limit → IsTallied model t tally
   directive_tallied t d tally read bounds =
-      item_tallied t (Directive d) tally read (item_bounds model d tally.least (greatest_of tally) bounds)
+      item_tallied t (Directive d) tally read (item_bounds model d tally.least (largest_of tally) bounds)
 
   -- literal bytes
   pub bytes_tallied : (run : Text) (tally : Tally) → AllByRecursion IsLiteral run → tally.least ≡ length run → tally.spread ≡ 0 → tally.is_bounded ≡ true
@@ -135,21 +135,21 @@ module _ (model : Model) where
       record {
         items = map Byte run;
         reads = Reads-literals run [] [] refl literal;
-        bounds = bytes_bounds model run tally.least (length run) (greatest_of tally) least (only bounded) refl;
+        bounds = bytes_bounds model run tally.least (length run) (largest_of tally) least (only bounded) refl;
         short = record { least_is = omega (arith, least); spread_is = omega (arith, spread) };
       }
     where
-      only : tally.is_bounded ≡ true → greatest_of tally ≡ Some (length run)
+      only : tally.is_bounded ≡ true → largest_of tally ≡ Some (length run)
       only e = rw e (ap Some (omega (arith, least, spread)))
 
   -- a text that is read to its end
   pub whole_tallied : (text : Text) (at : ℕ) (tally : Tally) → length text ≤ at → length text ≤ MAX_TEXT_LEN → IsTallied model (take at text) tally
-      → AreBounds model text tally.least (greatest_of tally)
+      → AreBounds model text tally.least (largest_of tally)
   whole_tallied text at tally end few h =
       let all = subst (λ t. IsTallied model t tally) (take_all at text end) h in
       record { items = all.items; accepted = record { reads = all.reads; limit = few }; bounds = all.bounds }
 
-  -- and one of which nothing is read yet
+  -- and a text before anything of it is read
   pub none_tallied : (text : Text) (tally : Tally) → tally.least ≡ 0 → tally.spread ≡ 0 → tally.is_bounded ≡ true → IsTallied model (take 0 text) tally
   none_tallied text tally least spread bounded = bytes_tallied [] tally tt least spread bounded
 
@@ -171,14 +171,14 @@ module _ (model : Model) where
       → tally.least ≡ 1 → tally.spread ≡ 0 → tally.is_bounded ≡ true → IsTallied model (take 2 (drop at text)) tally
   percent_tallied text at tally some first second least spread bounded =
       let bytes = two_bytes text at some ∙ ap₂ (λ (a b : ℕ). a ∷ b ∷ []) first second in
-      let one : greatest_of tally ≡ Some 1 = rw bounded (ap Some (omega (arith, least, spread))) in
+      let one : largest_of tally ≡ Some 1 = rw bounded (ap Some (omega (arith, least, spread))) in
       item_tallied (take 2 (drop at text)) (Byte percent) tally bytes
-      (bytes_bounds model (percent ∷ []) tally.least 1 (greatest_of tally) least one refl)
+      (bytes_bounds model (percent ∷ []) tally.least 1 (largest_of tally) least one refl)
       (omega (arith, ap length bytes)) (omega (arith, least)) (omega (arith, spread))
 
   -- a directive of a conversion alone
   pub bare_tallied : (text : Text) (at : ℕ) (conv : Conv) (tally : Tally) → at + 1 < length text → get_or text at 0 ≡ percent
-      → conv_of (get_or text (at + 1) 0) ≡ Some conv → AreBoundsOf (CanPrint model (bare conv)) tally.least (greatest_of tally)
+      → conv_of (get_or text (at + 1) 0) ≡ Some conv → AreBoundsOf (CanPrint model (bare conv)) tally.least (largest_of tally)
       → tally.least ≤ item_limit → tally.spread ≤ item_limit → IsTallied model (take 2 (drop at text)) tally
   bare_tallied text at conv tally some first e bounds least spread =
       let bytes = two_bytes text at some ∙ ap₂ (λ (a b : ℕ). a ∷ b ∷ []) first (byte_of_conv (get_or text (at + 1) 0) conv e) in

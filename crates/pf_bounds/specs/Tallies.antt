@@ -8,8 +8,8 @@ use Rattle.pf_bounds.specs.FieldLengths.{limit_of}
 use Rattle.pf_bounds.specs.declared.tallies.Tally.{Tally}
 
 -- the largest number, if there is one
-abbrev pub greatest_of : Tally → Option ℕ
-greatest_of tally = if tally.is_bounded then Some (tally.least + tally.spread) else None
+abbrev pub largest_of : Tally → Option ℕ
+largest_of tally = if tally.is_bounded then Some (tally.least + tally.spread) else None
 
 -- neither number is too large for a text of this length
 pub record IsShort (tally : Tally) (len : ℕ) : Type 0 where
@@ -20,5 +20,5 @@ pub record IsShort (tally : Tally) (len : ℕ) : Type 0 where
 pub record IsTallied (model : Model) (t : Text) (tally : Tally) : Type 0 where
   pub items : List Item
   pub reads : Reads t items
-  pub bounds : AreBoundsOf (CanPrintAll model items) tally.least (greatest_of tally)
+  pub bounds : AreBoundsOf (CanPrintAll model items) tally.least (largest_of tally)
   pub short : IsShort tally (length t)

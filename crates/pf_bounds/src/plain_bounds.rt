@@ -5,7 +5,7 @@ ghost use Rattle.pf_values.specs.declared.lengths.Length.TheVariants as lengths;
 ghost use Rattle.pf_values.specs.meaning.Flags.{no_flags};
 ghost use Rattle.pf_bounds.specs.Bounds.{AreBounds, AreBoundsOf, AreWithin, CanPrint};
 ghost use Rattle.pf_bounds.specs.FieldLengths.{item_limit};
-ghost use Rattle.pf_bounds.specs.Tallies.{IsTallied, greatest_of};
+ghost use Rattle.pf_bounds.specs.Tallies.{IsTallied, largest_of};
 
 use crate::directives::directive_bounds;
 use crate::sums::Bounds;
@@ -21,7 +21,7 @@ const MAX_TALLIED: u64 = 1 << 32;
 pub(crate) fn tally_by_marks(model: Model, text: &[u8]) -> Option<Tally>
     requires some { MIN_MARKED ≤ length text.now }
     requires few { length text.now ≤ MAX_MARKED }
-    ensures { IfSome result (λ tally. AreBounds model text.now tally.least (greatest_of tally)) }
+    ensures { IfSome result (λ tally. AreBounds model text.now tally.least (largest_of tally)) }
 {
     let marks = Marks::of(text);
     let mut sum = Tally::exactly(0);
@@ -40,7 +40,7 @@ pub(crate) fn tally_by_marks(model: Model, text: &[u8]) -> Option<Tally>
 /// Returns the bounds of a text of any length, or `None` if they aren't known.
 #[inline(always)]
 pub(crate) fn tally_by_runs(model: Model, text: &[u8]) -> Option<Tally>
-    ensures { IfSome result (λ tally. AreBounds model text.now tally.least (greatest_of tally)) }
+    ensures { IfSome result (λ tally. AreBounds model text.now tally.least (largest_of tally)) }
 {
     if text.len() as u64 > MAX_TALLIED {
         return None;
@@ -101,7 +101,7 @@ fn item_at(model: Model, text: &[u8], at: usize) -> Option<(Tally, usize)>
 #[inline(always)]
 fn bare_tally(model: Model, conv: Conv) -> Tally
     ensures value { AreBoundsOf (CanPrint model (specification_of no_flags None None lengths.None conv))
-        result.least (greatest_of result) }
+        result.least (largest_of result) }
     ensures few { (result.least ≤ item_limit) × (result.spread ≤ item_limit) }
 {
     match conv {
@@ -150,7 +150,7 @@ fn tally_of(bounds: Bounds) -> Tally
     requires few { AreWithin bounds.least bounds.greatest item_limit }
     requires ordered { IfSome bounds.greatest (λ greatest. bounds.least ≤ greatest) }
     ensures least { result.least ≡ bounds.least }
-    ensures greatest { greatest_of result ≡ bounds.greatest }
+    ensures greatest { largest_of result ≡ bounds.greatest }
     ensures few { result.spread ≤ item_limit }
 {
     let least = bounds.least as u64;

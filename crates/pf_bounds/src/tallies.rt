@@ -1,6 +1,6 @@
 //! Bounds in 64 bits, of texts that aren't long.
 ghost use Rattle.std.specs.Prelude.{◌≡◌, ◌+◌, ◌&&◌, ◌^◌, ◌≤◌, true};
-ghost use Rattle.pf_bounds.specs.Tallies.{greatest_of};
+ghost use Rattle.pf_bounds.specs.Tallies.{largest_of};
 
 use crate::sums::Bounds;
 
@@ -50,7 +50,7 @@ impl Tally {
     #[inline(always)]
     pub(crate) fn bounds(self) -> Bounds
         ensures least { result.least ≡ self.least }
-        ensures greatest { result.greatest ≡ greatest_of self }
+        ensures greatest { result.greatest ≡ largest_of self }
     {
         let least = u128::from(self.least);
         if !self.is_bounded {
