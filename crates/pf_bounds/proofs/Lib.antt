@@ -4,4 +4,5 @@ pub mod Extremes
 pub mod NumberBounds
 pub mod TextBounds
 pub mod SumLemmas
+pub mod TallyLemmas
 pub mod LawLemmas

@@ -6,14 +6,45 @@ ghost use Rattle.pf_bounds.specs.Bounds.{AreBounds, AreBoundsOf, AreWithin, CanP
 ghost use Rattle.pf_bounds.specs.FieldLengths.{limit_of};
 
 use crate::directives::directive_bounds;
+use crate::plain_bounds::{tally_by_marks, tally_by_runs};
 use crate::sums::Bounds;
-use pf_text::{Piece, Pieces, Refusal};
+use pf_text::{MAX_MARKED, MIN_MARKED, Piece, Pieces, Refusal};
 use pf_values::Model;
 
 /// Returns the smallest and the largest number of bytes that a format prints in this data model,
 /// over all arguments of its types (C11 7.21.6.1). `Err` if the format is refused. Allocates
 /// nothing.
 pub fn bounds(model: Model, text: &[u8]) -> Result<Bounds, Refusal>
+    ensures { MatchResult result (λ b. AreBounds model text.now b.least b.greatest)
+        (λ refusal. IsRefusedAt text.now refusal.kind refusal.at) }
+{
+    if text.len() < MIN_MARKED {
+        return bounds_by_runs(model, text);
+    }
+    if text.len() > MAX_MARKED {
+        return bounds_by_runs(model, text);
+    }
+    match tally_by_marks(model, text) {
+        Some(tally) => Ok(tally.bounds()),
+        None => bounds_by_pieces(model, text),
+    }
+}
+
+// `bounds` of a text of any length. Never inlined, since most formats have marks.
+#[inline(never)]
+fn bounds_by_runs(model: Model, text: &[u8]) -> Result<Bounds, Refusal>
+    ensures { MatchResult result (λ b. AreBounds model text.now b.least b.greatest)
+        (λ refusal. IsRefusedAt text.now refusal.kind refusal.at) }
+{
+    match tally_by_runs(model, text) {
+        Some(tally) => Ok(tally.bounds()),
+        None => bounds_by_pieces(model, text),
+    }
+}
+
+// `bounds` of any text, also of one that is refused. Never inlined, since it is rare.
+#[inline(never)]
+fn bounds_by_pieces(model: Model, text: &[u8]) -> Result<Bounds, Refusal>
     ensures { MatchResult result (λ b. AreBounds model text.now b.least b.greatest)
         (λ refusal. IsRefusedAt text.now refusal.kind refusal.at) }
 {

@@ -4,7 +4,9 @@
 mod directives;
 mod formats;
 pub mod laws;
+mod plain_bounds;
 mod sums;
+mod tallies;
 
 pub use formats::bounds;
 pub use sums::Bounds;

@@ -6,7 +6,6 @@ use Rattle.std.proofs.lemmas.List.{append-nil, length-append}
 use Rattle.pf_values.specs.declared.models.Model.{Model}
 use Rattle.pf_values.specs.meaning.Text.{Text}
 use Rattle.pf_posix.specs.declared.types.ArgumentType.{ArgumentType}
-use Rattle.pf_posix.specs.Items.{HasArguments}
 use Rattle.pf_posix.specs.Laws.{ComparesArgumentTypes, ComparesBeginning, IsFirstDifference, IsFirstExcess}
 use Rattle.pf_posix.proofs.Unique.{one_list}
 
@@ -77,29 +76,3 @@ fewer_once model t u index other h k =
     let second = one_list model u k.others h.others k.second_accepted h.second_accepted in
     one_excess h.types h.others index other h.excess
     (subst (λ l. IsFirstExcess l h.others other) first (subst (λ l. IsFirstExcess k.types l other) second k.excess))
-
--- where two texts differ, by the number of the arguments of the second
-module _ (model : Model) (first second : Text) (index : ℕ) (h : ComparesArgumentTypes model first second (Some index))
-    (others : List ArgumentType) (accepted : HasArguments model second others) where
-  same_count : length h.others ≡ length others
-  same_count = ap length (one_list model second h.others others h.second_accepted accepted)
-
-  pub differs_within : (count : ℕ) → count ≡ length others → index < count → ComparesBeginning model first second (Some index)
-  differs_within count e less =
-      record {
-        types = h.types;
-        others = h.others;
-        first_accepted = h.first_accepted;
-        second_accepted = h.second_accepted;
-        excess = (omega (arith, e, less, same_count), h.difference);
-      }
-
-  pub differs_past : (count : ℕ) → count ≡ length others → count ≤ index → ComparesBeginning model first second None
-  differs_past count e past =
-      record {
-        types = h.types;
-        others = h.others;
-        first_accepted = h.first_accepted;
-        second_accepted = h.second_accepted;
-        excess = ends_first h.types h.others index h.difference (omega (arith, e, past, same_count));
-      }

@@ -1,19 +1,22 @@
 -- Where two lists differ. Slices hold their first types.
-use Rattle.std.proofs.Common.{◌≡◌, ◌≢◌, ℕ, zero, suc, ◌+◌, ◌<◌, ◌≤◌, List, [], ◌∷◌, length, get_or, refl, sym, ap, ◌∙◌, arith, subst, inl, inr}
+use Rattle.std.proofs.Common.{◌≡◌, ◌≢◌, ℕ, zero, suc, ◌+◌, ◌<◌, ◌≤◌, min, List, [], ◌∷◌, length, get_or, refl, sym, ap, ◌∙◌, arith, subst, inl, inr}
 use Rattle.std.specs.Prelude.{Option, Some, None, ◌⊎◌, slice_get}
-use Rattle.std.proofs.lemmas.Bool.{cases_eq}
+use Rattle.std.proofs.lemmas.Bool.{cases_eq, cases_lt}
 use Rattle.std.proofs.lemmas.List.{ext_get_or}
 use Rattle.std.proofs.lemmas.Option.{slice_get-get_or, slice_get_past}
 use Rattle.pf_values.specs.declared.models.Model.{Model}
 use Rattle.pf_values.specs.meaning.Text.{Text}
 use Rattle.pf_posix.specs.declared.tables.TheConstants.{ROOM}
 use Rattle.pf_posix.specs.declared.types.ArgumentType.{ArgumentType}
+use Rattle.pf_posix.specs.declared.comparison.Comparison.{Comparison}
+use Rattle.pf_posix.specs.Items.{HasArguments}
 use Rattle.pf_posix.specs.Types.{int_type}
 use Rattle.pf_posix.specs.TypeNumbers.{number_of_type}
 use Rattle.pf_posix.specs.Laws.{ComparesArgumentTypes, HasCount, IsFirstDifference, filled}
-use Rattle.pf_posix.specs.Steps.{AreFew}
+use Rattle.pf_posix.specs.Steps.{AreFew, IsListComparison}
 use Rattle.pf_posix.proofs.Agreeing.{same_type}
 use Rattle.pf_posix.proofs.OrderLemmas.{length_filled}
+use Rattle.pf_posix.proofs.Unique.{one_list}
 
 abbrev pub SameUpTo : List ArgumentType → List ArgumentType → ℕ → Type 0
 SameUpTo a b n = (k : ℕ) → k < n → slice_get a k ≡ slice_get b k
@@ -25,11 +28,11 @@ get_filled (o ∷ start) (t ∷ a) zero d less few = refl
 get_filled (o ∷ start) (t ∷ a) (suc k) d less few = get_filled start a k d (omega (arith, less)) (omega (arith, few))
 
 -- a place of a slice that holds the front of a list
-pub at_place : (types start a : List ArgumentType) (k : ℕ) (d : ArgumentType) → types ≡ filled start a → length types ≡ ROOM → k < ROOM → k < length a
+pub at_place : (types start a : List ArgumentType) (k : ℕ) (d : ArgumentType) → types ≡ filled start a → k < length types → k < length a
     → slice_get a k ≡ Some (get_or types k d)
-at_place types start a k d e long room less =
+at_place types start a k d e room less =
     slice_get-get_or a k d less ∙ ap Some (sym (ap (λ l. get_or l k d) e
-    ∙ get_filled start a k d less (omega (arith, long, room, ap length e, length_filled start a))))
+    ∙ get_filled start a k d less (omega (arith, room, ap length e, length_filled start a))))
 
 pub same_more : (a b : List ArgumentType) (n : ℕ) → SameUpTo a b n → slice_get a n ≡ slice_get b n → SameUpTo a b (n + 1)
 same_more a b n h e k less = elim (cases_eq k n) [
@@ -61,13 +64,13 @@ one_longer a b n h other x y (inr full) = (
 
 -- what follows from the numbers of two types
 module _ (types others start from a b : List ArgumentType) (k : ℕ) (c d : ArgumentType) (x y : ℕ) (e : types ≡ filled start a) (f : others ≡ filled from b)
-    (long : length types ≡ ROOM) (long2 : length others ≡ ROOM) (room : k < ROOM) (less : k < length a) (less2 : k < length b)
+    (room : k < length types) (room2 : k < length others) (less : k < length a) (less2 : k < length b)
     (p : x ≡ number_of_type (get_or types k c)) (q : y ≡ number_of_type (get_or others k d)) where
   at_a : slice_get a k ≡ Some (get_or types k c)
-  at_a = at_place types start a k c e long room less
+  at_a = at_place types start a k c e room less
 
   at_b : slice_get b k ≡ Some (get_or others k d)
-  at_b = at_place others from b k d f long2 room less2
+  at_b = at_place others from b k d f room2 less2
 
   pub places_same : x ≡ y → slice_get a k ≡ slice_get b k
   places_same s = at_a ∙ ap Some (same_type _ _ (sym p ∙ s ∙ q)) ∙ sym at_b
@@ -77,9 +80,9 @@ module _ (types others start from a b : List ArgumentType) (k : ℕ) (c d : Argu
       ∙ at_b in let one : get_or types k c ≡ get_or others k d = cc in n (p ∙ ap number_of_type one ∙ sym q)
 
 -- where one list is over
-pub full : (count second_count k m n : ℕ) → count ≡ m → second_count ≡ n → ROOM ≤ k → ((m ≤ ROOM) ⊎ (n ≤ ROOM)) → (count ≤ k) ⊎ (second_count ≤ k)
-full count second_count k m n x y room (inl few) = inl (omega (arith, x, room, few))
-full count second_count k m n x y room (inr few) = inr (omega (arith, y, room, few))
+pub full : (room count second_count k m n : ℕ) → count ≡ m → second_count ≡ n → room ≤ k → ((m ≤ room) ⊎ (n ≤ room)) → (count ≤ k) ⊎ (second_count ≤ k)
+full room count second_count k m n x y end (inl few) = inl (omega (arith, x, end, few))
+full room count second_count k m n x y end (inr few) = inr (omega (arith, y, end, few))
 
 pub both_end : (count second_count k : ℕ) → count ≡ second_count → k ≤ count → k ≤ second_count → ((count ≤ k) ⊎ (second_count ≤ k))
     → (count ≡ k) × (second_count ≡ k)
@@ -91,15 +94,52 @@ over_lists count second_count k m n x y (inl over) = inl (omega (arith, x, over)
 over_lists count second_count k m n x y (inr over) = inr (omega (arith, y, over))
 
 -- what follows from the slices of two texts
-pub compared : (model : Model) (first second : Text) (old new old2 new2 : List ArgumentType) (count second_count : ℕ) (result : Option ℕ)
-    → HasCount model first old new count → HasCount model second old2 new2 second_count → AreFew model first second
-    → ((a b start from : List ArgumentType) → new ≡ filled start a → new2 ≡ filled from b → count ≡ length a → second_count ≡ length b
-    → (length a ≤ ROOM) ⊎ (length b ≤ ROOM) → IsFirstDifference a b result) → ComparesArgumentTypes model first second result
-compared model first second old new old2 new2 count second_count result h k few f =
+module _ (model : Model) (first second : Text) (old new old2 new2 : List ArgumentType) (count second_count : ℕ) (result : Option ℕ)
+    (h : HasCount model first old new count) (k : HasCount model second old2 new2 second_count)
+    (f : (a b start from : List ArgumentType) → new ≡ filled start a → new2 ≡ filled from b → count ≡ length a → second_count ≡ length b
+    → (length a ≤ length new) ⊎ (length b ≤ length new) → IsFirstDifference a b result) where
+  pub compared : length new ≡ ROOM → AreFew model first second → ComparesArgumentTypes model first second result
+  compared long few =
+      record {
+        types = h.types;
+        others = k.types;
+        first_accepted = h.accepted;
+        second_accepted = k.accepted;
+        difference = f h.types k.types old old2 h.front k.front h.count_is k.count_is (rw long (few h.types k.types h.accepted k.accepted));
+      }
+
+  -- and if one of the lists is short
+  pub compared_few : (found : Comparison) → found.difference ≡ result → found.second_count ≡ second_count → min count second_count ≤ length new
+      → IsListComparison model first second found
+  compared_few found e n few =
+      record {
+        types = h.types;
+        others = k.types;
+        first_accepted = h.accepted;
+        second_accepted = k.accepted;
+        difference = rw e (f h.types k.types old old2 h.front k.front h.count_is k.count_is (one_short (length h.types) (length k.types) h.count_is k.count_is));
+        count_is = n ∙ k.count_is;
+      }
+    where
+      one_short : (m n : ℕ) → count ≡ m → second_count ≡ n → (m ≤ length new) ⊎ (n ≤ length new)
+      one_short m n x y = elim (cases_lt (length new) m) [
+        | inl long ↦ inr (omega (arith, x, y, long, few))
+        | inr short ↦ inl short
+      ]
+
+-- the number of the second text's types is known
+pub counted : (model : Model) (first second : Text) (found : Comparison) → ComparesArgumentTypes model first second found.difference
+    → ((others : List ArgumentType) → HasArguments model second others → found.second_count ≡ length others) → IsListComparison model first second found
+counted model first second found h count =
     record {
       types = h.types;
-      others = k.types;
-      first_accepted = h.accepted;
-      second_accepted = k.accepted;
-      difference = f h.types k.types old old2 h.front k.front h.count_is k.count_is (few h.types k.types h.accepted k.accepted);
+      others = h.others;
+      first_accepted = h.first_accepted;
+      second_accepted = h.second_accepted;
+      difference = h.difference;
+      count_is = count h.others h.second_accepted;
     }
+
+pub count_of_each : (model : Model) (t : Text) (old new : List ArgumentType) (count : ℕ) → HasCount model t old new count
+    → (others : List ArgumentType) → HasArguments model t others → count ≡ length others
+count_of_each model t old new count h others accepted = h.count_is ∙ ap length (one_list model t h.types others h.accepted accepted)

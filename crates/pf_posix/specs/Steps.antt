@@ -1,9 +1,10 @@
 -- Two formats read side by side, as the code reads them. No public contract names these.
-use Rattle.std.specs.Prelude.{ℕ, ◌≤◌, List, length, Option, Some, None, ◌⊎◌, if◌then◌else◌, ◌==◌}
+use Rattle.std.specs.Prelude.{◌≡◌, ℕ, ◌≤◌, List, length, Option, Some, None, ◌⊎◌, if◌then◌else◌, ◌==◌}
 use Rattle.pf_values.specs.declared.models.Model.{Model}
 use Rattle.pf_values.specs.meaning.Text.{Text}
 use Rattle.pf_posix.specs.declared.reader.NextFetch.{NextFetch}
 use Rattle.pf_posix.specs.declared.reader.NextFetch.TheVariants as nexts
+use Rattle.pf_posix.specs.declared.comparison.Comparison.{Comparison}
 use Rattle.pf_posix.specs.declared.pairs.NextPair.{NextPair}
 use Rattle.pf_posix.specs.declared.pairs.NextPair.TheVariants as pairs
 use Rattle.pf_posix.specs.declared.pairs.UnnumberedNext.{UnnumberedNext}
@@ -53,3 +54,12 @@ abbrev pub IsInStepResult : Model → Text → Text → InStepResult → Type 0
 IsInStepResult model first second steps.Equal = ComparesArgumentTypes model first second None
 IsInStepResult model first second (steps.Differ index) = DifferAt model first second index
 IsInStepResult model first second steps.Other = AreFew model first second
+
+-- two texts are accepted, and this is where their types differ, and how many the second has
+pub record IsListComparison (model : Model) (first second : Text) (found : Comparison) : Type 0 where
+  pub types : List ArgumentType
+  pub others : List ArgumentType
+  pub first_accepted : HasArguments model first types
+  pub second_accepted : HasArguments model second others
+  pub difference : IsFirstDifference types others found.difference
+  pub count_is : found.second_count ≡ length others

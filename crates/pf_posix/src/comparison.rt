@@ -1,9 +1,9 @@
 //! Whether two formats take the same arguments.
 ghost use Rattle.std.specs.Prelude.{◌≡◌, ◌≤◌, List, length, ◌⊎◌, MatchResult, Some};
-ghost use Rattle.pf_posix.specs.declared.tables.TheConstants.{ROOM as MOST};
 ghost use Rattle.pf_posix.specs.declared.types.ArgumentType.{ArgumentType as ArgumentTypeOf};
-ghost use Rattle.pf_posix.specs.Laws.{ComparesArgumentTypes, ComparesBeginning, FaultForFits, IsFirstDifference, filled};
-ghost use Rattle.pf_posix.specs.Steps.{AreFew, DifferAt};
+ghost use Rattle.pf_posix.specs.Laws.{ComparesArgumentTypes, ComparesBeginning, FaultForFits, IsFirstDifference, IsFirstExcess, filled};
+ghost use Rattle.pf_posix.specs.Items.{HasArguments};
+ghost use Rattle.pf_posix.specs.Steps.{AreFew, DifferAt, IsListComparison};
 
 use crate::argument_types::arguments;
 use crate::pairs::{InStepResult, compare_in_step};
@@ -11,6 +11,9 @@ use crate::tables::ROOM;
 use crate::types::ArgumentType;
 use pf_text::{Refusal, Side};
 use pf_values::{ArgType, Model};
+
+// How many types of a format a list has.
+const FEW: usize = 16;
 
 /// Returns where the second format takes other arguments than the first (C11 7.21.6.1, paragraph 3;
 /// POSIX fprintf on numbered arguments): `None` if the lists of their types are equal, otherwise
@@ -20,13 +23,9 @@ pub fn fits(model: Model, first: &[u8], second: &[u8]) -> Result<Option<u64>, (S
     ensures { MatchResult result (ComparesArgumentTypes model first.now second.now)
         (FaultForFits model first.now second.now) }
 {
-    if first == second {
-        return with_itself(model, first);
-    }
-    match compare_in_step(model, first, second) {
-        InStepResult::Equal => Ok(None),
-        InStepResult::Differ(index) => by_step(model, first, second, index),
-        InStepResult::Other => by_tables(model, first, second),
+    match compared(model, first, second) {
+        Ok(found) => Ok(found.difference),
+        Err(fault) => Err(fault),
     }
 }
 
@@ -38,43 +37,117 @@ pub fn fits_fewer(model: Model, first: &[u8], second: &[u8]) -> Result<Option<u6
     ensures { MatchResult result (ComparesBeginning model first.now second.now)
         (FaultForFits model first.now second.now) }
 {
-    match fits(model, first, second) {
-        Ok(None) => Ok(None),
-        Ok(Some(index)) => fits_up_to(model, first, second, index),
+    match compared(model, first, second) {
+        Ok(found) => Ok(found.excess()),
         Err(fault) => Err(fault),
     }
 }
 
-// Whether the second of two formats that differ at an index has no argument there.
-fn fits_up_to(
-    model: Model,
-    first: &[u8],
-    second: &[u8],
-    index: u64,
-) -> Result<Option<u64>, (Side, Refusal)>
-    requires { ComparesArgumentTypes model first.now second.now (Some index) }
-    ensures { MatchResult result (ComparesBeginning model first.now second.now)
-        (FaultForFits model first.now second.now) }
-{
-    match arguments(model, second, &mut []) {
-        Err(refusal) => Err((Side::Second, refusal)),
-        Ok(count) => {
-            if index < count {
-                return Ok(Some(index));
+/// How the types of two formats compare.
+#[derive(Clone, Copy)]
+pub(crate) struct Comparison {
+    /// The first index at which they differ.
+    pub(crate) difference: Option<u64>,
+    /// How many the second format has.
+    pub(crate) second_count: u64,
+}
+
+impl Comparison {
+    // The first index at which the second format has a type that the first doesn't have there.
+    #[inline(always)]
+    fn excess(self) -> Option<u64>
+        ensures { (a b : List ArgumentTypeOf) → IsFirstDifference a b self.difference
+            → self.second_count ≡ length b → IsFirstExcess a b result }
+    {
+        match self.difference {
+            None => None,
+            Some(index) => {
+                if index < self.second_count {
+                    return Some(index);
+                }
+                None
             }
-            Ok(None)
         }
     }
 }
 
-// Whether a format takes the arguments that it takes: it does unless it is refused.
-fn with_itself(model: Model, text: &[u8]) -> Result<Option<u64>, (Side, Refusal)>
-    ensures { MatchResult result (ComparesArgumentTypes model text.now text.now)
+// Compares two formats: by lists of their types, unless both have more than `FEW`.
+#[inline(always)]
+fn compared(model: Model, first: &[u8], second: &[u8]) -> Result<Comparison, (Side, Refusal)>
+    ensures { MatchResult result (IsListComparison model first.now second.now)
+        (FaultForFits model first.now second.now) }
+{
+    if first == second {
+        return with_itself(model, first);
+    }
+    let mut types = [ArgumentType::Profile(ArgType::Int); FEW];
+    let mut others = [ArgumentType::Profile(ArgType::Int); FEW];
+    match arguments(model, first, &mut types) {
+        Err(refusal) => Err((Side::First, refusal)),
+        Ok(count) => match arguments(model, second, &mut others) {
+            Err(refusal) => Err((Side::Second, refusal)),
+            Ok(second_count) => {
+                if count.min(second_count) > FEW as u64 {
+                    return of_many(model, first, second, second_count);
+                }
+                Ok(Comparison {
+                    difference: difference(&types, count, &others, second_count),
+                    second_count,
+                })
+            }
+        },
+    }
+}
+
+// Compares a format with itself: it has the types that it has, unless it is refused.
+fn with_itself(model: Model, text: &[u8]) -> Result<Comparison, (Side, Refusal)>
+    ensures { MatchResult result (IsListComparison model text.now text.now)
         (FaultForFits model text.now text.now) }
 {
     match arguments(model, text, &mut []) {
-        Ok(_) => Ok(None),
+        Ok(second_count) => Ok(Comparison {
+            difference: None,
+            second_count,
+        }),
         Err(refusal) => Err((Side::First, refusal)),
+    }
+}
+
+// Compares two formats if the second has this number of types. Never inlined, since it is rare.
+#[inline(never)]
+fn of_many(
+    model: Model,
+    first: &[u8],
+    second: &[u8],
+    second_count: u64,
+) -> Result<Comparison, (Side, Refusal)>
+    requires { (others : List ArgumentTypeOf) → HasArguments model second.now others
+        → second_count ≡ length others }
+    ensures { MatchResult result (IsListComparison model first.now second.now)
+        (FaultForFits model first.now second.now) }
+{
+    match difference_of_many(model, first, second) {
+        Ok(difference) => Ok(Comparison {
+            difference,
+            second_count,
+        }),
+        Err(fault) => Err(fault),
+    }
+}
+
+// Where two formats differ, which are read side by side.
+fn difference_of_many(
+    model: Model,
+    first: &[u8],
+    second: &[u8],
+) -> Result<Option<u64>, (Side, Refusal)>
+    ensures { MatchResult result (ComparesArgumentTypes model first.now second.now)
+        (FaultForFits model first.now second.now) }
+{
+    match compare_in_step(model, first, second) {
+        InStepResult::Equal => Ok(None),
+        InStepResult::Differ(index) => by_step(model, first, second, index),
+        InStepResult::Other => by_tables(model, first, second),
     }
 }
 
@@ -117,21 +190,22 @@ fn by_tables(model: Model, first: &[u8], second: &[u8]) -> Result<Option<u64>, (
     }
 }
 
-// The first index at which two lists differ. Slices hold their first types, and all of one list's.
+// The first index at which two lists differ. Slices of one length hold their first types, and all of one
+// list's.
 fn difference(
     types: &[ArgumentType],
     count: u64,
     others: &[ArgumentType],
     second_count: u64,
 ) -> Option<u64>
-    requires room { length types.now ≡ MOST }
-    requires same_room { length others.now ≡ MOST }
+    requires { length others.now ≡ length types.now }
     ensures { (a b start from : List ArgumentTypeOf) → types.now ≡ filled start a
         → others.now ≡ filled from b → count ≡ length a → second_count ≡ length b
-        → (length a ≤ MOST) ⊎ (length b ≤ MOST) → IsFirstDifference a b result }
+        → (length a ≤ length types.now) ⊎ (length b ≤ length types.now)
+        → IsFirstDifference a b result }
 {
     let mut index: usize = 0;
-    while index < ROOM && (index as u64) < count && (index as u64) < second_count {
+    while index < types.len() && (index as u64) < count && (index as u64) < second_count {
         if types[index].number() != others[index].number() {
             return Some(index as u64);
         }

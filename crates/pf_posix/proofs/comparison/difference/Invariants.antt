@@ -1,5 +1,4 @@
 use Rattle.std.proofs.Common.{◌≡◌, ◌≤◌, ◌-◌, List, length}
-use Rattle.pf_posix.specs.declared.tables.TheConstants.{ROOM}
 use Rattle.pf_posix.specs.declared.types.ArgumentType.{ArgumentType}
 use Rattle.pf_posix.specs.Laws.{filled}
 use Rattle.pf_posix.proofs.DifferenceLemmas.{SameUpTo}
@@ -7,7 +6,7 @@ use Rattle.pf_posix.proofs.comparison.difference.Given as goal
 
 abbrev pub invariant-loop-index : goal.invariant-loop-index
 invariant-loop-index l = record {
-  few : l.index ≤ ROOM;
+  few : l.index ≤ length l.types;
   first : l.index ≤ l.count;
   second : l.index ≤ l.second_count;
   same : (a b start from : List ArgumentType) → l.types ≡ filled start a → l.others ≡ filled from b → l.count ≡ length a → l.second_count ≡ length b
@@ -15,4 +14,4 @@ invariant-loop-index l = record {
 }
 
 abbrev pub decreases-loop-index : goal.decreases-loop-index
-decreases-loop-index l = ROOM - l.index
+decreases-loop-index l = length l.types - l.index

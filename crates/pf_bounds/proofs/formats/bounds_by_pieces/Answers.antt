@@ -1,5 +1,5 @@
 use Rattle.pf_bounds.proofs.SumLemmas.{all_summed, enough_room, more_summed, refused_next}
-use Rattle.pf_bounds.proofs.formats.bounds.Goals as goal
+use Rattle.pf_bounds.proofs.formats.bounds_by_pieces.Goals as goal
 
 pub plus-sum-requires-clause-few : goal.plus-sum-requires-clause-few
 plus-sum-requires-clause-few c =

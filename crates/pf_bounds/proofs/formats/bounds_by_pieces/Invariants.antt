@@ -1,5 +1,5 @@
 use Rattle.pf_bounds.proofs.SumLemmas.{HasSummed}
-use Rattle.pf_bounds.proofs.formats.bounds.Given as goal
+use Rattle.pf_bounds.proofs.formats.bounds_by_pieces.Given as goal
 
 abbrev pub invariant-loop-piece : goal.invariant-loop-piece
 invariant-loop-piece l = record {
