@@ -9,9 +9,11 @@ import re
 from dataclasses import dataclass
 from functools import lru_cache
 
-from rattle_functions import blanked, functions, plain_name, split_parameters
+from rattle_functions import NO_CODE, blanked, functions, plain_name, split_parameters
 
 COMMENT = re.compile(r"--.*")
+# A comment of a file of specs/, or a text in it.
+COMMENT_OR_TEXT = re.compile(r'--.*|"(?:\\.|[^"\\])*"')
 IMPORT = re.compile(r"\buse Rattle\.([\w.]+?)(?:\.\{([^}]*)\}| as (\w+))")
 # The first line of a definition, or of an equation of one.
 HEAD = re.compile(r"^(?:abbrev |unfoldable |pub |record |data )*(?P<name>[^\s:(){}]+)")
@@ -106,6 +108,13 @@ def item_end(code, start):
 def bare(text):
     """Returns a text of a source file without comments, with one space where it had more."""
     return re.sub(r"\s+", " ", re.sub(r"//[^\n]*", "", text)).strip()
+
+
+def without_comments(file, text):
+    """Returns the text of a file without comments and empty lines. A literal is kept, whatever is in it."""
+    pattern = NO_CODE if file.endswith(".rt") else COMMENT_OR_TEXT
+    text = pattern.sub(lambda found: "" if found[0].startswith(("//", "/*", "--")) else found[0], text)
+    return "\n".join(line.rstrip() for line in text.splitlines() if line.strip())
 
 
 class Definitions:
