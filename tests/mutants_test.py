@@ -25,7 +25,7 @@ import mutant_keys  # noqa: E402
 import rattle_functions  # noqa: E402
 import toy_crates  # noqa: E402
 from crates import TOP, Crates  # noqa: E402
-from definitions import without_comments  # noqa: E402
+from definitions import bare, definitions_in, without_comments  # noqa: E402
 from mutant_files import Mutant, Pair, batches, functions_at, mutants_of, read_pairs  # noqa: E402
 from mutant_keys import Keys  # noqa: E402
 from mutant_trials import answers_of  # noqa: E402
@@ -369,6 +369,9 @@ impl Model for Size {
             ("specs/A.antt", 'a = codes "--b\\"--" -- c\n-- d\n  e\n', 'a = codes "--b\\"--"\n  e'),
         ]:
             self.assertEqual(without_comments(file, text), wanted)
+        text = 'pub a : Text\na = codes "--b" -- c\n'
+        self.assertEqual(definitions_in("low", "specs/A.antt", text)["a"].text, 'pub a : Text a = codes "--b" ')
+        self.assertEqual(bare('f("//a"); // b\n'), 'f("//a");')
 
     @in_folder
     def test_kit_and_judges(self, folder):
