@@ -9,9 +9,10 @@ import re
 from dataclasses import dataclass
 from functools import lru_cache
 
-from rattle_functions import blanked, functions, plain_name, split_parameters
+from rattle_functions import NO_CODE, blanked, functions, plain_name, split_parameters
 
-COMMENT = re.compile(r"--.*")
+# A comment of a file of specs/, or a text in it.
+COMMENT_OR_TEXT = re.compile(r'--.*|"(?:\\.|[^"\\])*"')
 IMPORT = re.compile(r"\buse Rattle\.([\w.]+?)(?:\.\{([^}]*)\}| as (\w+))")
 # The first line of a definition, or of an equation of one.
 HEAD = re.compile(r"^(?:abbrev |unfoldable |pub |record |data )*(?P<name>[^\s:(){}]+)")
@@ -41,6 +42,11 @@ def words_in(text):
     return set(WORD.findall(text)) | set(re.findall(r"\w+", text))
 
 
+def literal(found):
+    """Returns a literal that is found, and nothing for a comment."""
+    return "" if found[0].startswith(("//", "/*", "--")) else found[0]
+
+
 def imports_of(text):
     """Yields the module, the names and the other name of each `use` line of the text, which has no comments."""
     for module, names, other in IMPORT.findall(text):
@@ -57,7 +63,7 @@ def definitions_in(crate, file, text):
     """Returns the definitions of a file of specs/, without comments, by their names. An equation belongs to the
     signature before it, and a fixity to the operator that it names.
     """
-    text, found, names = COMMENT.sub("", text), {}, []
+    text, found, names = COMMENT_OR_TEXT.sub(literal, text), {}, []
     for block in re.split(r"^(?=\S)", text, flags=re.MULTILINE):
         head = HEAD.match(block)
         if not head or re.match(r"(pub )?use ", block):
@@ -105,7 +111,14 @@ def item_end(code, start):
 
 def bare(text):
     """Returns a text of a source file without comments, with one space where it had more."""
-    return re.sub(r"\s+", " ", re.sub(r"//[^\n]*", "", text)).strip()
+    return re.sub(r"\s+", " ", NO_CODE.sub(literal, text)).strip()
+
+
+def without_comments(file, text):
+    """Returns the text of a file without comments and empty lines. A literal is kept, whatever is in it."""
+    pattern = NO_CODE if file.endswith(".rt") else COMMENT_OR_TEXT
+    text = pattern.sub(literal, text)
+    return "\n".join(line.rstrip() for line in text.splitlines() if line.strip())
 
 
 class Definitions:
@@ -138,7 +151,7 @@ class Definitions:
     def imported(self, crate, file):
         """Returns the units of each name that a file imports."""
         text, found = self.text(crate, file), {}
-        for module, names, other in imports_of(COMMENT.sub("", text) if file.endswith(".antt") else text):
+        for module, names, other in imports_of(COMMENT_OR_TEXT.sub(literal, text) if file.endswith(".antt") else text):
             for name in [other] if other else names:
                 found.setdefault(name, []).extend(self.of_module(module, None if other else name))
         return found

@@ -1,6 +1,6 @@
 #!/usr/bin/env python3
 """Checks the documents against the code: their names, paths, options, callers, numbers, words and versions, and the map;
-and that definitions have distinct names.
+and that definitions have distinct names, and that each name is used.
 
 Usage: tests/documents.py
 
@@ -37,6 +37,7 @@ import replacing  # noqa: E402
 import short_streams  # noqa: E402
 import sizes  # noqa: E402
 import unedited  # noqa: E402
+import unused_names  # noqa: E402
 from harness import TOP, fences, main, model_rows, section, usage_texts  # noqa: E402
 from versions import try_versions  # noqa: E402
 from words import pages, try_words  # noqa: E402
@@ -533,6 +534,7 @@ def try_all(trials):
     try_charts(trials)
     try_edits(trials)
     try_definitions(trials)
+    unused_names.try_unused_names(trials)
     try_numbers(trials)
     grammar.try_grammar(trials)
     reach.try_reach(trials)

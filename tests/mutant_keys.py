@@ -15,7 +15,7 @@ from pathlib import Path
 
 import rattle_functions
 from crates import PARTS
-from definitions import Definitions, Unit, bare
+from definitions import Definitions, Unit, bare, without_comments
 from mutant_files import homes_in
 
 # The files whose code makes the verdicts.
@@ -68,13 +68,11 @@ class Keys:
 
     @lru_cache(maxsize=None)
     def whole(self, crate):
-        """Returns the units of all sources of a crate: any of them may refuse a mutant that is in no function."""
+        """Returns the units of all sources of a crate, without comments: each may refuse a mutant outside of functions."""
         folder = self.crates.folder(crate)
-        return [
-            Unit(crate, str(it.relative_to(folder)), "", it.read_text(encoding="utf-8"))
-            for part in PARTS[:2]
-            for it in sorted((folder / part).rglob("*.*t*"))
-        ]
+        files = [it for part in PARTS[:2] for it in sorted((folder / part).rglob("*.*t*"))]
+        names = [str(it.relative_to(folder)) for it in files]
+        return [Unit(crate, it, "", without_comments(it, self.definitions.text(crate, it))) for it in names]
 
     def key(self, crate, mutant):
         """Returns the key of a mutant of a crate."""

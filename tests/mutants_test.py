@@ -25,6 +25,7 @@ import mutant_keys  # noqa: E402
 import rattle_functions  # noqa: E402
 import toy_crates  # noqa: E402
 from crates import TOP, Crates  # noqa: E402
+from definitions import bare, definitions_in, without_comments  # noqa: E402
 from mutant_files import Mutant, Pair, batches, functions_at, mutants_of, read_pairs  # noqa: E402
 from mutant_keys import Keys  # noqa: E402
 from mutant_trials import answers_of  # noqa: E402
@@ -352,9 +353,25 @@ impl Model for Size {
     def test_a_constant(self, folder):
         mutant = Mutant("m", [Pair("src/lib.rt", "100", "101")])
         before = self.key(folder / "a", None, mutant, "low")
-        for path, changes in [("crates/low/src/lib.rt", True), ("crates/middle/src/lib.rt", False)]:
-            after = self.key(folder / "a", (path, "Returns", "Gives"), mutant, "low")
-            self.assertEqual(after != before, changes, path)
+        for edit, changes in [
+            (("crates/low/src/lib.rt", "u32 = 100", "u32 = 102"), True),
+            (("crates/low/src/lib.rt", "kept", "other"), True),
+            (("crates/low/specs/Doubles.antt", "tripled n = n + n + n", "tripled n = n"), True),
+            (("crates/low/src/lib.rt", "/// Returns twice", "/// A line\n/// more: twice"), False),
+            (("crates/low/specs/Doubles.antt", "-- Twice", "-- Two times"), False),
+            (("crates/middle/src/lib.rt", "Returns", "Gives"), False),
+        ]:
+            self.assertEqual(self.key(folder / "a", edit, mutant, "low") != before, changes, edit)
+
+    def test_comments(self):
+        for file, text, wanted in [
+            ("src/a.rt", "f(\"//a\") // a\n\n/* b\n */ '/';\n", "f(\"//a\")\n '/';"),
+            ("specs/A.antt", 'a = codes "--b\\"--" -- c\n-- d\n  e\n', 'a = codes "--b\\"--"\n  e'),
+        ]:
+            self.assertEqual(without_comments(file, text), wanted)
+        text = 'pub a : Text\na = codes "--b" -- c\n'
+        self.assertEqual(definitions_in("low", "specs/A.antt", text)["a"].text, 'pub a : Text a = codes "--b" ')
+        self.assertEqual(bare('f("//a"); // b\n'), 'f("//a");')
 
     @in_folder
     def test_kit_and_judges(self, folder):

@@ -79,10 +79,10 @@ def replaced(text, old, new):
 
 
 def contract_of(headline):
-    """Returns what the law of a headline ensures, in the names of its definition."""
+    """Returns what the law of a headline ensures."""
     text = (TOP / f"crates/{headline.law_crate}/src/laws.rt").read_text(encoding="utf-8")
     [contract] = re.findall(r"^pub fn headline\(\)\n    ensures \{ (.*?) \}\n\{\}$", text, re.MULTILINE | re.DOTALL)
-    return contract.replace("ModelOf", "Model")
+    return contract
 
 
 def definition_of(headline, edit):

@@ -1,9 +1,7 @@
 -- What holds of the bytes of a format that is given.
-use Rattle.std.proofs.Common.{◌≡◌, ℕ, ◌≤◌, List, ◌∷◌, ◌++◌, Option, None, Some, ap, arith, inl, inr, length, length-append, map, subst, sym, unwrap_or}
+use Rattle.std.proofs.Common.{◌≡◌, ℕ, ◌≤◌, List, ◌∷◌, ◌++◌, Option, None, Some, ap, arith, inr, length, length-append, map, subst, sym, unwrap_or}
 use Rattle.std.specs.Prelude.{MatchOption, ⊤}
 use Rattle.pf_text.specs.declared.refusals.Side.TheVariants as sides
-use Rattle.pf_literals.specs.declared.faults.LiteralFault.{LiteralFault}
-use Rattle.pf_literals.specs.declared.faults.LiteralFault.TheVariants as literals
 use Rattle.pf_literals.specs.Answers.{HasNoOffset, IsOffsetOf}
 use Rattle.pf_literals.specs.Sources.{IsSourceOf}
 use Rattle.pf_literals.proofs.HasOffsetLemmas.{has_offset}
@@ -19,8 +17,7 @@ use Rattle.fmtcanon.specs.Languages.{Language, Profile, Numbered, RefusesText, U
 use Rattle.fmtcanon.specs.Answers.{IsFormatFault, IsPairFault, IsGivenFault, IsGivenPairFault, IsOneFault, IsRefusalOfFirst, IsFaultInTexts, IsFaultInText}
 use Rattle.fmtcanon.specs.Answers.{side_of}
 use Rattle.fmtcanon.specs.FormatArguments.{IsArgumentFault}
-use Rattle.fmtcanon.specs.Faults.{of_literal}
-use Rattle.fmtcanon.specs.Formats.{HoldsFormat, IsBytesFault, IsFormat, IsOffsetInText}
+use Rattle.fmtcanon.specs.Formats.{HoldsFormat, IsFormat, IsOffsetInText}
 use Rattle.fmtcanon.specs.Questions.{language_of, language_of_format}
 use Rattle.fmtcanon.specs.declared.questions.PairQuestion.{PairQuestion}
 use Rattle.fmtcanon.specs.declared.outcome.Fault.{Fault}
@@ -95,12 +92,6 @@ given_fault IsFault given bytes (BadWord index) reported of gives h is = subst (
 given_fault IsFault given bytes (WrongCount wanted had) reported of gives h is = subst (IsGivenFault IsFault given) (sym is) (bytes, gives, h)
 given_fault IsFault given bytes (WrongType index) reported of gives h is = subst (IsGivenFault IsFault given) (sym is) (bytes, gives, h)
 given_fault IsFault given bytes Memory reported of gives h is = subst (IsGivenFault IsFault given) (sym is) (inr (bytes, gives, h))
-
--- literals give no bytes
-pub bytes_missing : (IsFault : Text → Fault → Type 0) (given : GivenFormat) (fault : LiteralFault) → IsBytesFault given fault
-    → IsGivenFault IsFault given (of_literal None fault)
-bytes_missing IsFault given (literals.Refused refusal) h = h
-bytes_missing IsFault given literals.Memory h = inl h
 
 -- in each language a refusal is within the bytes
 refusal_within : (language : Language) (model : Model) (bytes : Text) (refusal : Refusal)

@@ -17,10 +17,6 @@ use Rattle.pf_values.proofs.Numerals.{number_after-place_sum, place_sum-lt}
 use Rattle.fmtcanon.specs.ArgumentWords.{SpellsMagnitude}
 use Rattle.fmtcanon.specs.declared.arguments.TheConstants.{MAX_DIGITS}
 
--- the limit
-max_digits : MAX_DIGITS ≡ 20
-max_digits = refl
-
 abbrev pub IsDigitByte : ℕ → Type 0
 IsDigitByte byte = (48 ≤ byte) × (byte ≤ 57)
 

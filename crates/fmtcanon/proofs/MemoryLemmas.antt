@@ -4,7 +4,7 @@ use Rattle.std.specs.Prelude.{⊤}
 use Rattle.pf_values.specs.declared.models.Model.{Model}
 use Rattle.pf_values.specs.meaning.Items.{types}
 use Rattle.pf_values.specs.meaning.Text.{Text}
-use Rattle.pf_compare.specs.Answers.{FaultForCompare, IsComparisonOf, IsVerdict}
+use Rattle.pf_compare.specs.Answers.{IsComparisonOf, IsVerdict}
 use Rattle.pf_compare.specs.declared.comparisons.CompareFault.{CompareFault}
 use Rattle.pf_compare.specs.declared.comparisons.CompareFault.TheVariants as faults
 use Rattle.pf_compare.specs.declared.comparisons.Comparison.{Comparison}
@@ -22,11 +22,6 @@ use Rattle.fmtcanon.specs.WholeAnswers.{WholeBytesDiffer}
 use Rattle.fmtcanon.specs.declared.questions.PairQuestion.TheVariants.{Same, WholeSame}
 
 module _ (model : Model) (first second : Text) where
-  pub compare_fault : (fault : CompareFault) → FaultForCompare model first second fault
-      → IsPairFault NeedsMemory Same model first second (of_comparison fault)
-  compare_fault (faults.Refused side refusal) h = h
-  compare_fault faults.Memory h = h
-
   pub whole_compare_fault : (fault : CompareFault) → FaultForWholeCompare model first second fault
       → IsPairFault NeedsMemory WholeSame model first second (of_comparison fault)
   whole_compare_fault (faults.Refused side refusal) h = h

@@ -6,14 +6,14 @@ use Rattle.pf_values.specs.declared.counted.Counted.{Counted}
 use Rattle.pf_values.specs.Counting.{HasFailed, Known, WritesAll, WritesFirst, calls_of, device_of, failures_of, is_flushed, max_count}
 use Rattle.pf_values.specs.meaning.Text.{Text}
 use Rattle.fmtcanon.specs.Answers.{IsAnswer, IsQuestionFault}
-use Rattle.fmtcanon.specs.Outcomes.{outcome_of_ending, outcome_of_fault, status_of}
+use Rattle.fmtcanon.specs.Outcomes.{outcome_of_ending, status_of}
 use Rattle.fmtcanon.specs.Questions.{IsAbout, formats_wanted}
 use Rattle.fmtcanon.specs.Reports.{fault_text}
 use Rattle.fmtcanon.specs.declared.answer.Ending.{Ending}
 use Rattle.fmtcanon.specs.declared.outcome.Fault.{Fault}
 use Rattle.fmtcanon.specs.declared.outcome.Fault.TheVariants as faults
 use Rattle.fmtcanon.specs.declared.outcome.Outcome.{Outcome}
-use Rattle.fmtcanon.specs.declared.outcome.Outcome.TheVariants.{Answered, Memory, NoSecond, Read, Write}
+use Rattle.fmtcanon.specs.declared.outcome.Outcome.TheVariants.{Answered, Failed, NoSecond, Read, Write}
 use Rattle.fmtcanon.specs.declared.questions.Question.{Question}
 use Rattle.fmtcanon.specs.declared.questions.RecordQuestion.{RecordQuestion}
 
@@ -37,7 +37,7 @@ abbrev pub RunWrites : Question → Text → Outcome → Type 0
 RunWrites question said outcome =
     ((ending : Ending) × IsAnswer question said ending × (outcome ≡ outcome_of_ending ending))
     ⊎ ((fault : Fault) × IsQuestionFault question fault × (fault ≢ faults.Memory)
-    × (outcome ≡ outcome_of_fault fault) × (said ≡ fault_text fault))
+    × (outcome ≡ Failed fault) × (said ≡ fault_text fault))
 
 -- a reply: the digit of the status, a space, what is said except for its last newline, a NUL
 abbrev pub reply_bytes : ℕ → Text → Text
@@ -138,7 +138,7 @@ module _ (asked : RecordQuestion) {R W : Type 0} (remaining : R → Known) (cont
       (whole : List Text) × (rest : Text) × (first : List Text) × (greatest : ℕ)
       × HandsOut whole rest × ReadFails × (length first < formats_wanted asked)
       × RepliesAll asked contents old new whole first greatest
-  RecordsEnd Memory =
+  RecordsEnd (Failed faults.Memory) =
       (whole : List Text) × (rest : Text) × (others : List Text) × (greatest : ℕ)
       × HandsOut whole rest × ReadWell
       × RepliesAll asked contents old new (whole ++ last_record rest) others greatest

@@ -4,14 +4,15 @@ use Rattle.pf_values.specs.declared.counted.Counted.{Counted}
 use Rattle.pf_values.specs.Counting.{Known, WritesAll, WritesFirst, is_flushed}
 use Rattle.pf_values.specs.meaning.Text.{Text}
 use Rattle.fmtcanon.specs.Answers.{IsAnswer, IsQuestionFault}
-use Rattle.fmtcanon.specs.Outcomes.{outcome_of_ending, outcome_of_fault}
+use Rattle.fmtcanon.specs.Outcomes.{outcome_of_ending}
 use Rattle.fmtcanon.specs.Streams.{CopyEnds}
 use Rattle.fmtcanon.specs.Records.{AllReplied, RecordsEnd}
 use Rattle.fmtcanon.specs.Tasks.{Asks, IsNoTaskOf}
 use Rattle.fmtcanon.specs.declared.answer.Ending.{Ending}
 use Rattle.fmtcanon.specs.declared.outcome.Fault.{Fault}
+use Rattle.fmtcanon.specs.declared.outcome.Fault.TheVariants.{Memory}
 use Rattle.fmtcanon.specs.declared.outcome.Outcome.{Outcome}
-use Rattle.fmtcanon.specs.declared.outcome.Outcome.TheVariants.{Memory, Misplaced, Missing, Usage, Write}
+use Rattle.fmtcanon.specs.declared.outcome.Outcome.TheVariants.{Failed, Misplaced, Missing, Usage, Write}
 use Rattle.fmtcanon.specs.declared.task.NoTask.{NoTask}
 use Rattle.fmtcanon.specs.declared.task.NoTask.TheVariants as reasons
 use Rattle.fmtcanon.specs.declared.questions.Question.{Question}
@@ -49,7 +50,7 @@ module _ {W : Type 0} (contents : W → Known) (old new : Counted W) where
   abbrev pub AnswerEnds : Question → Outcome → Type 0
   AnswerEnds question outcome =
       ((ending : Ending) × (outcome ≡ outcome_of_ending ending) × AnswersAll question ending)
-      ⊎ ((fault : Fault) × (outcome ≡ outcome_of_fault fault) × AnswersNothing question fault)
+      ⊎ ((fault : Fault) × (outcome ≡ Failed fault) × AnswersNothing question fault)
       ⊎ ((count : ℕ) × (outcome ≡ Write count) × AnswersFirst question count)
 
 -- neither the reader nor the writer was called
@@ -86,7 +87,7 @@ module _ {R W : Type 0} (remaining : R → Known) (contents : W → Known)
       (outcome ≡ Usage text) × CallsNeither reader left old new
   NoTaskEnds reasons.Missing outcome = (outcome ≡ Missing) × CallsNeither reader left old new
   NoTaskEnds reasons.Misplaced outcome = (outcome ≡ Misplaced) × CallsNeither reader left old new
-  NoTaskEnds reasons.Memory outcome = (outcome ≡ Memory) × CallsNeither reader left old new
+  NoTaskEnds reasons.Memory outcome = (outcome ≡ Failed Memory) × CallsNeither reader left old new
 
   -- what the run of a task leaves, or of none
   abbrev pub FoundEnds : Result Task NoTask → Outcome → Type 0

@@ -1,5 +1,5 @@
 //! Lines on the stack, and what an answer is made of.
-ghost use Rattle.std.specs.Prelude.{◌≡◌, ◌≤◌, ◌+◌, ◌++◌, codes, decimal};
+ghost use Rattle.std.specs.Prelude.{◌≡◌, ◌≤◌, ◌+◌, ◌++◌, codes, decimal, length};
 ghost use Rattle.arrayvec.specs.ArrayString.{array_string_len};
 ghost use Rattle.fmtcanon.specs.Lines.{line, output_bytes};
 
@@ -45,19 +45,24 @@ pub(crate) fn push_number(line: &mut Line, number: u64)
 pub fn types_line(index: u64) -> Line
     ensures { result.bytes ≡ line (codes "types differ at argument " ++ decimal index) }
 {
-    let mut line = Line::new();
-    line.push_str("types differ at argument ");
-    push_number(&mut line, index);
-    line.push_str("\n");
-    line
+    difference_line("types", index)
 }
 
 /// Returns the line of the first argument with which a call begins that only one of the formats makes.
 pub fn directives_line(index: u64) -> Line
     ensures { result.bytes ≡ line (codes "directives differ at argument " ++ decimal index) }
 {
+    difference_line("directives", index)
+}
+
+// The line of the first argument at which `what` differs.
+fn difference_line(what: &str, index: u64) -> Line
+    requires { length what.now ≤ 10 }
+    ensures { result.bytes ≡ line (what.now ++ codes " differ at argument " ++ decimal index) }
+{
     let mut line = Line::new();
-    line.push_str("directives differ at argument ");
+    line.push_str(what);
+    line.push_str(" differ at argument ");
     push_number(&mut line, index);
     line.push_str("\n");
     line

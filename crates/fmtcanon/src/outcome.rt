@@ -1,13 +1,14 @@
 //! How a run ended: its exit status, and its line on standard error.
-ghost use Rattle.std.specs.Prelude.{◌≡◌, ◌≤◌, ◌++◌, None, Some, codes, decimal, length};
+ghost use Rattle.std.specs.Prelude.{◌≡◌, ◌≤◌, ◌++◌, None, codes, decimal, length};
 ghost use Rattle.pf_values.specs.Counting.{Writes};
 ghost use Rattle.pf_literals.specs.Kinds as literals;
 ghost use Rattle.pf_values.specs.RefusalKinds.{name};
 ghost use Rattle.fmtcanon.specs.Faults.{of_comparison, of_literal, of_text};
 ghost use Rattle.fmtcanon.specs.Lines.{line};
-ghost use Rattle.fmtcanon.specs.Outcomes.{outcome_of_ending, outcome_of_fault, status_of, status_of_fault};
+ghost use Rattle.fmtcanon.specs.Outcomes.{outcome_of_ending, status_of, status_of_fault};
 ghost use Rattle.fmtcanon.specs.Reports.{WritesReport, fault_text, fault_words, literal_words, refusal_words, side_words, report_text};
 ghost use Rattle.fmtcanon.specs.declared.outcome.Fault.TheVariants.{Memory, Refused};
+ghost use Rattle.fmtcanon.specs.declared.outcome.Outcome.TheVariants.{Failed};
 
 use crate::answer::Ending;
 use crate::lines::{Line, push_number};
@@ -20,8 +21,8 @@ use std::io::Write;
 
 /// How a run ended.
 ///
-/// At `Refused`, `BadLiteral`, `BadWord`, `WrongCount`, `WrongType` and `Memory` nothing was written,
-/// except what `stream` had settled before, and over records the replies to the first of them.
+/// At `Failed` nothing was written, except what `stream` had settled before, and over records the
+/// replies to the first of them.
 #[derive(Drop)]
 pub enum Outcome {
     /// All was written.
@@ -32,33 +33,8 @@ pub enum Outcome {
     Different,
     /// All records were answered; the highest status of their answers.
     Answered(u8),
-    /// A format is refused.
-    Refused {
-        /// Which one, where there are two.
-        side: Option<Side>,
-        /// Why, and where.
-        refusal: Refusal,
-    },
-    /// The literals that give a format are wrong.
-    BadLiteral {
-        /// Which format, where there are two.
-        side: Option<Side>,
-        /// What is wrong, and where.
-        refusal: LiteralRefusal,
-    },
-    /// The word with this index gives no argument.
-    BadWord(u64),
-    /// There are more or fewer arguments than the format takes.
-    WrongCount {
-        /// How many it takes.
-        wanted: u64,
-        /// How many there are.
-        given: u64,
-    },
-    /// The argument with this index is not of its type.
-    WrongType(u64),
-    /// Memory was refused.
-    Memory,
+    /// A question has no answer, or memory was refused.
+    Failed(Fault),
     /// A record is left over that needs a second one, and all before it were answered.
     NoSecond,
     /// The arguments are not a command, or ask for help; this is the text of `clap`.
@@ -84,10 +60,9 @@ impl Outcome {
             Outcome::Done | Outcome::Same => 0,
             Outcome::Different => 1,
             Outcome::Answered(status) => *status,
-            Outcome::Refused { .. } | Outcome::BadLiteral { .. } => 2,
-            Outcome::BadWord(_) | Outcome::WrongCount { .. } | Outcome::WrongType(_) => 3,
+            Outcome::Failed(fault) => fault.status(),
             Outcome::NoSecond | Outcome::Usage(_) | Outcome::Missing | Outcome::Misplaced => 3,
-            Outcome::Memory | Outcome::Read | Outcome::Write(_) => 4,
+            Outcome::Read | Outcome::Write(_) => 4,
         }
     }
 }
@@ -105,17 +80,10 @@ impl From<Ending> for Outcome {
 }
 
 impl From<Fault> for Outcome {
-    ghost from_gives = { λ fault outcome. outcome ≡ outcome_of_fault fault };
+    ghost from_gives = { λ fault outcome. outcome ≡ Failed fault };
 
     fn from(fault: Fault) -> Outcome {
-        match fault {
-            Fault::Refused { side, refusal } => Outcome::Refused { side, refusal },
-            Fault::BadLiteral { side, refusal } => Outcome::BadLiteral { side, refusal },
-            Fault::BadWord(index) => Outcome::BadWord(index),
-            Fault::WrongCount { wanted, given } => Outcome::WrongCount { wanted, given },
-            Fault::WrongType(index) => Outcome::WrongType(index),
-            Fault::Memory => Outcome::Memory,
-        }
+        Outcome::Failed(fault)
     }
 }
 
@@ -243,12 +211,7 @@ fn write_report<E: Write>(outcome: &Outcome, errors: &mut Counted<E>) -> Result<
         Outcome::Done | Outcome::Same | Outcome::Different | Outcome::Answered(_) => {
             write_bytes(errors, b"")
         }
-        Outcome::Refused { side, refusal } => write_line(errors, &refusal_line(*side, refusal)),
-        Outcome::BadLiteral { side, refusal } => write_line(errors, &literal_line(*side, refusal)),
-        Outcome::BadWord(index) => write_line(errors, &bad_word_line(*index)),
-        Outcome::WrongCount { wanted, given } => write_line(errors, &count_line(*wanted, *given)),
-        Outcome::WrongType(index) => write_line(errors, &wrong_type_line(*index)),
-        Outcome::Memory => write_line(errors, &memory_line()),
+        Outcome::Failed(fault) => write_line(errors, &fault_line(fault)),
         Outcome::NoSecond => write_bytes(errors, b"a second format is wanted\n"),
         Outcome::Usage(text) => write_bytes(errors, text.as_bytes()),
         Outcome::Missing => write_bytes(

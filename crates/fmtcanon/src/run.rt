@@ -9,7 +9,7 @@ ghost use Rattle.fmtcanon.specs.declared.task.Task.{Task};
 
 use crate::answer::{Answer, answer_to};
 use crate::input::Input;
-use crate::outcome::Outcome;
+use crate::outcome::{Fault, Outcome};
 use crate::questions::Question;
 use crate::records::answer_records;
 use crate::task::{NoTask, Task, task_of};
@@ -19,9 +19,10 @@ use std::alloc::Global;
 use std::io::{Read, Write};
 
 /// Runs the command that the words name; the program's name isn't among them. What a command reads
-/// comes from `input`, and what it writes goes to `writer`. Its last call is a flush before
-/// `Done`, `Same` and `Different`, by `stream` also before `Refused` and `Read`, and over records before
-/// all outcomes but `Write`. What else is refused or invalid comes before the first call of the writer.
+/// comes from `input`, and what it writes goes to `writer`. Its last call is a flush before `Done`,
+/// `Same` and `Different`, by `stream` also before `Failed` and `Read`, and over records before all
+/// outcomes except `Write`. What else is refused or invalid comes before the first call of the
+/// writer.
 ///
 /// It may read only as `MayRead` says: it knows the input to be ready then, and at no other time.
 pub fn run<R: Read, W: Write, I: Input<R, W>>(
@@ -60,7 +61,7 @@ fn run_found<R: Read, W: Write, I: Input<R, W>>(
         Err(NoTask::Usage(text)) => Outcome::Usage(text),
         Err(NoTask::Missing) => Outcome::Missing,
         Err(NoTask::Misplaced) => Outcome::Misplaced,
-        Err(NoTask::Memory) => Outcome::Memory,
+        Err(NoTask::Memory) => Outcome::Failed(Fault::Memory),
     }
 }
 
@@ -108,10 +109,10 @@ pub fn copy<R: Read, W: Write, I: Input<R, W>>(
         },
         Err(CopyFault::Refused(refusal)) => {
             let _ = writer.flush();
-            Outcome::Refused {
+            Outcome::Failed(Fault::Refused {
                 side: None,
                 refusal,
-            }
+            })
         }
         Err(CopyFault::Read) => {
             let _ = writer.flush();

@@ -1,5 +1,5 @@
 //! The arguments of a C program.
-ghost use Rattle.std.specs.Prelude.{◌≡◌, ◌↔◌, IsTrue, MatchOption, Some, None, ℤ};
+ghost use Rattle.std.specs.Prelude.{◌≡◌, ◌↔◌, IsTrue, MatchOption, ℤ};
 ghost use Rattle.pf_values.specs.meaning.Arguments.{HasType, Number, String};
 ghost use Rattle.pf_values.specs.meaning.Text.{Text};
 ghost use Rattle.fmtcanon_c.specs.Arguments.{type_with_number, value_from};

@@ -1,5 +1,5 @@
 //! What a format prints for arguments.
-ghost use Rattle.std.specs.Prelude.{◌≡◌, ◌<◌};
+ghost use Rattle.std.specs.Prelude.{◌≡◌};
 ghost use Rattle.fmtcanon_c.specs.Models.{InModel};
 ghost use Rattle.fmtcanon_c.specs.Rendering.{IsArgumentError, PrintsInto, PutsPrinted};
 

@@ -1,5 +1,5 @@
 -- What the pieces so far print.
-use Rattle.std.proofs.Common.{◌≡◌, ℕ, ◌+◌, ◌^◌, ◌≤◌, List, [], ◌++◌, length, refl, sym, arith, subst}
+use Rattle.std.proofs.Common.{◌≡◌, ℕ, ◌+◌, ◌^◌, ◌≤◌, List, ◌++◌, length, sym, arith, subst}
 use Rattle.std.specs.Prelude.{Option, Some, None, Result, Ok, Err, IfSome}
 use Rattle.std.proofs.lemmas.List.{length-append}
 use Rattle.pf_values.specs.declared.limits.TheConstants.{MAX_TEXT_LEN}
@@ -14,7 +14,6 @@ use Rattle.pf_render.proofs.ItemLemmas.{length_items}
 use Rattle.pf_bounds.specs.Bounds.{AreBounds, AreBoundsOf, AreWithin, CanPrintAll, sum_of}
 use Rattle.pf_bounds.specs.FieldLengths.{limit_of}
 use Rattle.pf_bounds.proofs.BoundsLemmas.{items_append}
-use Rattle.pf_bounds.proofs.TextBounds.{bytes_bounds}
 
 -- the pieces so far have items that print these numbers of bytes at least and at most
 pub record HasSummed (model : Model) (pieces : Pieces) (t : Text) (least : ℕ) (greatest : Option ℕ) : Type 0 where
@@ -23,17 +22,6 @@ pub record HasSummed (model : Model) (pieces : Pieces) (t : Text) (least : ℕ) 
   pub given : HasGiven pieces t read items
   pub bounds : AreBoundsOf (CanPrintAll model items) least greatest
   pub within : AreWithin least greatest (limit_of (length items))
-
-pub none_summed : (model : Model) (pieces : Pieces) (t : Text) (least : ℕ) (greatest : Option ℕ) → HasGiven pieces t [] [] → least ≡ 0 → greatest ≡ Some 0
-    → HasSummed model pieces t least greatest
-none_summed model pieces t least greatest h e f =
-    record {
-      read = [];
-      items = [];
-      given = h;
-      bounds = bytes_bounds model [] least 0 greatest e f refl;
-      within = record { least_is = omega (arith, e); greatest_is = subst (λ g. IfSome g (λ n. n ≤ limit_of 0)) (sym f) (omega arith) };
-    }
 
 few_enough : (n : ℕ) → n ≤ MAX_TEXT_LEN → limit_of n ≤ 2 ^ 100
 few_enough n h = omega (arith, h)
@@ -63,16 +51,6 @@ module _ (model : Model) (old new : Pieces) (t : Text) (least : ℕ) (greatest :
 
     given_next : (piece : Piece) → next ≡ Ok piece → NextIsPiece new t h.read h.items piece
     given_next piece e = subst (λ r. NextIs (Some r) new t h.read h.items) e (steps.next t h.read h.items h.given)
-
-    -- a piece of a text within the limit has few items
-    pub piece_room : (piece : Piece) (fewer : ℕ) (more : Option ℕ) → next ≡ Ok piece → AreWithin fewer more (limit_of (length (items_of piece)))
-        → AreWithin fewer more (2 ^ 100)
-    piece_room piece fewer more e w =
-        let g = given_next piece e in
-        let few = length_items (h.read ++ g.more) (h.items ++ items_of piece) g.given.reads in
-        let short = g.given.scanned.limit in
-        within_more fewer _ (2 ^ 100) more
-        (few_enough (length (items_of piece)) (omega (arith, few, short, length-append h.items (items_of piece)))) w
 
     pub more_summed : (piece : Piece) (fewer sum : ℕ) (more all : Option ℕ) → next ≡ Ok piece → AreWithin fewer more (limit_of (length (items_of piece)))
         → AreBoundsOf (CanPrintAll model (items_of piece)) fewer more → sum ≡ least + fewer → all ≡ sum_of greatest more

@@ -1,7 +1,6 @@
 -- A canonical text that is put together from canonical runs and reduced directives.
-use Rattle.std.proofs.Common.{◌≡◌, ℕ, ◌+◌, ◌-◌, ◌≤◌, List, [], ◌∷◌, ◌++◌, length, take, drop, refl, sym, ap, ◌∙◌, subst, arith}
+use Rattle.std.proofs.Common.{◌≡◌, ◌≤◌, List, [], ◌∷◌, ◌++◌, length, refl, sym, ap, ◌∙◌, subst, arith}
 use Rattle.std.specs.Prelude.{flat_map}
-use Rattle.std.proofs.Math.Seq.{take-add}
 use Rattle.std.proofs.lemmas.List.{append-nil, append_assoc, length-append}
 use Rattle.pf_values.specs.declared.limits.TheConstants.{MAX_TEXT_LEN}
 use Rattle.pf_values.specs.declared.models.Model.{Model}
@@ -55,16 +54,6 @@ run_written model t out run more h g =
       made = subst (λ u. IsMaking model (out ++ u) 0 (h.items ++ more) []) (sym g.whole) (made_run model more out (h.items ++ more) [] g.canonical start);
       short = omega (arith, h.short, length-append out run, ap length g.whole, run_is_short model more g.canonical, most_len-append h.items more);
     }
-
--- as is one between two offsets of a text
-pub slice_written : (model : Model) (text : Text) (start at : ℕ) (out : Text) (items : List Item) → start ≤ at → IsWritten model (take start text) out
-    → IsCanonicalRun model (take (at - start) (drop start text)) items
-    → IsWritten model (take at text) (out ++ take (at - start) (drop start text))
-slice_written model text start at out items low h g =
-    let run = take (at - start) (drop start text) in
-    let place : start + (at - start) ≡ at = omega (arith, low) in
-    subst (λ t. IsWritten model t (out ++ run)) (sym (take-add start (at - start) text) ∙ ap (λ n. take n text) place)
-    (run_written model (take start text) out run items h g)
 
 -- a directive is written as what it is reduced to
 pub directive_written : (model : Model) (t out bytes settled : Text) (d : Specification) → IsWritten model t out → IsReadAs bytes (Directive d)

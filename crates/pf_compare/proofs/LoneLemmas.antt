@@ -27,7 +27,7 @@ use Rattle.std.proofs.Common.{
 }
 use Rattle.std.specs.Prelude.{slice_get, slice_set}
 use Rattle.std.proofs.lemmas.Bool.{cases_lt}
-use Rattle.std.proofs.lemmas.List.{append_assoc, append_cancel_left, append_cancel_right, length-append}
+use Rattle.std.proofs.lemmas.List.{append_cancel_left, append_cancel_right, length-append}
 use Rattle.pf_values.specs.declared.models.Model.{Model}
 use Rattle.pf_values.specs.meaning.Arguments.{Argument, HasType, HasTypes}
 use Rattle.pf_values.specs.Candidates.{candidates, neutral, neutrals}
@@ -67,18 +67,6 @@ use Rattle.pf_compare.specs.Witnesses.{AreNeutral, AwaitsCandidate, FindsWitness
 use Rattle.pf_compare.proofs.CandidateLemmas.{candidate_has_type, contains_at, neutral_first, set_neutral}
 use Rattle.pf_compare.proofs.TypeListLemmas.{differ_after_front}
 use Rattle.pf_render.specs.Rendering.{DifferFirstAt}
-
--- one piece more of each
-pub same_more : (xs ys : List Item) (found : Option LoneDifference) (more : List Item) → DifferInOneAtMost xs ys found → DifferInOneAtMost (xs ++ more)
-    (ys ++ more) found
-same_more xs ys None more h = ap (λ l. l ++ more) h
-same_more xs ys (Some difference) more h = record {
-  before = h.before;
-  after = h.after ++ more;
-  first_is = ap (λ l. l ++ more) h.first_is ∙ append_assoc h.before (Directive difference.first ∷ h.after) more;
-  second_is = ap (λ l. l ++ more) h.second_is ∙ append_assoc h.before (Directive difference.second ∷ h.after) more;
-  index_is = h.index_is;
-}
 
 pub followed_more : (old new : Pieces) (t : Text) (xs more : List Item) (found after : Option LoneDifference) (next : Result Piece Refusal) (piece : Piece)
     → HasFollowed old t xs found → NextReturns old (Some next) new → next ≡ Ok piece

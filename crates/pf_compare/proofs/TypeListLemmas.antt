@@ -19,7 +19,7 @@ use Rattle.pf_text.proofs.Texts.{Reads-unique}
 use Rattle.pf_render.proofs.ItemLemmas.{front_items}
 use Rattle.pf_render.proofs.MatchingLemmas.{get_some}
 use Rattle.pf_render.specs.Rendering.{DifferFirstAt}
-use Rattle.pf_compare.specs.declared.layouts.DirectiveSpan.{DirectiveSpan}
+use Rattle.pf_compare.specs.declared.layouts.PrintedSpan.{PrintedSpan}
 use Rattle.pf_compare.specs.declared.layouts.Layout.{Layout}
 use Rattle.pf_compare.specs.Answers.{HaveSameTypes}
 use Rattle.pf_compare.specs.Layouts.{IsLayoutOf, span_types}
@@ -143,13 +143,13 @@ same_types_of model t u a b same =
     }
 
 -- The types of spans are those of the items.
-pub length-hole_types : (model : Model) (spans : List DirectiveSpan) → length (span_types model spans) ≡ length spans
+pub length-hole_types : (model : Model) (spans : List PrintedSpan) → length (span_types model spans) ≡ length spans
 length-hole_types model spans = length-map spans (λ span. arg_type model span.directive)
 
-hole_type_got : (model : Model) (spans : List DirectiveSpan) (i : ℕ) (span : DirectiveSpan) → slice_get spans i ≡ Some span
+hole_type_got : (model : Model) (spans : List PrintedSpan) (i : ℕ) (span : PrintedSpan) → slice_get spans i ≡ Some span
     → slice_get (span_types model spans) i ≡ Some (arg_type model span.directive)
 hole_type_got model [] i span e = absurd (cc)
-hole_type_got model (h ∷ spans) zero span e = let is : h ≡ span = cc in ap (λ (o : DirectiveSpan). Some (arg_type model o.directive)) is
+hole_type_got model (h ∷ spans) zero span e = let is : h ≡ span = cc in ap (λ (o : PrintedSpan). Some (arg_type model o.directive)) is
 hole_type_got model (h ∷ spans) (suc i) span e = hole_type_got model spans i span e
 
 same_lists : (xs ys : List ArgType) → length xs ≡ length ys → ((i : ℕ) (x : ArgType) → slice_get xs i ≡ Some x → slice_get ys i ≡ Some x) → xs ≡ ys

@@ -10,7 +10,7 @@ use Rattle.pf_text.specs.PieceHistory.{HasGiven}
 use Rattle.pf_reduce.specs.Reducing.{core_of}
 use Rattle.pf_reduce.specs.declared.results.Reduced.{Reduced}
 use Rattle.pf_compare.specs.Layouts.{FindsUnlike, IsFirstUnlike}
-use Rattle.pf_compare.specs.declared.layouts.DirectiveSpan.{DirectiveSpan}
+use Rattle.pf_compare.specs.declared.layouts.PrintedSpan.{PrintedSpan}
 use Rattle.pf_compare.specs.declared.differences.ItemDifference.{ItemDifference}
 use Rattle.pf_compare.specs.declared.differences.ItemDifference.TheVariants.{Lone, Nowhere, Unknown}
 use Rattle.pf_compare.specs.declared.differences.LoneDifference.{LoneDifference}
@@ -64,7 +64,7 @@ pub record HasFollowed (pieces : Pieces) (t : Text) (xs : List Item)
   pub at_most : DifferInOneAtMost xs items found
 
 -- a directive alone, with the one span of an empty text
-abbrev pub span_alone : Specification → DirectiveSpan
+abbrev pub span_alone : Specification → PrintedSpan
 span_alone s = record { directive = s; start = 0; end = 0 }
 
 -- the first candidate for which the two directives print different bytes has this index

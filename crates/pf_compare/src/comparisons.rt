@@ -1,5 +1,5 @@
 //! Comparing two formats, and confirming that two print different bytes for some arguments.
-ghost use Rattle.std.specs.Prelude.{◌≡◌, ◌≢◌, ◌↔◌, ◌⊎◌, IfErr, IfOk, IsTrue, MatchBool, MatchOption, MatchResult, None, false};
+ghost use Rattle.std.specs.Prelude.{◌≡◌, ◌≢◌, ◌↔◌, ◌⊎◌, IfErr, IfOk, IsTrue, MatchBool, MatchOption, MatchResult, false};
 ghost use Rattle.std.specs.Option.{option_map};
 ghost use Rattle.pf_values.specs.meaning.DataModel.{arg_type};
 ghost use Rattle.pf_values.specs.meaning.Text.{Text};

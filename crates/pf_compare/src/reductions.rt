@@ -1,6 +1,6 @@
 //! Whether two directives print the same, by what they are reduced to.
 ghost use Rattle.std.specs.Prelude.{◌≡◌, ◌≢◌, ◌∷◌, [], IsFalse, IsTrue, MatchBool};
-ghost use Rattle.pf_values.specs.declared.models.Model.{Model as DataModel};
+ghost use Rattle.pf_values.specs.declared.models.Model.{Model};
 ghost use Rattle.pf_values.specs.meaning.DataModel.{arg_type};
 ghost use Rattle.pf_values.specs.meaning.Items.{Directive as item_of};
 ghost use Rattle.pf_values.specs.meaning.Normal.{IsNormal, silent};
@@ -46,7 +46,7 @@ fn are_equal_cores(first: Core, second: Core) -> bool
 
 // Whether a core is this normal directive.
 fn is_normal_core(core: Core, wanted: &Directive) -> bool
-    requires { (model : DataModel) × IsNormal model wanted.now }
+    requires { (model : Model) × IsNormal model wanted.now }
     ensures yes { IsTrue result → wanted.now ≡ core_of core }
     ensures other { IsFalse result → wanted.now ≢ core_of core }
 {

@@ -16,7 +16,7 @@ ghost use Rattle.pf_compare.specs.Spaces.{PrintEqualIn};
 ghost use Rattle.pf_compare.specs.Witnesses.{AwaitsCandidate, FindsWitness, HasCandidate, IsWitnessAt};
 
 use crate::differences::{LoneDifference, are_equal, are_mostly_alike, are_unlike};
-use crate::layouts::{DirectiveSpan, Layout, neutrals, neutrals_of, print};
+use crate::layouts::{Layout, PrintedSpan, neutrals, neutrals_of, print};
 use crate::owned_args::OwnedArg;
 use crate::predictions::{EqualPrintRange, predict};
 use pf_probes::{Candidate, candidate_row};
@@ -63,7 +63,7 @@ pub(crate) fn first_witness(
 fn witness_of(
     alloc: Global,
     model: Model,
-    spans: &[DirectiveSpan],
+    spans: &[PrintedSpan],
     probe: Probe,
 ) -> Result<Witness, AllocError>
     requires { HasCandidate model (span_types model spans.now) probe }
@@ -171,8 +171,8 @@ fn first_candidate(
     alloc: Global,
     model: Model,
     whole: &[u8],
-    first: &DirectiveSpan,
-    second: &DirectiveSpan,
+    first: &PrintedSpan,
+    second: &PrintedSpan,
 ) -> Result<Option<usize>, AllocError>
     requires one_type { arg_type model first.now.directive ≡ arg_type model second.now.directive }
     requires neutral { ReplacementsEqual model whole.now first.now second.now
@@ -295,23 +295,23 @@ fn is_narrowing(length: Length) -> bool {
     matches!(length, Length::Hh | Length::H)
 }
 
-fn span_alone(directive: &Directive) -> DirectiveSpan
+fn span_alone(directive: &Directive) -> PrintedSpan
     ensures { result ≡ span_alone directive.now }
 {
-    DirectiveSpan {
+    PrintedSpan {
         directive: *directive,
         start: 0,
         end: 0,
     }
 }
 
-fn are_equal_spans(first: &DirectiveSpan, second: &DirectiveSpan) -> bool
+fn are_equal_spans(first: &PrintedSpan, second: &PrintedSpan) -> bool
     ensures { IsTrue result → first.now ≡ second.now }
 {
     have_same_offsets(first, second) && are_equal(&first.directive, &second.directive)
 }
 
-fn have_same_offsets(first: &DirectiveSpan, second: &DirectiveSpan) -> bool
+fn have_same_offsets(first: &PrintedSpan, second: &PrintedSpan) -> bool
     ensures { IsTrue result
         → (first.now.start ≡ second.now.start) × (first.now.end ≡ second.now.end) }
 {
@@ -324,8 +324,8 @@ fn first_candidate_from(
     alloc: Global,
     model: Model,
     whole: &[u8],
-    first: &DirectiveSpan,
-    second: &DirectiveSpan,
+    first: &PrintedSpan,
+    second: &PrintedSpan,
     wanted: ArgType,
     from: usize,
 ) -> Result<Option<usize>, AllocError>
@@ -362,8 +362,8 @@ fn candidate_differs(
     alloc: Global,
     model: Model,
     whole: &[u8],
-    first: &DirectiveSpan,
-    second: &DirectiveSpan,
+    first: &PrintedSpan,
+    second: &PrintedSpan,
     equal_range: Option<EqualPrintRange>,
     wanted: ArgType,
     candidate: Candidate,
@@ -401,8 +401,8 @@ fn printed_differ(
     alloc: Global,
     model: Model,
     whole: &[u8],
-    first: &DirectiveSpan,
-    second: &DirectiveSpan,
+    first: &PrintedSpan,
+    second: &PrintedSpan,
     argument: Arg<'_>,
 ) -> Result<bool, AllocError>
     requires typed_first { HasType model (argument_of argument)
@@ -429,7 +429,7 @@ fn printed_differ(
 }
 
 // Whether a span holds these bytes.
-fn is_unchanged(whole: &[u8], span: &DirectiveSpan, printed: &[u8]) -> bool
+fn is_unchanged(whole: &[u8], span: &PrintedSpan, printed: &[u8]) -> bool
     requires { IsSpanIn whole.now span.now }
     ensures { IsTrue result → replace_span whole.now span.now printed.now ≡ whole.now }
 {
@@ -441,8 +441,8 @@ fn is_unchanged(whole: &[u8], span: &DirectiveSpan, printed: &[u8]) -> bool
 fn replaced_differ(
     alloc: Global,
     whole: &[u8],
-    first: &DirectiveSpan,
-    second: &DirectiveSpan,
+    first: &PrintedSpan,
+    second: &PrintedSpan,
     first_bytes: &[u8],
     second_bytes: &[u8],
 ) -> Result<bool, AllocError>
@@ -464,7 +464,7 @@ fn replace_span(
     alloc: Global,
     part: &[u8],
     from: usize,
-    span: &DirectiveSpan,
+    span: &PrintedSpan,
     printed: &[u8],
 ) -> Result<Vec<u8>, AllocError>
     requires ordered { span.now.start ≤ span.now.end }

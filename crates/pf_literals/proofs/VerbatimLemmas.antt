@@ -1,5 +1,5 @@
 -- Where a search finds the end of verbatim bytes.
-use Rattle.std.proofs.Common.{◌≡◌, ◌≢◌, ℕ, zero, suc, ◌+◌, ◌%◌, ◌^◌, ◌<◌, ◌≤◌, Bool, true, false, cond, ◌||◌, not, List, [], ◌∷◌, length, get_or, map, take}
+use Rattle.std.proofs.Common.{◌≡◌, ◌≢◌, ℕ, ◌+◌, ◌%◌, ◌^◌, ◌<◌, ◌≤◌, Bool, true, false, cond, ◌||◌, not, List, [], ◌∷◌, length, get_or, map}
 use Rattle.std.proofs.Common.{bit_or, Fits, w8, refl, sym, ap, ap₂, ◌∙◌, arith}
 use Rattle.std.specs.Prelude.{◌==◌, nat_lt}
 use Rattle.std.specs.List.{prefix_len}
@@ -11,14 +11,7 @@ use lib.Bits.{bit_xor}
 use lib.Count.{count_trailing_zeros}
 use lib.Lanes.{Each1, chunk, mask_l, top}
 use Rattle.pf_literals.specs.Elements.{Bytes}
-use Rattle.pf_literals.specs.Verbatim.{IsVerbatim, IsVerbatimBetween, is_special}
-
--- bytes that are verbatim from the first one on
-pub verbatim_taken : (text : Bytes) (n : ℕ) → n ≤ length text → IsVerbatimBetween text 0 n → IsVerbatim (take n text)
-verbatim_taken text zero few stands = tt
-verbatim_taken [] (suc n) few stands = absurd (omega arith)
-verbatim_taken (byte ∷ text) (suc n) few stands =
-    (stands 0 (omega arith) (omega arith), verbatim_taken text n (omega arith) (λ k low high. stands (suc k) (omega arith) (omega arith)))
+use Rattle.pf_literals.specs.Verbatim.{IsVerbatimBetween, is_special}
 
 -- the tests that the code makes of a vector
 abbrev pub is_found : ℕ → Bool

@@ -1,5 +1,5 @@
 //! The notations of numeric escape sequences, and their digits.
-ghost use Rattle.std.specs.Prelude.{◌≡◌, ◌<◌, ◌+◌, true, false, MatchOption, ◌==◌};
+ghost use Rattle.std.specs.Prelude.{◌≡◌, ◌<◌, true, false, MatchOption};
 ghost use Rattle.pf_literals.specs.Elements.{base, digit_value, is_escape_digit, is_full};
 ghost use Rattle.pf_literals.specs.Tokens.{before_digits};
 

@@ -1,5 +1,5 @@
 //! How a byte is written in a literal.
-ghost use Rattle.std.specs.Prelude.{◌≡◌, false, ◌<◌, Option, Some, None};
+ghost use Rattle.std.specs.Prelude.{◌≡◌, false, None};
 ghost use Rattle.pf_literals.specs.Elements.{written};
 ghost use Rattle.pf_literals.specs.Encoding.{element_by, element_for, is_printed, simple_letter};
 ghost use Rattle.pf_literals.specs.Spellings.{spelling_bytes};

@@ -1,5 +1,5 @@
 -- A text that is gone through for its specifications: what one more byte makes of it.
-use Rattle.std.proofs.Common.{◌≡◌, ◌≢◌, ℕ, ◌+◌, Bool, true, false, List, [], ◌∷◌, ◌++◌, length, refl, sym, ap, ap₂, ◌∙◌, arith, Ok, Err, length-append}
+use Rattle.std.proofs.Common.{◌≡◌, ◌≢◌, ℕ, ◌+◌, Bool, true, false, List, [], ◌∷◌, ◌++◌, length, refl, sym, ap, ap₂, ◌∙◌, arith, Ok, length-append}
 use Rattle.std.specs.Prelude.{Some, None, nat_le, if◌then◌else◌}
 use Rattle.std.proofs.lemmas.List.{append_assoc, append-nil}
 use Rattle.pf_values.specs.declared.limits.TheConstants.{MAX_TEXT_LEN}
@@ -117,9 +117,6 @@ module _ (model : Model) where
           let next : verdict_after seen (trace_from model numbering state at (byte ∷ rest)) ≡ verdict_after seen
           (moved numbering at (posix_step model numbering state byte) (λ s q. trace_from model s q (at + 1) rest)) = rw b refl in
           ap (λ m. verdict_after seen (moved numbering at m (λ s q. trace_from model s q (at + 1) rest))) (sym e) ∙ sym next ∙ left
-
-    pub not_refused : (kind : RefusalKind) → posix_step model numbering state byte ≡ Err kind → ⊥
-    not_refused kind e = takes_none all kind at (step_left (Err kind) e)
 
     pub passed_left : (to : PosixState) → posix_step model numbering state byte ≡ Ok (to, None)
         → verdict_after seen (trace_from model numbering to (at + 1) rest) ≡ Takes all

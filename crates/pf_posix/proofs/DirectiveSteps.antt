@@ -1,6 +1,6 @@
 -- What one more byte makes of a walk through an accepted text.
 use Rattle.std.proofs.Common.{◌≡◌, ◌≢◌, ℕ, ◌+◌, ◌-◌, ◌<◌, ◌≤◌, false, List, [], ◌∷◌, ◌++◌, length, get_or, drop, take, refl, sym, ap, ◌∙◌, arith, subst, inl}
-use Rattle.std.proofs.Common.{inr, Ok, Err, Result, length-append}
+use Rattle.std.proofs.Common.{inr, Ok, Result, length-append}
 use Rattle.std.specs.Prelude.{Option, Some, None, ◌⊎◌, MatchOption}
 use Rattle.std.proofs.lemmas.List.{append_assoc, append-nil, drop_more, length_push}
 use Rattle.std.proofs.Math.ListN.{drop_of_length-le}
@@ -30,7 +30,7 @@ use Rattle.pf_posix.specs.Stages.{PosixState, Between, Opened, First, Flags, Dig
 use Rattle.pf_posix.specs.States.{PosixStep, posix_step}
 use Rattle.pf_posix.specs.Types.{HaveTypes, fetches, star_fetches}
 use Rattle.pf_posix.proofs.Agreeing.{agreed_none, agreed_push, numbering_push}
-use Rattle.pf_posix.proofs.DirectiveLemmas.{arrived, brought, fetched_left, not_refused, passed_left, pushed}
+use Rattle.pf_posix.proofs.DirectiveLemmas.{arrived, brought, fetched_left, passed_left, pushed}
 use Rattle.pf_posix.proofs.DirectiveTypes.{all_typed}
 use Rattle.pf_posix.proofs.Judging.{Arrives, Brings, Judges, judge}
 use Rattle.pf_posix.proofs.Soundness.{fetched_append}
@@ -167,9 +167,6 @@ module _ (model : Model) (t : Text) (walk : DirectiveWalk) (done : List Directiv
   judged : Judges model walk.numbering h.good.part h.good.own byte stepped
   judged = judge model walk.numbering h.good.part h.good.own byte (posix_state_of walk.automaton) h.good.at
       (subst (λ s. Follows s (numbering_in (posix_state_of walk.automaton))) (sym h.numbering_is) h.good.numbering)
-
-  pub no_refusal : (kind : _) → stepped ≡ Err kind → ⊥
-  no_refusal kind e = not_refused model h.seen h.all walk.numbering (posix_state_of walk.automaton) walk.at byte (drop (walk.at + 1) t) left_on kind e
 
   -- the byte fetches nothing, and an item goes on
   pub passes_inside : stepped ≡ Ok (posix_state_of a, None) → posix_state_of a ≢ Between → IsWalkedTo model t moved_on done

@@ -1,5 +1,5 @@
 -- Lists of types and of specifications, written into a slice of exactly their length.
-use Rattle.std.proofs.Common.{◌≡◌, ◌≢◌, ◌<◌, ◌∙◌, List, [], ◌∷◌, ap, length, refl, sym, arith, ℕ, subst}
+use Rattle.std.proofs.Common.{◌≡◌, ◌∙◌, List, [], ◌∷◌, ap, length, refl, sym, arith, ℕ, subst}
 use Rattle.pf_posix.specs.declared.types.ArgumentType.{ArgumentType}
 use Rattle.pf_posix.specs.declared.directive_spans.DirectiveSpan.{DirectiveSpan}
 use Rattle.pf_posix.specs.Directives.{HasDirectiveCount, HasDirectives}
@@ -34,8 +34,3 @@ all_listed model t none made old new count again first room second =
     let counted = first.count_is in
     let all : new ≡ second.directives = second.front ∙ all_filled old second.directives (omega (arith, as_many, counted, room)) in
     subst (HasDirectives model t) (sym all) second.listed
-
--- if the number of specifications is not 0, there is one
-pub some_listed : (model : Model) (t : Text) (none made : List DirectiveSpan) (count : ℕ) → HasDirectiveCount model t none made count → 0 < count
-    → (ds : List DirectiveSpan) × HasDirectives model t ds × (ds ≢ [])
-some_listed model t none made count h some = (h.directives, h.listed, λ e. omega (arith, some, h.count_is, ap length e))

@@ -32,11 +32,6 @@ use Rattle.pf_posix.proofs.DefinedLemmas.{no_reason}
 use Rattle.pf_posix.proofs.ReadOnce.{amount_back, conv_back, narrow, pushed_or, stretched}
 use Rattle.pf_posix.proofs.SpecificationsOnce.{parts_of, regrouped}
 
-both : (a b : Bool) → (a && b) ≡ false → (b ≡ true → a ≡ false)
-both true true e h = cc
-both true false e h = cc
-both false b e h = refl
-
 either : (a b c : Bool) → (a || b || c) ≡ false → (a ≡ false) × (b ≡ false) × (c ≡ false)
 either false false false e = (refl, refl, refl)
 either true b c e = cc

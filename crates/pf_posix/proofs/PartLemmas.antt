@@ -8,7 +8,6 @@ use Rattle.std.specs.List.{AllByRecursion}
 use Rattle.std.proofs.lemmas.Bool.{eqb-true}
 use Rattle.std.proofs.lemmas.Bool.Decides.{nat_tests}
 use Rattle.std.proofs.lemmas.Int.Digits.{number_after_ge}
-use Rattle.std.proofs.Math.ListN.{get_or-eq_default}
 use Rattle.std.proofs.lemmas.List.{drop_more, get_or-drop, length-drop}
 use Rattle.pf_values.specs.declared.flags.Flag.{Flag}
 use Rattle.pf_values.specs.declared.flags.Flag.TheVariants.{Minus, Plus, Space, Alt, Zero, Group}
@@ -16,7 +15,7 @@ use Rattle.pf_values.specs.declared.flags.FlagSet.{FlagSet}
 use Rattle.pf_values.specs.declared.lengths.Length.TheVariants as lengths
 use Rattle.pf_values.specs.declared.limits.TheConstants.{MAX_NUMBER}
 use Rattle.pf_values.specs.meaning.Digits.{AreDigits, AreLeastDigits}
-use Rattle.pf_values.specs.meaning.Flags.{flag_byte, flag_set, no_flags, with_flag}
+use Rattle.pf_values.specs.meaning.Flags.{flag_byte, flag_set, with_flag}
 use Rattle.pf_values.specs.meaning.Text.{Text}
 use Rattle.pf_values.proofs.Numerals.{number_after-place_sum}
 use Rattle.pf_text.specs.Letters.{flag_of}
@@ -32,8 +31,8 @@ use Rattle.pf_posix.specs.Letters.{conversion_of, is_first_digit, length_modifie
 use Rattle.pf_posix.specs.OpaqueParts.{amount_of, parts_of_opaque}
 use Rattle.pf_posix.specs.PartsInText.{BeginsOutside, ConversionIs, DigitsAre, FlagsAre, IsAfterPoint, ModifierGoesOn, ModifierIs, PrecisionIs}
 use Rattle.pf_posix.specs.PartsInText.{SpecificationIs, WidthIs, is_flag, is_precision, is_width, second_modifier}
-use Rattle.pf_posix.specs.Specifications.{Amount, Given, Fetched, PosixSpecification, conversion_letter, modifier_letters}
-use Rattle.pf_posix.specs.Spelling.{SpellsPosition, SpellsPosix, SpellsPosixPrecision}
+use Rattle.pf_posix.specs.Specifications.{Given, Fetched, PosixSpecification, conversion_letter, modifier_letters}
+use Rattle.pf_posix.specs.Spelling.{SpellsPosition, SpellsPosix}
 use Rattle.pf_text.proofs.NumberDigits.{first_above_zero}
 use Rattle.pf_posix.proofs.Reaching.{letter_tests}
 use Rattle.pf_posix.proofs.SpecificationsOnce.{HasParts, after_flags_outside, after_precision_outside, after_width_outside, longer, no_number, parts_of}
@@ -78,9 +77,6 @@ no_first : (p : ℕ → Bool) (byte : ℕ) (more rest : Text) → BeginsOutside 
 no_first p byte more rest o e h = let no : false ≡ true = sym (subst (BeginsOutside p) (sym e) o) ∙ h in cc
 
 module _ (t : Text) (start : ℕ) where
-  pub flags_begin : FlagsLeft t start start no_flags
-  flags_begin = λ flags rest o e. (flags, e, refl)
-
   module _ (at : ℕ) (set : FlagSet) (h : FlagsLeft t start at set) where
     pub flags_step : (flag : Flag) → at < length t → flag_of (get_or t at 0) ≡ Some flag → FlagsLeft t start (at + 1) (with_flag set flag)
     flags_step flag less f flags rest o e = let l = h flags rest o e in go l.0 l.1 l.2 where
@@ -208,10 +204,6 @@ abbrev pub as_amount : Option (ℕ × ℕ) → Option (OpaqueAmount × ℕ)
 as_amount None = None
 as_amount (Some front) = Some (amounts.Number front.0, front.1)
 
-abbrev pub as_precision : Option (OpaqueAmount × ℕ) → Option (Option OpaqueAmount × ℕ)
-as_precision None = None
-as_precision (Some front) = Some (Some front.0, front.1)
-
 -- a number begins with a digit from 1 on, and neither it nor a star is another byte
 first_is : (d : ℕ) → 0 < d → d < 10 → is_first_digit (digit_glyph false d) ≡ true
 first_is d low high = grind (arith, nat_tests)
@@ -288,39 +280,6 @@ module _ (t : Text) (start : ℕ) where
           given_by None n v g = g
           given_by (Some front) n v g = (ap (λ k. Some (Given k)) (g.0 ∙ v), g.1)
 
-  -- no precision
-  pub precision_none : (byte_here == 46) ≡ false → PrecisionIs t start (Some (None, start))
-  precision_none point text rest None h o e = (refl, e ∙ ap (λ u. u ++ rest) h)
-  precision_none point text rest (Some (Given n)) h o e =
-      let no : true ≡ false = tested (λ b. b == 46) t start 46 (map (digit_glyph false) h.0.0 ++ rest) false point (e ∙ ap (λ u. u ++ rest) h.0.2) in cc
-  precision_none point text rest (Some (Fetched number)) h o e =
-      let no : true ≡ false = tested (λ b. b == 46) t start 46 (h.0 ++ rest) false point (e ∙ ap (λ u. u ++ rest) h.2) in cc
-
-  -- a point, and what comes after it
-  pub precision_given : (result : Option (OpaqueAmount × ℕ)) → start < length t → (byte_here == 46) ≡ true → IsAfterPoint t (start + 1) result
-      → PrecisionIs t start (as_precision result)
-  precision_given result less point h text rest precision p o e = go precision p where
-    is : byte_here ≡ 46
-    is = eqb-true byte_here 46 point
-
-    some_by : (result : Option (OpaqueAmount × ℕ)) (precision : Option Amount)
-        → IsSomeAnd result (λ front. (amount_of (Some front.0) ≡ precision) × (drop front.1 t ≡ rest))
-        → IsSomeAnd (as_precision result) (λ front. (amount_of front.0 ≡ precision) × (drop front.1 t ≡ rest))
-    some_by None precision g = g
-    some_by (Some front) precision g = g
-
-    split : (more : Text) → text ≡ 46 ∷ more → drop (start + 1) t ≡ more ++ rest
-    split more w = tail_at t start 46 (more ++ rest) (e ∙ ap (λ u. u ++ rest) w)
-
-    go : (precision : Option Amount) → SpellsPosixPrecision text None precision
-        → IsSomeAnd (as_precision result) (λ front. (amount_of front.0 ≡ precision) × (drop front.1 t ≡ rest))
-    go None p = absurd (no_first is_precision byte_here (drop (start + 1) t) rest o (sym (drop_more t start 0 less) ∙ e ∙ ap (λ u. u ++ rest) p)
-        (ap is_precision is))
-    go (Some (Given n)) p =
-        some_by result (Some (Given n))
-        (h (map (digit_glyph false) p.0.0) rest (Some (Given n)) ((p.0.0, p.0.1, refl), p.1) o (split (map (digit_glyph false) p.0.0) p.0.2))
-    go (Some (Fetched number)) p = some_by result (Some (Fetched number)) (h p.0 rest (Some (Fetched number)) (p.0, p.1, refl) o (split p.0 p.2))
-
   point_tail : (a b : Text) → 46 ∷ a ≡ 46 ∷ b → a ≡ b
   point_tail a b e = cc
 
@@ -355,13 +314,6 @@ module _ (t : Text) (start : ℕ) where
             → IsSomeAnd (as_amount result) (λ front. (amount_of (Some front.0) ≡ Some (Given n)) × (drop front.1 t ≡ rest))
         given_by None n v g = g
         given_by (Some front) n v g = (ap (λ k. Some (Given k)) (g.0 ∙ v), g.1)
-
--- modifiers
-some_letter : (modifier : Modifier) (c : ℕ) (rest : Text) → (byte : ℕ) × (more : Text) × (modifier_letters modifier ++ c ∷ rest ≡ byte ∷ more)
-some_letter modifier c rest = go (modifier_letters modifier) where
-  go : (letters : Text) → (byte : ℕ) × (more : Text) × (letters ++ c ∷ rest ≡ byte ∷ more)
-  go [] = (c, rest, refl)
-  go (letter ∷ letters) = (letter, letters ++ c ∷ rest, refl)
 
 -- the letter before a place, and what comes after it there
 abbrev MeansSecond : Text → ℕ → Modifier → Option Modifier → Modifier → ℕ → Text → Type 0
@@ -408,58 +360,11 @@ module _ (t : Text) (start : ℕ) (first : Modifier) where
   goes_on letter (Integer lengths.Z) conversion rest f e = alone (Integer lengths.Z) _ rest (same_modifier letter 122 (Integer lengths.Z) f (cc) refl) (cc) refl
   goes_on letter (Integer lengths.T) conversion rest f e = alone (Integer lengths.T) _ rest (same_modifier letter 116 (Integer lengths.T) f (cc) refl) (cc) refl
 
-  pub second_read : (two : Modifier) → second_modifier first (get_or t start 0) ≡ Some two → ModifierGoesOn t start first two (start + 1)
-  second_read two s letter modifier conversion rest f e =
-      subst (λ o. MeansSecond t start first o modifier (conversion_letter conversion) rest) s (goes_on letter modifier conversion rest f e)
-
   pub first_read : second_modifier first (get_or t start 0) ≡ None → ModifierGoesOn t start first first start
   first_read s letter modifier conversion rest f e =
       subst (λ o. MeansSecond t start first o modifier (conversion_letter conversion) rest) s (goes_on letter modifier conversion rest f e)
 
-  pub first_at_end : length t ≤ start → ModifierGoesOn t start first first start
-  first_at_end over = first_read (none first) where
-    nothing : get_or t start 0 ≡ 0
-    nothing = get_or-eq_default t 0 over
-
-    zero : (first : Modifier) → second_modifier first 0 ≡ None
-    zero (Integer lengths.H) = refl
-    zero (Integer _) = refl
-    zero LongDouble = refl
-
-    none : (first : Modifier) → second_modifier first (get_or t start 0) ≡ None
-    none first = ap (second_modifier first) nothing ∙ zero first
-
 module _ (t : Text) (start : ℕ) where
-  pub modifier_none : length_modifier_of (get_or t start 0) ≡ None → ModifierIs t start (Integer lengths.None) start
-  modifier_none f modifier conversion rest e = go modifier e where
-    no : (letter : ℕ) (more : Text) (one : Modifier) → drop start t ≡ letter ∷ more → length_modifier_of letter ≡ Some one → ⊥
-    no letter more one e k = let none : None ≡ Some one = sym f ∙ ap length_modifier_of (head_at t start letter more e) ∙ k in cc
-
-    go : (modifier : Modifier) → drop start t ≡ modifier_letters modifier ++ conversion_letter conversion ∷ rest
-        → (Integer lengths.None ≡ modifier) × (drop start t ≡ conversion_letter conversion ∷ rest)
-    go (Integer lengths.None) e = (refl, e)
-    go LongDouble e = absurd (no 76 _ LongDouble e refl)
-    go (Integer lengths.Hh) e = absurd (no 104 _ (Integer lengths.H) e refl)
-    go (Integer lengths.H) e = absurd (no 104 _ (Integer lengths.H) e refl)
-    go (Integer lengths.L) e = absurd (no 108 _ (Integer lengths.L) e refl)
-    go (Integer lengths.Ll) e = absurd (no 108 _ (Integer lengths.L) e refl)
-    go (Integer lengths.J) e = absurd (no 106 _ (Integer lengths.J) e refl)
-    go (Integer lengths.Z) e = absurd (no 122 _ (Integer lengths.Z) e refl)
-    go (Integer lengths.T) e = absurd (no 116 _ (Integer lengths.T) e refl)
-
-  pub modifier_at_end : length t ≤ start → ModifierIs t start (Integer lengths.None) start
-  modifier_at_end over modifier conversion rest e =
-      let s = some_letter modifier (conversion_letter conversion) rest in
-      absurd (nothing_at t start s.0 s.1 over (e ∙ s.2))
-
-  pub modifier_some : (first result : Modifier) (stop : ℕ) → start < length t → length_modifier_of (get_or t start 0) ≡ Some first
-      → ModifierGoesOn t (start + 1) first result stop
-      → ModifierIs t start result stop
-  modifier_some first result stop less f h modifier conversion rest e = h (get_or t start 0) modifier conversion rest f (sym (drop_more t start 0 less) ∙ e)
-
-  pub conversion_none : length t ≤ start → ConversionIs t start None
-  conversion_none over conversion rest e = absurd (nothing_at t start (conversion_letter conversion) rest over e)
-
   pub conversion_read : (result : Option Conversion) → result ≡ conversion_of (get_or t start 0) → ConversionIs t start result
   conversion_read result r conversion rest e = r ∙ ap conversion_of (head_at t start (conversion_letter conversion) rest e)
       ∙ (letter_tests conversion).conversion_is

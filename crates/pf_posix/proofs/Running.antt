@@ -298,9 +298,6 @@ pub record Reached (model : Model) (numbering : Numbering) (slot : WidthOrPrecis
   pub run_is : run model (Ok (stand numbering Between [])) t ≡ Ok (stand behind to own)
   pub later : (byte : ℕ) → IsLater byte → posix_step model behind to byte ≡ after_amount model slot parts byte
 
-set_same : (position : Option ℕ) (set other : FlagSet) → other ≡ set → flags_parts position set ≡ flags_parts position other
-set_same position set other e = ap (flags_parts position) (sym e)
-
 module _ (model : Model) (numbering : Numbering) (position : Option ℕ) (set : FlagSet) (follows : Follows numbering (Some (numbering_by position))) where
   abbrev pub wide : PartialSpecification
   wide = record { position = position; flags = set; width = true; precision = false }

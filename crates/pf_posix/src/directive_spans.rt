@@ -1,6 +1,6 @@
 //! The conversion specifications of a format: which bytes they are, and which arguments they take.
 ghost use Rattle.std.specs.Prelude.{◌≡◌, ◌≢◌, ◌<◌, ◌≤◌, ◌+◌, ◌++◌, ◌∷◌, [], List, length, MatchOption, MatchResult, take, drop, ◌-◌};
-ghost use Rattle.pf_values.specs.declared.models.Model.{Model as ModelOf};
+ghost use Rattle.pf_values.specs.declared.models.Model.{Model};
 ghost use Rattle.pf_values.specs.meaning.Text.{Text};
 ghost use Rattle.pf_posix.specs.declared.types.ArgumentType.{ArgumentType as ArgumentTypeOf};
 ghost use Rattle.pf_posix.specs.declared.directive_spans.DirectiveSpan.{DirectiveSpan as DirectiveSpanOf};
@@ -121,7 +121,7 @@ impl DirectiveWalk {
         ensures at { result.at ≡ 0 }
         ensures begin { result.begin ≡ 0 }
         ensures fetched { result.fetched ≡ 0 }
-        ensures walked { (model : ModelOf) (t : Text) (types : List ArgumentTypeOf)
+        ensures walked { (model : Model) (t : Text) (types : List ArgumentTypeOf)
             → HasArguments model t types → IsWalkedTo model t result [] }
     {
         DirectiveWalk {

@@ -2,7 +2,7 @@
 //! paragraphs 7 and 8).
 ghost use Rattle.std.specs.Prelude.{◌≡◌, if◌then◌else◌, IfSome, Some, option_map};
 ghost use Rattle.pf_values.specs.declared.lengths.Length.TheVariants as lengths;
-ghost use Rattle.pf_values.specs.declared.models.Model.{Model as ModelOf};
+ghost use Rattle.pf_values.specs.declared.models.Model.{Model};
 ghost use Rattle.pf_posix.specs.declared.conversions.Modifier.TheVariants.{Integer};
 ghost use Rattle.pf_posix.specs.Letters.{conversion_of};
 ghost use Rattle.pf_posix.specs.Types.{counted_type, floating_type, int_type, kind_type, integer_length, conversion_type, pointer_to};
@@ -46,7 +46,7 @@ pub(crate) fn conversion_type(
 /// rare ones, a test would cost the others more.
 #[inline(always)]
 pub(crate) fn bare_type(byte: u8) -> Option<ArgumentType>
-    ensures { IfSome result (λ wanted. (model : ModelOf) → Some wanted
+    ensures { IfSome result (λ wanted. (model : Model) → Some wanted
         ≡ option_map (conversion_type model (Integer lengths.None)) (conversion_of byte)) }
 {
     match byte {

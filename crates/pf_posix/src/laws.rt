@@ -1,7 +1,7 @@
 //! Laws of the definitions: a text has one list of argument types, or is refused for one reason and
 //! at one offset.
 ghost use Rattle.std.specs.Prelude.{◌≡◌, ◌≢◌, false, ◌++◌, ◌<◌, ℕ, List, None, Option, length, map};
-ghost use Rattle.pf_values.specs.declared.models.Model.{Model as model_of_data};
+ghost use Rattle.pf_values.specs.declared.models.Model.{Model};
 ghost use Rattle.pf_values.specs.meaning.Items.{HasItems, IsAccepted, Item, types};
 ghost use Rattle.pf_values.specs.meaning.Printing.{AreEquivalent};
 ghost use Rattle.pf_values.specs.Laws.{HasEachOnce};
@@ -21,68 +21,68 @@ ghost use Rattle.pf_posix.specs.Unnumbered.{AcceptsUnnumbered, IsJudged, IsReadO
 
 /// Proves that a text is accepted, or refused.
 pub fn accepted_or_refused()
-    ensures { (model : model_of_data) (t : Text) → IsAcceptedOrRefused model t }
+    ensures { (model : Model) (t : Text) → IsAcceptedOrRefused model t }
 {}
 
 /// Proves that no text is both accepted and refused.
 pub fn never_both()
-    ensures { (model : model_of_data) (t : Text) (types : List ArgumentType)
+    ensures { (model : Model) (t : Text) (types : List ArgumentType)
         (kind : RefusalKind) (at : ℕ) → HasArguments model t types
         → IsPosixRefusedAt model t kind at → ⊥ }
 {}
 
 /// Proves that an accepted text has one list of types.
 pub fn types_once()
-    ensures { (model : model_of_data) (t : Text) (types others : List ArgumentType)
+    ensures { (model : Model) (t : Text) (types others : List ArgumentType)
         → HasArguments model t types → HasArguments model t others → types ≡ others }
 {}
 
 /// Proves that an accepted text has one list of conversion specifications.
 pub fn directives_once()
-    ensures { (model : model_of_data) (t : Text) (directives others : List DirectiveSpan)
+    ensures { (model : Model) (t : Text) (directives others : List DirectiveSpan)
         → HasDirectives model t directives → HasDirectives model t others → directives ≡ others }
 {}
 
 /// Proves that a text is refused for one reason at one offset.
 pub fn refused_once()
-    ensures { (model : model_of_data) (t : Text) (kind other : RefusalKind) (p q : ℕ)
+    ensures { (model : Model) (t : Text) (kind other : RefusalKind) (p q : ℕ)
         → IsPosixRefusedAt model t kind p → IsPosixRefusedAt model t other q → (kind ≡ other) × (p ≡ q) }
 {}
 
 /// Proves that a text that is refused before its end is refused so whatever bytes follow.
 pub fn refused_for_good()
-    ensures { (model : model_of_data) (t more : Text) (kind : RefusalKind) (at : ℕ)
+    ensures { (model : Model) (t more : Text) (kind : RefusalKind) (at : ℕ)
         → IsPosixRefusedAt model t kind at → at < length t → IsPosixRefusedAt model (t ++ more) kind at }
 {}
 
 /// Proves that a text that the profile accepts is accepted here, with the same types.
 pub fn profile_types()
-    ensures { (model : model_of_data) (t : Text) (items : List Item) → HasItems t items
+    ensures { (model : Model) (t : Text) (items : List Item) → HasItems t items
         → HasArguments model t (map widened (types model items)) }
 {}
 
 /// Proves that two texts of the profile that are equivalent take the same arguments here.
 pub fn same_fits()
-    ensures { (model : model_of_data) (t u : Text) → IsAccepted t → IsAccepted u
+    ensures { (model : Model) (t u : Text) → IsAccepted t → IsAccepted u
         → AreEquivalent model t u → ComparesArgumentTypes model t u None }
 {}
 
 /// Proves that a text that takes just the arguments of another takes no others.
 pub fn fits_is_fewer()
-    ensures { (model : model_of_data) (t u : Text) → ComparesArgumentTypes model t u None
+    ensures { (model : Model) (t u : Text) → ComparesArgumentTypes model t u None
         → ComparesBeginning model t u None }
 {}
 
 /// Proves that if each of two texts takes no other arguments than the other, they take the same
 /// ones.
 pub fn fewer_both_ways()
-    ensures { (model : model_of_data) (t u : Text) → ComparesBeginning model t u None
+    ensures { (model : Model) (t u : Text) → ComparesBeginning model t u None
         → ComparesBeginning model u t None → ComparesArgumentTypes model t u None }
 {}
 
 /// Proves that there is one index at most where a text takes an argument that another doesn't take.
 pub fn fewer_once()
-    ensures { (model : model_of_data) (t u : Text) (index other : Option ℕ)
+    ensures { (model : Model) (t u : Text) (index other : Option ℕ)
         → ComparesBeginning model t u index → ComparesBeginning model t u other → index ≡ other }
 {}
 
@@ -100,17 +100,17 @@ pub fn accepts_unnumbered()
 /// Proves that a text accepted in this way has arguments of the types of its stretches and opaque
 /// directives.
 pub fn types_are_kept()
-    ensures { (model : model_of_data) → TypesAreKept model }
+    ensures { (model : Model) → TypesAreKept model }
 {}
 
 /// Proves that, if arguments may have no numbers, a text is accepted or refused, and never both.
 pub fn judged_unnumbered()
-    ensures { (model : model_of_data) (t : Text) → IsJudged model t }
+    ensures { (model : Model) (t : Text) → IsJudged model t }
 {}
 
 /// Proves that, if arguments may have no numbers, a text is refused for one reason at one offset.
 pub fn refused_unnumbered_once()
-    ensures { (model : model_of_data) (t : Text) (kind other : RefusalKind) (p q : ℕ)
+    ensures { (model : Model) (t : Text) (kind other : RefusalKind) (p q : ℕ)
         → IsWholeRefusedAt model t kind p → IsWholeRefusedAt model t other q
         → (kind ≡ other) × (p ≡ q) }
 {}
@@ -118,9 +118,9 @@ pub fn refused_unnumbered_once()
 /// Proves that no text is refused for what the profile alone lacks; nor for the number of an
 /// argument, if arguments may have numbers.
 pub fn kinds_of_refusals()
-    ensures numbered { (model : model_of_data) (t : Text) (kind : RefusalKind) (at : ℕ)
+    ensures numbered { (model : Model) (t : Text) (kind : RefusalKind) (at : ℕ)
         → IsPosixRefusedAt model t kind at → (is_profile_alone kind ≡ false) × (kind ≢ Numbered) }
-    ensures unnumbered { (model : model_of_data) (t : Text) (kind : RefusalKind) (at : ℕ)
+    ensures unnumbered { (model : Model) (t : Text) (kind : RefusalKind) (at : ℕ)
         → IsWholeRefusedAt model t kind at → is_profile_alone kind ≡ false }
 {}
 

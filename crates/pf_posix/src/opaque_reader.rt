@@ -1,6 +1,6 @@
 //! A conversion specification without numbers of arguments, read part by part (C11 7.21.6.1,
 //! paragraph 4). The automaton reads the same byte by byte, and finds out why a text has none.
-ghost use Rattle.std.specs.Prelude.{◌≡◌, ◌≢◌, ◌+◌, ◌<◌, ◌≤◌, ◌==◌, IfSome, IsTrue, get_or, length};
+ghost use Rattle.std.specs.Prelude.{◌≡◌, ◌≢◌, ◌<◌, ◌≤◌, ◌==◌, IfSome, IsTrue, get_or, length};
 ghost use Rattle.pf_values.specs.declared.limits.TheConstants.{MAX_NUMBER};
 ghost use Rattle.pf_posix.specs.Letters.{is_first_digit};
 ghost use Rattle.pf_posix.specs.Plain.{DigitsRead, ModifierRead};

@@ -2,7 +2,7 @@
 ghost use Rattle.std.specs.Prelude.{◌≡◌, ◌+◌, ◌<◌, ◌≤◌, length, slice_index, MatchOption, ◌≢◌, ⊤, drop};
 ghost use Rattle.memchr.specs.Find.{Nowhere, Passes, is_byte2};
 ghost use Rattle.pf_values.specs.declared.limits.TheConstants.{MAX_TEXT_LEN as LIMIT};
-ghost use Rattle.pf_values.specs.declared.models.Model.{Model as ModelOf};
+ghost use Rattle.pf_values.specs.declared.models.Model.{Model};
 ghost use Rattle.pf_values.specs.meaning.Text.{Text, percent};
 ghost use Rattle.pf_posix.specs.declared.reader.Reader.{Reader as ReaderOf};
 ghost use Rattle.pf_posix.specs.Endings.{unnumbered_trace};
@@ -45,7 +45,7 @@ impl Reader {
     #[inline(always)]
     pub(crate) fn new() -> Reader
         ensures start { result.at ≡ 0 }
-        ensures left { (model : ModelOf) (t : Text) → trace_left model t result ≡ fetch_trace model t }
+        ensures left { (model : Model) (t : Text) → trace_left model t result ≡ fetch_trace model t }
     {
         Reader {
             automaton: Automaton::new(),
@@ -58,7 +58,7 @@ impl Reader {
     #[inline(always)]
     pub(crate) fn unnumbered() -> Reader
         ensures start { result.at ≡ 0 }
-        ensures left { (model : ModelOf) (t : Text) → trace_left model t result ≡ unnumbered_trace model t }
+        ensures left { (model : Model) (t : Text) → trace_left model t result ≡ unnumbered_trace model t }
     {
         Reader::unnumbered_at(0)
     }
@@ -67,7 +67,7 @@ impl Reader {
     #[inline(always)]
     pub(crate) fn unnumbered_at(at: usize) -> Reader
         ensures start { result.at ≡ at }
-        ensures left { (model : ModelOf) (t : Text)
+        ensures left { (model : Model) (t : Text)
             → trace_left model t result ≡ trace_from model Unnumbered Between at (drop at t) }
     {
         Reader {
@@ -134,7 +134,7 @@ impl Reader {
         requires short { self.old.at < LIMIT }
         requires between { posix_state_of self.old.automaton ≡ Between }
         requires other { slice_index text.now self.old.at ≢ percent }
-        ensures next { (model : ModelOf) → MatchOption result
+        ensures next { (model : Model) → MatchOption result
             (trace_left model text.now self.old ≡ trace_left model text.now self.new)
             (λ next. IsNextFetch model text.now self.old next self.new) }
         ensures further { MatchOption result
@@ -211,7 +211,7 @@ impl Reader {
     // The answer at the end of the text.
     #[inline(always)]
     fn end(&self) -> NextFetch
-        ensures next { (model : ModelOf) (t : Text) (new : ReaderOf) → length t ≤ self.now.at
+        ensures next { (model : Model) (t : Text) (new : ReaderOf) → length t ≤ self.now.at
             → IsNextFetch model t self.now result new }
         ensures further { (t : Text) (old new : ReaderOf) → AdvancesReader t old result new }
     {

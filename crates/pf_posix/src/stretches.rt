@@ -1,5 +1,5 @@
 //! The stretches of a text of the whole language, and the opaque directives between them.
-ghost use Rattle.std.specs.Prelude.{◌≡◌, ◌≢◌, ◌<◌, ◌≤◌, IfSome, IsSomeAnd, drop, length, slice_index};
+ghost use Rattle.std.specs.Prelude.{◌≢◌, ◌<◌, ◌≤◌, IfSome, IsSomeAnd, drop, length, slice_index};
 ghost use Rattle.pf_values.specs.meaning.Text.{percent};
 ghost use Rattle.pf_posix.specs.Heads.{IsHead, IsPlaced};
 ghost use Rattle.pf_posix.specs.Stretches.{ReadsWhole, Stretches};

@@ -8,7 +8,6 @@ ghost use Rattle.pf_posix.specs.Refusals.{HasGap, IsPosixRefusedAt};
 ghost use Rattle.pf_posix.specs.Walks.{trace_left};
 ghost use Rattle.pf_posix.specs.Tabled.{IsTabled, TableHolds};
 ghost use Rattle.pf_posix.specs.Types.{IsFetched, fetch};
-ghost use Rattle.pf_posix.specs.declared.types.ArgumentType.{ArgumentType as ArgumentTypeOf};
 
 use crate::fetches::Fetch;
 use crate::reader::{NextFetch, Reader};

@@ -70,10 +70,6 @@ kept_conv_twice : (conv : Conv) → kept_conv (kept_conv conv) ≡ kept_conv con
 kept_conv_twice I = refl
 kept_conv_twice _ = refl
 
-text_kept : (conv : Conv) → is_text conv ≡ true → kept_conv conv ≡ conv
-text_kept I is = cc
-text_kept _ is = refl
-
 -- what is printed of a value
 precision_kept : (model : Model) (f : FlagSet) (w p : Option ℕ) (l : Length) (conv : Conv) (v : ℤ) (filled : Bool)
     → precision_under filled (record { flags = f; width = w; precision = p; length = l; conv = conv }) v

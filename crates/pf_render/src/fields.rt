@@ -1,5 +1,5 @@
 //! Fields: texts with spaces up to a width.
-ghost use Rattle.std.specs.Prelude.{◌≡◌, ◌+◌, ◌++◌, ◌<◌, ◌^◌, length};
+ghost use Rattle.std.specs.Prelude.{◌≡◌, ◌++◌, ◌<◌, ◌^◌, length};
 ghost use Rattle.pf_render.specs.Outputs.{WritesCounted};
 ghost use Rattle.pf_render.specs.Parts.{join};
 ghost use Rattle.pf_values.specs.meaning.Printing.{field, padding};

@@ -88,16 +88,6 @@ unlike_calls model t u left more rest others a b s p reaches e f unlike alike =
     let both : Correspond model (Before a s rest) (Before b p others) = rw (e, f) at reaches.0 alike in
     unlike both.1
 
--- one text has no call left
-pub one_ends : (model : Model) (t u : Text) (left more rest : Stretches) (a b : List Item) (s : PosixSpecification) → Reaches model t u left more
-    → left ≡ Before a s rest → more ≡ Last b → ¬ AreWholeAlike model t u
-one_ends model t u left more rest a b s reaches e f alike = let both : Correspond model (Before a s rest) (Last b) = rw (e, f) at reaches.0 alike in both
-
-pub other_goes_on : (model : Model) (t u : Text) (left more others : Stretches) (a b : List Item) (p : PosixSpecification) → Reaches model t u left more
-    → left ≡ Last a → more ≡ Before b p others → ¬ AreWholeAlike model t u
-other_goes_on model t u left more others a b p reaches e f alike = let both : Correspond model (Last a) (Before b p others) =
-    rw (e, f) at reaches.0 alike in both
-
 -- both texts end with stretches that print alike
 pub both_end : (model : Model) (t u x y : Text) (left more : Stretches) (a b : List Item) → Reaches model t u left more → left ≡ Last a → more ≡ Last b
     → Reads x a → Reads y b → AreEquivalent model x y → AreWholeAlike model t u

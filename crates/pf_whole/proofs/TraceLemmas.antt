@@ -15,9 +15,6 @@ use Rattle.pf_whole.specs.meaning.WholeArguments.{WholeArgument, Known, HasWhole
 use Rattle.pf_whole.proofs.ProfileTexts.{known_alike, turned}
 use Rattle.pf_whole.proofs.ZipLemmas.{zip_parts}
 
-pub trace_refl : (model : Model) (a : Stretches) → TraceAlike model a a
-trace_refl model a = record { same_types = refl; same_traces = λ args trace typed. (λ g. g, λ g. g) }
-
 pub trace_sym : (model : Model) (a b : Stretches) → TraceAlike model a b → TraceAlike model b a
 trace_sym model a b h = record {
   same_types = sym h.same_types;

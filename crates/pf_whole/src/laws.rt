@@ -1,5 +1,5 @@
 //! Laws over the definitions: each is the contract of a function that does nothing.
-ghost use Rattle.pf_values.specs.declared.models.Model.{Model as ModelOf};
+ghost use Rattle.pf_values.specs.declared.models.Model.{Model};
 ghost use Rattle.pf_whole.specs.Answers.{AgreeingIsTogether, CallsGiveShape, OneVerdict, TellingIsApart};
 ghost use Rattle.pf_whole.specs.meaning.WholeHeadline.{WholeHeadline};
 ghost use Rattle.pf_whole.specs.Laws.{AlikeCallTheSame, AlikeIsCorresponding, CanonicalIsAlike, AlikeHaveOneCanonical, OneCanonicalIsAlike, ProfileCoincides, AlikePrintAlike, ServeFewer, TracesOnce};
@@ -7,80 +7,80 @@ ghost use Rattle.pf_whole.specs.Laws.{AlikeCallTheSame, AlikeIsCorresponding, Ca
 /// Proves that stretches and opaque directives have exactly one trace for each list of arguments of
 /// their types.
 pub fn traces_once()
-    ensures { (model : ModelOf) → TracesOnce model }
+    ensures { (model : Model) → TracesOnce model }
 {}
 
 /// Proves that alike texts print the same under every function that gives a text for what was
 /// printed before and a call.
 pub fn alike_print_alike()
-    ensures { (model : ModelOf) → AlikePrintAlike model }
+    ensures { (model : Model) → AlikePrintAlike model }
 {}
 
 /// Proves that two texts of the profile are alike exactly if they are equivalent, and their
 /// canonical texts here are those of the profile.
 pub fn profile_coincides()
-    ensures { (model : ModelOf) → ProfileCoincides model }
+    ensures { (model : Model) → ProfileCoincides model }
 {}
 
 /// Proves that texts with the same canonical text are alike.
 pub fn one_canonical_is_alike()
-    ensures { (model : ModelOf) → OneCanonicalIsAlike model }
+    ensures { (model : Model) → OneCanonicalIsAlike model }
 {}
 
 /// Proves that canonical texts of alike texts are equal.
 pub fn alike_have_one_canonical()
-    ensures { (model : ModelOf) → AlikeHaveOneCanonical model }
+    ensures { (model : Model) → AlikeHaveOneCanonical model }
 {}
 
 /// Proves that a canonical text of a text is alike to it, and is its own canonical text.
 pub fn canonical_is_alike()
-    ensures { (model : ModelOf) → CanonicalIsAlike model }
+    ensures { (model : Model) → CanonicalIsAlike model }
 {}
 
 /// Proves the headline of the whole language. Each accepted text has exactly one canonical text, which
 /// is alike to it, and is its own canonical text. Two accepted texts are alike exactly if their
 /// canonical texts are equal byte for byte.
 pub fn headline()
-    ensures { (model : ModelOf) → WholeHeadline model }
+    ensures { (model : Model) → WholeHeadline model }
 {}
 
 /// Proves that two texts are alike exactly if, side by side, their stretches print alike and their
 /// opaque directives have the same normal spelling.
 pub fn alike_is_corresponding()
-    ensures { (model : ModelOf) → AlikeIsCorresponding model }
+    ensures { (model : Model) → AlikeIsCorresponding model }
 {}
 
 /// Proves that alike texts have the same calls, each with the same first argument.
 pub fn alike_call_the_same()
-    ensures { (model : ModelOf) → AlikeCallTheSame model }
+    ensures { (model : Model) → AlikeCallTheSame model }
 {}
 
 /// Proves that arguments for a text serve one whose types are a beginning of its own: those that it
 /// takes are there, and of its types (C11 7.21.6.1, paragraph 2). So where `fits_fewer` finds no
 /// difference, nothing is read that was not passed.
 pub fn serve_fewer()
-    ensures { (model : ModelOf) → ServeFewer model }
+    ensures { (model : Model) → ServeFewer model }
 {}
 
 /// Proves that two texts have at most one verdict. So `compare` can return no other one.
 pub fn one_verdict()
-    ensures { (model : ModelOf) → OneVerdict model }
+    ensures { (model : Model) → OneVerdict model }
 {}
 
 /// Proves that if two texts have equal types and equal calls, then, side by side, their stretches
 /// have equal types and their opaque directives have the same normal spelling.
 pub fn calls_give_shape()
-    ensures { (model : ModelOf) → CallsGiveShape model }
+    ensures { (model : Model) → CallsGiveShape model }
 {}
 
 /// Proves that arguments for which one stretch prints other bytes tell the traces apart, whatever
 /// the arguments of opaque directives and of other stretches are.
 pub fn telling_is_apart()
-    ensures { (model : ModelOf) → TellingIsApart model }
+    ensures { (model : Model) → TellingIsApart model }
 {}
 
 /// Proves that if each stretch prints the same bytes for the arguments shown, the traces are the
 /// same, whatever the arguments of opaque directives are.
 pub fn agreeing_is_together()
-    ensures { (model : ModelOf) → AgreeingIsTogether model }
+    ensures { (model : Model) → AgreeingIsTogether model }
 {}

@@ -1,10 +1,8 @@
 //! How two formats of the whole language compare.
 ghost use Rattle.std.specs.Prelude.{◌≡◌, ◌++◌, IfOk, List, MatchResult, None, Some, map, replicate};
 ghost use Rattle.std.specs.List.{AllZip};
-ghost use Rattle.pf_values.specs.meaning.Items.{HasItems, IsAccepted, Item, Reads, types};
+ghost use Rattle.pf_values.specs.meaning.Items.{HasItems, Item, types};
 ghost use Rattle.pf_compare.specs.Answers.{IsComparisonOf};
-ghost use Rattle.pf_compare.specs.Witnesses.{AreNeutral};
-ghost use Rattle.pf_compare.specs.declared.owned_args.OwnedArg.{OwnedArg};
 ghost use Rattle.pf_posix.specs.Stretches.{IsWholeAccepted, ReadsWhole, Stretches, whole_types};
 ghost use Rattle.pf_whole.specs.Answers.{HaveOneShape, neutral_shown};
 ghost use Rattle.pf_whole.specs.Comparisons.{AreShownNext, FaultForWholeCompare, HasShownType, IsComparison, IsDifference, ShowsDifference, shown_as};

@@ -7,7 +7,7 @@ use Rattle.pf_values.specs.meaning.Text.{Text}
 use Rattle.pf_values.specs.Candidates.{neutral, neutrals}
 use Rattle.pf_values.specs.meaning.Items.{types}
 use Rattle.pf_values.specs.meaning.Printing.{PrintsAll}
-use Rattle.pf_compare.specs.declared.layouts.DirectiveSpan.{DirectiveSpan}
+use Rattle.pf_compare.specs.declared.layouts.PrintedSpan.{PrintedSpan}
 use Rattle.pf_compare.specs.declared.layouts.Layout.{Layout}
 use Rattle.pf_compare.specs.Layouts.{HaveSameTypesAndBytes, ReplacementsEqual, FindsUnlike, IsSpanIn, IsSpanOf}
 use Rattle.pf_compare.proofs.ProbeLemmas.{AreTried, as_many, first_span, found_probe, span_types_same, neutral_alike, none_found, second_span, tried_next}
@@ -15,24 +15,24 @@ use Rattle.pf_compare.proofs.witnesses.first_probe.Goals as goal
 
 -- the spans with one index
 module _ (first second : Layout) (i : ℕ) (less : i < length first.spans.items) where
-  one_at : (one : DirectiveSpan) → one ≡ get_or first.spans.items i one → slice_get first.spans.items i ≡ Some one
+  one_at : (one : PrintedSpan) → one ≡ get_or first.spans.items i one → slice_get first.spans.items i ≡ Some one
   one_at one e = slice_get_read first.spans.items _ i one refl less e
 
   module _ (model : Model) (r : HaveSameTypesAndBytes model first second) where
-    two_at : (two : DirectiveSpan) → two ≡ get_or second.spans.items i two → slice_get second.spans.items i ≡ Some two
+    two_at : (two : PrintedSpan) → two ≡ get_or second.spans.items i two → slice_get second.spans.items i ≡ Some two
     two_at two e = slice_get_read second.spans.items _ i two refl
         (omega (arith, less, as_many model first second r.lists.xs r.lists.ys r.lists.laid_first r.lists.laid_second r.lists.same_types r.same_bytes)) e
 
-    one_in : (one : DirectiveSpan) → one ≡ get_or first.spans.items i one → IsSpanOf model r.lists.xs first.bytes.items i one
+    one_in : (one : PrintedSpan) → one ≡ get_or first.spans.items i one → IsSpanOf model r.lists.xs first.bytes.items i one
     one_in one e = first_span model first second r.lists.xs r.lists.ys r.lists.laid_first r.lists.laid_second r.lists.same_types r.same_bytes i one
         (one_at one e)
 
-    two_in : (two : DirectiveSpan) → two ≡ get_or second.spans.items i two → IsSpanOf model r.lists.ys first.bytes.items i two
+    two_in : (two : PrintedSpan) → two ≡ get_or second.spans.items i two → IsSpanOf model r.lists.ys first.bytes.items i two
     two_in two e = second_span model first second r.lists.xs r.lists.ys r.lists.laid_first r.lists.laid_second r.lists.same_types r.same_bytes i two
         (two_at two e)
 
 -- what was found of two spans, in the bytes of a layout
-found_in : (model : Model) (t whole : Text) (one two : DirectiveSpan) (found is : Option ℕ) → t ≡ whole → found ≡ is
+found_in : (model : Model) (t whole : Text) (one two : PrintedSpan) (found is : Option ℕ) → t ≡ whole → found ≡ is
     → FindsUnlike model t one two (arg_type model one.directive) found → FindsUnlike model whole one two (arg_type model one.directive) is
 found_in model t whole one two found is e f h =
     subst (FindsUnlike model whole one two (arg_type model one.directive)) f (subst (λ t. FindsUnlike model t one two (arg_type model one.directive) found) e h)

@@ -1,7 +1,7 @@
 //! Formats without numbered arguments: whether one is accepted, and its stretches.
 ghost use Rattle.std.specs.Prelude.{IsTrue, List};
 ghost use Rattle.pf_values.specs.meaning.Items.{Item, Reads};
-ghost use Rattle.pf_posix.specs.Stretches.{IsWholeAccepted, Last};
+ghost use Rattle.pf_posix.specs.Stretches.{IsWholeAccepted};
 
 use pf_posix::{
     Conversion, Floating, Modifier, OpaqueAmount, OpaqueDirective, Stretch, check_unnumbered,

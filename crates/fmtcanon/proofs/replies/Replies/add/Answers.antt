@@ -1,6 +1,7 @@
 use Rattle.std.proofs.Common.{inl, inr, refl, rules, subst, sym}
 use Rattle.fmtcanon.specs.Answers.{IsAnswer}
-use Rattle.fmtcanon.specs.Outcomes.{outcome_of_ending, outcome_of_fault}
+use Rattle.fmtcanon.specs.Outcomes.{outcome_of_ending}
+use Rattle.fmtcanon.specs.declared.outcome.Outcome.TheVariants.{Failed}
 use Rattle.fmtcanon.proofs.ReplyLemmas.{reply_added}
 use Rattle.fmtcanon.proofs.replies.Replies.add.Goals as goal
 
@@ -16,5 +17,5 @@ pub returns-in_default : goal.returns-in_default
 returns-in_default c =
     let push = c.push-in_default.ensures in
     λ asked formats sent replies about h. reply_added asked formats sent replies _ _ h push.written c.args.question.now about _
-    (outcome_of_fault c.in-Err.fault) (inr (c.in-Err.fault, c.in-Err.ensures, c.in_default.not-Memory, refl, search rules)) c.status-in_default.result
+    (Failed c.in-Err.fault) (inr (c.in-Err.fault, c.in-Err.ensures, c.in_default.not-Memory, refl, search rules)) c.status-in_default.result
     c.status-in_default.ensures.value c.push-in_default.result push.bytes push.greatest push.none push.same
