@@ -1,9 +1,9 @@
 -- Bounds in 64 bits.
-use Rattle.std.proofs.Common.{◌≡◌, inl, inr, ℕ, ◌+◌, ◌-◌, ◌≤◌, ◌<◌, Bool, true, false, [], ◌∷◌, ◌++◌, length, map, take, drop, get_or, refl, sym, ap, ap₂, ◌∙◌, arith, subst}
+use Rattle.std.proofs.Common.{◌≡◌, inl, inr, ℕ, ◌+◌, ◌-◌, ◌^◌, ◌≤◌, ◌<◌, max, Bool, true, false, [], ◌∷◌, ◌++◌, length, map, take, drop, get_or, refl, sym, ap, ◌∙◌, arith, subst}
 use Rattle.std.specs.Prelude.{Option, Some, None, ◌⊎◌, ◌&&◌, if◌then◌else◌}
 use Rattle.std.specs.List.{AllByRecursion}
 use Rattle.std.proofs.Math.Seq.{take-add}
-use Rattle.std.proofs.lemmas.List.{get_or-drop, length-append, length-drop, length-take-le, take_all}
+use Rattle.std.proofs.lemmas.List.{length-append, length-drop, length-take-le, take_all}
 use Rattle.pf_values.specs.declared.conversions.Conv.{Conv}
 use Rattle.pf_values.specs.declared.conversions.Conv.TheVariants.{D, I, U, O, X, UpperX, B, C, S}
 use Rattle.pf_values.specs.declared.limits.TheConstants.{MAX_TEXT_LEN}
@@ -11,16 +11,16 @@ use Rattle.pf_values.specs.declared.models.Model.{Model}
 use Rattle.pf_values.specs.meaning.Items.{Item, Byte, Directive, IsReadAs}
 use Rattle.pf_values.specs.meaning.Specification.{Specification}
 use Rattle.pf_values.specs.meaning.Text.{Text, percent}
-use Rattle.pf_text.specs.declared.marks.Marks.{Marks}
+use Rattle.pf_text.specs.declared.walk.Walk.{Walk}
 use Rattle.pf_text.specs.History.{IsLiteral}
 use Rattle.pf_text.specs.Letters.{conv_of}
-use Rattle.pf_text.specs.Marks.{AreMarksOf, HasNoMark}
-use Rattle.pf_text.proofs.CanonicalRunLemmas.{Reads-append, bare, first_bytes}
+use Rattle.pf_text.specs.Walks.{HasPassed, HasPercent, IsWalkOver}
+use Rattle.pf_text.proofs.CanonicalRunLemmas.{Reads-append, bare}
 use Rattle.pf_text.proofs.LiteralLemmas.{Reads-literals}
-use Rattle.pf_text.proofs.MarkedRunLemmas.{literal_between, no_end_between}
 use Rattle.pf_text.proofs.DirectiveLemmas.{conv_read}
 use Rattle.pf_text.proofs.Sound.{byte_of_conv}
 use Rattle.pf_text.proofs.Texts.{Reads-push}
+use Rattle.pf_text.proofs.WalkLemmas.{run_is_literal, two_bytes}
 use Rattle.pf_bounds.specs.Bounds.{AreBounds, AreBoundsOf, CanPrint, CanPrintAll, sum_of}
 use Rattle.pf_bounds.specs.FieldLengths.{item_limit}
 use Rattle.pf_bounds.specs.Tallies.{IsTallied, largest_of}
@@ -28,12 +28,6 @@ use Rattle.pf_bounds.specs.declared.tallies.Tally.{Tally}
 use Rattle.pf_bounds.proofs.BoundsLemmas.{items_append}
 use Rattle.pf_bounds.proofs.NumberBounds.{number_bounds}
 use Rattle.pf_bounds.proofs.TextBounds.{bytes_bounds, char_bounds, item_bounds, string_unlimited}
-
--- the two bytes at an offset
-two_bytes : (text : Text) (at : ℕ) → at + 1 < length text → take 2 (drop at text) ≡ get_or text at 0 ∷ get_or text (at + 1) 0 ∷ []
-two_bytes text at some =
-    first_bytes 2 (drop at text) (omega (arith, length-drop at text, some)) ∙ ap₂ (λ (a b : ℕ). a ∷ b ∷ [])
-    (get_or-drop at text 0 0 ∙ ap (λ k. get_or text k 0) (omega arith)) (get_or-drop at text 1 0)
 
 -- what a directive of a conversion alone prints at least, and at most
 abbrev pub bare_least : Conv → ℕ
@@ -153,42 +147,47 @@ module _ (model : Model) where
   pub none_tallied : (text : Text) (tally : Tally) → tally.least ≡ 0 → tally.spread ≡ 0 → tally.is_bounded ≡ true → IsTallied model (take 0 text) tally
   none_tallied text tally least spread bounded = bytes_tallied [] tally tt least spread bounded
 
-  -- bytes without a mark
-  pub unmarked_tallied : (marks : Marks) (text : Text) (at stop : ℕ) (sum one other : Tally) → at ≤ stop → stop ≤ length text
-      → AreMarksOf marks text → HasNoMark marks at stop → IsTallied model (take at text) one
-      → other.least ≡ stop - at → other.spread ≡ 0 → other.is_bounded ≡ true → IsSum sum one other → IsTallied model (take stop text) sum
-  unmarked_tallied marks text at stop sum one other low within marked none h least spread bounded e =
-      let n = stop - at in
-      let run = take n (drop at text) in
-      let place : at + n ≡ stop = omega (arith, low) in
-      let long : length run ≡ n = length-take-le n (drop at text) (omega (arith, length-drop at text, low, within)) in
-      let literal = literal_between text at stop low within (no_end_between marks text at stop within marked none) in
-      subst (λ k. IsTallied model (take k text) sum) place
-      (tallied_more text at n sum one other h (bytes_tallied run other literal (omega (arith, least, long)) spread bounded) e)
+  -- no sum of a text that isn't long is too large
+  pub small_tally : (t : Text) (tally : Tally) → length t ≤ 2 ^ 32 → IsTallied model t tally → (tally.least ≤ 2 ^ 50) × (tally.spread ≤ 2 ^ 50)
+  small_tally t tally few h = (omega (arith, few, h.short.least_is), omega (arith, few, h.short.spread_is))
+
+  -- the literal bytes that a walk has passed
+  module _ (text : Text) (few : length text ≤ MAX_TEXT_LEN) (old new : Walk) (over : IsWalkOver text old) (h : HasPassed (λ item. ⊥) old new) where
+    pub text_is : new.text.now ≡ text
+    text_is = h.text ∙ over.text_is ∙ take_all MAX_TEXT_LEN text few
+
+    pub still_over : IsWalkOver text new
+    still_over = record { walk_is = h.walk; text_is = h.text ∙ over.text_is }
+
+    pub still_within : old.at ≤ length text → new.at ≤ length text
+    still_within low = let most : new.at ≤ max old.at (length text) = subst (λ t. new.at ≤ max old.at (length t)) text_is h.within in omega (arith, low, most)
+
+    pub passed_tallied : (sum one other : Tally) → old.at ≤ length text → IsTallied model (take old.at text) one → other.least ≡ new.at - old.at
+        → other.spread ≡ 0 → other.is_bounded ≡ true → IsSum sum one other → IsTallied model (take new.at text) sum
+    passed_tallied sum one other low g least spread bounded e =
+        let n = new.at - old.at in
+        let run = take n (drop old.at text) in
+        let place : old.at + n ≡ new.at = omega (arith, h.from) in
+        let long : length run ≡ n = length-take-le n (drop old.at text) (omega (arith, length-drop old.at text, h.from, still_within low)) in
+        let literal : AllByRecursion IsLiteral run =
+        subst (λ t. AllByRecursion IsLiteral (take n (drop old.at t))) text_is (run_is_literal (take n (drop old.at new.text.now)) h.items h.run) in
+        subst (λ k. IsTallied model (take k text) sum) place
+        (tallied_more text old.at n sum one other g (bytes_tallied run other literal (omega (arith, least, long)) spread bounded) e)
 
   -- `%%`
-  pub percent_tallied : (text : Text) (at : ℕ) (tally : Tally) → at + 1 < length text → get_or text at 0 ≡ percent → get_or text (at + 1) 0 ≡ percent
+  pub percent_tallied : (text : Text) (at : ℕ) (tally : Tally) → HasPercent text at → get_or text (at + 1) 0 ≡ percent
       → tally.least ≡ 1 → tally.spread ≡ 0 → tally.is_bounded ≡ true → IsTallied model (take 2 (drop at text)) tally
-  percent_tallied text at tally some first second least spread bounded =
-      let bytes = two_bytes text at some ∙ ap₂ (λ (a b : ℕ). a ∷ b ∷ []) first second in
+  percent_tallied text at tally h second least spread bounded =
+      let bytes = two_bytes text at h ∙ ap (λ b. percent ∷ b ∷ []) second in
       let one : largest_of tally ≡ Some 1 = rw bounded (ap Some (omega (arith, least, spread))) in
       item_tallied (take 2 (drop at text)) (Byte percent) tally bytes
       (bytes_bounds model (percent ∷ []) tally.least 1 (largest_of tally) least one refl)
       (omega (arith, ap length bytes)) (omega (arith, least)) (omega (arith, spread))
 
   -- a directive of a conversion alone
-  pub bare_tallied : (text : Text) (at : ℕ) (conv : Conv) (tally : Tally) → at + 1 < length text → get_or text at 0 ≡ percent
-      → conv_of (get_or text (at + 1) 0) ≡ Some conv → AreBoundsOf (CanPrint model (bare conv)) tally.least (largest_of tally)
+  pub bare_tallied : (text : Text) (at : ℕ) (conv : Conv) (tally : Tally) → HasPercent text at → conv_of (get_or text (at + 1) 0) ≡ Some conv → AreBoundsOf (CanPrint model (bare conv)) tally.least (largest_of tally)
       → tally.least ≤ item_limit → tally.spread ≤ item_limit → IsTallied model (take 2 (drop at text)) tally
-  bare_tallied text at conv tally some first e bounds least spread =
-      let bytes = two_bytes text at some ∙ ap₂ (λ (a b : ℕ). a ∷ b ∷ []) first (byte_of_conv (get_or text (at + 1) 0) conv e) in
+  bare_tallied text at conv tally h e bounds least spread =
+      let bytes = two_bytes text at h ∙ ap (λ b. percent ∷ b ∷ []) (byte_of_conv (get_or text (at + 1) 0) conv e) in
       directive_tallied (take 2 (drop at text)) (bare conv) tally (subst (λ t. IsReadAs t (Directive (bare conv))) (sym bytes) (conv_read conv (bare conv) refl)) bounds
       (omega (arith, ap length bytes)) least spread
-
-  -- a run of literal bytes
-  pub run_tallied : (text : Text) (n : ℕ) (tally : Tally) → n ≤ length text → AllByRecursion IsLiteral (take (n - 0) text)
-      → tally.least ≡ n → tally.spread ≡ 0 → tally.is_bounded ≡ true → IsTallied model (take n text) tally
-  run_tallied text n tally within literal least spread bounded =
-      let long : length (take n text) ≡ n = length-take-le n text within in
-      let whole : n - 0 ≡ n = omega arith in
-      bytes_tallied (take n text) tally (subst (λ k. AllByRecursion IsLiteral (take k text)) whole literal) (omega (arith, least, long)) spread bounded

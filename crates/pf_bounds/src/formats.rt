@@ -6,9 +6,9 @@ ghost use Rattle.pf_bounds.specs.Bounds.{AreBounds, AreBoundsOf, AreWithin, CanP
 ghost use Rattle.pf_bounds.specs.FieldLengths.{limit_of};
 
 use crate::directives::directive_bounds;
-use crate::plain_bounds::{tally_by_marks, tally_by_runs};
+use crate::known_bounds::known_bounds;
 use crate::sums::Bounds;
-use pf_text::{MAX_MARKED, MIN_MARKED, Piece, Pieces, Refusal};
+use pf_text::{Piece, Pieces, Refusal};
 use pf_values::Model;
 
 /// Returns the smallest and the largest number of bytes that a format prints in this data model,
@@ -18,25 +18,7 @@ pub fn bounds(model: Model, text: &[u8]) -> Result<Bounds, Refusal>
     ensures { MatchResult result (λ b. AreBounds model text.now b.least b.greatest)
         (λ refusal. IsRefusedAt text.now refusal.kind refusal.at) }
 {
-    if text.len() < MIN_MARKED {
-        return bounds_by_runs(model, text);
-    }
-    if text.len() > MAX_MARKED {
-        return bounds_by_runs(model, text);
-    }
-    match tally_by_marks(model, text) {
-        Some(tally) => Ok(tally.bounds()),
-        None => bounds_by_pieces(model, text),
-    }
-}
-
-// `bounds` of a text of any length. Never inlined, since most formats have marks.
-#[inline(never)]
-fn bounds_by_runs(model: Model, text: &[u8]) -> Result<Bounds, Refusal>
-    ensures { MatchResult result (λ b. AreBounds model text.now b.least b.greatest)
-        (λ refusal. IsRefusedAt text.now refusal.kind refusal.at) }
-{
-    match tally_by_runs(model, text) {
+    match known_bounds(model, text) {
         Some(tally) => Ok(tally.bounds()),
         None => bounds_by_pieces(model, text),
     }

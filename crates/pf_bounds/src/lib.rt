@@ -3,8 +3,8 @@
 
 mod directives;
 mod formats;
+mod known_bounds;
 pub mod laws;
-mod plain_bounds;
 mod sums;
 mod tallies;
 

@@ -1,8 +1,9 @@
-//! A fast way to the bounds of a text that isn't long. It decides only what it is sure of.
-ghost use Rattle.std.specs.Prelude.{◌≡◌, ◌+◌, ◌-◌, ◌^◌, ◌<◌, ◌≤◌, [], ◌∷◌, drop, length, take, true, None, IfSome, MatchOption, ⊤};
+//! The bounds of a text that isn't long, if they are known.
+ghost use Rattle.std.specs.Prelude.{◌≡◌, ◌-◌, ◌<◌, ◌≤◌, [], ◌∷◌, drop, length, take, true, None, IfSome, MatchOption, ⊤};
 ghost use Rattle.pf_values.specs.Directives.{specification_of};
 ghost use Rattle.pf_values.specs.declared.lengths.Length.TheVariants as lengths;
 ghost use Rattle.pf_values.specs.meaning.Flags.{no_flags};
+ghost use Rattle.pf_text.specs.Walks.{HasPercent};
 ghost use Rattle.pf_bounds.specs.Bounds.{AreBounds, AreBoundsOf, AreWithin, CanPrint};
 ghost use Rattle.pf_bounds.specs.FieldLengths.{item_limit};
 ghost use Rattle.pf_bounds.specs.Tallies.{IsTallied, largest_of};
@@ -10,91 +11,62 @@ ghost use Rattle.pf_bounds.specs.Tallies.{IsTallied, largest_of};
 use crate::directives::directive_bounds;
 use crate::sums::Bounds;
 use crate::tallies::Tally;
-use pf_text::{MAX_MARKED, MIN_MARKED, Marks, conv_of, directive_at_front, literal_len};
+use pf_text::{Nothing, Walk, conv_of, directive_at_front};
 use pf_values::{Conv, Model};
 
 // The most bytes of a text whose bounds are summed in 64 bits.
 const MAX_TALLIED: u64 = 1 << 32;
 
-/// Returns the bounds of a text with marks, or `None` if they aren't known.
+/// Returns the bounds of a text, or `None` if they aren't known.
 #[inline(always)]
-pub(crate) fn tally_by_marks(model: Model, text: &[u8]) -> Option<Tally>
-    requires some { MIN_MARKED ≤ length text.now }
-    requires few { length text.now ≤ MAX_MARKED }
-    ensures { IfSome result (λ tally. AreBounds model text.now tally.least (largest_of tally)) }
-{
-    let marks = Marks::of(text);
-    let mut sum = Tally::exactly(0);
-    let mut at = 0;
-    while at < text.len() {
-        let Some(offset) = marks.next_from(at) else {
-            return Some(sum.plus(Tally::exactly((text.len() - at) as u64)));
-        };
-        let (item, len) = item_at(model, text, offset)?;
-        sum = sum.plus(Tally::exactly((offset - at) as u64)).plus(item);
-        at = offset + len;
-    }
-    Some(sum)
-}
-
-/// Returns the bounds of a text of any length, or `None` if they aren't known.
-#[inline(always)]
-pub(crate) fn tally_by_runs(model: Model, text: &[u8]) -> Option<Tally>
+pub(crate) fn known_bounds(model: Model, text: &[u8]) -> Option<Tally>
     ensures { IfSome result (λ tally. AreBounds model text.now tally.least (largest_of tally)) }
 {
     if text.len() as u64 > MAX_TALLIED {
         return None;
     }
+    let mut walk = Walk::new(text);
     let mut sum = Tally::exactly(0);
-    let mut at = 0;
-    while at < text.len() {
-        let (front, len) = front_at(model, text, at)?;
-        sum = sum.plus(front);
-        at += len;
+    let mut from = 0;
+    while walk.find::<Nothing>() {
+        let (item, stop) = item_at(model, walk.text(), walk.at)?;
+        sum = sum.plus(Tally::exactly((walk.at - from) as u64)).plus(item);
+        from = stop;
+        walk.at = stop;
     }
-    Some(sum)
-}
-
-// The bounds of the item or the run of literal bytes at an offset, and how many bytes it has. None if it
-// isn't known that there is either.
-#[inline(always)]
-fn front_at(model: Model, text: &[u8], at: usize) -> Option<(Tally, usize)>
-    requires { at < length text.now }
-    ensures { MatchOption result ⊤ (λ front. (0 < front.1) × (at + front.1 ≤ length text.now)
-        × IsTallied model (take front.1 (drop at text.now)) front.0) }
-{
-    if text[at] == b'%' {
-        return item_at(model, text, at);
-    }
-    let len = literal_len(&text[at..]);
-    if len == 0 {
+    if walk.at != text.len() {
         return None;
     }
-    Some((Tally::exactly(len as u64), len))
+    Some(sum.plus(Tally::exactly((walk.at - from) as u64)))
 }
 
-// The bounds of the `%%` or the directive at an offset, and how many bytes it has. None if it isn't known
-// that there is one.
+// The bounds of the `%%` or the directive at an offset, and where it ends. None if it isn't known that
+// there is one.
 #[inline(always)]
 fn item_at(model: Model, text: &[u8], at: usize) -> Option<(Tally, usize)>
-    requires { at + 1 < 2 ^ 64 }
-    ensures { MatchOption result ⊤ (λ front. (0 < front.1) × (at + front.1 ≤ length text.now)
-        × IsTallied model (take front.1 (drop at text.now)) front.0) }
+    requires { HasPercent text.now at }
+    ensures { MatchOption result ⊤ (λ item. (at < item.1) × (item.1 ≤ length text.now)
+        × IsTallied model (take (item.1 - at) (drop at text.now)) item.0) }
 {
-    let next = at + 1;
-    if next >= text.len() {
-        return None;
+    if text[at + 1] == b'%' {
+        return Some((Tally::exactly(1), at + 2));
     }
-    if text[at] != b'%' {
-        return None;
+    match conv_of(text[at + 1]) {
+        Some(conv) => Some((bare_tally(model, conv), at + 2)),
+        None => parts_tally_at(model, text, at),
     }
-    if text[next] == b'%' {
-        return Some((Tally::exactly(1), 2));
-    }
-    match conv_of(text[next]) {
-        Some(conv) => Some((bare_tally(model, conv), 2)),
-        None => parts_tally(model, &text[at..]),
-    }
+}
+
+// The bounds of the directive at an offset, and where it ends. None if it isn't known that there is one. Never
+// inlined, which keeps the loop short.
+#[inline(never)]
+fn parts_tally_at(model: Model, text: &[u8], at: usize) -> Option<(Tally, usize)>
+    requires { at ≤ length text.now }
+    ensures { MatchOption result ⊤ (λ item. (at < item.1) × (item.1 ≤ length text.now)
+        × IsTallied model (take (item.1 - at) (drop at text.now)) item.0) }
+{
+    let (tally, len) = parts_tally(model, &text[at..])?;
+    Some((tally, at + len))
 }
 
 // The bounds of a directive of this conversion alone: the numbers of an `int` in each data model.
@@ -134,8 +106,8 @@ fn up_to(greatest: u64) -> Tally
 }
 
 // The bounds of the directive at the front of a text, and how many bytes it has. None if it isn't known
-// that there is one. Never inlined, which keeps the loops short.
-#[inline(never)]
+// that there is one.
+#[inline(always)]
 fn parts_tally(model: Model, text: &[u8]) -> Option<(Tally, usize)>
     ensures { MatchOption result ⊤ (λ front. (0 < front.1) × (front.1 ≤ length text.now)
         × IsTallied model (take front.1 text.now) front.0) }

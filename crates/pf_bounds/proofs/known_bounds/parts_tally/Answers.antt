@@ -1,7 +1,7 @@
 use Rattle.std.proofs.Common.{arith, length, take, ◌≡◌}
 use Rattle.std.proofs.lemmas.List.{length-take-le}
 use Rattle.pf_bounds.proofs.TallyLemmas.{directive_tallied}
-use Rattle.pf_bounds.proofs.plain_bounds.parts_tally.Goals as goal
+use Rattle.pf_bounds.proofs.known_bounds.parts_tally.Goals as goal
 
 pub returns : goal.returns
 returns c =

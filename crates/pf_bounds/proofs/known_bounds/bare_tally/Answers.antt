@@ -1,6 +1,6 @@
 use Rattle.pf_values.specs.declared.conversions.Conv.TheVariants.{U, B, C, S}
 use Rattle.pf_bounds.proofs.TallyLemmas.{bare_bounds, most_eleven, most_eight}
-use Rattle.pf_bounds.proofs.plain_bounds.bare_tally.Goals as goal
+use Rattle.pf_bounds.proofs.known_bounds.bare_tally.Goals as goal
 
 pub returns-in-D-clause-value : goal.returns-in-D-clause-value
 returns-in-D-clause-value c = rw (c.up_to.ensures.least, c.up_to.ensures.spread, c.up_to.ensures.bounded) (most_eleven c.args.model c.args.conv c.in-D.is)
