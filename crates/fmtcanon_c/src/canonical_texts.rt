@@ -87,7 +87,7 @@ fn put_canonical(
 fn put_other_canonical(
     alloc: Global,
     model: Model,
-    front: &VerbatimFront,
+    front: &VerbatimFront<'_>,
     text: &[u8],
     out: &mut [u8],
     error: &mut CError,

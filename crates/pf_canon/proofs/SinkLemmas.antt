@@ -1,5 +1,5 @@
 -- What a sink was given.
-use Rattle.std.proofs.Common.{◌≡◌, ℕ, ◌+◌, ◌-◌, ◌*◌, ◌≤◌, ◌<◌, ◌^◌, [], ◌++◌, replicate, refl, sym, ap, ◌∙◌, subst, arith, length, ◌≢◌, Bool, Option, Some, None}
+use Rattle.std.proofs.Common.{◌≡◌, ℕ, ◌+◌, ◌-◌, ◌*◌, ◌≤◌, ◌<◌, ◌^◌, List, [], ◌∷◌, ◌++◌, replicate, refl, sym, ap, ◌∙◌, subst, arith, length, ◌≢◌, Bool, Option, Some, None}
 use Rattle.std.specs.Prelude.{flat_map, MatchResult, Result, Ok, Err, IsTrue, MatchOption, ◌↔◌}
 use Rattle.std.proofs.lemmas.List.{replicate-append-replicate, append-nil, append_cancel_left}
 use Rattle.std.specs.Borrow.{Bor}
@@ -13,7 +13,8 @@ use Rattle.pf_text.specs.declared.refusals.Refusal.{Refusal}
 use Rattle.pf_text.specs.CanonicalRuns.{silents}
 use Rattle.pf_canon.specs.declared.limits.TheConstants.{BLOCK}
 use Rattle.pf_canon.specs.Answers.{IsCanonicalFor}
-use Rattle.pf_canon.specs.Sink.{IsSink, Counts, IsFrontStripped, IsLeft}
+use Rattle.pf_canon.specs.Sink.{IsBuilt, IsSink, Counts, IsFrontStripped, IsLeft, given_len}
+use Rattle.pf_canon.specs.declared.sink.TextBuilder.{TextBuilder}
 use Rattle.pf_canon.proofs.CanonicalItems.{item_spelling-append}
 use Rattle.pf_canon.proofs.TextLemmas.{items_few}
 use Rattle.pf_canon.proofs.TransducerLemmas.{most_items}
@@ -64,6 +65,17 @@ few_bytes model t c h =
     let few = h.few in
     let limit = h.accepted.limit in
     omega (arith, few, limit, most_items h.items, items_few t h.items h.accepted.reads)
+
+pub no_bytes : (t : Text) → length t ≡ 0 → t ≡ []
+no_bytes [] e = refl
+no_bytes (byte ∷ t) e = absurd (omega (arith, e))
+
+-- all that was put into empty room, if there was enough
+pub built_whole : {R : Type 0} (bytes_of : R → Text) (old new : TextBuilder R) (c : Text) → IsBuilt bytes_of old new c → given_len bytes_of old ≡ 0
+    → new.lost ≡ 0 → bytes_of new.buffer ≡ c
+built_whole bytes_of old new c h empty kept =
+    let none = no_bytes (bytes_of old.buffer) (omega (arith, empty)) in
+    (h.whole kept).1 ∙ ap (λ t. t ++ c) none
 
 -- so they are where all went into empty room, whether there was enough or not
 pub counted_in_room : (model : Model) (t c : Text) (before after len : ℕ) → IsCanonicalFor model t c → before ≡ 0 → Counts before (length c) after

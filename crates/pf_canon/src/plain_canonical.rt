@@ -6,7 +6,7 @@ ghost use Rattle.pf_values.specs.meaning.Canonical.{IsCanonicalText};
 ghost use Rattle.pf_values.specs.meaning.Items.{IsAccepted};
 
 use crate::changed_directives::known_at_front;
-use pf_text::{CanonicalRuns, is_plainly_accepted};
+use pf_text::{Walk, canonical_end, is_known_accepted};
 use pf_values::Model;
 use pf_values::limits::MAX_TEXT_LEN;
 
@@ -19,15 +19,15 @@ pub(crate) fn known_canonical(model: Model, text: &[u8]) -> Option<bool>
     if text.len() as u64 > MAX_TEXT_LEN {
         return None;
     }
-    let runs = CanonicalRuns::of(text);
-    let mut at = runs.end(text, 0);
+    let walk = Walk::new(text);
+    let mut at = canonical_end(walk, 0);
     while at < text.len() {
         let rest = &text[at..];
         let (is_kept, len) = known_at_front(model, rest)?;
         if !is_kept {
             return known_other(&rest[len..]);
         }
-        at = runs.end(text, at + len);
+        at = canonical_end(walk, at + len);
     }
     Some(true)
 }
@@ -37,7 +37,7 @@ pub(crate) fn known_canonical(model: Model, text: &[u8]) -> Option<bool>
 fn known_other(rest: &[u8]) -> Option<bool>
     ensures { MatchOption result ⊤ (λ is. (is ≡ false) × IsAccepted rest.now) }
 {
-    if is_plainly_accepted(rest) {
+    if is_known_accepted(rest) {
         return Some(false);
     }
     None

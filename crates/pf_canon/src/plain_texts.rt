@@ -4,8 +4,9 @@ ghost use Rattle.std.specs.Prelude.{◌≡◌, ◌+◌, ◌<◌, ◌≤◌, List
 ghost use Rattle.pf_values.specs.declared.limits.TheConstants.{MAX_TEXT_LEN as LIMIT};
 ghost use Rattle.pf_values.specs.meaning.Items.{Directive as DirectiveItem, Item};
 ghost use Rattle.pf_values.specs.meaning.Text.{Text};
-ghost use Rattle.pf_text.specs.CanonicalRuns.{AreRunsOf, IsCanonicalRun};
+ghost use Rattle.pf_text.specs.CanonicalRuns.{IsCanonicalRun};
 ghost use Rattle.pf_text.specs.SpelledFronts.{IsSpelledFront};
+ghost use Rattle.pf_text.specs.Walks.{IsWalkOver};
 ghost use Rattle.pf_reduce.specs.Changes.{IsChange};
 ghost use Rattle.pf_reduce.specs.declared.changes.Change.TheVariants.{Filled, Padded};
 ghost use Rattle.pf_canon.specs.ChangedDirectives.{IsChangedFront, PutsFront, between, letters_kept};
@@ -15,25 +16,24 @@ ghost use Rattle.pf_canon.specs.declared.limits.TheConstants.{MAX_DIRECTIVE_LEN}
 use crate::changed_directives::{ChangedDirective, keeps_letters};
 use crate::sink::{Sink, put_repeated};
 use pf_reduce::{Change, Core, Reduced, reduce};
-use pf_text::{CanonicalRuns, SpelledDirective, directive_at_front, spell};
+use pf_text::{SpelledDirective, Walk, canonical_end, directive_at_front, spell};
 use pf_values::limits::MAX_TEXT_LEN;
 use pf_values::padding::MAX_RUN;
 use pf_values::{Directive, Flag, Model, padding};
 use std::slice;
 
-/// Puts the canonical text of the front of a format whose first `verbatim_len` bytes are canonical, and
+/// Puts the canonical text of the front of a format that is canonical up to the offset of a walk, and
 /// returns how many bytes that front has: mostly all, and fewer where the format is refused or has
 /// `%.0s`.
 pub(crate) fn put_plain<S: Sink>(
     model: Model,
     text: &[u8],
-    runs: CanonicalRuns,
-    verbatim_len: usize,
+    verbatim: Walk<'_>,
     sink: &mut S,
 ) -> usize
-    requires runs { AreRunsOf runs text.now }
-    requires within { verbatim_len ≤ length text.now }
-    requires verbatim { (items : List Item) × IsCanonicalRun model (take verbatim_len text.now) items }
+    requires over { IsWalkOver text.now verbatim }
+    requires within { verbatim.at ≤ length text.now }
+    requires verbatim { (items : List Item) × IsCanonicalRun model (take verbatim.at text.now) items }
     ensures within { result ≤ length text.now }
     ensures few { result ≤ LIMIT }
     ensures written { (out : Text) × S.given sink.old sink.new out
@@ -43,19 +43,19 @@ pub(crate) fn put_plain<S: Sink>(
         return 0;
     }
     let mut from = 0;
-    let mut at = verbatim_len;
+    let mut at = verbatim.at;
     while at < text.len() {
         match ChangedDirective::at_front(model, &text[at..]) {
             Some(directive) => {
                 from = put_changed(model, text, from, at, &directive, sink);
-                at = runs.end(text, at + directive.spelled.len);
+                at = canonical_end(verbatim, at + directive.spelled.len);
             }
             None => {
                 sink.put(&text[from..at]);
                 match put_directive(model, &text[at..], sink) {
                     Some(len) => {
                         from = at + len;
-                        at = runs.end(text, from);
+                        at = canonical_end(verbatim, from);
                     }
                     None => return at,
                 }

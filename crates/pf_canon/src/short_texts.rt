@@ -41,7 +41,7 @@ impl ShortText {
 
     /// Puts the canonical text of a format. False if it may have more than 128 bytes; then only some of
     /// it are there. `Err` if the format is refused.
-    pub fn put(&mut self, front: &VerbatimFront, text: &[u8]) -> Result<bool, Refusal>
+    pub fn put(&mut self, front: &VerbatimFront<'_>, text: &[u8]) -> Result<bool, Refusal>
         requires unused { IsUnused self.old }
         requires front { IsVerbatimFront text.now front.now }
         ensures { MatchResult result

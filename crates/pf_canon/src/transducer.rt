@@ -15,7 +15,7 @@ use crate::output::{Output, StepOutput};
 use crate::plain_texts::put_plain;
 use crate::sink::Sink;
 use pf_reduce::{Core, Reduced, reduce};
-use pf_text::{CanonicalRuns, Refusal, Scanner, Spelling, Step, spell};
+use pf_text::{Refusal, Scanner, Spelling, Step, Walk, spell};
 use pf_values::{Directive, Model};
 
 /// A data model, the scanner's state inside the current item, and the number of `%.0s` not yet
@@ -67,7 +67,7 @@ impl Transducer {
         if !self.scanner.may_pass(text.len()) {
             return 0;
         }
-        let len = put_plain(self.model, text, CanonicalRuns::of(text), 0, sink);
+        let len = put_plain(self.model, text, Walk::new(text), sink);
         self.scanner.pass_items(len);
         len
     }

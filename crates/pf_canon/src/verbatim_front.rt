@@ -10,46 +10,46 @@ use crate::chunk::put_chunks;
 use crate::plain_texts::put_plain;
 use crate::sink::Sink;
 use crate::transducer::Transducer;
-use pf_text::{CanonicalRuns, Refusal};
+use pf_text::{Refusal, Walk, canonical_end};
 use pf_values::Model as DataModel;
 use pf_values::limits::MAX_TEXT_LEN;
 
 /// The bytes at the front of a format that are verbatim, that is, their own canonical text in a data
 /// model.
 #[derive(Clone, Copy, Debug)]
-pub struct VerbatimFront {
+pub struct VerbatimFront<'a> {
     model: DataModel,
-    runs: CanonicalRuns,
-    len: usize,
+    // Where it ends.
+    walk: Walk<'a>,
 }
 
-impl VerbatimFront {
+impl<'a> VerbatimFront<'a> {
     /// Returns the verbatim bytes at the front of a format.
     #[inline(always)]
-    pub fn of(model: DataModel, text: &[u8]) -> VerbatimFront
+    pub fn of(model: DataModel, text: &'a [u8]) -> VerbatimFront<'a>
         ensures model { front_model result ≡ model }
         ensures front { IsVerbatimFront text.now result }
     {
-        let runs = CanonicalRuns::of(text);
-        let len = runs.end(text, 0);
-        VerbatimFront { model, runs, len }
+        let mut walk = Walk::new(text);
+        walk.at = canonical_end(walk, 0);
+        VerbatimFront { model, walk }
     }
 
     /// With the directives after it that are verbatim, too, and the verbatim bytes after each.
-    pub(crate) fn extended(&self, text: &[u8]) -> VerbatimFront
+    pub(crate) fn extended(&self, text: &[u8]) -> VerbatimFront<'a>
         requires { IsVerbatimFront text.now self.now }
         ensures model { front_model result ≡ front_model self.now }
         ensures front { IsVerbatimFront text.now result }
     {
-        let mut len = self.len;
-        while len < text.len() {
-            let kept = kept_len(self.model, &text[len..]);
+        let mut walk = self.walk;
+        while walk.at < text.len() {
+            let kept = kept_len(self.model, &text[walk.at..]);
             if kept == 0 {
-                return VerbatimFront { len, ..*self };
+                return VerbatimFront { walk, ..*self };
             }
-            len = self.runs.end(text, len + kept);
+            walk.at = canonical_end(walk, walk.at + kept);
         }
-        VerbatimFront { len, ..*self }
+        VerbatimFront { walk, ..*self }
     }
 
     /// Returns whether all bytes of the format are verbatim, as they are in most. Then it is accepted,
@@ -60,7 +60,7 @@ impl VerbatimFront {
         requires { IsVerbatimFront text.now self.now }
         ensures { IsTrue result → IsCanonicalFor (front_model self.now) text.now text.now }
     {
-        if self.len != text.len() {
+        if self.walk.at != text.len() {
             return false;
         }
         if text.len() as u64 > MAX_TEXT_LEN {
@@ -77,7 +77,7 @@ impl VerbatimFront {
             × IsCanonicalFor (front_model self.now) text.now c)
             (λ refusal. IsRefusedAt text.now refusal.kind refusal.at) }
     {
-        let at = put_plain(self.model, text, self.runs, self.len, sink);
+        let at = put_plain(self.model, text, self.walk, sink);
         if at == text.len() {
             return Ok(());
         }

@@ -1,7 +1,7 @@
 -- Items that are spelled as the canonical text spells them.
-use Rattle.std.proofs.Common.{◌≡◌, ◌≢◌, ℕ, zero, suc, ◌+◌, ◌-◌, ◌*◌, ◌<◌, ◌≤◌, min, true, false, Bool, List, [], ◌∷◌, ◌++◌, length, map, take, drop, Some, None}
+use Rattle.std.proofs.Common.{◌≡◌, ◌≢◌, ℕ, zero, suc, ◌+◌, ◌-◌, ◌*◌, ◌<◌, ◌≤◌, min, true, false, Bool, List, [], ◌∷◌, ◌++◌, length, map, take, drop, None}
 use Rattle.std.proofs.Common.{refl, sym, ap, ap₂, ◌∙◌, subst, arith, inl, inr, get_or}
-use Rattle.std.specs.Prelude.{flat_map, is_some, IsFalse, MatchBool, Option, ◌==◌, ◌⊎◌, if◌then◌else◌}
+use Rattle.std.specs.Prelude.{flat_map, IsFalse, MatchBool, ◌==◌, ◌⊎◌, if◌then◌else◌}
 use Rattle.std.specs.Fmt.{digits}
 use Rattle.std.specs.List.{AllByRecursion}
 use Rattle.std.proofs.Math.ListN.{drop_of_length-le}
@@ -33,14 +33,12 @@ use Rattle.pf_values.specs.meaning.Specification.{Specification}
 use Rattle.pf_values.specs.meaning.Spelling.{spelling_of}
 use Rattle.pf_values.specs.meaning.Text.{Text, percent}
 use Rattle.pf_text.specs.History.{EndsRun, IsAfter, IsLiteral}
-use Rattle.pf_text.specs.Letters.{conv_of}
 use Rattle.pf_text.specs.CanonicalRuns.{IsCanonicalItem, IsCanonicalRun, BeginsSilent, PassesCanonicalRun, alternative_bytes, has_canonical_parts}
 use Rattle.pf_text.specs.CanonicalRuns.{is_kept_modifier, is_kept_number, silents}
 use Rattle.pf_text.specs.declared.scanner.Scanner.{Scanner}
 use Rattle.pf_text.proofs.LiteralLemmas.{after_read, or_full, stops}
 use Rattle.pf_text.proofs.ReadBack.{spelled_read}
 use Rattle.pf_text.proofs.Texts.{Reads-push}
-use Rattle.pf_text.proofs.Sound.{byte_of_conv}
 
 -- a byte that is written as it is
 run_written : (byte : ℕ) → IsLiteral byte → item_spelling (Byte byte) ≡ byte ∷ []
@@ -135,7 +133,7 @@ conv_kept : (conv : Conv) → conv ≢ I → kept_conv conv ≡ conv
 conv_kept I other = absurd (other refl)
 conv_kept _ other = refl
 
-conv_normal : (model : Model) (conv : Conv) → conv ≢ I → IsNormal model (bare conv)
+pub conv_normal : (model : Model) (conv : Conv) → conv ≢ I → IsNormal model (bare conv)
 conv_normal model conv other = parts_normal model false lengths.None conv (conv_allowed conv) refl (conv_kept conv other) (conv_form model conv other)
 
 -- a number of any bits has a digit
@@ -219,9 +217,6 @@ parts_are_canonical model alternative modifier conv canonical = go alternative c
         whole = sym (append-nil (spelling_of (parts false modifier conv)));
       }
 
-pub percent_is_canonical : (model : Model) (letter : ℕ) → letter ≡ percent → (item : Item) × IsCanonicalRun model (percent ∷ letter ∷ []) (item ∷ [])
-percent_is_canonical model letter e = (Byte percent, record { canonical = ((λ z. cc), tt); whole = ap (λ b. percent ∷ b ∷ []) e })
-
 -- the bytes that begin a text, one by one
 abbrev pub bytes_of : ℕ → (ℕ → ℕ) → Text
 bytes_of zero byte_at = []
@@ -231,13 +226,6 @@ pub first_bytes : (n : ℕ) (text : Text) → n ≤ length text → take n text 
 first_bytes zero text few = refl
 first_bytes (suc n) [] few = absurd (omega (arith, few))
 first_bytes (suc n) (byte ∷ text) few = ap (λ t. byte ∷ t) (first_bytes n text (omega (arith, few)))
-
-pub conv_is_canonical : (model : Model) (letter : ℕ) (o : Option Conv) → conv_of letter ≡ o → letter ≢ 105 → is_some o ≡ true
-    → (item : Item) × IsCanonicalRun model (percent ∷ letter ∷ []) (item ∷ [])
-conv_is_canonical model letter None e other some = absurd (cc)
-conv_is_canonical model letter (Some conv) e other some =
-    let byte = byte_of_conv letter conv e in
-    (Directive (bare conv), record { canonical = (conv_normal model conv (λ i. other (byte ∙ ap conv_letter i)), tt); whole = ap (λ b. percent ∷ b ∷ []) byte })
 
 all_append : (model : Model) (a b : List Item) → AllByRecursion (IsCanonicalItem model) a → AllByRecursion (IsCanonicalItem model) b
     → AllByRecursion (IsCanonicalItem model) (a ++ b)
@@ -287,7 +275,7 @@ ends_here t [] h = tt
 ends_here t (b ∷ rest) (inl full) = inr (inr full)
 ends_here t (b ∷ rest) (inr ends) = or_full b (length t ≡ MAX_TEXT_LEN) (stops b (ends (omega arith)))
 
-take_front : (n m : ℕ) (bytes : Text) → n ≤ length (take m bytes) → take n (take m bytes) ≡ take n bytes
+pub take_front : (n m : ℕ) (bytes : Text) → n ≤ length (take m bytes) → take n (take m bytes) ≡ take n bytes
 take_front n m bytes few = sym (take-append-le n (take m bytes) (drop m bytes) few) ∙ ap (take n) (take-append-drop m bytes)
 
 -- what begins the rest of a front begins the rest of the text

@@ -13,13 +13,14 @@ pub mod CanonicalRunLemmas
 mod SearchLemmas
 mod MarkLemmas
 pub mod MarkedRunLemmas
-mod PlainLemmas
+mod ItemLemmas
 pub mod SpelledLemmas
 mod BetweenLemmas
-mod TypedLemmas
+pub mod ReadingLemmas
 pub mod PieceLemmas
 pub mod DirectiveLemmas
 pub mod SpecificationLemmas
+pub mod WalkLemmas
 pub mod PieceTexts
 pub mod SignatureLemmas
 pub mod WholeRunLemmas

@@ -1,14 +1,15 @@
 -- The bits of a number that marks bytes of a text.
 use Rattle.std.proofs.Common.{◌≡◌, ◌≢◌, ℕ, zero, suc, ◌+◌, ◌-◌, ◌*◌, ◌/◌, ◌%◌, ◌^◌, ◌<◌, ◌≤◌, max, Bool, true, false, cond, List, ◌++◌}
-use Rattle.std.proofs.Common.{length, get_or, map, replicate, bit_or, refl, sym, ap, ◌∙◌, arith, inl, inr, w64}
+use Rattle.std.proofs.Common.{length, get_or, map, replicate, bit_or, refl, sym, ap, ap₂, subst, ◌∙◌, arith, inl, inr, w64}
 use Rattle.std.specs.Int.{bit_at, trailing_zeros}
 use Rattle.std.specs.Simd.Lanes.{chunk, mask_l}
 use Rattle.std.proofs.Math.Nat.{div-div-eq-div-mul, div-le_self, pow-succ'}
+use Rattle.std.proofs.Math.Pow.{pow_mono}
 use Rattle.std.proofs.lemmas.Bool.{cases_lt}
 use Rattle.std.proofs.lemmas.List.{get_or-append_right, get_or-map, length-append, length-map, length-replicate}
-use Rattle.std.proofs.lemmas.Nat.{pow-add}
-use Rattle.std.proofs.lemmas.Nat.Bits.{bit_at-lt, bit_at-trailing_zeros, bit_at-zero, bit_at_or}
-use Rattle.std.proofs.lemmas.Simd.{bit_mask_l, get_or-chunk, length-chunk, mask_l-mod}
+use Rattle.std.proofs.lemmas.Nat.{or_lt, pow-add}
+use Rattle.std.proofs.lemmas.Nat.Bits.{bit_at_above, bit_at-lt, bit_at-trailing_zeros, bit_at-zero, bit_at_or}
+use Rattle.std.proofs.lemmas.Simd.{bit_mask_l, get_or-chunk, length-chunk, mask_l-lt, mask_l-mod}
 use Rattle.memchr.specs.Find.{is_byte2}
 use Rattle.pf_values.specs.meaning.Text.{Text}
 use Rattle.pf_text.specs.Marks.{HasNoBit, IsMarked}
@@ -48,6 +49,26 @@ vector_marked text at n room few mask is k low high ends =
     ap (λ m. bit_at (m * 2 ^ at % 2 ^ 64) k) is ∙ ap (λ m. bit_at m k) (shifted_few at lanes (omega (arith, few, len)))
     ∙ bit_mask_l (replicate at false ++ lanes) k ∙ set_bit (get_or (replicate at false ++ lanes) k false) lane
 
+-- and no bit is set behind these
+pub vector_few : (text : Text) (at n : ℕ) → at + n ≤ length text → at + n ≤ 64 → (mask : ℕ) → mask ≡ mask_l (map (is_byte2 37 0) (chunk at n text))
+    → mask * 2 ^ at % 2 ^ 64 < 2 ^ (at + n)
+vector_few text at n room few mask is =
+    let bytes = chunk at n text in
+    let lanes = map (is_byte2 37 0) bytes in
+    let len : length lanes ≡ n = length-map bytes (is_byte2 37 0) ∙ length-chunk at n text room in
+    let all : length (replicate at false ++ lanes) ≡ at + n =
+    length-append (replicate at false) lanes ∙ ap₂ (λ (x y : ℕ). x + y) (length-replicate at false) len in
+    let same : mask * 2 ^ at % 2 ^ 64 ≡ mask_l (replicate at false ++ lanes) =
+    ap (λ m. m * 2 ^ at % 2 ^ 64) is ∙ shifted_few at lanes (omega (arith, few, len)) in
+    subst (λ k. mask * 2 ^ at % 2 ^ 64 < 2 ^ k) all (subst (λ m. m < 2 ^ length (replicate at false ++ lanes)) (sym same) (mask_l-lt (replicate at false ++ lanes)))
+
+-- the bits of two numbers
+pub both_few : (a b i j k : ℕ) → a < 2 ^ i → b < 2 ^ j → i ≤ k → j ≤ k → bit_or a b < 2 ^ k
+both_few a b i j k h g first second = or_lt k a b (wider a i k h first) (wider b j k g second)
+  where
+    wider : (a i k : ℕ) → a < 2 ^ i → i ≤ k → a < 2 ^ k
+    wider a i k less up = let most : 2 ^ i ≤ 2 ^ k = pow_mono up in omega (arith, less, most)
+
 max_left : (a b : ℕ) → a ≡ 1 → b < 2 → max a b ≡ 1
 max_left a b e less = omega (arith, e, less)
 
@@ -73,6 +94,20 @@ from_left marks at k low e =
 -- no mark is left
 pub none_marked : (marks at stop : ℕ) → marks / 2 ^ at ≡ 0 → HasNoBit marks at stop
 none_marked marks at stop e k low high = from_left marks at k low (ap (λ m. bit_at m (k - at)) e ∙ bit_at-zero (k - at))
+
+-- where a bit is set, the text isn't at its end
+pub marked_within : (marks at stop : ℕ) → marks < 2 ^ stop → bit_at marks at ≡ 1 → at < stop
+marked_within marks at stop few set = elim (cases_lt at stop) [
+  | inl less ↦ less
+  | inr more ↦ (let none = bit_at_above marks stop at few more in absurd (omega (arith, set, none)))
+]
+
+-- a bit is set there
+pub bit_found : (marks at : ℕ) → marks < 2 ^ 64 → marks / 2 ^ at ≢ 0 → bit_at marks (at + trailing_zeros w64 (marks / 2 ^ at)) ≡ 1
+bit_found marks at fits some =
+    let left = marks / 2 ^ at in
+    let found = bit_at-trailing_zeros w64 left (omega (arith, some)) (omega (arith, fits, div-le_self marks (2 ^ at))) in
+    sym (bits_left marks at (trailing_zeros w64 left)) ∙ found.1
 
 -- or the next one is found
 pub next_found : (marks at : ℕ) → marks < 2 ^ 64 → marks / 2 ^ at ≢ 0 → HasNoBit marks at (at + trailing_zeros w64 (marks / 2 ^ at))

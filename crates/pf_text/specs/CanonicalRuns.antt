@@ -1,5 +1,5 @@
 -- Items that are spelled as the canonical text spells them. This project's own.
-use Rattle.std.specs.Prelude.{◌≡◌, ◌≢◌, ℕ, Bool, true, false, not, if◌then◌else◌, ◌+◌, ◌<◌, ◌≤◌, List, [], ◌∷◌, ◌++◌, ◌*◌, length, take, drop, replicate, flat_map, IfSome}
+use Rattle.std.specs.Prelude.{◌≡◌, ◌≢◌, ℕ, Bool, true, false, not, if◌then◌else◌, ◌+◌, ◌<◌, ◌≤◌, List, [], ◌∷◌, ◌++◌, ◌*◌, length, take, drop, replicate, flat_map}
 use Rattle.std.specs.List.{AllByRecursion}
 use Rattle.pf_values.specs.declared.conversions.Conv.{Conv}
 use Rattle.pf_values.specs.declared.conversions.Conv.TheVariants.{D, U, O, X, UpperX, B}
@@ -13,14 +13,7 @@ use Rattle.pf_values.specs.meaning.Normal.{IsNormal, silent}
 use Rattle.pf_values.specs.meaning.Spelling.{spelling_of}
 use Rattle.pf_values.specs.meaning.Text.{Text}
 use Rattle.pf_text.specs.declared.scanner.Scanner.{Scanner}
-use Rattle.pf_text.specs.declared.canonical_runs.CanonicalRuns.{CanonicalRuns}
-use Rattle.pf_text.specs.declared.marks.TheConstants.{MAX_MARKED}
 use Rattle.pf_text.specs.History.{EndsRun, IsAfter}
-use Rattle.pf_text.specs.Marks.{AreMarksOf}
-
--- the runs are this text's
-abbrev pub AreRunsOf : CanonicalRuns → Text → Type 0
-AreRunsOf runs text = IfSome runs.marks (λ marks. (length text ≤ MAX_MARKED) × AreMarksOf marks text)
 
 -- `%.0s`, `count` times
 abbrev pub silents : ℕ → List Item

@@ -21,3 +21,7 @@ AreMarksOf marks text = IsMarked marks.bits text 0 (length text)
 -- there is no mark from one offset up to another
 abbrev pub HasNoMark : Marks → ℕ → ℕ → Type 0
 HasNoMark marks = HasNoBit marks.bits
+
+-- there is one at an offset
+abbrev pub HasMark : Marks → ℕ → Type 0
+HasMark marks at = bit_at marks.bits at ≡ 1

@@ -2,8 +2,8 @@
 ghost use Rattle.std.specs.Prelude.{◌≡◌, ◌≤◌, [], ◌++◌, IsTrue, MatchResult};
 ghost use Rattle.pf_text.specs.Signatures.{TakesTypes, FaultForSignature, types_of};
 
+use crate::known_argument_types::known_types;
 use crate::pieces::Pieces;
-use crate::plain_types::known_types;
 use crate::refusals::TextFault;
 use crate::signatures::Signature;
 use pf_values::{ArgType, Model};

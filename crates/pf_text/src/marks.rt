@@ -1,6 +1,7 @@
 //! Where a short text has the bytes `%` and 0: so its runs of literal bytes need no search.
-ghost use Rattle.std.specs.Prelude.{◌≡◌, ◌+◌, ◌<◌, ◌≤◌, length, MatchOption};
-ghost use Rattle.pf_text.specs.Marks.{AreMarksOf, HasNoBit, HasNoMark, IsMarked};
+ghost use Rattle.std.specs.Prelude.{◌≡◌, ◌+◌, ◌^◌, ◌<◌, ◌≤◌, length, MatchOption};
+ghost use Rattle.std.specs.Int.{bit_at};
+ghost use Rattle.pf_text.specs.Marks.{AreMarksOf, HasMark, HasNoBit, HasNoMark, IsMarked};
 
 use crate::search::ends_at;
 
@@ -27,7 +28,8 @@ impl Marks {
     pub fn of(text: &[u8]) -> Marks
         requires some { MIN_MARKED ≤ length text.now }
         requires few { length text.now ≤ MAX_MARKED }
-        ensures { AreMarksOf result text.now }
+        ensures marks { AreMarksOf result text.now }
+        ensures few { result.bits < 2 ^ length text.now }
     {
         Marks {
             bits: marks_of(text),
@@ -39,7 +41,8 @@ impl Marks {
     pub fn next_from(self, at: usize) -> Option<usize>
         requires { at < 64 }
         ensures { MatchOption result (HasNoMark self at 64)
-            (λ offset. (at ≤ offset) × (offset < 128) × HasNoMark self at offset) }
+            (λ offset. (at ≤ offset) × (offset < 128) × HasNoMark self at offset
+            × HasMark self offset) }
     {
         next_marked(self.bits, at)
     }
@@ -49,7 +52,8 @@ impl Marks {
 fn marks_of(text: &[u8]) -> u64
     requires some { MIN_MARKED ≤ length text.now }
     requires few { length text.now ≤ MAX_MARKED }
-    ensures { IsMarked result text.now 0 (length text.now) }
+    ensures marks { IsMarked result text.now 0 (length text.now) }
+    ensures few { result < 2 ^ length text.now }
 {
     let len = text.len();
     if len < LANES {
@@ -74,7 +78,8 @@ fn marks_at<const N: usize>(text: &[u8], at: usize) -> u64
     requires room { at + N ≤ length text.now }
     requires few { at + N ≤ 64 }
     requires some { 0 < N }
-    ensures { IsMarked result text.now at (at + N) }
+    ensures marks { IsMarked result text.now at (at + N) }
+    ensures few { result < 2 ^ (at + N) }
 {
     ends_at::<N>(text, at) << at as u32
 }
@@ -83,7 +88,8 @@ fn marks_at<const N: usize>(text: &[u8], at: usize) -> u64
 fn next_marked(marks: u64, at: usize) -> Option<usize>
     requires { at < 64 }
     ensures { MatchOption result (HasNoBit marks at 64)
-        (λ offset. (at ≤ offset) × (offset < 128) × HasNoBit marks at offset) }
+        (λ offset. (at ≤ offset) × (offset < 128) × HasNoBit marks at offset
+        × (bit_at marks offset ≡ 1)) }
 {
     let left = marks >> at as u32;
     if left == 0 {

@@ -1,5 +1,4 @@
-//! The pieces of a format in memory: runs of literal bytes, `%%`, and directives; and whether a
-//! text is a format.
+//! The pieces of a format in memory: runs of literal bytes, `%%`, and directives.
 ghost use Rattle.std.specs.Prelude.{◌≡◌, ◌<◌, ◌≤◌, List, [], length, take, IsFalse, MatchOption, MatchResult, ⊤};
 ghost use Rattle.pf_values.specs.declared.limits.TheConstants.{MAX_TEXT_LEN};
 ghost use Rattle.pf_values.specs.meaning.Items.{IsAccepted, Item, Reads};
@@ -7,7 +6,6 @@ ghost use Rattle.pf_values.specs.meaning.Refusals.{IsRefusedAt};
 ghost use Rattle.pf_values.specs.meaning.Text.{Text};
 ghost use Rattle.pf_text.specs.History.{EndsRun};
 
-use crate::plain::{is_plainly_accepted, plain_stop};
 use crate::refusals::Refusal;
 use crate::scanner::{Scanner, Step};
 use pf_values::{ArgType, Directive, Model};
@@ -65,8 +63,8 @@ impl<'a> Pieces<'a> {
         }
     }
 
-    // The pieces of a text after its first `len` bytes, which are whole items.
-    fn after_items(text: &'a [u8], len: usize) -> Pieces<'a>
+    /// The pieces of a text after its first `len` bytes, which are whole items.
+    pub(crate) fn after_items(text: &'a [u8], len: usize) -> Pieces<'a>
         requires within { len ≤ length text.now }
         requires few { len ≤ MAX_TEXT_LEN }
         ensures { (items : List Item) → Reads (take len text.now) items
@@ -189,46 +187,4 @@ impl<'a> Iterator for Pieces<'a> {
             Err(refusal) => Some(Err(refusal)),
         }
     }
-}
-
-/// Checks whether the text is accepted. `Err` if not, with where and why it is refused.
-#[inline(always)]
-pub fn check(text: &[u8]) -> Result<(), Refusal>
-    ensures { MatchResult result (λ _. IsAccepted text.now)
-        (λ refusal. IsRefusedAt text.now refusal.kind refusal.at) }
-{
-    if is_plainly_accepted(text) {
-        return Ok(());
-    }
-    check_other(text)
-}
-
-// `check` of a text that may be refused: what is known of its front isn't read byte by byte.
-#[inline(never)]
-fn check_other(text: &[u8]) -> Result<(), Refusal>
-    ensures { MatchResult result (λ _. IsAccepted text.now)
-        (λ refusal. IsRefusedAt text.now refusal.kind refusal.at) }
-{
-    match plain_stop(text) {
-        Some(stop) => check_after_items(text, stop),
-        None => Ok(()),
-    }
-}
-
-// `check` of a text whose first `len` bytes are whole items.
-#[inline(never)]
-fn check_after_items(text: &[u8], len: usize) -> Result<(), Refusal>
-    requires within { len ≤ length text.now }
-    requires few { len ≤ MAX_TEXT_LEN }
-    requires read { (items : List Item) × Reads (take len text.now) items }
-    ensures { MatchResult result (λ _. IsAccepted text.now)
-        (λ refusal. IsRefusedAt text.now refusal.kind refusal.at) }
-{
-    for piece in Pieces::after_items(text, len) {
-        match piece {
-            Ok(_) => {}
-            Err(refusal) => return Err(refusal),
-        }
-    }
-    Ok(())
 }

@@ -1,7 +1,15 @@
-use Rattle.std.proofs.Common.{arith}
+use Rattle.std.proofs.Common.{◌∙◌, arith, subst, sym}
 use Rattle.std.proofs.lemmas.Result.{err_from_is_err_and}
+use Rattle.pf_canon.specs.Answers.{IsCanonicalFor}
+use Rattle.pf_canon.proofs.SinkLemmas.{no_bytes}
 use Rattle.pf_canon.proofs.TextLemmas.{hindered}
 use Rattle.pf_canon.proofs.canonical_texts.build_counted.Goals as goal
+
+pub returns-then-len-eq0 : goal.returns-then-len-eq0
+returns-then-len-eq0 c =
+    let n = c.requires.len in
+    let none = no_bytes n.0 (sym n.2 ∙ c.if-len-eq0.true) in
+    subst (IsCanonicalFor c.args.front.now.model c.args.text.now) (none ∙ sym c.new.ensures.items) n.1
 
 pub returns-in_err-with_capacity : goal.returns-in_err-with_capacity
 returns-in_err-with_capacity c =

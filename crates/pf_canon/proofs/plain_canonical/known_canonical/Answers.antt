@@ -1,5 +1,5 @@
 use Rattle.std.proofs.Common.{◌≡◌, ◌+◌, ◌-◌, arith, drop, subst, take}
-use Rattle.std.proofs.lemmas.List.{drop-drop, take_rest}
+use Rattle.std.proofs.lemmas.List.{drop-drop, length-drop, take_rest}
 use Rattle.pf_values.specs.meaning.Items.{IsAccepted}
 use Rattle.pf_text.specs.CanonicalRuns.{IsCanonicalRun}
 use Rattle.pf_canon.proofs.KnownLemmas.{all_taken, directive_taken, other_known, other_taken, run_taken}
@@ -7,11 +7,12 @@ use Rattle.pf_canon.proofs.plain_canonical.known_canonical.Goals as goal
 
 pub loop-at-init : goal.loop-at-init
 loop-at-init c =
-    let end = c.end-at in
-    let all : end.result - 0 ≡ end.result = omega arith in
-    let run = end.ensures.canonical c.args.model in
+    let end = c.canonical_end-at.result in
+    let at_end = c.canonical_end-at.ensures c.args.text.now c.new-walk.ensures.over (omega arith) in
+    let all : end - 0 ≡ end = omega arith in
+    let run = at_end.canonical c.args.model in
     record {
-      within = end.ensures.within.1;
+      within = at_end.within;
       taken = (run.0, subst (λ n. IsCanonicalRun c.args.model (take n c.args.text.now) run.0) all run.1);
     }
 
@@ -38,12 +39,13 @@ loop-at-preserved c =
     let len = c.in_ok-is_kept.len in
     let front = rw take_rest at c.in_ok-is_kept.ensures in
     let own = rw c.if-not-is_kept.false at front.known in
-    let end = c.end-at-in-loop-at in
+    let end = c.canonical_end-at-in-loop-at in
+    let at_end = end.ensures text c.new-walk.ensures.over (omega (arith, front.within, length-drop at text, c.loop-at-test.true)) in
     let now = directive_taken model text at i.0 i.1 len front.directive own.0 own.1 in
-    let run = end.ensures.canonical model in
+    let run = at_end.canonical model in
     record {
-      within = end.ensures.within.1;
-      taken = (_, run_taken model text (at + len) _ now end.result run.0 end.ensures.within.0 run.1);
+      within = at_end.within;
+      taken = (_, run_taken model text (at + len) _ now end.result run.0 at_end.from run.1);
     }
 
 pub returns : goal.returns

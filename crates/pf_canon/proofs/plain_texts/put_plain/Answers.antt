@@ -12,12 +12,12 @@ returns-then-text-gt-MAX_TEXT_LEN-clause-written g c = ([], g.met.S.Sink.laws.no
 
 pub loop-at-init : goal.loop-at-init
 loop-at-init g c =
-    let all : c.args.verbatim_len - 0 ≡ c.args.verbatim_len = omega arith in
-    let run = run_written c.args.model [] [] (take c.args.verbatim_len c.args.text.now) c.requires.verbatim.0 (none_written c.args.model) c.requires.verbatim.1 in
+    let all : c.args.verbatim.at - 0 ≡ c.args.verbatim.at = omega arith in
+    let run = run_written c.args.model [] [] (take c.args.verbatim.at c.args.text.now) c.requires.verbatim.0 (none_written c.args.model) c.requires.verbatim.1 in
     record {
       low = omega arith;
       within = c.requires.within;
-      written = ([], g.met.S.Sink.laws.none c.args.sink.now, subst (λ n. IsWritten c.args.model (take c.args.verbatim_len c.args.text.now) (take n c.args.text.now)) (sym all) run);
+      written = ([], g.met.S.Sink.laws.none c.args.sink.now, subst (λ n. IsWritten c.args.model (take c.args.verbatim.at c.args.text.now) (take n c.args.text.now)) (sym all) run);
     }
 
 pub loop-at-preserved-in-Some : goal.loop-at-preserved-in-Some
@@ -26,15 +26,17 @@ loop-at-preserved-in-Some g c =
     let stop = c.loop-at.at + c.in-Some.directive.spelled.len in
     let puts = c.put_changed-from.ensures in
     let (more, given, written) = puts.written in
-    let end = c.end-at in
-    let run = end.ensures.canonical c.args.model in
+    let end = c.canonical_end-at in
+    let front = rw take_rest at c.in-Some.ensures in
+    let at_end = end.ensures c.args.text.now c.requires.over (omega (arith, front.0.within, length-drop c.loop-at.at c.args.text.now, c.loop-at-test.true)) in
+    let run = at_end.canonical c.args.model in
     record {
-      low = omega (arith, puts.within, end.ensures.within.0);
-      within = end.ensures.within.1;
+      low = omega (arith, puts.within, at_end.from);
+      within = at_end.within;
       written = (
         i.written.0 ++ more,
         g.met.S.Sink.laws.both c.args.sink.now c.loop-at.sink c.put_changed-from.new.sink i.written.0 more i.written.1 given,
-        run_follows c.args.model c.args.text.now c.put_changed-from.result stop end.result (i.written.0 ++ more) run.0 puts.within end.ensures.within.0
+        run_follows c.args.model c.args.text.now c.put_changed-from.result stop end.result (i.written.0 ++ more) run.0 puts.within at_end.from
             (written i.written.0 i.written.2) run.1,
       );
     }
@@ -49,18 +51,20 @@ loop-at-preserved g c =
     let left = between c.loop-at.from at text in
     let len = c.in-Some-put_directive.len in
     let settled = c.in-Some-put_directive.ensures in
-    let end = c.end-at-in-Some-put_directive in
-    let run = end.ensures.canonical model in
+    let end = c.canonical_end-at-in-Some-put_directive in
+    let few = rw take_rest at settled.1 in
+    let at_end = end.ensures text c.requires.over (omega (arith, few, length-drop at text, c.loop-at-test.true)) in
+    let run = at_end.canonical model in
     let out = (i.written.0 ++ left) ++ settled.2 in
     let now = rw take_rest at settled.4 (take at text) (i.written.0 ++ left) i.written.2 in
     record {
-      low = end.ensures.within.0;
-      within = end.ensures.within.1;
+      low = at_end.from;
+      within = at_end.within;
       written = (
         out,
         laws.both c.args.sink.now c.put.new.self c.put_directive.new.sink (i.written.0 ++ left) settled.2
             (laws.both c.args.sink.now c.loop-at.sink c.put.new.self i.written.0 left i.written.1 c.put.ensures) settled.3,
-        run_follows model text (at + len) (at + len) end.result out run.0 (omega arith) end.ensures.within.0
+        run_follows model text (at + len) (at + len) end.result out run.0 (omega arith) at_end.from
             (subst (IsWritten model (take (at + len) text)) (sym (nothing_between out text (at + len)))
             (subst (λ t. IsWritten model t out) (sym (take-add at len text)) now)) run.1,
       );

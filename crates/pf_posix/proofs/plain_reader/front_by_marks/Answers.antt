@@ -15,7 +15,7 @@ returns-in_default c =
     let none : HasNoMark c.of-marks.result c.loop-at.at (length t) = λ k low high. c.in_default.ensures k low (omega (arith, few, high)) in
     record {
       front = front_unmarked c.args.model t c.loop-at.at _ _ _ i.front c.of-marks.result (length t) (omega (arith, few)) i.within (omega arith)
-          c.of-marks.ensures none;
+          c.of-marks.ensures.marks none;
       same_length = i.same;
       within = omega arith;
       few = omega (arith, i.few, i.within);
@@ -30,7 +30,7 @@ loop-at-preserved-then-text-next-eq37 c =
     let within : offset + 1 < length t = omega (arith, c.if-next-text.false) in
     let front : IsPlainFront c.args.model t offset c.args.out.now c.loop-at.out c.loop-at.count =
     front_unmarked c.args.model t c.loop-at.at _ _ _ i.front c.of-marks.result offset (omega (arith, few)) c.in-Some.ensures.0 (omega (arith, within))
-    c.of-marks.ensures c.in-Some.ensures.2 in
+    c.of-marks.ensures.marks c.in-Some.ensures.2 in
     record {
       within = omega (arith, within);
       few = omega (arith, i.few, c.in-Some.ensures.0);
@@ -49,7 +49,7 @@ loop-at-preserved c =
     let read = c.in-Some-put_fetch in
     let front : IsPlainFront c.args.model t offset c.args.out.now c.loop-at.out c.loop-at.count =
     front_unmarked c.args.model t c.loop-at.at _ _ _ i.front c.of-marks.result offset (omega (arith, few)) c.in-Some.ensures.0 (omega (arith, here))
-    c.of-marks.ensures c.in-Some.ensures.2 in
+    c.of-marks.ensures.marks c.in-Some.ensures.2 in
     record {
       within = read.ensures.within;
       few = omega (arith, i.few, c.in-Some.ensures.0, read.ensures.from);

@@ -1,7 +1,7 @@
-//! What is known of a text without its reader: marks, canonical runs, whole directives, and types.
+//! What is known of a text without its reader: marks, where walks stop, whole directives, and types.
 use pf_text::{
-    CanonicalRuns, Marks, Refusal, Scanner, directive_at_front, is_plainly_accepted, known_types,
-    literal_len, spell, spelled_at_front,
+    Bare, Canonical, Marks, Passed, Percents, Refusal, Scanner, Walk, canonical_end,
+    directive_at_front, is_known_accepted, known_types, literal_len, spell, spelled_at_front,
 };
 use pf_values::{ArgType, Model, RefusalKind};
 
@@ -16,11 +16,8 @@ fn percent_and_nul_are_marked(rt: HostRuntime) {
 }
 
 // Where the canonical run ends that begins at an offset.
-fn run_end(text: &[u8], from: usize) -> Option<usize> {
-    if from > text.len() {
-        return None;
-    }
-    Some(CanonicalRuns::of(text).end(text, from))
+fn run_end(text: &[u8], from: usize) -> usize {
+    canonical_end(Walk::new(text), from)
 }
 
 // Eight bytes have marks, and six don't.
@@ -32,7 +29,37 @@ fn canonical_runs_end(rt: HostRuntime) {
             run_end(b"%da%i%s-", 5),
             run_end(b"%d%-3d", 0),
             run_end(b"%d%-3d", 2),
-        ] == [Some(3), Some(8), Some(2), Some(2)]
+        ] == [3, 8, 2, 2]
+    );
+}
+
+// Where a walk stops, and whether at a `%` that begins something else.
+fn stop<P: Passed>(text: &[u8]) -> (usize, bool) {
+    let mut walk = Walk::new(text);
+    let is_found = walk.find::<P>();
+    (walk.at, is_found)
+}
+
+#[test]
+fn a_walk_stops(rt: HostRuntime) {
+    assert!(rt;
+        [
+            stop::<Percents>(b"100%% of %d"),
+            stop::<Bare>(b"100%% of %d"),
+            stop::<Bare>(b"%d%i%s%5d"),
+            stop::<Canonical>(b"%d%#lx%lu%i"),
+            stop::<Canonical>(b"%hhd%zu"),
+            stop::<Canonical>(b"ab\0"),
+            stop::<Bare>(b"%"),
+        ] == [
+            (9, true),
+            (11, false),
+            (6, true),
+            (9, true),
+            (4, true),
+            (2, false),
+            (0, false)
+        ]
     );
 }
 
@@ -124,10 +151,10 @@ fn are_known(text: &[u8], wanted: &[ArgType]) -> bool {
 fn most_formats_are_known(rt: HostRuntime) {
     assert!(rt;
         [
-            is_plainly_accepted(b"%d%%"),
-            is_plainly_accepted(b"%d of %-8.3s%%"),
-            is_plainly_accepted(b"%f"),
-            is_plainly_accepted(b"100%, or not"),
+            is_known_accepted(b"%d%%"),
+            is_known_accepted(b"%d of %-8.3s%%"),
+            is_known_accepted(b"%f"),
+            is_known_accepted(b"100%, or not"),
             are_known(b"%u", &[ArgType::UInt]),
             are_known(
                 b"%s: %zd of %hhu",

@@ -8,7 +8,7 @@ pub returns : goal.returns
 returns c is =
     let model = c.args.self.now.model in
     let text = c.args.text.now in
-    let len = c.args.self.now.len in
+    let len = c.args.self.now.walk.at in
     let all : take len text ≡ text = take_all len text (omega (arith, c.if-self-text.false)) in
-    verbatim_canonical model text c.requires.2 (omega (arith, c.if-text-gt-MAX_TEXT_LEN.false))
-    (subst (λ t. IsCanonicalRun model t c.requires.2) all c.requires.3)
+    verbatim_canonical model text c.requires.items (omega (arith, c.if-text-gt-MAX_TEXT_LEN.false))
+    (subst (λ t. IsCanonicalRun model t c.requires.items) all c.requires.canonical)

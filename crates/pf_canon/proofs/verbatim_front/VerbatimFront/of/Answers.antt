@@ -1,10 +1,18 @@
 use Rattle.std.proofs.Common.{◌≡◌, ◌-◌, arith, subst, take}
 use Rattle.pf_text.specs.CanonicalRuns.{IsCanonicalRun}
+use Rattle.pf_text.proofs.ReadingLemmas.{moved_over}
 use Rattle.pf_canon.proofs.verbatim_front.VerbatimFront.of.Goals as goal
 
 pub returns-clause-front : goal.returns-clause-front
 returns-clause-front c =
-    let len = c.end-len.result in
-    let all : len - 0 ≡ len = omega arith in
-    let run = c.end-len.ensures.canonical c.args.model in
-    (c.end-len.ensures.within.1, c.of-runs.ensures, run.0, subst (λ n. IsCanonicalRun c.args.model (take n c.args.text.now) run.0) all run.1)
+    let text = c.args.text.now in
+    let end = c.canonical_end.result in
+    let at_end = c.canonical_end.ensures text c.new-walk.ensures.over (omega arith) in
+    let all : end - 0 ≡ end = omega arith in
+    let run = at_end.canonical c.args.model in
+    record {
+      within = at_end.within;
+      over = moved_over text c.new-walk.result end c.new-walk.ensures.over;
+      items = run.0;
+      canonical = subst (λ n. IsCanonicalRun c.args.model (take n text) run.0) all run.1;
+    }

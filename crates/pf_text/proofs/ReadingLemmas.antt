@@ -1,0 +1,183 @@
+-- What is read where a walk has come to an offset.
+use Rattle.std.proofs.Common.{◌≡◌, ℕ, ◌+◌, ◌-◌, ◌≤◌, max, List, [], ◌∷◌, ◌++◌, length, get_or, take, drop, Some, refl, sym, ap, ap₂, ◌∙◌, subst, arith, inl, inr}
+use Rattle.std.specs.Prelude.{⊤}
+use Rattle.std.proofs.lemmas.Bool.{cases_lt}
+use Rattle.std.proofs.lemmas.List.{append-nil, drop-take, length-drop, length-take, take_all}
+use Rattle.pf_values.specs.declared.limits.TheConstants.{MAX_TEXT_LEN}
+use Rattle.pf_values.specs.declared.conversions.Conv.{Conv}
+use Rattle.pf_values.specs.declared.models.Model.{Model}
+use Rattle.pf_values.specs.declared.types.ArgType.{ArgType}
+use Rattle.pf_values.specs.meaning.DataModel.{arg_type}
+use Rattle.pf_values.specs.meaning.Items.{Directive, IsAccepted, IsReadAs, Item, Reads, types}
+use Rattle.pf_values.specs.meaning.Specification.{Specification}
+use Rattle.pf_values.specs.meaning.Text.{Text}
+use Rattle.pf_values.proofs.ItemTypes.{types-append}
+use Rattle.pf_text.specs.CanonicalRuns.{IsCanonicalRun}
+use Rattle.pf_text.specs.Letters.{conv_of}
+use Rattle.pf_text.specs.Signatures.{ReadsTyped, TakesTypes}
+use Rattle.pf_text.specs.Walks.{HasPassed, HasPercent, IsCanonicalEnd, IsItemsEnd, IsNormalInEach, IsPassedRun, IsWalkOver}
+use Rattle.pf_text.specs.declared.walk.Walk.{Walk}
+use Rattle.pf_text.proofs.CanonicalRunLemmas.{bare, take_front}
+use Rattle.pf_text.proofs.ItemLemmas.{one_read, read_more}
+use Rattle.pf_text.proofs.WalkLemmas.{conv_run, run_is_canonical, run_is_read, run_takes_none}
+
+-- a walk over a text, and what was read before its offset
+pub record HasRead (text : Text) (walk : Walk) : Type 0 where
+  pub over : IsWalkOver text walk
+  pub within : walk.at ≤ length walk.text.now
+  pub items : List Item
+  pub reads : Reads (take walk.at walk.text.now) items
+
+-- at its beginning, nothing
+pub read_none : (text : Text) (walk : Walk) → IsWalkOver text walk → walk.at ≡ 0 → HasRead text walk
+read_none text walk over at = record {
+  over = over;
+  within = omega (arith, at);
+  items = [];
+  reads = subst (λ k. Reads (take k walk.text.now) []) (sym at) refl;
+}
+
+-- then what it has passed
+pub read_passed_too : (passes : Specification → Type 0) (text : Text) (old new : Walk) → HasRead text old → HasPassed passes old new → HasRead text new
+read_passed_too passes text old new h g =
+    let t = new.text.now in
+    let place : old.at + (new.at - old.at) ≡ new.at = omega (arith, g.from) in
+    let before : Reads (take old.at t) h.items = subst (λ u. Reads (take old.at u) h.items) (sym g.text) h.reads in
+    record {
+      over = record { walk_is = g.walk; text_is = g.text ∙ h.over.text_is };
+      within = (let low : old.at ≤ length t = subst (λ u. old.at ≤ length u) (sym g.text) h.within in omega (arith, low, g.within));
+      items = h.items ++ g.items;
+      reads = subst (λ k. Reads (take k t) (h.items ++ g.items)) place
+          (read_more t old.at (new.at - old.at) h.items g.items before (run_is_read passes _ g.items g.run));
+    }
+
+-- and an item
+pub read_item : (text : Text) (walk : Walk) (stop : ℕ) (more : List Item) → HasRead text walk → walk.at ≤ stop → stop ≤ length walk.text.now
+    → Reads (take (stop - walk.at) (drop walk.at walk.text.now)) more → HasRead text (record walk { at = stop })
+read_item text walk stop more h up within g =
+    let place : walk.at + (stop - walk.at) ≡ stop = omega (arith, up) in
+    record {
+      over = record { walk_is = record { few = h.over.walk_is.few; runs = h.over.walk_is.runs }; text_is = h.over.text_is };
+      within = within;
+      items = h.items ++ more;
+      reads = subst (λ k. Reads (take k walk.text.now) (h.items ++ more)) place
+          (read_more walk.text.now walk.at (stop - walk.at) h.items more h.reads g);
+    }
+
+-- so the text up to the offset is whole items
+pub items_up_to : (text : Text) (walk : Walk) → HasRead text walk → IsItemsEnd text walk.at
+items_up_to text walk h =
+    let within : walk.at ≤ length (take MAX_TEXT_LEN text) = subst (λ u. walk.at ≤ length u) h.over.text_is h.within in
+    record {
+      within = omega (arith, within, length-take MAX_TEXT_LEN text);
+      few = omega (arith, within, length-take MAX_TEXT_LEN text);
+      items = h.items;
+      reads = subst (λ u. Reads u h.items) (take_front walk.at MAX_TEXT_LEN text within)
+          (subst (λ u. Reads (take walk.at u) h.items) h.over.text_is h.reads);
+    }
+
+-- and all of it may be
+pub all_items : (text : Text) (stop : ℕ) → IsItemsEnd text stop → stop ≡ length text → IsAccepted text
+all_items text stop h e = (
+  h.items,
+  record { reads = subst (λ u. Reads u h.items) (take_all stop text (omega (arith, e))) h.reads; limit = omega (arith, h.few, e) },
+)
+
+-- a front of what comes after an offset, in a front of the text
+part_of_front : (text : Text) (most start stop : ℕ) → start ≤ stop → stop ≤ length (take most text)
+    → take (stop - start) (drop start (take most text)) ≡ take (stop - start) (drop start text)
+part_of_front text most start stop up within =
+    let long = length-take most text in
+    let left = most - start in
+    let place : start + left ≡ most = omega (arith, up, within, long) in
+    let rest : drop start (take most text) ≡ take left (drop start text) = sym (ap (λ k. drop start (take k text)) place) ∙ drop-take start left text in
+    ap (take (stop - start)) rest
+    ∙ take_front (stop - start) left (drop start text) (omega (arith, up, within, long, place, length-take left (drop start text), length-drop start text))
+
+-- a walk over a text from another offset on
+pub moved_over : (text : Text) (walk : Walk) (at : ℕ) → IsWalkOver text walk → IsWalkOver text (record walk { at = at })
+moved_over text walk at h = record { walk_is = record { few = h.walk_is.few; runs = h.walk_is.runs }; text_is = h.text_is }
+
+-- canonical items that a walk has passed
+pub canonical_between : (text : Text) (old new : Walk) → IsWalkOver text old → old.at ≤ length text → HasPassed IsNormalInEach old new
+    → IsCanonicalEnd text old.at new.at
+canonical_between text old new over low h =
+    let start = old.at in
+    let stop = new.at in
+    let text_is : new.text.now ≡ take MAX_TEXT_LEN text = h.text ∙ over.text_is in
+    let within : stop ≤ max start (length (take MAX_TEXT_LEN text)) = subst (λ u. stop ≤ max start (length u)) text_is h.within in
+    let run : IsPassedRun IsNormalInEach (take (stop - start) (drop start (take MAX_TEXT_LEN text))) h.items =
+    subst (λ u. IsPassedRun IsNormalInEach (take (stop - start) (drop start u)) h.items) text_is h.run in
+    let long = length-take MAX_TEXT_LEN text in
+    elim (cases_lt (length (take MAX_TEXT_LEN text)) stop) [
+      | inl behind ↦
+          let none : stop - start ≡ 0 = omega (arith, behind, within, h.from) in
+          record {
+            from = h.from;
+            within = omega (arith, within, low, long);
+            canonical = λ model. ([], subst (λ k. IsCanonicalRun model (take k (drop start text)) []) (sym none) (record { canonical = tt; whole = refl }));
+          }
+      | inr inside ↦ record {
+        from = h.from;
+        within = omega (arith, inside, long);
+        canonical = λ model. (
+          h.items,
+          run_is_canonical model (take (stop - start) (drop start text)) h.items
+              (subst (λ u. IsPassedRun IsNormalInEach u h.items) (part_of_front text MAX_TEXT_LEN start stop h.from inside) run),
+        );
+      }
+    ]
+
+-- a directive takes an argument of its type
+pub directive_typed : (model : Model) (t : Text) (d : Specification) (type : ArgType) → IsReadAs t (Directive d) → type ≡ arg_type model d
+    → ReadsTyped model t (type ∷ [])
+directive_typed model t d type h e = record { items = Directive d ∷ []; reads = one_read t (Directive d) h; types_are = ap (λ w. w ∷ []) e }
+
+-- a directive that is a conversion alone takes an argument of its type
+pub bare_typed : (model : Model) (text : Text) (at : ℕ) (conv : Conv) (type : ArgType) → HasPercent text at → conv_of (get_or text (at + 1) 0) ≡ Some conv
+    → type ≡ arg_type model (bare conv) → ReadsTyped model (take (at + 2 - at) (drop at text)) (type ∷ [])
+bare_typed model text at conv type h e is =
+    let two : at + 2 - at ≡ 2 = omega arith in
+    subst (λ k. ReadsTyped model (take k (drop at text)) (type ∷ [])) (sym two) (record {
+      items = Directive (bare conv) ∷ [];
+      reads = run_is_read (λ s. ⊤) (take 2 (drop at text)) (Directive (bare conv) ∷ []) (conv_run (λ s. ⊤) text at conv h e tt);
+      types_are = ap (λ w. w ∷ []) is;
+    })
+
+-- a walk over a text, and the types of the arguments of what was read before its offset
+pub record HasTyped (model : Model) (text : Text) (walk : Walk) (found : List ArgType) : Type 0 where
+  pub read : HasRead text walk
+  pub types_are : found ≡ types model read.items
+
+-- at its beginning, none
+pub typed_none : (model : Model) (text : Text) (walk : Walk) → IsWalkOver text walk → walk.at ≡ 0 → HasTyped model text walk []
+unfolding read_none
+typed_none model text walk over at = record { read = read_none text walk over at; types_are = refl }
+
+-- a walk over no directive changes none
+pub typed_passed_too : (model : Model) (text : Text) (old new : Walk) (found : List ArgType) → HasTyped model text old found
+    → HasPassed (λ s. ⊥) old new → HasTyped model text new found
+unfolding read_passed_too
+typed_passed_too model text old new found h g = record {
+  read = read_passed_too (λ s. ⊥) text old new h.read g;
+  types_are = h.types_are ∙ sym (types-append model h.read.items g.items
+      ∙ ap (λ w. types model h.read.items ++ w) (run_takes_none model g.items g.run.passed) ∙ append-nil (types model h.read.items));
+}
+
+-- an item has its own
+pub typed_item : (model : Model) (text : Text) (walk : Walk) (stop : ℕ) (found more : List ArgType) → HasTyped model text walk found → walk.at ≤ stop
+    → stop ≤ length walk.text.now → ReadsTyped model (take (stop - walk.at) (drop walk.at walk.text.now)) more
+    → HasTyped model text (record walk { at = stop }) (found ++ more)
+unfolding read_item
+typed_item model text walk stop found more h up within g = record {
+  read = read_item text walk stop g.items h.read up within g.reads;
+  types_are = ap₂ (λ (x y : List ArgType). x ++ y) h.types_are g.types_are ∙ sym (types-append model h.read.items g.items);
+}
+
+-- at the end, all are found
+pub typed_all : (model : Model) (text : Text) (walk : Walk) (found : List ArgType) → HasTyped model text walk found → walk.at ≡ length text
+    → TakesTypes model text found
+unfolding all_items items_up_to
+typed_all model text walk found h e =
+    let all = all_items text walk.at (items_up_to text walk h.read) e in
+    record { items = all.0; accepted = all.1; types_are = h.types_are }

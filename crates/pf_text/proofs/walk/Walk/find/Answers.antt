@@ -1,0 +1,41 @@
+use Rattle.std.proofs.Common.{arith, length, refl}
+use Rattle.pf_text.proofs.WalkLemmas.{not_found, passed_literals, passed_more, passed_none, passed_to}
+use Rattle.pf_text.proofs.walk.Walk.find.Goals as goal
+
+pub loop-self-init : goal.loop-self-init
+loop-self-init g c = passed_none g.P.Passed.passes c.args.self.now c.args.self.now c.requires refl refl
+
+pub next_end-requires-clause-runs : goal.next_end-requires-clause-runs
+next_end-requires-clause-runs g c = c.loop-self.invariant.walk.runs
+
+pub returns-in_default : goal.returns-in_default
+returns-in_default g c =
+    let here = c.loop-self.self in
+    record {
+      passed = passed_literals g.P.Passed.passes c.args.self.now here c.loop-self.invariant (length here.text.now)
+          (omega (arith, c.loop-self-test.true)) (omega arith) c.in_default.ensures;
+      stopped = not_found here.text.now (length here.text.now);
+    }
+
+pub returns-then-offset-self : goal.returns-then-offset-self
+returns-then-offset-self g c = record {
+  passed = passed_to g.P.Passed.passes c.args.self.now c.loop-self.self c.loop-self.invariant c.in-Some.offset c.in-Some.ensures;
+  stopped = not_found c.loop-self.self.text.now c.in-Some.offset;
+}
+
+pub returns-then-self-offset-ne37 : goal.returns-then-self-offset-ne37
+returns-then-self-offset-ne37 g c = record {
+  passed = passed_to g.P.Passed.passes c.args.self.now c.loop-self.self c.loop-self.invariant c.in-Some.offset c.in-Some.ensures;
+  stopped = not_found c.loop-self.self.text.now c.in-Some.offset;
+}
+
+pub returns-then-len-eq0 : goal.returns-then-len-eq0
+returns-then-len-eq0 g c = record {
+  passed = passed_to g.P.Passed.passes c.args.self.now c.loop-self.self c.loop-self.invariant c.in-Some.offset c.in-Some.ensures;
+  stopped = λ found. (omega (arith, c.if-offset-self.false), c.if-self-offset-ne37.false);
+}
+
+pub loop-self-preserved : goal.loop-self-preserved
+loop-self-preserved g c =
+    let now = passed_to g.P.Passed.passes c.args.self.now c.loop-self.self c.loop-self.invariant c.in-Some.offset c.in-Some.ensures in
+    passed_more g.P.Passed.passes c.args.self.now _ now c.len-len.result c.len-len.ensures.passed.0 c.len-len.ensures.within c.len-len.ensures.passed.1

@@ -1,0 +1,81 @@
+-- The walk over the items of a text in memory. This project's own.
+use Rattle.std.specs.Prelude.{◌≡◌, ◌≢◌, ℕ, Bool, ◌+◌, ◌-◌, ◌^◌, ◌<◌, ◌≤◌, List, drop, flat_map, get_or, length, max, take, Option, Some, None, IfSome, IsTrue}
+use Rattle.std.specs.List.{AllByRecursion}
+use Rattle.memchr.specs.Find.{Nowhere, Passes, is_byte2}
+use Rattle.pf_values.specs.declared.limits.TheConstants.{MAX_TEXT_LEN}
+use Rattle.pf_values.specs.declared.models.Model.{Model}
+use Rattle.pf_values.specs.meaning.Canonical.{item_spelling}
+use Rattle.pf_values.specs.meaning.Defined.{IsDefined}
+use Rattle.pf_values.specs.meaning.Items.{Item, Byte, Directive, Reads}
+use Rattle.pf_values.specs.meaning.Normal.{IsNormal}
+use Rattle.pf_values.specs.meaning.Specification.{Specification}
+use Rattle.pf_values.specs.meaning.Text.{Text, percent}
+use Rattle.pf_text.specs.declared.literal_runs.LiteralRuns.{LiteralRuns}
+use Rattle.pf_text.specs.declared.marks.TheConstants.{MAX_MARKED}
+use Rattle.pf_text.specs.declared.walk.Walk.{Walk}
+use Rattle.pf_text.specs.CanonicalRuns.{IsCanonicalRun}
+use Rattle.pf_text.specs.Marks.{AreMarksOf}
+
+-- the runs are this text's
+abbrev pub AreRunsOf : LiteralRuns → Text → Type 0
+AreRunsOf runs text = IfSome runs.marks (λ marks. (length text ≤ MAX_MARKED) × (marks.bits < 2 ^ length text) × AreMarksOf marks text)
+
+-- from an offset on, no byte of a text ends a run of literal bytes before this one
+abbrev pub IsNextEnd : Text → ℕ → Option ℕ → Type 0
+IsNextEnd t from None = Nowhere (Passes (is_byte2 37 0) t) from (length t)
+IsNextEnd t from (Some stop) = (from ≤ stop) × (stop < length t) × Nowhere (Passes (is_byte2 37 0) t) from stop
+
+-- an item that a walk passes: a literal byte or `%%`, or one of these directives
+abbrev pub IsPassed : (Specification → Type 0) → Item → Type 0
+IsPassed passes (Byte byte) = byte ≢ 0
+IsPassed passes (Directive s) = IsDefined s × passes s
+
+-- a text of such items, each written in the one way
+pub record IsPassedRun (passes : Specification → Type 0) (t : Text) (items : List Item) : Type 0 where
+  pub passed : AllByRecursion (IsPassed passes) items
+  pub whole : t ≡ flat_map item_spelling items
+
+-- a directive that is normal in each data model
+abbrev pub IsNormalInEach : Specification → Type 0
+IsNormalInEach s = (model : Model) → IsNormal model s
+
+-- an offset has a `%` that isn't the last byte
+abbrev pub HasPercent : Text → ℕ → Type 0
+HasPercent t at = (at + 1 < length t) × (get_or t at 0 ≡ percent)
+
+-- the text of a walk isn't too long, and its runs are the text's
+pub record IsWalk (walk : Walk) : Type 0 where
+  pub few : length walk.text.now ≤ MAX_TEXT_LEN
+  pub runs : AreRunsOf walk.runs walk.text.now
+
+-- it is a walk over this text, up to the limit
+pub record IsWalkOver (text : Text) (walk : Walk) : Type 0 where
+  pub walk_is : IsWalk walk
+  pub text_is : walk.text.now ≡ take MAX_TEXT_LEN text
+
+-- a walk has come from one offset to another, over items that it passes
+pub record HasPassed (passes : Specification → Type 0) (old new : Walk) : Type 0 where
+  pub walk : IsWalk new
+  pub text : new.text.now ≡ old.text.now
+  pub from : old.at ≤ new.at
+  pub within : new.at ≤ max old.at (length new.text.now)
+  pub items : List Item
+  pub run : IsPassedRun passes (take (new.at - old.at) (drop old.at new.text.now)) items
+
+-- and has found a `%` that begins something else, or not
+pub record Finds (passes : Specification → Type 0) (old new : Walk) (found : Bool) : Type 0 where
+  pub passed : HasPassed passes old new
+  pub stopped : IsTrue found → HasPercent new.text.now new.at
+
+-- between two offsets there are canonical items
+pub record IsCanonicalEnd (t : Text) (start stop : ℕ) : Type 0 where
+  pub from : start ≤ stop
+  pub within : stop ≤ length t
+  pub canonical : (model : Model) → (items : List Item) × IsCanonicalRun model (take (stop - start) (drop start t)) items
+
+-- the bytes up to an offset are whole items, and aren't too many
+pub record IsItemsEnd (t : Text) (stop : ℕ) : Type 0 where
+  pub within : stop ≤ length t
+  pub few : stop ≤ MAX_TEXT_LEN
+  pub items : List Item
+  pub reads : Reads (take stop t) items

@@ -1,0 +1,150 @@
+//! The items that a walk passes.
+ghost use Rattle.std.specs.Prelude.{◌≡◌, ◌+◌, ◌≤◌, List, [], ◌∷◌, drop, length, take, IsTrue, ⊤};
+ghost use Rattle.pf_values.specs.meaning.Items.{Item};
+ghost use Rattle.pf_values.specs.meaning.Specification.{Specification};
+ghost use Rattle.pf_text.specs.CanonicalRuns.{alternative_bytes, has_canonical_parts, is_kept_modifier};
+ghost use Rattle.pf_text.specs.Offsets.{HasBytes};
+ghost use Rattle.pf_text.specs.Walks.{HasPercent, IsNormalInEach, IsPassedRun};
+
+use crate::letters::conv_of;
+use crate::specification::{conv_at, modifier_at};
+use pf_values::{Conv, Length};
+
+/// Items that a walk passes without a look at their parts: literal bytes, `%%`, and some directives.
+pub trait Passed {
+    // these directives
+    ghost passes: { Specification → Type 0 };
+
+    /// How many bytes has the item that begins with the `%` at an offset, if it is passed; else 0.
+    fn len(text: &[u8], at: usize) -> usize
+        requires { HasPercent text.now at }
+        ensures within { at + result ≤ length text.now }
+        ensures passed { (items : List Item) × IsPassedRun passes (take result (drop at text.now)) items };
+}
+
+/// No directive.
+#[derive(Clone, Copy, Debug)]
+pub struct Percents;
+
+/// Directives of a conversion alone.
+#[derive(Clone, Copy, Debug)]
+pub struct Bare;
+
+/// Directives that are normal in each data model, if they have a conversion alone, or are a number's with
+/// `#` or a length modifier.
+#[derive(Clone, Copy, Debug)]
+pub struct Canonical;
+
+impl Passed for Percents {
+    ghost passes = { λ s. ⊥ };
+
+    #[inline(always)]
+    fn len(text: &[u8], at: usize) -> usize {
+        if text[at + 1] == b'%' {
+            return 2;
+        }
+        0
+    }
+}
+
+impl Passed for Bare {
+    ghost passes = { λ s. ⊤ };
+
+    #[inline(always)]
+    fn len(text: &[u8], at: usize) -> usize {
+        let letter = text[at + 1];
+        if letter == b'%' {
+            return 2;
+        }
+        match conv_of(letter) {
+            Some(_) => 2,
+            None => 0,
+        }
+    }
+}
+
+impl Passed for Canonical {
+    ghost passes = { IsNormalInEach };
+
+    #[inline(always)]
+    fn len(text: &[u8], at: usize) -> usize {
+        if ends_canonical_item(text[at + 1]) {
+            return 2;
+        }
+        canonical_parts_len(text, at)
+    }
+}
+
+// Whether a byte after `%` ends a canonical item: `%`, or a conversion, but not `i`, since `%d` is the
+// normal one.
+#[inline(always)]
+fn ends_canonical_item(letter: u8) -> bool
+    ensures { IsTrue result → (items : List Item) × IsPassedRun IsNormalInEach (37 ∷ letter ∷ []) items }
+{
+    if letter == b'%' {
+        return true;
+    }
+    if letter == b'i' {
+        return false;
+    }
+    conv_of(letter).is_some()
+}
+
+// How many bytes has the directive at an offset, if it is canonical, with `#` or a length modifier; else 0.
+#[inline(always)]
+fn canonical_parts_len(text: &[u8], at: usize) -> usize
+    requires { HasPercent text.now at }
+    ensures within { at + result ≤ length text.now }
+    ensures passed { (items : List Item) × IsPassedRun IsNormalInEach (take result (drop at text.now)) items }
+{
+    let (alternative, modifier_from) = alternative_at(text, at + 1);
+    let (modifier, stop) = modifier_at(text, modifier_from);
+    let Some(conv) = conv_at(text, stop) else {
+        return 0;
+    };
+    if has_canonical_parts(alternative, modifier, conv) {
+        return stop + 1 - at;
+    }
+    0
+}
+
+// Whether `#` is at an offset, and where what follows begins.
+#[inline(always)]
+fn alternative_at(text: &[u8], start: usize) -> (bool, usize)
+    requires { start ≤ length text.now }
+    ensures { HasBytes text.now start result.1 (alternative_bytes result.0) }
+{
+    if start >= text.len() {
+        return (false, start);
+    }
+    if text[start] != b'#' {
+        return (false, start);
+    }
+    (true, start + 1)
+}
+
+// Whether a directive with `#` or without, a length modifier and a conversion is a number's, and
+// normal in each data model.
+#[inline(always)]
+fn has_canonical_parts(alternative: bool, modifier: Length, conv: Conv) -> bool
+    ensures { result ≡ has_canonical_parts alternative modifier conv }
+{
+    if !is_kept_modifier(modifier) {
+        return false;
+    }
+    match conv {
+        Conv::X | Conv::UpperX | Conv::B => true,
+        Conv::D | Conv::U | Conv::O => !alternative,
+        Conv::I | Conv::C | Conv::S => false,
+    }
+}
+
+// Whether a normal directive keeps the modifier, in each data model.
+fn is_kept_modifier(modifier: Length) -> bool
+    ensures { result ≡ is_kept_modifier modifier }
+{
+    match modifier {
+        Length::None | Length::Hh | Length::H | Length::L | Length::Ll => true,
+        Length::J | Length::Z | Length::T => false,
+    }
+}
