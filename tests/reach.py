@@ -29,7 +29,7 @@ from harness import TOP, main  # noqa: E402
 
 FOLDER = "Rattle.pf_values.specs.meaning"
 # The functions whose contracts are the headline, and what a refusal says.
-STARTS = [("pf_compare/src/laws.rt", "headline"), ("pf_text/src/pieces.rt", "check")]
+STARTS = [("pf_compare/src/laws.rt", "headline"), ("pf_text/src/checking.rt", "check")]
 # The same for the headline of the whole language, and the crate whose definitions it uses that lie in no such
 # folder.
 WHOLE_FOLDER = "Rattle.pf_whole.specs.meaning"

@@ -49,7 +49,7 @@ vector_marked text at n room few mask is k low high ends =
     ap (λ m. bit_at (m * 2 ^ at % 2 ^ 64) k) is ∙ ap (λ m. bit_at m k) (shifted_few at lanes (omega (arith, few, len)))
     ∙ bit_mask_l (replicate at false ++ lanes) k ∙ set_bit (get_or (replicate at false ++ lanes) k false) lane
 
--- and no bit is set behind these
+-- and no bit is set after these
 pub vector_few : (text : Text) (at n : ℕ) → at + n ≤ length text → at + n ≤ 64 → (mask : ℕ) → mask ≡ mask_l (map (is_byte2 37 0) (chunk at n text))
     → mask * 2 ^ at % 2 ^ 64 < 2 ^ (at + n)
 vector_few text at n room few mask is =

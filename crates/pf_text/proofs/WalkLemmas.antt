@@ -58,7 +58,7 @@ next_end_of marks text from (Some stop) few bits are h =
     let within = marked_within marks.bits stop (length text) bits h.3 in
     (h.0, within, no_end_between marks text from stop (omega (arith, within)) are h.2)
 
--- two bytes of a text, of which the first is `%`
+-- two bytes of a text, the first a `%`
 pub two_bytes : (text : Text) (at : ℕ) → HasPercent text at → take 2 (drop at text) ≡ percent ∷ get_or text (at + 1) 0 ∷ []
 two_bytes text at h =
     first_bytes 2 (drop at text) (omega (arith, length-drop at text, h.0)) ∙ ap₂ (λ (a b : ℕ). a ∷ b ∷ [])

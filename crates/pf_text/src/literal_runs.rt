@@ -6,7 +6,7 @@ ghost use Rattle.pf_text.specs.Walks.{AreRunsOf, IsNextEnd};
 use crate::marks::{MAX_MARKED, MIN_MARKED, Marks};
 use crate::search::literal_len;
 
-/// Where the runs of literal bytes of a text end: by its marks, if it has any, and else by search.
+/// Where the runs of literal bytes of a text end: by its marks, if it has any, or by search.
 #[derive(Clone, Copy, Debug)]
 pub(crate) struct LiteralRuns {
     marks: Option<Marks>,
@@ -38,7 +38,7 @@ impl LiteralRuns {
         LiteralRuns { marks: None }
     }
 
-    /// The first offset from one on that has a `%` or a zero byte. `None` if there is none.
+    /// The first offset from one on that has a `%` or a NUL. `None` if there is none.
     #[inline(always)]
     pub(crate) fn next_end(self, text: &[u8], from: usize) -> Option<usize>
         requires runs { AreRunsOf self text.now }

@@ -15,7 +15,7 @@ pub trait Passed {
     // these directives
     ghost passes: { Specification → Type 0 };
 
-    /// How many bytes has the item that begins with the `%` at an offset, if it is passed; else 0.
+    /// Returns how many bytes the item has that begins with the `%` at an offset, if it is passed. If not, 0.
     fn len(text: &[u8], at: usize) -> usize
         requires { HasPercent text.now at }
         ensures within { at + result ≤ length text.now }
@@ -90,7 +90,8 @@ fn ends_canonical_item(letter: u8) -> bool
     conv_of(letter).is_some()
 }
 
-// How many bytes has the directive at an offset, if it is canonical, with `#` or a length modifier; else 0.
+// How many bytes has the directive at an offset, if it is canonical, with `#` or a length modifier. If
+// not, 0.
 #[inline(always)]
 fn canonical_parts_len(text: &[u8], at: usize) -> usize
     requires { HasPercent text.now at }

@@ -42,9 +42,8 @@ impl<'a> Walk<'a> {
         self.text
     }
 
-    /// Passes literal bytes, `%%`, and directives of `P`. True where it stops at a `%` that begins something
-    /// else; false at the end, and at a byte with which no item begins: a zero byte, or a `%` that is the
-    /// last one.
+    /// Takes literal bytes, `%%`, and directives of `P`, and returns whether it stops at a `%` that begins
+    /// another item. False at the end, at a NUL, and at a `%` that is the last byte.
     #[inline(always)]
     pub fn find<P: Passed>(&mut self) -> bool
         requires { IsWalk self.old }
