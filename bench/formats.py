@@ -9,6 +9,29 @@ SHAPES = Path(__file__).resolve().parent / "shapes.nul"
 DIRECTIVE = re.compile(rb"%(?:%|[-+ #0']*[0-9]*(?:\.[0-9]*)?(?:hh|h|ll|l|j|z|t)?[diouxXcs])")
 # Directives that the profile lacks, in the order in which they replace others.
 OPAQUE = [b"%f", b"%p", b"%*d", b"%.2f", b"%.*s", b"%lf", b"%-*s", b"%g"]
+# Pairs of formats of one directive each.
+DIRECTIVE_PAIRS = [
+    ("% 10d", "%10d"),
+    ("%s", "%.4095s"),
+    ("%x", "%X"),
+    ("%d", "%5d"),
+    ("%c", "%5c"),
+    ("%lu", "%#lx"),
+    ("%4095d", "%.4095d"),
+    ("%4095s", "%-4095s"),
+    ("%4095c", "%4094c"),
+    ("%4095c", "%4095d"),
+    ("%04095x", "%04095X"),
+    ("%.4095lu", "%.4095lx"),
+    ("%04095d", "%.4095d"),
+    ("%-4095d", "%-4094d"),
+    ("%4095.4000s", "%4095s"),
+    ("%d", "%i"),
+    ("%0.3d", "%.3d"),
+    ("%-.4095ld", "%0.4095ld"),
+    ("% 4095d", "%4095d"),
+    ("%-+04095.0ld", "%0-+04095.0ld"),
+]
 
 
 def shapes():

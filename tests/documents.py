@@ -35,6 +35,7 @@ import opaque  # noqa: E402
 import reach  # noqa: E402
 import replacing  # noqa: E402
 import short_streams  # noqa: E402
+import shortcut_edits  # noqa: E402
 import sizes  # noqa: E402
 import unedited  # noqa: E402
 import unused_names  # noqa: E402
@@ -497,6 +498,21 @@ def try_charts(trials):
         trials.expect(f"docs/{path.name} as its table", path.read_text(encoding="utf-8"), chart)
 
 
+def try_shortcuts(trials):
+    """The edits of bench/shortcuts.txt fit the sources, and the bench has the calls that it names."""
+    made = {name: (TOP / "bench" / f"{name}.c").read_text(encoding="utf-8") for name in ("driver", "library")}
+    for shortcut in shortcut_edits.shortcuts():
+        try:
+            shortcut.texts()
+            why = None
+        except (OSError, ValueError) as error:
+            why = str(error)
+        trials.expect(f"bench/shortcuts.txt: {shortcut.name}", why, None)
+        for call in shortcut.calls:
+            program, name = ("driver", call[6:]) if call.startswith("crate ") else ("library", call)
+            trials.expect(f"bench/{program}.c has the call {name}", f'{{"{name}", ' in made[program], True)
+
+
 def try_remarks(trials):
     """A remark after a command begins with `#`, so that the line can be copied."""
     command = re.compile(r"^    (?=(?:sudo|pip|python3|rt|make|cd|cc|bench/run)\b)\S[^\n]*\S {2,}(?!#)\S.*$", re.MULTILINE)
@@ -532,6 +548,7 @@ def try_all(trials):
     try_callers(trials)
     try_quoted(trials)
     try_charts(trials)
+    try_shortcuts(trials)
     try_edits(trials)
     try_definitions(trials)
     unused_names.try_unused_names(trials)

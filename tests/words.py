@@ -83,13 +83,13 @@ LIMITS = {
     # With one format read through the definitions.
     "docs/DEFINITIONS.md": 4750,
     "docs/PERFORMANCE.md": 980,
-    # With a walk through one call, and tables of files by what they do.
-    "docs/internals/ARCHITECTURE.md": 3000,
+    # With a walk through one call, tables of files by what they do, and words of the sources.
+    "docs/internals/ARCHITECTURE.md": 3150,
     "docs/internals/DECISIONS.md": 2200,
     # With an index by what rt prints.
     "docs/internals/PROOF_NOTES.md": 4000,
-    # With what rt prints for an open goal.
-    "docs/CONTRIBUTING.md": 1200,
+    # With what rt prints for an open goal, and what is inlined.
+    "docs/CONTRIBUTING.md": 1350,
     "SECURITY.md": 150,
     "CHANGELOG.md": 1100,
     CALLING: 9000,
