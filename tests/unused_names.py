@@ -23,17 +23,6 @@ WORD = re.compile(r"\[\]|[^\s(){}\[\].,;:]+")
 SIGNATURE = re.compile(r" *(?:(?:abbrev|unfoldable|inst|pub|record|data) )*([^\s:(){}\[\]]+)(?: *[:({]| +where\b)")
 NO_SIGNATURE = re.compile(r" *(?:(?:pub )?(?:use|mod)|infix\w*) ")
 PROGRAM = "fmtcanon"
-# Imports to drop with the next edit of these crates, on which all others depend.
-EXCEPTIONS = {
-    ("crates/pf_canon/src/canonical_texts.rt", "take"),
-    ("crates/pf_canon/src/comparison.rt", "IfSome"),
-    ("crates/pf_canon/src/copy.rt", "false"),
-    ("crates/pf_canon/src/plain_canonical.rt", "Model"),
-    ("crates/pf_canon/src/transducer.rt", "IsTrue"),
-    ("crates/pf_text/src/marks.rt", "◌≡◌"),
-    ("crates/pf_text/src/plain.rt", "◌*◌"),
-    ("crates/pf_text/src/scanner.rt", "take"),
-}
 # Files with unused names, which are `lost` or in which `lost` is a part of the name.
 PLANTED = {
     "crates/low/src/low.rt": """ghost use Rattle.low.specs.Low.{◌+lost◌, known, lost, ◌·◌};
@@ -165,7 +154,7 @@ def unused(texts):
 
 
 def try_unused_names(trials):
-    """Nothing brings in or defines a name that nothing uses, except what EXCEPTIONS has."""
+    """Nothing brings in or defines a name that nothing uses."""
     planted = [(Path(file).name, it) for file, it in unused(PLANTED)]
     wanted = [("low.rt", it) for it in ["◌+lost◌", "lost", "lost_module"]]
     wanted += [("Low.antt", it) for it in ["lost", "lost_zero", "lost_again"]]
@@ -173,5 +162,4 @@ def try_unused_names(trials):
     trials.expect("unused names that are planted", planted, wanted)
     files = [it for part in PARTS for it in sorted(TOP.glob(f"crates/*/{part}/**/*.*t*"))]
     found = unused({str(it.relative_to(TOP)): it.read_text(encoding="utf-8") for it in files})
-    trials.expect("names that nothing uses", [it for it in found if it not in EXCEPTIONS], [])
-    trials.expect("exceptions of tests/unused_names.py that are not needed", sorted(EXCEPTIONS - set(found)), [])
+    trials.expect("names that nothing uses", found, [])

@@ -1,5 +1,5 @@
 //! The bounds of a text that isn't long, if they are known.
-ghost use Rattle.std.specs.Prelude.{◌≡◌, ◌-◌, ◌<◌, ◌≤◌, [], ◌∷◌, drop, length, take, true, None, IfSome, MatchOption, ⊤};
+ghost use Rattle.std.specs.Prelude.{◌≡◌, ◌-◌, ◌<◌, ◌≤◌, drop, length, take, true, None, IfSome, MatchOption, ⊤};
 ghost use Rattle.pf_values.specs.Directives.{specification_of};
 ghost use Rattle.pf_values.specs.declared.lengths.Length.TheVariants as lengths;
 ghost use Rattle.pf_values.specs.meaning.Flags.{no_flags};

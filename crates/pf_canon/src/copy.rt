@@ -1,5 +1,5 @@
 //! The canonical text of a reader's bytes, written to a writer.
-ghost use Rattle.std.specs.Prelude.{◌≡◌, ◌≢◌, ℕ, ◌<◌, ◌≤◌, ◌++◌, length, take, IfOk, MatchResult, Err, false};
+ghost use Rattle.std.specs.Prelude.{◌≡◌, ◌≢◌, ℕ, ◌<◌, ◌≤◌, ◌++◌, length, take, IfOk, MatchResult, Err};
 ghost use Rattle.std.specs.Io.KnownBytes.{Appends, Consumes, IsAtEnd};
 ghost use Rattle.pf_values.specs.Counting.{Known, device_of};
 ghost use Rattle.pf_values.specs.meaning.Text.{Text};

@@ -1,7 +1,6 @@
 //! A fast way to see whether a text is canonical. It decides only the cases that it is sure of: other
 //! texts are left to the transducer, which also finds out why one is refused.
 ghost use Rattle.std.specs.Prelude.{◌≡◌, false, ◌↔◌, IsTrue, MatchOption, ⊤};
-ghost use Rattle.pf_values.specs.declared.models.Model.{Model};
 ghost use Rattle.pf_values.specs.meaning.Canonical.{IsCanonicalText};
 ghost use Rattle.pf_values.specs.meaning.Items.{IsAccepted};
 

@@ -1,5 +1,5 @@
 //! A transducer of formats: it is fed a byte, a chunk or the end, and returns what that settles.
-ghost use Rattle.std.specs.Prelude.{◌≡◌, ◌+◌, ◌*◌, ◌<◌, ◌≤◌, ℕ, List, [], ◌∷◌, ◌++◌, length, take, IfOk, IfSome, IsTrue, MatchOption, MatchResult, OnOk};
+ghost use Rattle.std.specs.Prelude.{◌≡◌, ◌+◌, ◌*◌, ◌<◌, ◌≤◌, ℕ, List, [], ◌∷◌, ◌++◌, length, take, IfOk, IfSome, MatchOption, MatchResult, OnOk};
 ghost use Rattle.pf_values.specs.declared.limits.TheConstants.{MAX_TEXT_LEN};
 ghost use Rattle.pf_values.specs.meaning.Items.{Item};
 ghost use Rattle.pf_values.specs.meaning.Text.{Text};

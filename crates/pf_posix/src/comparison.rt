@@ -1,5 +1,5 @@
 //! Whether two formats take the same arguments.
-ghost use Rattle.std.specs.Prelude.{◌≡◌, ◌≤◌, List, length, ◌⊎◌, MatchResult, Some};
+ghost use Rattle.std.specs.Prelude.{◌≡◌, ◌≤◌, List, length, ◌⊎◌, MatchResult};
 ghost use Rattle.pf_posix.specs.declared.types.ArgumentType.{ArgumentType as ArgumentTypeOf};
 ghost use Rattle.pf_posix.specs.Laws.{ComparesArgumentTypes, ComparesBeginning, FaultForFits, IsFirstDifference, IsFirstExcess, filled};
 ghost use Rattle.pf_posix.specs.Items.{HasArguments};

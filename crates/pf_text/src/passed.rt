@@ -9,7 +9,7 @@ use crate::letters::conv_of;
 use crate::specification::{conv_at, modifier_at};
 use pf_values::{Conv, Length};
 
-/// Items that a walk passes without a look at their parts, beside literal bytes.
+/// Items that a walk passes as it does literal bytes, without a look at their parts.
 pub trait Passed {
     // these items
     ghost passes: { Item → Type 0 };

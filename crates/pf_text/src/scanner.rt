@@ -1,5 +1,5 @@
 //! A reader of a format, byte by byte.
-ghost use Rattle.std.specs.Prelude.{◌≡◌, ◌+◌, ◌*◌, ◌≤◌, ◌<◌, false, length, take, List, [], ◌++◌, None, IsTrue, MatchBool, MatchOption, MatchResult, OnOk, Ok, Err, ⊤};
+ghost use Rattle.std.specs.Prelude.{◌≡◌, ◌+◌, ◌*◌, ◌≤◌, ◌<◌, false, length, List, [], ◌++◌, None, IsTrue, MatchBool, MatchOption, MatchResult, OnOk, Ok, Err, ⊤};
 ghost use Rattle.pf_values.specs.declared.limits.TheConstants.{MAX_TEXT_LEN};
 ghost use Rattle.pf_values.specs.meaning.Items.{Item, Reads};
 ghost use Rattle.pf_values.specs.meaning.Text.{Text};
