@@ -23,6 +23,9 @@ pub fn fits(model: Model, first: &[u8], second: &[u8]) -> Result<Option<u64>, (S
     ensures { MatchResult result (ComparesArgumentTypes model first.now second.now)
         (FaultForFits model first.now second.now) }
 {
+    if first == second {
+        return with_itself(model, first);
+    }
     match compared(model, first, second) {
         Ok(found) => Ok(found.difference),
         Err(fault) => Err(fault),
@@ -37,6 +40,9 @@ pub fn fits_fewer(model: Model, first: &[u8], second: &[u8]) -> Result<Option<u6
     ensures { MatchResult result (ComparesBeginning model first.now second.now)
         (FaultForFits model first.now second.now) }
 {
+    if first == second {
+        return with_itself(model, first);
+    }
     match compared(model, first, second) {
         Ok(found) => Ok(found.excess()),
         Err(fault) => Err(fault),
@@ -71,15 +77,13 @@ impl Comparison {
     }
 }
 
-// Compares two formats: by lists of their types, unless both have more than `FEW`.
-#[inline(always)]
+// Compares two formats: by lists of their types, unless both have more than `FEW`. Never inlined, since
+// two formats are often one.
+#[inline(never)]
 fn compared(model: Model, first: &[u8], second: &[u8]) -> Result<Comparison, (Side, Refusal)>
     ensures { MatchResult result (IsListComparison model first.now second.now)
         (FaultForFits model first.now second.now) }
 {
-    if first == second {
-        return with_itself(model, first);
-    }
     let mut types = [ArgumentType::Profile(ArgType::Int); FEW];
     let mut others = [ArgumentType::Profile(ArgType::Int); FEW];
     match arguments(model, first, &mut types) {
@@ -99,16 +103,15 @@ fn compared(model: Model, first: &[u8], second: &[u8]) -> Result<Comparison, (Si
     }
 }
 
-// Compares a format with itself: it has the types that it has, unless it is refused.
-fn with_itself(model: Model, text: &[u8]) -> Result<Comparison, (Side, Refusal)>
-    ensures { MatchResult result (IsListComparison model text.now text.now)
+// Whether a format takes the arguments that it takes: it does unless it is refused.
+fn with_itself(model: Model, text: &[u8]) -> Result<Option<u64>, (Side, Refusal)>
+    ensures all { MatchResult result (ComparesArgumentTypes model text.now text.now)
+        (FaultForFits model text.now text.now) }
+    ensures fewer { MatchResult result (ComparesBeginning model text.now text.now)
         (FaultForFits model text.now text.now) }
 {
     match arguments(model, text, &mut []) {
-        Ok(second_count) => Ok(Comparison {
-            difference: None,
-            second_count,
-        }),
+        Ok(_) => Ok(None),
         Err(refusal) => Err((Side::First, refusal)),
     }
 }
