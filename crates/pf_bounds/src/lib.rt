@@ -1,4 +1,7 @@
 //! The smallest and the largest number of bytes that a format prints, over all arguments of its types.
+//!
+//! The road is `formats`, over the pieces of a text. The one shortcut is `known_bounds`, by the walk and in 64
+//! bits: BOUNDS.
 #![tactic(auto)]
 
 mod directives;

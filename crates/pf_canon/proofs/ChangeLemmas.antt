@@ -1,16 +1,13 @@
 -- Directives whose canonical text is nearly their own bytes.
-use Rattle.std.proofs.Common.{◌≡◌, ◌≢◌, ℕ, ◌<◌, arith, Bool, true, false, take, refl, sym, ap, subst, ◌≤◌, List, [], ◌∷◌, length, inl, inr, ◌∙◌}
-use Rattle.std.specs.Prelude.{MatchBool, ◌⊎◌}
-use Rattle.std.proofs.lemmas.List.{append-nil}
+use Rattle.std.proofs.Common.{◌≡◌, ◌≢◌, ℕ, ◌<◌, arith, Bool, true, false, take, refl, sym, ap, subst}
+use Rattle.std.specs.Prelude.{MatchBool}
 use Rattle.pf_values.specs.declared.flags.Flag.TheVariants.{Zero}
 use Rattle.pf_values.specs.declared.models.Model.{Model}
 use Rattle.pf_values.specs.meaning.Flags.{has}
-use Rattle.pf_values.specs.meaning.Items.{Directive, Item}
 use Rattle.pf_values.specs.meaning.Normal.{IsNormal, silent}
 use Rattle.pf_values.specs.meaning.Specification.{Specification, width_of}
 use Rattle.pf_values.specs.meaning.Spelling.{spelling_of}
 use Rattle.pf_values.specs.meaning.Text.{Text}
-use Rattle.pf_text.specs.CanonicalRuns.{IsCanonicalRun}
 use Rattle.pf_text.specs.SpelledFronts.{IsSpelledFront}
 use Rattle.pf_text.specs.declared.spelled_directives.SpelledDirective.{SpelledDirective}
 use Rattle.pf_text.proofs.SpelledLemmas.{spelled_reads}
@@ -61,15 +58,3 @@ changed_known model text d change is h g kept = record {
   read = spelled_reads text d h;
   known = known model d.directive change is (take d.len text) g h.whole kept;
 }
-
--- a directive in which nothing changes is a canonical item
-pub own_run : (model : Model) (text : Text) (d : SpelledDirective) (change : Change) (len : ℕ) → IsSpelledFront text d → IsChange model d.directive change
-    → (len ≡ 0) ⊎ ((len ≡ d.len) × (change ≡ Letters) × (kept_letters model d.directive ≡ d.directive))
-    → (len ≤ length text) × ((items : List Item) × IsCanonicalRun model (take len text) items)
-own_run model text d change len h g (inl none) =
-    let few : 0 ≤ length text = omega arith in
-    rw none (few, ([], record { canonical = tt; whole = refl }))
-own_run model text d change len h g (inr own) =
-    let normal : IsNormal model d.directive = subst (IsNormal model) own.2 (rw own.1 at g).same.normal.1 in
-    rw own.0
-    (h.within, (Directive d.directive ∷ [], record { canonical = (normal, tt); whole = h.whole ∙ sym (append-nil (spelling_of d.directive)) }))

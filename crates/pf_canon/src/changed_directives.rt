@@ -1,8 +1,6 @@
 //! Directives whose canonical text is nearly their own bytes, at the front of a text.
-ghost use Rattle.std.specs.Prelude.{◌≡◌, ◌≢◌, ◌≤◌, ◌⊎◌, List, false, length, take, IfSome, MatchBool};
-ghost use Rattle.pf_values.specs.meaning.Items.{Item};
+ghost use Rattle.std.specs.Prelude.{◌≡◌, ◌≢◌, false, IfSome, MatchBool};
 ghost use Rattle.pf_values.specs.meaning.Normal.{silent};
-ghost use Rattle.pf_text.specs.CanonicalRuns.{IsCanonicalRun};
 ghost use Rattle.pf_reduce.specs.Changes.{kept_letters};
 ghost use Rattle.pf_reduce.specs.declared.changes.Change.TheVariants.{Letters};
 ghost use Rattle.pf_canon.specs.ChangedDirectives.{IsChangedFront, IsKnownFront};
@@ -67,32 +65,6 @@ pub(crate) fn known_at_front(model: Model, text: &[u8]) -> Option<(bool, usize)>
         Some(directive) => Some((directive.is_kept(model), directive.spelled.len)),
         None => normal_at_front(model, text),
     }
-}
-
-/// Returns the length of the directive at the front of a text, if it is known to be its own canonical text;
-/// otherwise 0.
-#[inline(always)]
-pub(crate) fn kept_len(model: Model, text: &[u8]) -> usize
-    ensures within { result ≤ length text.now }
-    ensures kept { (items : List Item) × IsCanonicalRun model (take result text.now) items }
-{
-    match ChangedDirective::at_front(model, text) {
-        Some(directive) => own_len(model, &directive),
-        None => 0,
-    }
-}
-
-// The length of a directive, if nothing changes in this data model; otherwise 0.
-#[inline(always)]
-fn own_len(model: Model, directive: &ChangedDirective) -> usize
-    ensures { (result ≡ 0) ⊎ ((result ≡ directive.now.spelled.len)
-        × (directive.now.change ≡ Letters)
-        × (kept_letters model directive.now.spelled.directive ≡ directive.now.spelled.directive)) }
-{
-    if directive.is_kept(model) {
-        return directive.spelled.len;
-    }
-    0
 }
 
 // `known_at_front` of a directive whose changes aren't known.

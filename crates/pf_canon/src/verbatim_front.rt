@@ -5,7 +5,6 @@ ghost use Rattle.pf_values.specs.meaning.Text.{Text};
 ghost use Rattle.pf_canon.specs.Answers.{IsCanonicalFor};
 ghost use Rattle.pf_canon.specs.VerbatimFronts.{IsVerbatimFront, front_model};
 
-use crate::changed_directives::kept_len;
 use crate::chunk::put_chunks;
 use crate::plain_texts::put_plain;
 use crate::sink::Sink;
@@ -33,23 +32,6 @@ impl<'a> VerbatimFront<'a> {
         let mut walk = Walk::new(text);
         walk.at = canonical_end(walk, 0);
         VerbatimFront { model, walk }
-    }
-
-    /// With the directives after it that are verbatim, too, and the verbatim bytes after each.
-    pub(crate) fn extended(&self, text: &[u8]) -> VerbatimFront<'a>
-        requires { IsVerbatimFront text.now self.now }
-        ensures model { front_model result ≡ front_model self.now }
-        ensures front { IsVerbatimFront text.now result }
-    {
-        let mut walk = self.walk;
-        while walk.at < text.len() {
-            let kept = kept_len(self.model, &text[walk.at..]);
-            if kept == 0 {
-                return VerbatimFront { walk, ..*self };
-            }
-            walk.at = canonical_end(walk, walk.at + kept);
-        }
-        VerbatimFront { walk, ..*self }
     }
 
     /// Returns whether all bytes of the format are verbatim, as they are in most. Then it is accepted,

@@ -1,6 +1,11 @@
 //! The argument types of formats in the whole language of POSIX `fprintf`, with the conversion `b`
 //! of C23: with numbered arguments, `*`, floating and wide conversions, `p` and `n`. Formats without
 //! numbered arguments, split at the directives that the profile lacks.
+//!
+//! The road is `automaton`, over which `reader` walks. The shortcuts, and what a call costs with one and
+//! without, in instructions over 4,000 formats: `plain_reader` reads formats without numbers and `*`
+//! (`arguments`: 213 and 530), in them `profile_reader` the conversions of the profile (213 and 238), and
+//! `comparison` sees that two formats are equal (`fits`: 241 and 875).
 #![tactic(auto)]
 
 mod argument_types;

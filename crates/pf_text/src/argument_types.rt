@@ -1,8 +1,7 @@
 //! Reading the argument types of a format.
-ghost use Rattle.std.specs.Prelude.{◌≡◌, ◌≤◌, [], ◌++◌, IsTrue, MatchResult};
+ghost use Rattle.std.specs.Prelude.{◌≡◌, ◌≤◌, [], MatchResult};
 ghost use Rattle.pf_text.specs.Signatures.{TakesTypes, FaultForSignature, types_of};
 
-use crate::known_argument_types::known_types;
 use crate::pieces::Pieces;
 use crate::refusals::TextFault;
 use crate::signatures::Signature;
@@ -17,50 +16,10 @@ pub fn signature(alloc: Global, model: Model, text: &[u8]) -> Result<Signature, 
         (FaultForSignature model text.now) }
 {
     let mut found = SmallVec::new(alloc);
-    if push_known_types(&mut found, model, text) {
-        return Ok(Signature { types: found });
-    }
-    found.clear();
     match push_types(&mut found, model, text) {
         Ok(()) => Ok(Signature { types: found }),
         Err(fault) => Err(fault),
     }
-}
-
-// Adds the types of the arguments, and returns whether they were known. Allocates nothing.
-fn push_known_types<const N: usize, A: Allocator + Copy>(
-    found: &mut SmallVec<ArgType, N, A>,
-    model: Model,
-    text: &[u8],
-) -> bool
-    requires { found.old.items ≡ [] }
-    ensures known { IsTrue result → TakesTypes model text.now found.new.items }
-    ensures room { found.old.capacity ≤ found.new.capacity }
-{
-    let mut types = [ArgType::Int; 8];
-    match known_types(model, text, &mut types) {
-        Some(count) => push_all(found, &types[..count]),
-        None => false,
-    }
-}
-
-// Adds these types one by one, since there are few, and returns whether there was memory for them.
-#[inline(always)]
-fn push_all<const N: usize, A: Allocator + Copy>(
-    found: &mut SmallVec<ArgType, N, A>,
-    types: &[ArgType],
-) -> bool
-    ensures pushed { IsTrue result → (found.new.items ≡ found.old.items ++ types.now) }
-    ensures room { found.old.capacity ≤ found.new.capacity }
-{
-    let mut at = 0;
-    while at < types.len() {
-        if found.push(types[at]).is_err() {
-            return false;
-        }
-        at += 1;
-    }
-    true
 }
 
 fn push_types<A: Allocator + Copy>(

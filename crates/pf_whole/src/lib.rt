@@ -1,5 +1,8 @@
 //! Formats of the whole language of `printf`: compared by what the directives of the profile print,
 //! and by the calls that all other directives make.
+//!
+//! The road is `canonical_texts`, from stretch to stretch of the profile. The one shortcut takes a format of
+//! the profile as such: `canonical` costs 529 instructions with it over 4,000 formats, and 1,635 without.
 #![tactic(auto)]
 
 mod calls;
