@@ -77,9 +77,8 @@ impl Comparison {
     }
 }
 
-// Compares two formats: by lists of their types, unless both have more than `FEW`. Never inlined, since
-// two formats are often one.
-#[inline(never)]
+// Compares two formats: by lists of their types, unless both have more than `FEW`.
+#[inline(always)]
 fn compared(model: Model, first: &[u8], second: &[u8]) -> Result<Comparison, (Side, Refusal)>
     ensures { MatchResult result (IsListComparison model first.now second.now)
         (FaultForFits model first.now second.now) }
@@ -104,6 +103,7 @@ fn compared(model: Model, first: &[u8], second: &[u8]) -> Result<Comparison, (Si
 }
 
 // Whether a format takes the arguments that it takes: it does unless it is refused.
+#[inline(always)]
 fn with_itself(model: Model, text: &[u8]) -> Result<Option<u64>, (Side, Refusal)>
     ensures all { MatchResult result (ComparesArgumentTypes model text.now text.now)
         (FaultForFits model text.now text.now) }
