@@ -15,7 +15,6 @@ mod UnsignedReductions
 mod SignedReductions
 mod FilledNumbers
 mod LetterLemmas
-mod TableLemmas
 mod PaddedLemmas
 mod TextReductions
 pub mod Reductions

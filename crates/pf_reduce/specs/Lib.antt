@@ -6,4 +6,3 @@ pub mod Prefixes
 pub mod Signs
 pub mod Cores
 pub mod Changes
-pub mod MostDigits

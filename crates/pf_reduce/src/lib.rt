@@ -4,7 +4,6 @@
 
 mod changes;
 mod integers;
-mod most_digits;
 mod normal_directives;
 mod normality;
 mod numbers;

@@ -4,7 +4,6 @@ ghost use Rattle.pf_values.specs.declared.limits.TheConstants.{MAX_NUMBER};
 ghost use Rattle.pf_values.specs.meaning.Normal.{digits_at_most, longest, precision_of, sign_len};
 ghost use Rattle.pf_values.specs.meaning.Specification.{width_of};
 
-use crate::most_digits::most_digits;
 use crate::signs::Sign;
 use pf_values::{Directive, Model};
 
@@ -32,7 +31,7 @@ pub(crate) fn max_digits(model: Model, directive: &Directive) -> u16
     ensures value { result ≡ digits_at_most model directive.now }
     ensures limit { result ≤ 255 }
 {
-    u16::from(most_digits(model, directive.length(), directive.conv()))
+    u16::from(directive.max_digits(model))
 }
 
 /// The most digits that are printed.
