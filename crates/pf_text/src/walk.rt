@@ -42,7 +42,8 @@ impl<'a> Walk<'a> {
         self.text
     }
 
-    /// Takes literal bytes and items of `P`, and returns whether it stops at a `%` that begins another item. False at the end, at a NUL, and at a `%` that is the last byte.
+    /// Takes literal bytes and items of `P`, and returns whether it stops at a `%` that begins another item.
+    /// False at the end, at a NUL, and at a `%` that is the last byte.
     #[inline(always)]
     pub fn find<P: Passed>(&mut self) -> bool
         requires { IsWalk self.old }
