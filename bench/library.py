@@ -5,7 +5,7 @@
 
 FOLDER has libfmtcanon.a, as `make library` leaves it. The formats are those of shapes.nul, and those of them alone that
 have a directive with a flag, a width, a precision, `i`, or a length modifier other than `h`, `hh`, `l` and `ll`.
-It needs gcc and valgrind, and prints the tables of docs/PERFORMANCE.md. The second one is of `printing.c`.
+It needs gcc and valgrind, and prints the tables of docs/PERFORMANCE.md. The last one is of `printing.c`.
 """
 import re
 import subprocess
@@ -25,6 +25,7 @@ TWO = ["fits, itself", "fits_fewer, itself", "fits_fewer, the last directive lef
 # The formats of printing.c, in its order.
 PRINTED = ["%d %s", r"Total: %5d of %-8s.\n", "%300d %s"]
 PLAIN = re.compile(rb"(?:[^%]|%(?:%|#?(?:hh?|ll?)?[duoxXbcs]))*")
+BARE = re.compile(rb"(?:[^%]|%[%diuoxXbcs])*")
 
 
 def build(folder, work, name):
@@ -59,28 +60,47 @@ def named(call):
     return f"`{name}`{comma}{rest}"
 
 
+def costs(driver, file, formats, calls):
+    """The instructions of each call for a format, on average."""
+    file.write_bytes(records(formats))
+    every = ["nothing", *calls]
+    with ThreadPoolExecutor() as workers:
+        counts = workers.map(lambda call: (count(driver, call, "3", file) - count(driver, call, "1", file)) / 2, every)
+        found = dict(zip(every, counts))
+    return {call: (found[call] - found["nothing"]) / len(formats) for call in calls}
+
+
+def calls_table(driver, file, texts):
+    """The lines that compare calls with the one of the C library, over all formats and those that aren't plain."""
+    sets = [texts, [text for text in texts if not PLAIN.fullmatch(text)]]
+    found = [costs(driver, file, it, ["parse_printf_format", *ONE, *TWO]) for it in sets]
+    yield f"| Call | {len(sets[0]):,} formats | Ratio | {len(sets[1])} of them | Ratio |\n|---|---|---|---|---|"
+    for call in [*ONE, *TWO, "parse_printf_format"]:
+        known = [cost["parse_printf_format"] * (2 if call in TWO else 1) for cost in found]
+        cells = [f"{cost[call]:,.0f} | {cost[call] / base:.2f}" for cost, base in zip(found, known)]
+        yield f"| {named(call)} | {' | '.join(cells)} |"
+
+
+def bounds_table(driver, file, texts):
+    """The lines that compare `bounds` with `types`, over the formats of bare directives and over the others."""
+    yield "\n| Formats | `types` | `bounds` | Ratio |\n|---|---|---|---|"
+    for name, is_bare in (("of bare directives", True), ("with others", False)):
+        formats = [text for text in texts if bool(BARE.fullmatch(text)) == is_bare]
+        cost = costs(driver, file, formats, ["types", "bounds"])
+        types, bounds = cost["types"], cost["bounds"]
+        yield f"| {len(formats):,} {name} | {types:,.0f} | {bounds:,.0f} | {bounds / types:.2f} |"
+
+
 def main(words):
     if len(words) != 1:
         sys.exit(__doc__)
     texts = shapes()
-    sets = [texts, [text for text in texts if not PLAIN.fullmatch(text)]]
-    calls = ["nothing", "parse_printf_format", *ONE, *TWO]
-    with tempfile.TemporaryDirectory() as work, ThreadPoolExecutor() as workers:
+    with tempfile.TemporaryDirectory() as work:
         work = Path(work)
         driver, printing = (build(Path(words[0]), work, name) for name in ("library", "printing"))
-        table, costs = list(printing_table(printing)), []
-        for place, formats in enumerate(sets):
-            file = work / f"{place}.nul"
-            file.write_bytes(records(formats))
-            counts = workers.map(lambda call: (count(driver, call, "3", file) - count(driver, call, "1", file)) / 2, calls)
-            found = dict(zip(calls, counts))
-            costs.append({call: (found[call] - found["nothing"]) / len(formats) for call in calls})
-    print(f"| Call | {len(sets[0]):,} formats | Ratio | {len(sets[1])} of them | Ratio |\n|---|---|---|---|---|")
-    for call in [*ONE, *TWO, "parse_printf_format"]:
-        known = [cost["parse_printf_format"] * (2 if call in TWO else 1) for cost in costs]
-        cells = [f"{cost[call]:,.0f} | {cost[call] / base:.2f}" for cost, base in zip(costs, known)]
-        print(f"| {named(call)} | {' | '.join(cells)} |")
-    print(*table, sep="\n")
+        for table in (calls_table, bounds_table):
+            print(*table(driver, work / "formats.nul", texts), sep="\n")
+        print(*printing_table(printing), sep="\n")
 
 
 if __name__ == "__main__":
