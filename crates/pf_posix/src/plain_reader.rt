@@ -17,7 +17,7 @@ use crate::profile_reader::profile_after;
 use crate::tables::put;
 use crate::types::ArgumentType;
 use crate::undefined_combinations::undefined_as;
-use pf_text::{MAX_MARKED, MIN_MARKED, Marks, flag_of, literal_len, modifier_of};
+use pf_text::{Percents, Walk, flag_of, modifier_of};
 use pf_values::limits::MAX_TEXT_LEN;
 use pf_values::{Length, Model};
 
@@ -36,84 +36,21 @@ pub(crate) struct PlainFront {
 pub(crate) fn plain_front(model: Model, text: &[u8], out: &mut [ArgumentType]) -> PlainFront
     ensures { IsFrontRead model text.now out.old out.new result }
 {
-    if text.len() < MIN_MARKED {
-        return front_by_runs(model, text, out);
-    }
-    if text.len() > MAX_MARKED {
-        return front_by_runs(model, text, out);
-    }
-    front_by_marks(model, text, out)
-}
-
-// `plain_front` of a text with marks.
-#[inline(always)]
-fn front_by_marks(model: Model, text: &[u8], out: &mut [ArgumentType]) -> PlainFront
-    requires some { MIN_MARKED ≤ length text.now }
-    requires few { length text.now ≤ MAX_MARKED }
-    ensures { IsFrontRead model text.now out.old out.new result }
-{
-    let marks = Marks::of(text);
-    let mut at = 0;
-    let mut count = 0;
-    while at < text.len() {
-        let Some(offset) = marks.next_from(at) else {
-            return PlainFront {
-                at: text.len(),
-                count,
-            };
-        };
-        let next = offset + 1;
-        if next >= text.len() {
-            return PlainFront { at, count };
-        }
-        if text[offset] != b'%' {
-            return PlainFront { at, count };
-        }
-        if text[next] == b'%' {
-            at = offset + 2;
-        } else {
-            match put_fetch(model, text, next, out, count) {
-                Some(stop) => {
-                    count += 1;
-                    at = stop;
-                }
-                None => return PlainFront { at, count },
-            }
-        }
-    }
-    PlainFront { at, count }
-}
-
-// `plain_front` of a text of any length.
-#[inline(never)]
-fn front_by_runs(model: Model, text: &[u8], out: &mut [ArgumentType]) -> PlainFront
-    ensures { IsFrontRead model text.now out.old out.new result }
-{
-    let mut at = 0;
     let mut count = 0;
     if text.len() as u64 > MAX_TEXT_LEN {
-        return PlainFront { at, count };
+        return PlainFront { at: 0, count };
     }
-    while at < text.len() {
-        if text[at] != b'%' {
-            let run = literal_len(&text[at..]);
-            if run == 0 {
-                return PlainFront { at, count };
+    let mut walk = Walk::new(text);
+    while walk.find::<Percents>() {
+        match put_fetch(model, text, walk.at + 1, out, count) {
+            Some(stop) => {
+                count += 1;
+                walk.at = stop;
             }
-            at += run;
-        } else if has_byte(text, at + 1, b'%') {
-            at += 2;
-        } else {
-            match put_fetch(model, text, at + 1, out, count) {
-                Some(stop) => {
-                    count += 1;
-                    at = stop;
-                }
-                None => return PlainFront { at, count },
-            }
+            None => return PlainFront { at: walk.at, count },
         }
     }
-    PlainFront { at, count }
+    PlainFront { at: walk.at, count }
 }
 
 // Puts the type of the argument of the specification after a `%`, and returns where it ends. None if it

@@ -1,0 +1,65 @@
+use Rattle.std.proofs.Common.{◌≤◌, ◌∙◌, arith, length, refl, subst, sym}
+use Rattle.pf_values.specs.declared.limits.TheConstants.{MAX_TEXT_LEN}
+use Rattle.pf_posix.specs.Plain.{IsPlainFront}
+use Rattle.pf_text.specs.Walks.{HasPercent}
+use Rattle.pf_text.proofs.ReadingLemmas.{moved_over}
+use Rattle.pf_posix.proofs.PlainFrontLemmas.{front_fetched, front_walked, no_front}
+use Rattle.pf_posix.proofs.plain_reader.plain_front.Goals as goal
+
+pub returns-then-text-gt-MAX_TEXT_LEN : goal.returns-then-text-gt-MAX_TEXT_LEN
+returns-then-text-gt-MAX_TEXT_LEN c =
+    record { front = no_front c.args.model c.args.text.now c.args.out.now; same_length = refl; within = omega arith; few = omega arith }
+
+pub loop-model-init : goal.loop-model-init
+loop-model-init c = record {
+  over = c.new-walk.ensures.over;
+  within = omega (arith, c.new-walk.ensures.at);
+  few = omega arith;
+  same = refl;
+  front = subst (λ k. IsPlainFront c.args.model c.args.text.now k c.args.out.now c.args.out.now 0) (sym c.new-walk.ensures.at)
+      (no_front c.args.model c.args.text.now c.args.out.now);
+}
+
+pub put_fetch-requires-clause-start : goal.put_fetch-requires-clause-start
+put_fetch-requires-clause-start c =
+    let t = c.args.text.now in
+    let i = c.loop-model.invariant in
+    let now = front_walked c.args.model t _ _ _ (omega (arith, c.if-text-gt-MAX_TEXT_LEN.false)) c.loop-model.walk c.find.new.self i.over i.within
+    c.find.ensures.passed i.front in
+    let found : HasPercent t c.find.new.self.at =
+    subst (λ u. HasPercent u c.find.new.self.at) now.3 (c.find.ensures.stopped c.loop-model-test.true) in
+    omega (arith, found.0)
+
+pub loop-model-preserved : goal.loop-model-preserved
+loop-model-preserved c =
+    let t = c.args.text.now in
+    let i = c.loop-model.invariant in
+    let here = c.find.new.self in
+    let short : length t ≤ MAX_TEXT_LEN = omega (arith, c.if-text-gt-MAX_TEXT_LEN.false) in
+    let now = front_walked c.args.model t _ _ _ short c.loop-model.walk here i.over i.within c.find.ensures.passed i.front in
+    let read = c.in-Some in
+    let found : HasPercent t here.at = subst (λ u. HasPercent u here.at) now.3 (c.find.ensures.stopped c.loop-model-test.true) in
+    record {
+      over = moved_over t here read.stop now.0;
+      within = read.ensures.within;
+      few = omega (arith, i.few, c.find.ensures.passed.from, read.ensures.from);
+      same = read.ensures.same_length ∙ i.same;
+      front = front_fetched c.args.model t here.at _ _ _ now.2 read.ensures.wanted read.stop c.put_fetch.new.out short (omega (arith, found.0)) found.1
+          read.ensures.fetched read.ensures.put;
+    }
+
+pub returns-in-None : goal.returns-in-None
+returns-in-None c =
+    let t = c.args.text.now in
+    let i = c.loop-model.invariant in
+    let short : length t ≤ MAX_TEXT_LEN = omega (arith, c.if-text-gt-MAX_TEXT_LEN.false) in
+    let now = front_walked c.args.model t _ _ _ short c.loop-model.walk c.find.new.self i.over i.within c.find.ensures.passed i.front in
+    rw c.in-None.ensures (record { front = now.2; same_length = i.same; within = now.1; few = omega (arith, i.few, c.find.ensures.passed.from) })
+
+pub returns : goal.returns
+returns c =
+    let t = c.args.text.now in
+    let i = c.loop-model.invariant in
+    let short : length t ≤ MAX_TEXT_LEN = omega (arith, c.if-text-gt-MAX_TEXT_LEN.false) in
+    let now = front_walked c.args.model t _ _ _ short c.loop-model.walk c.find.new.self i.over i.within c.find.ensures.passed i.front in
+    record { front = now.2; same_length = i.same; within = now.1; few = omega (arith, i.few, c.find.ensures.passed.from) }
