@@ -25,8 +25,8 @@ pub(crate) fn precision(directive: &Directive) -> u16
     directive.precision().unwrap_or(1)
 }
 
-/// The most digits that the value has.
-#[inline(always)]
+/// The most digits that the value has. Never inlined, so that what calls it stays short enough to be.
+#[inline(never)]
 pub(crate) fn max_digits(model: Model, directive: &Directive) -> u16
     ensures value { result ≡ digits_at_most model directive.now }
     ensures limit { result ≤ 255 }
