@@ -26,12 +26,12 @@ between start stop text = take (stop - start) (drop start text)
 abbrev pub letters_kept : Model → Specification → Text
 letters_kept model s = length_letters (kept_length model s.length) ++ conv_letter (kept_conv s.conv) ∷ []
 
--- What is written of a text up to an offset, except for the bytes from another one on, was put, and now
--- what is written up to a later offset, except for the bytes from a last one on.
+-- The bytes from `start` up to `at` were written, but not yet put. Now those up to `stop` are written, and the
+-- bytes from `next` on are not yet put.
 abbrev pub PutsFront : {A : Type 0} → (A → A → Text → Type 0) → Model → Text → ℕ → ℕ → A → A → ℕ → ℕ → Type 0
 PutsFront given model text start at old new next stop = (more : Text) × given old new more
-    × ((out : Text) → IsWritten model (take at text) (out ++ between start at text)
-    → IsWritten model (take stop text) ((out ++ more) ++ between next stop text))
+    × ((before out : Text) → IsWritten model before (out ++ between start at text) 0
+    → IsWritten model (before ++ between at stop text) ((out ++ more) ++ between next stop text) 0)
 
 -- The text begins with a directive of `len` bytes; `is` says whether it is a canonical item.
 pub record IsKnownFront (model : Model) (text : Text) (is : Bool) (len : ℕ) : Type 0 where

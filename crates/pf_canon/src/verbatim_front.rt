@@ -6,12 +6,11 @@ ghost use Rattle.pf_canon.specs.Answers.{IsCanonicalFor};
 ghost use Rattle.pf_canon.specs.VerbatimFronts.{IsVerbatimFront, front_model};
 
 use crate::chunk::put_chunks;
-use crate::plain_texts::put_plain;
-use crate::sink::Sink;
+use crate::items::put_items;
+use crate::sink::{Sink, put_silents};
 use crate::transducer::Transducer;
 use pf_text::{Refusal, Walk, canonical_end};
 use pf_values::Model as DataModel;
-use pf_values::limits::MAX_TEXT_LEN;
 
 /// The bytes at the front of a format that are verbatim, that is, their own canonical text in a data
 /// model.
@@ -42,13 +41,7 @@ impl<'a> VerbatimFront<'a> {
         requires { IsVerbatimFront text.now self.now }
         ensures { IsTrue result → IsCanonicalFor (front_model self.now) text.now text.now }
     {
-        if self.walk.at != text.len() {
-            return false;
-        }
-        if text.len() as u64 > MAX_TEXT_LEN {
-            return false;
-        }
-        true
+        self.walk.at == text.len()
     }
 
     /// Puts all of the canonical text of the format.
@@ -59,10 +52,16 @@ impl<'a> VerbatimFront<'a> {
             × IsCanonicalFor (front_model self.now) text.now c)
             (λ refusal. IsRefusedAt text.now refusal.kind refusal.at) }
     {
-        let at = put_plain(self.model, text, self.walk, sink);
+        let (at, held) = put_items(self.model, self.walk, 0, sink);
         if at == text.len() {
+            put_silents(sink, held);
             return Ok(());
         }
-        put_chunks(Transducer::after_items(self.model, at), text, at, sink)
+        put_chunks(
+            Transducer::after_items(self.model, at, held),
+            text,
+            at,
+            sink,
+        )
     }
 }

@@ -1,18 +1,12 @@
-use Rattle.std.proofs.Common.{◌≡◌, ◌-◌, arith, subst, take}
-use Rattle.pf_text.specs.CanonicalRuns.{IsCanonicalRun}
+use Rattle.std.proofs.Common.{arith}
 use Rattle.pf_text.proofs.ReadingLemmas.{moved_over}
+use Rattle.pf_canon.proofs.ItemLemmas.{own_walk}
 use Rattle.pf_canon.proofs.verbatim_front.VerbatimFront.of.Goals as goal
 
 pub returns-clause-front : goal.returns-clause-front
 returns-clause-front c =
-    let text = c.args.text.now in
-    let end = c.canonical_end.result in
-    let at_end = c.canonical_end.ensures text c.new-walk.ensures.over (omega arith) in
-    let all : end - 0 ≡ end = omega arith in
-    let run = at_end.canonical c.args.model in
-    record {
-      within = at_end.within;
-      over = moved_over text c.new-walk.result end c.new-walk.ensures.over;
-      items = run.0;
-      canonical = subst (λ n. IsCanonicalRun c.args.model (take n text) run.0) all run.1;
-    }
+    let walk = c.new-walk.result in
+    let over = c.new-walk.ensures.over in
+    let end = c.canonical_end.ensures walk.text.now (own_walk walk over.walk_is) (omega arith) in
+    let run = end.canonical c.args.model in
+    record { over = moved_over c.args.text.now walk c.canonical_end.result over; within = end.within; items = run.0; canonical = run.1 }

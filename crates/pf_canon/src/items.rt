@@ -1,69 +1,110 @@
-//! The canonical text of the front of a format without `%.0s`: it is put together from runs that need no
-//! change and from reduced directives, without a transducer.
-ghost use Rattle.std.specs.Prelude.{◌≡◌, ◌+◌, ◌<◌, ◌≤◌, List, [], ◌∷◌, ◌++◌, decimal, drop, length, take, MatchOption};
-ghost use Rattle.pf_values.specs.declared.limits.TheConstants.{MAX_TEXT_LEN as LIMIT};
-ghost use Rattle.pf_values.specs.meaning.Items.{Directive as DirectiveItem, Item};
-ghost use Rattle.pf_values.specs.meaning.Text.{Text};
+//! The canonical text of items of the profile: it is put together from runs that need no change and from
+//! reduced directives.
+ghost use Rattle.std.specs.Prelude.{◌≡◌, ◌≢◌, ◌+◌, ◌<◌, ◌≤◌, List, [], ◌∷◌, ◌++◌, decimal, drop, length};
+ghost use Rattle.pf_values.specs.meaning.Items.{Item};
 ghost use Rattle.pf_text.specs.CanonicalRuns.{IsCanonicalRun};
 ghost use Rattle.pf_text.specs.SpelledFronts.{IsSpelledFront};
-ghost use Rattle.pf_text.specs.Walks.{IsWalkOver};
+ghost use Rattle.pf_text.specs.Walks.{IsPassedRun, IsPercent, IsWalk};
 ghost use Rattle.pf_reduce.specs.Changes.{IsChange};
 ghost use Rattle.pf_reduce.specs.declared.changes.Change.TheVariants.{Filled, Padded};
 ghost use Rattle.pf_canon.specs.ChangedDirectives.{IsChangedFront, PutsFront, between, letters_kept};
-ghost use Rattle.pf_canon.specs.Making.{IsMaking, IsWritten};
-ghost use Rattle.pf_canon.specs.declared.limits.TheConstants.{MAX_DIRECTIVE_LEN};
+ghost use Rattle.pf_canon.specs.Making.{PutsItems};
 
 use crate::changed_directives::{ChangedDirective, keeps_letters};
+use crate::output::settle;
 use crate::sink::{Sink, put_repeated};
-use pf_reduce::{Change, Core, Reduced, reduce};
-use pf_text::{SpelledDirective, Walk, canonical_end, directive_at_front, spell};
-use pf_values::limits::MAX_TEXT_LEN;
+use pf_reduce::Change;
+use pf_text::{Percents, SpelledDirective, Walk, canonical_end, directive_at_front};
 use pf_values::padding::MAX_RUN;
 use pf_values::{Directive, Flag, Model, padding};
 use std::slice;
 
-/// Puts the canonical text of the front of a format that is canonical up to the offset of a walk, and
-/// returns how many bytes that front has: mostly all, and fewer where the format is refused or has
-/// `%.0s`.
-pub(crate) fn put_plain<S: Sink>(
+/// Puts the canonical text of the items of the profile from the one on at which a walk is, and of the bytes
+/// before it from `from` on, which are verbatim. Returns where the items end, and how many silent
+/// directives `%.0s` are not yet put: mostly at the end, and earlier where the text is refused or has an item
+/// that the profile lacks.
+#[inline(always)]
+pub(crate) fn put_items<S: Sink>(
     model: Model,
-    text: &[u8],
-    verbatim: Walk<'_>,
+    walk: Walk<'_>,
+    from: usize,
     sink: &mut S,
-) -> usize
-    requires over { IsWalkOver text.now verbatim }
-    requires within { verbatim.at ≤ length text.now }
-    requires verbatim { (items : List Item) × IsCanonicalRun model (take verbatim.at text.now) items }
-    ensures within { result ≤ length text.now }
-    ensures few { result ≤ LIMIT }
-    ensures written { (out : Text) × S.given sink.old sink.new out
-        × IsWritten model (take result text.now) out }
+) -> (usize, u64)
+    requires walk { IsWalk walk }
+    requires within { (from ≤ walk.at) × (walk.at ≤ length walk.text.now) }
+    requires verbatim { (items : List Item)
+        × IsCanonicalRun model (between from walk.at walk.text.now) items }
+    ensures within { (walk.entry.at ≤ result.0) × (result.0 ≤ length walk.entry.text.now) }
+    ensures put { PutsItems S.given model sink.old sink.new (between from result.0 walk.entry.text.now)
+        0 result.1 }
 {
-    if text.len() as u64 > MAX_TEXT_LEN {
-        return 0;
-    }
-    let mut from = 0;
-    let mut at = verbatim.at;
+    let text = walk.text();
+    let mut from = from;
+    let mut at = walk.at;
     while at < text.len() {
         match ChangedDirective::at_front(model, &text[at..]) {
             Some(directive) => {
                 from = put_changed(model, text, from, at, &directive, sink);
-                at = canonical_end(verbatim, at + directive.spelled.len);
+                at = canonical_end(walk, at + directive.spelled.len);
             }
             None => {
                 sink.put(&text[from..at]);
-                match put_directive(model, &text[at..], sink) {
-                    Some(len) => {
-                        from = at + len;
-                        at = canonical_end(verbatim, from);
-                    }
-                    None => return at,
+                let (stop, held) = put_reduced(model, walk, at, sink);
+                if stop == at {
+                    return (at, held);
                 }
+                if held > 0 {
+                    return (stop, held);
+                }
+                from = stop;
+                at = canonical_end(walk, stop);
             }
         }
     }
     sink.put(&text[from..]);
-    text.len()
+    (text.len(), 0)
+}
+
+// Puts the canonical text of the directive at an offset; and of the items after it while a silent one is
+// held, up to one behind which none is. Literal bytes and `%%` come before those that are held. Returns
+// where the items end, and how many are held. Never inlined, since few directives come here.
+#[inline(never)]
+fn put_reduced<S: Sink>(model: Model, walk: Walk<'_>, from: usize, sink: &mut S) -> (usize, u64)
+    requires walk { IsWalk walk }
+    requires within { from ≤ length walk.text.now }
+    ensures within { (from ≤ result.0) × (result.0 ≤ length walk.entry.text.now) }
+    ensures put { PutsItems S.given model sink.old sink.new (between from result.0 walk.entry.text.now)
+        0 result.1 }
+{
+    let text = walk.text();
+    let mut at = from;
+    let mut held = 0;
+    while let Some(front) = directive_at_front(&text[at..]) {
+        settle(model, &front.0, &mut held).put(sink);
+        at += front.1;
+        if held == 0 {
+            return (at, 0);
+        }
+        let end = literals_end(walk, at);
+        sink.put(&text[at..end]);
+        at = end;
+    }
+    (at, held)
+}
+
+// Where the literal bytes and `%%` end that begin at an offset of a walk's text.
+#[inline(always)]
+fn literals_end(walk: Walk<'_>, from: usize) -> usize
+    requires walk { IsWalk walk }
+    requires within { from ≤ length walk.text.now }
+    ensures within { (from ≤ result) × (result ≤ length walk.entry.text.now) }
+    ensures literal { (items : List Item)
+        × IsPassedRun IsPercent (between from result walk.entry.text.now) items }
+{
+    let mut walk = walk;
+    walk.at = from;
+    walk.find::<Percents>();
+    walk.at
 }
 
 // Puts the canonical text of the directive at an offset and of the bytes before it from `from` on, which
@@ -231,46 +272,4 @@ fn digit(value: u16) -> u8
     ensures { decimal value ≡ result ∷ [] }
 {
     b'0' + value as u8
-}
-
-// Puts the canonical text of the directive at the front of a text, and returns how many bytes the
-// directive has. `None` where the text begins otherwise, or the directive is silent. Never inlined, since few
-// directives come here.
-#[inline(never)]
-fn put_directive<S: Sink>(model: Model, text: &[u8], sink: &mut S) -> Option<usize>
-    ensures { MatchOption result (sink.new ≡ sink.old)
-        (λ len. (0 < len) × (len ≤ length text.now)
-        × (settled : Text) × S.given sink.old sink.new settled × ((t out : Text)
-        → IsWritten model t out → IsWritten model (t ++ take len text.now) (out ++ settled))) }
-{
-    let (directive, len) = directive_at_front(text)?;
-    put_reduced(model, &directive, sink)?;
-    Some(len)
-}
-
-// Puts the canonical text of a directive, unless that is silent.
-#[inline(always)]
-fn put_reduced<S: Sink>(model: Model, directive: &Directive, sink: &mut S) -> Option<()>
-    ensures { MatchOption result (sink.new ≡ sink.old)
-        (λ _. (settled : Text) × S.given sink.old sink.new settled
-        × (length settled ≤ MAX_DIRECTIVE_LEN) × ((out : Text) (items rest : List Item)
-        → IsMaking model out 0 items (DirectiveItem directive.now ∷ rest)
-        → IsMaking model (out ++ settled) 0 items rest)) }
-{
-    let Reduced {
-        spaces,
-        zeros,
-        core,
-        trail,
-    } = reduce(model, directive);
-    match core {
-        Core::Silent => None,
-        Core::Normal(normal) => {
-            put_repeated(sink, padding::spaces(MAX_RUN), spaces);
-            put_repeated(sink, padding::zeros(MAX_RUN), zeros);
-            sink.put(&spell(&normal.directive()));
-            put_repeated(sink, padding::spaces(MAX_RUN), trail);
-            Some(())
-        }
-    }
 }

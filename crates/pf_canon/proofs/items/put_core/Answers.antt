@@ -4,7 +4,7 @@ use Rattle.pf_values.specs.meaning.DataModel.{kept_length}
 use Rattle.pf_values.specs.meaning.Lengths.{length_letters}
 use Rattle.pf_canon.specs.ChangedDirectives.{letters_kept}
 use Rattle.pf_canon.proofs.PutLemmas.{two_digits}
-use Rattle.pf_canon.proofs.plain_texts.put_core.Goals as goal
+use Rattle.pf_canon.proofs.items.put_core.Goals as goal
 
 pub returns-then-not-is_empty : goal.returns-then-not-is_empty
 returns-then-not-is_empty g c =
