@@ -1,17 +1,20 @@
 -- What is put of the items of a text, one part after another.
-use Rattle.std.proofs.Common.{◌≡◌, ℕ, ◌+◌, ◌*◌, ◌-◌, ◌^◌, ◌<◌, ◌≤◌, List, [], ◌∷◌, ◌++◌, length, take, drop, sym, ap, ap₂, ◌∙◌, subst, arith}
+use Rattle.std.proofs.Common.{◌≡◌, inl, inr, ℕ, ◌+◌, ◌*◌, ◌-◌, ◌≤◌, List, [], ◌∷◌, ◌++◌, length, take, drop, sym, ap₂, ◌∙◌, subst, arith}
+use Rattle.std.specs.Prelude.{Bool, true, false, get_or, refl, ◌⊎◌}
 use Rattle.std.proofs.lemmas.List.{append-nil, append_assoc, length-drop, length-take, length-take-le, take_all}
 use Rattle.pf_values.specs.declared.models.Model.{Model}
-use Rattle.pf_values.specs.meaning.Items.{Item, Directive, IsReadAs}
-use Rattle.pf_values.specs.meaning.Specification.{Specification}
+use Rattle.pf_values.specs.meaning.Items.{Item, Directive}
 use Rattle.pf_values.specs.meaning.Text.{Text}
 use Rattle.pf_text.specs.CanonicalRuns.{IsCanonicalRun}
-use Rattle.pf_text.specs.Walks.{IsPassedRun, IsPercent, IsWalk, IsWalkOver}
+use Rattle.pf_text.specs.Walks.{Finds, HasPercent, IsPassedRun, IsPercent, IsWalk, IsWalkOver}
 use Rattle.pf_text.specs.declared.walk.Walk.{Walk}
 use Rattle.pf_values.specs.declared.limits.TheConstants.{MAX_TEXT_LEN}
+use Rattle.pf_text.specs.FoundDirectives.{BeginsNoDirective, BeginsNoItem, IsFoundAt}
+use Rattle.pf_text.specs.declared.specification.FoundDirective.{FoundDirective}
+use Rattle.pf_text.proofs.NoItemLemmas.{none_at_percent}
 use Rattle.pf_text.proofs.CanonicalRunLemmas.{take_front}
 use Rattle.pf_canon.specs.ChangedDirectives.{PutsFront, between}
-use Rattle.pf_canon.specs.Making.{IsMaking, IsWritten, PutsItems}
+use Rattle.pf_canon.specs.Making.{IsBetweenRuns, IsMaking, IsWritten, PutsItems}
 use Rattle.pf_canon.specs.Sink.{IsSink}
 use Rattle.pf_canon.specs.declared.limits.TheConstants.{MAX_DIRECTIVE_LEN}
 use Rattle.pf_canon.proofs.PutLemmas.{between-join, between-none, nothing_between, run_follows}
@@ -46,18 +49,22 @@ module _ {S : Type 0} {given : S → S → Text → Type 0} (laws : IsSink given
   )
 
   -- a directive
-  pub directive_put : (old new : S) (at len held still : ℕ) (d : Specification) (settled : Text) → given old new settled → 0 < len → len ≤ length (drop at text)
-      → IsReadAs (take len (drop at text)) (Directive d) → still ≤ held + 1 → length settled + 4 * still ≤ 4 * held + MAX_DIRECTIVE_LEN
-      → ((out : Text) (items rest : List Item) → IsMaking model out held items (Directive d ∷ rest) → IsMaking model (out ++ settled) still items rest)
-      → PutsItems given model old new (between at (at + len) text) held still
-  directive_put old new at len held still d settled put some few reads one short settles =
-      let same : at + len - at ≡ len = omega arith in (
-        settled,
-        put,
-        λ before out h. directive_written model before out (between at (at + len) text) settled held still d h
-            (subst (λ k. IsReadAs (take k (drop at text)) (Directive d)) (sym same) reads)
-            (omega (arith, one, some, same, length-take-le (at + len - at) (drop at text) (omega (arith, few, same)))) short (λ items. settles out items []),
-      )
+  pub directive_put : (old new : S) (at : ℕ) (found : FoundDirective) (held still : ℕ) (settled : Text) → given old new settled → IsFoundAt text at found
+      → still ≤ held + 1 → length settled + 4 * still ≤ 4 * held + MAX_DIRECTIVE_LEN
+      → ((out : Text) (items rest : List Item) → IsMaking model out held items (Directive found.directive ∷ rest)
+      → IsMaking model (out ++ settled) still items rest)
+      → PutsItems given model old new (between at found.stop text) held still
+  directive_put old new at found held still settled put there one short settles = (
+    settled,
+    put,
+    λ before out h. directive_written model before out (between at found.stop text) settled held still found.directive h there.read
+        (omega (
+          arith,
+          one,
+          there.some,
+          length-take-le (found.stop - at) (drop at text) (omega (arith, there.some, there.within, length-drop at text)),
+        )) short (λ items. settles out items []),
+  )
 
   -- literal bytes and `%%`
   pub percents_put : (old new : S) (at stop held : ℕ) (items : List Item) → given old new (between at stop text) → IsPassedRun IsPercent (between at stop text) items
@@ -140,3 +147,19 @@ pub all_of_walk : (text : Text) (walk : Walk) → IsWalkOver text walk → (at :
 all_of_walk text walk over at within whole =
     let front = front_of_walk text walk over at within in
     (front.0 ∙ take_all at text whole, omega (arith, front.2, whole))
+
+-- where no directive begins, nor a literal byte or `%%`, no item does
+pub no_item : (t : Text) (at : ℕ) → IsBetweenRuns t at → BeginsNoDirective (drop at t) → BeginsNoItem (drop at t)
+no_item t at (inl none) h = none
+no_item t at (inr other) h = none_at_percent t at other.0 other.1 h
+
+-- where a walk has stopped
+pub run_next : (passes : Item → Type 0) (leaves : ℕ → Type 0) (old new : Walk) (found : Bool) → Finds passes leaves old new found
+    → BeginsNoItem (drop new.at old.text.now) ⊎ (HasPercent old.text.now new.at × leaves (get_or old.text.now (new.at + 1) 0))
+run_next passes leaves old new true h =
+    inr (subst (λ t. HasPercent t new.at × leaves (get_or t (new.at + 1) 0)) h.passed.text (h.stopped refl))
+run_next passes leaves old new false h = inl (subst (λ t. BeginsNoItem (drop new.at t)) h.passed.text (h.ended refl))
+
+-- a part of a text isn't too long if that isn't
+pub between_short : (t : Text) (start stop : ℕ) → length t ≤ MAX_TEXT_LEN → length (between start stop t) ≤ MAX_TEXT_LEN
+between_short t start stop few = omega (arith, few, length-take (stop - start) (drop start t), length-drop start t)

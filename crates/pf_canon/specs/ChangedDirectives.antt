@@ -1,4 +1,4 @@
--- A directive at the front of a text that is its own canonical text, or nearly. This project's own.
+-- A directive of a text that is its own canonical text, or nearly. This project's own.
 use Rattle.std.specs.Prelude.{◌≡◌, ◌≢◌, ℕ, ◌<◌, ◌≤◌, ◌-◌, [], ◌∷◌, ◌++◌, Bool, MatchBool, length, take, drop}
 use Rattle.pf_values.specs.declared.models.Model.{Model}
 use Rattle.pf_values.specs.meaning.Conversions.{conv_letter, kept_conv}
@@ -10,13 +10,13 @@ use Rattle.pf_values.specs.meaning.Specification.{Specification}
 use Rattle.pf_values.specs.meaning.Spelling.{spelling_of}
 use Rattle.pf_values.specs.meaning.Text.{Text}
 use Rattle.pf_reduce.specs.Changes.{IsChange}
-use Rattle.pf_text.specs.SpelledFronts.{IsSpelledFront}
+use Rattle.pf_text.specs.FoundDirectives.{IsSpelledAt}
 use Rattle.pf_canon.specs.Making.{IsWritten}
 use Rattle.pf_canon.specs.declared.changed_directives.ChangedDirective.{ChangedDirective}
 
 -- the directive is there, and what changes is known
-abbrev pub IsChangedFront : Model → Text → ChangedDirective → Type 0
-IsChangedFront model text d = IsSpelledFront text d.spelled × IsChange model d.spelled.directive d.change
+abbrev pub IsChangedAt : Model → Text → ℕ → ChangedDirective → Type 0
+IsChangedAt model text at d = IsSpelledAt text at d.found × IsChange model d.found.directive d.change
 
 -- the bytes from one offset up to another
 abbrev pub between : ℕ → ℕ → Text → Text
@@ -33,12 +33,12 @@ PutsFront given model text start at old new next stop = (more : Text) × given o
     × ((before out : Text) → IsWritten model before (out ++ between start at text) 0
     → IsWritten model (before ++ between at stop text) ((out ++ more) ++ between next stop text) 0)
 
--- The text begins with a directive of `len` bytes; `is` says whether it is a canonical item.
-pub record IsKnownFront (model : Model) (text : Text) (is : Bool) (len : ℕ) : Type 0 where
+-- A directive is there, up to `stop`; `is` says whether it is a canonical item.
+pub record IsKnownAt (model : Model) (text : Text) (at : ℕ) (is : Bool) (stop : ℕ) : Type 0 where
   pub directive : Specification
-  pub some : 0 < len
-  pub within : len ≤ length text
-  pub read : IsReadAs (take len text) (Directive directive)
+  pub some : at < stop
+  pub within : stop ≤ length text
+  pub read : IsReadAs (between at stop text) (Directive directive)
   pub known : MatchBool is
-      (IsNormal model directive × (spelling_of directive ≡ take len text))
+      (IsNormal model directive × (spelling_of directive ≡ between at stop text))
       ((IsNormal model directive → ⊥) × (directive ≢ silent))

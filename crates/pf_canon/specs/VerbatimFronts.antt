@@ -6,6 +6,7 @@ use Rattle.pf_values.specs.meaning.Text.{Text}
 use Rattle.pf_text.specs.CanonicalRuns.{IsCanonicalRun}
 use Rattle.pf_text.specs.Walks.{IsWalkOver}
 use Rattle.pf_canon.specs.ChangedDirectives.{between}
+use Rattle.pf_canon.specs.Making.{IsBetweenRuns}
 use Rattle.pf_canon.specs.declared.verbatim_front.VerbatimFront.{VerbatimFront}
 
 -- the data model in which they are verbatim
@@ -18,3 +19,4 @@ pub record IsVerbatimFront (text : Text) (front : VerbatimFront) : Type 0 where
   pub within : front.walk.at ≤ length front.walk.text.now
   pub items : List Item
   pub canonical : IsCanonicalRun front.model (between 0 front.walk.at front.walk.text.now) items
+  pub next : IsBetweenRuns front.walk.text.now front.walk.at

@@ -1,28 +1,49 @@
 //! The canonical text of items of the profile: it is put together from runs that need no change and from
 //! reduced directives.
-ghost use Rattle.std.specs.Prelude.{◌≡◌, ◌≢◌, ◌+◌, ◌<◌, ◌≤◌, List, [], ◌∷◌, ◌++◌, decimal, drop, length};
+ghost use Rattle.std.specs.Prelude.{◌≡◌, ◌≢◌, ◌⊎◌, ◌+◌, ◌<◌, ◌≤◌, List, [], ◌∷◌, ◌++◌, decimal, drop, get_or, length};
 ghost use Rattle.pf_values.specs.meaning.Items.{Item};
 ghost use Rattle.pf_text.specs.CanonicalRuns.{IsCanonicalRun};
-ghost use Rattle.pf_text.specs.SpelledFronts.{IsSpelledFront};
-ghost use Rattle.pf_text.specs.Walks.{IsPassedRun, IsPercent, IsWalk};
+ghost use Rattle.pf_text.specs.FoundDirectives.{BeginsNoItem, IsSpelledAt};
+ghost use Rattle.pf_text.specs.Walks.{HasPercent, IsPassedRun, IsWalk};
 ghost use Rattle.pf_reduce.specs.Changes.{IsChange};
 ghost use Rattle.pf_reduce.specs.declared.changes.Change.TheVariants.{Filled, Padded};
-ghost use Rattle.pf_canon.specs.ChangedDirectives.{IsChangedFront, PutsFront, between, letters_kept};
-ghost use Rattle.pf_canon.specs.Making.{PutsItems};
+ghost use Rattle.pf_values.specs.meaning.Text.{Text};
+ghost use Rattle.pf_canon.specs.Answers.{IsCanonicalFor};
+ghost use Rattle.pf_canon.specs.ChangedDirectives.{IsChangedAt, PutsFront, between, letters_kept};
+ghost use Rattle.pf_canon.specs.Making.{IsBetweenRuns, PutsItems};
 
 use crate::changed_directives::{ChangedDirective, keeps_letters};
 use crate::output::settle;
-use crate::sink::{Sink, put_repeated};
+use crate::sink::{Sink, put_repeated, put_silents};
 use pf_reduce::Change;
-use pf_text::{Percents, SpelledDirective, Walk, canonical_end, directive_at_front};
+use pf_text::{Canonical, FoundDirective, Passed, Percents, Walk, directive_at};
 use pf_values::padding::MAX_RUN;
 use pf_values::{Directive, Flag, Model, padding};
 use std::slice;
 
+/// Puts the canonical text of a stretch, that is, of the items of the profile from an offset on, of which
+/// those up to the offset of a walk are verbatim. Returns where it ends: mostly at the end, and earlier
+/// where the text is refused or has an item that the profile lacks.
+#[inline(always)]
+pub(crate) fn put_stretch<S: Sink>(model: Model, walk: Walk<'_>, from: usize, sink: &mut S) -> usize
+    requires walk { IsWalk walk }
+    requires within { (from ≤ walk.at) × (walk.at ≤ length walk.text.now) }
+    requires verbatim { (items : List Item)
+        × IsCanonicalRun model (between from walk.at walk.text.now) items }
+    requires next { IsBetweenRuns walk.text.now walk.at }
+    ensures within { (walk.entry.at ≤ result) × (result ≤ length walk.entry.text.now) }
+    ensures stopped { BeginsNoItem (drop result walk.entry.text.now) }
+    ensures put { (c : Text) × S.given sink.old sink.new c
+        × IsCanonicalFor model (between from result walk.entry.text.now) c }
+{
+    let (stop, held) = put_items(model, walk, from, sink);
+    put_silents(sink, held);
+    stop
+}
+
 /// Puts the canonical text of the items of the profile from the one on at which a walk is, and of the bytes
 /// before it from `from` on, which are verbatim. Returns where the items end, and how many silent
-/// directives `%.0s` are not yet put: mostly at the end, and earlier where the text is refused or has an item
-/// that the profile lacks.
+/// directives `%.0s` are not yet put.
 #[inline(always)]
 pub(crate) fn put_items<S: Sink>(
     model: Model,
@@ -34,7 +55,9 @@ pub(crate) fn put_items<S: Sink>(
     requires within { (from ≤ walk.at) × (walk.at ≤ length walk.text.now) }
     requires verbatim { (items : List Item)
         × IsCanonicalRun model (between from walk.at walk.text.now) items }
+    requires next { IsBetweenRuns walk.text.now walk.at }
     ensures within { (walk.entry.at ≤ result.0) × (result.0 ≤ length walk.entry.text.now) }
+    ensures stopped { BeginsNoItem (drop result.0 walk.entry.text.now) }
     ensures put { PutsItems S.given model sink.old sink.new (between from result.0 walk.entry.text.now)
         0 result.1 }
 {
@@ -42,10 +65,10 @@ pub(crate) fn put_items<S: Sink>(
     let mut from = from;
     let mut at = walk.at;
     while at < text.len() {
-        match ChangedDirective::at_front(model, &text[at..]) {
+        match ChangedDirective::at(model, text, at) {
             Some(directive) => {
                 from = put_changed(model, text, from, at, &directive, sink);
-                at = canonical_end(walk, at + directive.spelled.len);
+                at = run_end::<Canonical>(walk, directive.found.stop);
             }
             None => {
                 sink.put(&text[from..at]);
@@ -57,7 +80,7 @@ pub(crate) fn put_items<S: Sink>(
                     return (stop, held);
                 }
                 from = stop;
-                at = canonical_end(walk, stop);
+                at = run_end::<Canonical>(walk, stop);
             }
         }
     }
@@ -72,38 +95,41 @@ pub(crate) fn put_items<S: Sink>(
 fn put_reduced<S: Sink>(model: Model, walk: Walk<'_>, from: usize, sink: &mut S) -> (usize, u64)
     requires walk { IsWalk walk }
     requires within { from ≤ length walk.text.now }
+    requires next { IsBetweenRuns walk.text.now from }
     ensures within { (from ≤ result.0) × (result.0 ≤ length walk.entry.text.now) }
+    ensures none { result.0 ≡ from → BeginsNoItem (drop result.0 walk.entry.text.now) }
+    ensures held { 0 < result.1 → BeginsNoItem (drop result.0 walk.entry.text.now) }
     ensures put { PutsItems S.given model sink.old sink.new (between from result.0 walk.entry.text.now)
         0 result.1 }
 {
     let text = walk.text();
     let mut at = from;
     let mut held = 0;
-    while let Some(front) = directive_at_front(&text[at..]) {
-        settle(model, &front.0, &mut held).put(sink);
-        at += front.1;
+    while let Some(found) = directive_at(text, at) {
+        settle(model, &found.directive, &mut held).put(sink);
         if held == 0 {
-            return (at, 0);
+            return (found.stop, 0);
         }
-        let end = literals_end(walk, at);
-        sink.put(&text[at..end]);
-        at = end;
+        at = run_end::<Percents>(walk, found.stop);
+        sink.put(&text[found.stop..at]);
     }
     (at, held)
 }
 
-// Where the literal bytes and `%%` end that begin at an offset of a walk's text.
+/// Returns where the literal bytes and items of `P` end that begin at an offset of a walk's text.
 #[inline(always)]
-fn literals_end(walk: Walk<'_>, from: usize) -> usize
+pub(crate) fn run_end<P: Passed>(walk: Walk<'_>, from: usize) -> usize
     requires walk { IsWalk walk }
     requires within { from ≤ length walk.text.now }
     ensures within { (from ≤ result) × (result ≤ length walk.entry.text.now) }
-    ensures literal { (items : List Item)
-        × IsPassedRun IsPercent (between from result walk.entry.text.now) items }
+    ensures passed { (items : List Item)
+        × IsPassedRun P.passes (between from result walk.entry.text.now) items }
+    ensures next { BeginsNoItem (drop result walk.entry.text.now) ⊎ (HasPercent walk.entry.text.now result
+        × P.leaves (get_or walk.entry.text.now (result + 1) 0)) }
 {
     let mut walk = walk;
     walk.at = from;
-    walk.find::<Percents>();
+    walk.find::<P>();
     walk.at
 }
 
@@ -120,23 +146,24 @@ fn put_changed<S: Sink>(
     sink: &mut S,
 ) -> usize
     requires within { (from ≤ at) × (at ≤ length text.now) }
-    requires front { IsChangedFront model (drop at text.now) directive.now }
-    ensures within { result ≤ at + directive.now.spelled.len }
+    requires front { IsChangedAt model text.now at directive.now }
+    ensures within { result ≤ directive.now.found.stop }
     ensures written { PutsFront S.given model text.now from at sink.old sink.new result
-        (at + directive.now.spelled.len) }
+        directive.now.found.stop }
 {
     if directive.is_kept(model) {
         return from;
     }
+    let found = &directive.found;
     match directive.change {
         Change::Letters => {
-            put_letters(model, text, from, at, &directive.spelled, sink);
-            at + directive.spelled.len
+            put_letters(model, text, from, found, sink);
+            found.stop
         }
-        Change::Filled => put_filled(model, text, from, at, &directive.spelled, sink),
+        Change::Filled => put_filled(model, text, from, at, found, sink),
         Change::Padded(width) => {
-            put_padded(model, text, from, at, &directive.spelled, width, sink);
-            at + directive.spelled.len
+            put_padded(model, text, from, at, found, width, sink);
+            found.stop
         }
     }
 }
@@ -148,17 +175,15 @@ fn put_letters<S: Sink>(
     model: Model,
     text: &[u8],
     from: usize,
-    at: usize,
-    spelled: &SpelledDirective,
+    found: &FoundDirective,
     sink: &mut S,
 )
-    requires within { (from ≤ at + spelled.now.modifier_at)
-        × (at + spelled.now.modifier_at ≤ length text.now) }
+    requires within { (from ≤ found.now.modifier_at) × (found.now.modifier_at ≤ length text.now) }
     ensures { S.given sink.old sink.new
-        (between from (at + spelled.now.modifier_at) text.now ++ letters_kept model spelled.now.directive) }
+        (between from found.now.modifier_at text.now ++ letters_kept model found.now.directive) }
 {
-    sink.put(&text[from..at + spelled.modifier_at]);
-    put_kept_letters(model, &spelled.directive, sink);
+    sink.put(&text[from..found.modifier_at]);
+    put_kept_letters(model, &found.directive, sink);
 }
 
 // Puts the letters that a normal directive has for those of a directive.
@@ -189,23 +214,22 @@ fn put_filled<S: Sink>(
     text: &[u8],
     from: usize,
     at: usize,
-    spelled: &SpelledDirective,
+    found: &FoundDirective,
     sink: &mut S,
 ) -> usize
     requires within { (from ≤ at) × (at ≤ length text.now) }
-    requires front { IsSpelledFront (drop at text.now) spelled.now }
-    requires change { IsChange model spelled.now.directive Filled }
-    ensures within { result ≤ at + spelled.now.len }
-    ensures written { PutsFront S.given model text.now from at sink.old sink.new result
-        (at + spelled.now.len) }
+    requires front { IsSpelledAt text.now at found.now }
+    requires change { IsChange model found.now.directive Filled }
+    ensures within { result ≤ found.now.stop }
+    ensures written { PutsFront S.given model text.now from at sink.old sink.new result found.now.stop }
 {
     sink.put(&text[from..at + 1]);
     sink.put(b".");
-    if keeps_letters(model, &spelled.directive) {
+    if keeps_letters(model, &found.directive) {
         return at + 2;
     }
-    put_letters(model, text, at + 2, at, spelled, sink);
-    at + spelled.len
+    put_letters(model, text, at + 2, found, sink);
+    found.stop
 }
 
 // Puts the bytes from an offset on up to a directive, and then the directive with this width, within spaces.
@@ -215,17 +239,16 @@ fn put_padded<S: Sink>(
     text: &[u8],
     from: usize,
     at: usize,
-    spelled: &SpelledDirective,
+    found: &FoundDirective,
     width: u16,
     sink: &mut S,
 )
     requires within { (from ≤ at) × (at ≤ length text.now) }
-    requires front { IsSpelledFront (drop at text.now) spelled.now }
-    requires change { IsChange model spelled.now.directive (Padded width) }
-    ensures { PutsFront S.given model text.now from at sink.old sink.new (at + spelled.now.len)
-        (at + spelled.now.len) }
+    requires front { IsSpelledAt text.now at found.now }
+    requires change { IsChange model found.now.directive (Padded width) }
+    ensures { PutsFront S.given model text.now from at sink.old sink.new found.now.stop found.now.stop }
 {
-    let directive = spelled.directive;
+    let directive = found.directive;
     let beyond = directive.width().unwrap_or(0) - width;
     if directive.flags().has(Flag::Minus) {
         sink.put(&text[from..at + 2]);

@@ -22,6 +22,7 @@ mod early_difference;
 mod early_refusal;
 mod faults;
 mod items;
+mod languages;
 pub mod laws;
 pub mod limits;
 mod output;
@@ -33,11 +34,13 @@ mod verbatim_front;
 
 pub use canonical_bytes::CanonBytes;
 pub use canonical_texts::{
-    append_canonical, canonical, canonical_len, canonical_with_room, is_canonical,
+    canonical, canonical_in, canonical_len, canonical_len_in, canonical_with_room, is_canonical,
+    is_canonical_in,
 };
 pub use comparison::{same_stream, same_text};
 pub use copy::{canonical_stream, copy_canonical};
 pub use faults::{CopyFault, SideFault, StreamFault};
+pub use languages::{Language, OtherItem, Profile};
 pub use pf_text::{Side, TextFault as CanonFault};
 pub use short_texts::ShortText;
 pub use verbatim_front::VerbatimFront;

@@ -11,10 +11,10 @@ ghost use Rattle.pf_canon.specs.Output.{output_text};
 ghost use Rattle.pf_canon.specs.Transducer.{SettlesEnd, GrowsByChunk, HasScannedByte, IsChunkWithin, IsThrough, IsUpTo, IsUpToAfter, TakesVerbatim, TakesText, Settles, TakesByte, SettlesDirective, TakesChunk, GrowsByDirective, chunk_output_text, byte_output_text, data_model_of, more_of, scanner_of, held_silents_of};
 
 use crate::chunk::{Chunk, ChunkRefusal};
-use crate::items::put_items;
+use crate::items::{put_items, run_end};
 use crate::output::{Output, StepOutput, settle};
 use crate::sink::Sink;
-use pf_text::{Refusal, Scanner, Spelling, Step, Walk};
+use pf_text::{Canonical, Refusal, Scanner, Spelling, Step, Walk};
 use pf_values::{Directive, Model};
 
 /// A data model, the scanner's state inside the current item, and the number of `%.0s` not yet
@@ -66,7 +66,9 @@ impl Transducer {
         if !self.scanner.may_pass(text.len()) {
             return 0;
         }
-        let (len, held) = put_items(self.model, Walk::new(text), 0, sink);
+        let mut walk = Walk::new(text);
+        walk.at = run_end::<Canonical>(walk, 0);
+        let (len, held) = put_items(self.model, walk, 0, sink);
         self.scanner.pass_items(len);
         self.silents = held;
         len

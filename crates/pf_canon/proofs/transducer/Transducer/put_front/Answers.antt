@@ -1,6 +1,7 @@
-use Rattle.std.proofs.Common.{◌≡◌, ◌-◌, ◌++◌, [], arith, refl, sym, subst, take, length}
+use Rattle.std.proofs.Common.{◌≡◌, ◌++◌, [], arith, refl, sym, subst, take, length}
 use Rattle.std.proofs.lemmas.List.{append-nil, length-take-le}
-use Rattle.pf_text.specs.CanonicalRuns.{IsCanonicalRun}
+use Rattle.pf_text.proofs.WalkLemmas.{run_is_canonical}
+use Rattle.pf_canon.specs.ChangedDirectives.{between}
 use Rattle.pf_canon.specs.Making.{IsWritten}
 use Rattle.pf_canon.specs.Transducer.{IsThrough, IsUpToAfter}
 use Rattle.pf_canon.proofs.WrittenLemmas.{none_written, written_through}
@@ -23,13 +24,12 @@ returns-then-not-may_pass-clause-put g c = (
 
 pub put_items-len-requires-clause-verbatim : goal.put_items-len-requires-clause-verbatim
 put_items-len-requires-clause-verbatim g c =
-    let at = c.new.result.at in
-    let text = c.new.result.text.now in
-    let none : at - 0 ≡ 0 = omega (arith, c.new.ensures.at) in
-    ([], subst (λ n. IsCanonicalRun c.args.self.now.model (take n text) []) (sym none) (record { canonical = tt; whole = refl }))
+    let run = c.run_end.ensures.passed in
+    (run.0, run_is_canonical c.args.self.now.model (between 0 c.run_end.result c.new-walk.result.text.now) run.0 run.1)
 
 pub returns-clause-within : goal.returns-clause-within
-returns-clause-within g c = (front_of_walk c.args.text.now c.new.result c.new.ensures.over c.put_items-len.result.0 c.put_items-len.ensures.within.1).1
+returns-clause-within g c =
+    (front_of_walk c.args.text.now c.new-walk.result c.new-walk.ensures.over c.put_items-len.result.0 c.put_items-len.ensures.within.1).1
 
 pub returns-clause-put : goal.returns-clause-put
 returns-clause-put g c =
@@ -41,7 +41,7 @@ returns-clause-put g c =
     let front = take len text in
     let none : r.silents ≡ 0 = omega (arith, c.if-self-gt0.false) in
     let (more, given, written) = c.put_items-len.ensures.put in
-    let place = front_of_walk text c.new.result c.new.ensures.over len c.put_items-len.ensures.within.1 in
+    let place = front_of_walk text c.new-walk.result c.new-walk.ensures.over len c.put_items-len.ensures.within.1 in
     let w = subst (λ t. IsWritten r.model t more held) place.0 (written [] [] (none_written r.model)) in
     let long : length front ≡ len = length-take-le len text place.1 in (
       more,
