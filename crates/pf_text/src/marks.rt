@@ -24,7 +24,6 @@ pub struct Marks {
 
 impl Marks {
     /// Marks a text of 8 to 64 bytes.
-    #[inline(always)]
     pub fn of(text: &[u8]) -> Marks
         requires some { MIN_MARKED ≤ length text.now }
         requires few { length text.now ≤ MAX_MARKED }
@@ -36,7 +35,6 @@ impl Marks {
     }
 
     /// Returns the first marked offset from `at` on, or `None` if there is none.
-    #[inline(always)]
     pub fn next_from(self, at: usize) -> Option<usize>
         requires { at < 64 }
         ensures { MatchOption result (HasNoMark self at 64)
@@ -47,7 +45,6 @@ impl Marks {
     }
 }
 
-#[inline(always)]
 fn marks_of(text: &[u8]) -> u64
     requires some { MIN_MARKED ≤ length text.now }
     requires few { length text.now ≤ MAX_MARKED }
@@ -71,7 +68,6 @@ fn marks_of(text: &[u8]) -> u64
 }
 
 // Marks the bytes that one vector holds.
-#[inline(always)]
 fn marks_at<const N: usize>(text: &[u8], at: usize) -> u64
     requires room { at + N ≤ length text.now }
     requires few { at + N ≤ 64 }
@@ -81,7 +77,6 @@ fn marks_at<const N: usize>(text: &[u8], at: usize) -> u64
     ends_at::<N>(text, at) << at as u32
 }
 
-#[inline(always)]
 fn next_marked(marks: u64, at: usize) -> Option<usize>
     requires { at < 64 }
     ensures { MatchOption result (HasNoBit marks at 64)
