@@ -14,7 +14,7 @@ use Rattle.pf_posix.proofs.Agreeing.{all_map, all_push}
 use Rattle.fmtcanon.specs.Answers.{AcceptsBoth, IsFirstFault, IsGivenPairFault, IsGivenPairFaultIn, IsFaultInTexts, IsPairFault, IsPairFaultIn, NeedsMemory, lacks_in, side_of}
 use Rattle.fmtcanon.specs.Faults.{of_literal}
 use Rattle.fmtcanon.specs.Formats.{HoldsOf, IsBytesFault, IsFormat}
-use Rattle.fmtcanon.specs.Languages.{AcceptsText}
+use Rattle.pf_whole.specs.Languages.{AcceptsText}
 use Rattle.fmtcanon.specs.Models.{asked_models, first_model}
 use Rattle.fmtcanon.specs.PairAnswers.{IsPairAnswer}
 use Rattle.fmtcanon.specs.Questions.{language_of}

@@ -32,7 +32,7 @@ use Rattle.fmtcanon.specs.ArgumentLines.{HasArgumentLines}
 use Rattle.fmtcanon.specs.ByteCounts.{HasBoundsLine}
 use Rattle.fmtcanon.specs.FormatArguments.{IsArgumentFault, IsPrinted}
 use Rattle.fmtcanon.specs.Formats.{HoldsAt, HoldsOf, IsFormat, IsNoFormat, IsOffsetInText, MakesBytes, written_in}
-use Rattle.fmtcanon.specs.Languages.{Language, AcceptsText, RefusesText}
+use Rattle.pf_whole.specs.Languages.{Language, AcceptsText, RefusesText}
 use Rattle.fmtcanon.specs.Lines.{line}
 use Rattle.fmtcanon.specs.Models.{asked_models}
 use Rattle.fmtcanon.specs.PairAnswers.{IsPairAnswerIn}

@@ -3,7 +3,6 @@ pub mod Models
 pub mod Words
 pub mod Formats
 pub mod Options
-pub mod Languages
 pub mod Questions
 pub mod Tasks
 pub mod Faults

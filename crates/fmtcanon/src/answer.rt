@@ -7,7 +7,7 @@ ghost use Rattle.pf_values.specs.meaning.Text.{Text};
 ghost use Rattle.fmtcanon.specs.Faults.{of_literal};
 ghost use Rattle.fmtcanon.specs.FormatArguments.{IsArgumentFault, IsPrinted};
 ghost use Rattle.fmtcanon.specs.Formats.{IsFormat};
-ghost use Rattle.fmtcanon.specs.Languages.{AcceptsText, Profile};
+ghost use Rattle.pf_whole.specs.Languages.{AcceptsText, Profile};
 ghost use Rattle.fmtcanon.specs.Lines.{line, output_bytes};
 ghost use Rattle.fmtcanon.specs.Outcomes.{status_of_ending};
 ghost use Rattle.fmtcanon.specs.PairAnswers.{IsPairAnswerIn};

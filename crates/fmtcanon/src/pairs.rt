@@ -1,7 +1,7 @@
 //! Answers about two formats, in one data model after another.
 ghost use Rattle.std.specs.Prelude.{◌≡◌, ◌++◌, IfOk, MatchOption, MatchResult};
 ghost use Rattle.fmtcanon.specs.Answers.{AcceptsBoth, IsFirstPairFault, IsPairFault, IsPairFaultIn, IsRefusalOfFirst, NeedsMemory};
-ghost use Rattle.fmtcanon.specs.Languages.{AcceptsText, Numbered};
+ghost use Rattle.pf_whole.specs.Languages.{AcceptsText, Numbered};
 ghost use Rattle.fmtcanon.specs.Lines.{line, output_bytes};
 ghost use Rattle.fmtcanon.specs.PairAnswers.{IsAnswerInEach, IsPairAnswer, IsPairAnswerIn, ending_with};
 ghost use Rattle.fmtcanon.specs.Questions.{language_of};

@@ -3,7 +3,7 @@ ghost use Rattle.std.specs.Prelude.{◌≡◌, ◌++◌, IfOk, MatchResult, code
 ghost use Rattle.fmtcanon.specs.Answers.{IsFormatFault, IsPairFault, NeedsMemory};
 ghost use Rattle.fmtcanon.specs.ArgumentLines.{IsFitAnswer, fit_ending, fit_line};
 ghost use Rattle.pf_posix.specs.Laws.{ComparesArgumentTypes, ComparesBeginning};
-ghost use Rattle.fmtcanon.specs.Languages.{Unnumbered};
+ghost use Rattle.pf_whole.specs.Languages.{Unnumbered};
 ghost use Rattle.fmtcanon.specs.Lines.{line, output_bytes};
 ghost use Rattle.fmtcanon.specs.WholeAnswers.{WholeBytesDiffer, HasWholeCanonicalLine, IsAlikeAnswer, shown_line, whole_ending_of, whole_verdict_lines};
 ghost use Rattle.fmtcanon.specs.declared.questions.PairQuestion.TheVariants.{Fits, FitsFewer, WholeSame};

@@ -1,6 +1,7 @@
 -- The languages of formats: the profile, and the whole language of POSIX fprintf with numbered arguments
 -- and without. What is accepted there, and how other texts are refused.
-use Rattle.std.specs.Prelude.{ℕ}
+use Rattle.std.specs.Prelude.{◌≡◌, ℕ, List, ◌∷◌, ◌++◌}
+use Rattle.std.specs.List.{AllByRecursion}
 use Rattle.pf_values.specs.declared.models.Model.{Model}
 use Rattle.pf_values.specs.meaning.Items.{IsAccepted}
 use Rattle.pf_values.specs.meaning.Refusals.{IsRefusedAt}
@@ -27,3 +28,12 @@ abbrev pub RefusesText : Language → Model → Text → RefusalKind → ℕ →
 RefusesText Profile model = IsRefusedAt
 RefusesText Numbered model = IsPosixRefusedAt model
 RefusesText Unnumbered model = IsWholeRefusedAt model
+
+-- it is so in the first of some data models in which not all is accepted
+pub record IsFirstIn (models : List Model) (Accepts Is : Model → Type 0) : Type 0 where
+  pub before : List Model
+  pub model : Model
+  pub after : List Model
+  pub split : models ≡ before ++ model ∷ after
+  pub accepted : AllByRecursion Accepts before
+  pub is : Is model
