@@ -1,19 +1,14 @@
 //! The types of the arguments that a format takes, in the profile and in the whole language.
-ghost use Rattle.std.specs.Prelude.{◌≡◌, ◌≤◌, ◌↔◌, ◌++◌, IsTrue, MatchResult, length, drop, map, pos};
-ghost use Rattle.std.specs.List.{AllByRecursion};
+ghost use Rattle.std.specs.Prelude.{◌≡◌, ◌≤◌, ◌++◌, length, drop, map, pos};
 ghost use Rattle.pf_values.specs.TypeNumbers.{type_number};
 ghost use Rattle.fmtcanon_c.specs.Buffers.{put};
-ghost use Rattle.fmtcanon_c.specs.Calls.{AreModels, PutsTypes};
 ghost use Rattle.fmtcanon_c.specs.Models.{InModel};
-ghost use Rattle.pf_posix.specs.Items.{IsPosixAccepted};
 ghost use Rattle.pf_posix.specs.TypeNumbers.{number_of_type};
-ghost use Rattle.pf_posix.specs.Laws.{FaultForFits};
-ghost use Rattle.pf_values.specs.declared.models.TheConstants.Model.{ALL};
-ghost use Rattle.fmtcanon_c.specs.ArgumentTypes.{AnswersFewer, AnswersFewerModels, AnswersFit, AnswersFitModels, Fit, FitFewer, PutsArguments, StopsFitsIn};
+ghost use Rattle.fmtcanon_c.specs.Calls.{PutsArguments, PutsTypes};
 
 use crate::interface::{CError, NO_MEMORY, NO_MODEL, model_of, put_refusal};
-use pf_posix::{ArgumentType, arguments, arguments_vec, fits, fits_fewer};
-use pf_text::{Refusal, Side, TextFault, known_types, signature};
+use pf_posix::{ArgumentType, arguments, arguments_vec};
+use pf_text::{Side, TextFault, known_types, signature};
 use pf_values::{ArgType, Model};
 use std::alloc::Global;
 
@@ -171,146 +166,5 @@ fn put_numbers(out: &mut [u8], types: &[ArgumentType])
     while at < types.len() {
         out[at] = types[at].number();
         at += 1;
-    }
-}
-
-/// Returns 1 if the second format takes just the arguments of the first, 0 if not, or minus the
-/// kind of the rejected one. Allocates nothing.
-#[unsafe(no_mangle)]
-pub extern "C" fn fmtcanon_fits(model: i32, first: &[u8], second: &[u8], error: &mut CError) -> i64
-    ensures { InModel model (λ m. AnswersFit m first.now second.now error.old result error.new)
-        result (error.new ≡ error.old) }
-{
-    match model_of(model) {
-        Some(model) => fits_in(model, first, second, error),
-        None => NO_MODEL,
-    }
-}
-
-fn fits_in(model: Model, first: &[u8], second: &[u8], error: &mut CError) -> i64
-    ensures { AnswersFit model first.now second.now error.old result error.new }
-{
-    match fits(model, first, second) {
-        Ok(None) => 1,
-        Ok(Some(_)) => 0,
-        Err((side, refusal)) => put_refusal(error, side, refusal),
-    }
-}
-
-/// Returns 1 if the second format takes the arguments of the first, or those at their beginning, 0 if
-/// not, or minus the kind of the rejected one. Allocates nothing.
-#[unsafe(no_mangle)]
-pub extern "C" fn fmtcanon_fits_fewer(
-    model: i32,
-    first: &[u8],
-    second: &[u8],
-    error: &mut CError,
-) -> i64
-    ensures { InModel model (λ m. AnswersFewer m first.now second.now error.old result error.new)
-        result (error.new ≡ error.old) }
-{
-    match model_of(model) {
-        Some(model) => fits_fewer_in(model, first, second, error),
-        None => NO_MODEL,
-    }
-}
-
-fn fits_fewer_in(model: Model, first: &[u8], second: &[u8], error: &mut CError) -> i64
-    ensures { AnswersFewer model first.now second.now error.old result error.new }
-{
-    match fits_fewer(model, first, second) {
-        Ok(None) => 1,
-        Ok(Some(_)) => 0,
-        Err((side, refusal)) => put_refusal(error, side, refusal),
-    }
-}
-
-/// Returns the data models in which the second format takes just the arguments of the first, as
-/// `fmtcanon_same_models` gives them. If one format is rejected in a data model, returns minus its
-/// kind in the first such data model. Allocates nothing.
-#[unsafe(no_mangle)]
-pub extern "C" fn fmtcanon_fits_models(first: &[u8], second: &[u8], error: &mut CError) -> i64
-    ensures { AnswersFitModels first.now second.now error.old result error.new }
-{
-    match fits_models(first, second) {
-        Ok(sum) => i64::from(sum),
-        Err((side, refusal)) => put_refusal(error, side, refusal),
-    }
-}
-
-// The data models in which it does, as a sum.
-fn fits_models(first: &[u8], second: &[u8]) -> Result<u8, (Side, Refusal)>
-    ensures { MatchResult result
-        (λ sum. AllByRecursion (λ model. IsPosixAccepted model first.now × IsPosixAccepted model second.now) ALL
-        × AreModels (λ model. Fit model first.now second.now) 1 ALL sum)
-        (StopsFitsIn ALL first.now second.now) }
-{
-    let mut sum = 0;
-    let mut weight = 1;
-    for model in &Model::ALL {
-        if is_fit(*model, first, second)? {
-            sum += weight;
-        }
-        weight *= 2;
-    }
-    Ok(sum)
-}
-
-// Whether it does in a data model.
-fn is_fit(model: Model, first: &[u8], second: &[u8]) -> Result<bool, (Side, Refusal)>
-    ensures { MatchResult result
-        (λ is. IsPosixAccepted model first.now × IsPosixAccepted model second.now
-        × (IsTrue is ↔ Fit model first.now second.now))
-        (FaultForFits model first.now second.now) }
-{
-    match fits(model, first, second) {
-        Ok(None) => Ok(true),
-        Ok(Some(_)) => Ok(false),
-        Err(refusal) => Err(refusal),
-    }
-}
-
-/// Returns the data models in which the second format takes the arguments of the first, or those at their
-/// beginning, as `fmtcanon_same_models` gives them. If one format is rejected in a data model, returns minus its
-/// kind in the first such data model. Allocates nothing.
-#[unsafe(no_mangle)]
-pub extern "C" fn fmtcanon_fits_fewer_models(first: &[u8], second: &[u8], error: &mut CError) -> i64
-    ensures { AnswersFewerModels first.now second.now error.old result error.new }
-{
-    match fits_fewer_models(first, second) {
-        Ok(sum) => i64::from(sum),
-        Err((side, refusal)) => put_refusal(error, side, refusal),
-    }
-}
-
-// The data models in which it does, as a sum.
-fn fits_fewer_models(first: &[u8], second: &[u8]) -> Result<u8, (Side, Refusal)>
-    ensures { MatchResult result
-        (λ sum. AllByRecursion (λ model. IsPosixAccepted model first.now × IsPosixAccepted model second.now) ALL
-        × AreModels (λ model. FitFewer model first.now second.now) 1 ALL sum)
-        (StopsFitsIn ALL first.now second.now) }
-{
-    let mut sum = 0;
-    let mut weight = 1;
-    for model in &Model::ALL {
-        if is_fewer(*model, first, second)? {
-            sum += weight;
-        }
-        weight *= 2;
-    }
-    Ok(sum)
-}
-
-// Whether it does in a data model.
-fn is_fewer(model: Model, first: &[u8], second: &[u8]) -> Result<bool, (Side, Refusal)>
-    ensures { MatchResult result
-        (λ is. IsPosixAccepted model first.now × IsPosixAccepted model second.now
-        × (IsTrue is ↔ FitFewer model first.now second.now))
-        (FaultForFits model first.now second.now) }
-{
-    match fits_fewer(model, first, second) {
-        Ok(None) => Ok(true),
-        Ok(Some(_)) => Ok(false),
-        Err(refusal) => Err(refusal),
     }
 }

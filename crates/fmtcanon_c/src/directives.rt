@@ -1,7 +1,8 @@
 //! The conversion specifications of a format, as records.
 ghost use Rattle.std.specs.Prelude.{◌≡◌, ◌≤◌, ◌++◌, length, drop, map};
 ghost use Rattle.fmtcanon_c.specs.Models.{InModel};
-ghost use Rattle.fmtcanon_c.specs.ArgumentTypes.{PutsDirectives, record_of};
+ghost use Rattle.fmtcanon_c.specs.Calls.{PutsDirectives};
+ghost use Rattle.fmtcanon_c.specs.Directives.{record_of};
 
 use crate::interface::{CError, NO_MEMORY, NO_MODEL, model_of, put_refusal};
 use pf_posix::{DirectiveSpan, directives_vec};

@@ -87,7 +87,7 @@ pub extern "C" fn fmtcanon_fits_fewer(
 pub extern "C" fn fmtcanon_same_models(first: &[u8], second: &[u8], error: &mut CError) -> i64
     ensures { AnswersRelationModels Same first.now second.now error.old result error.new }
 {
-    are_related_in(Relation::Same, first, second, error)
+    models_of_relation(Relation::Same, first, second, error)
 }
 
 /// Returns a bit mask of the data models in which two formats of the whole language have equal types,
@@ -97,7 +97,7 @@ pub extern "C" fn fmtcanon_same_models(first: &[u8], second: &[u8], error: &mut 
 pub extern "C" fn fmtcanon_whole_same_models(first: &[u8], second: &[u8], error: &mut CError) -> i64
     ensures { AnswersRelationModels WholeSame first.now second.now error.old result error.new }
 {
-    are_related_in(Relation::WholeSame, first, second, error)
+    models_of_relation(Relation::WholeSame, first, second, error)
 }
 
 /// Returns the data models in which the second format takes just the arguments of the first, as
@@ -107,7 +107,7 @@ pub extern "C" fn fmtcanon_whole_same_models(first: &[u8], second: &[u8], error:
 pub extern "C" fn fmtcanon_fits_models(first: &[u8], second: &[u8], error: &mut CError) -> i64
     ensures { AnswersRelationModels Fits first.now second.now error.old result error.new }
 {
-    are_related_in(Relation::Fits, first, second, error)
+    models_of_relation(Relation::Fits, first, second, error)
 }
 
 /// Returns the data models in which the second format takes the arguments of the first, or those at their
@@ -117,7 +117,7 @@ pub extern "C" fn fmtcanon_fits_models(first: &[u8], second: &[u8], error: &mut 
 pub extern "C" fn fmtcanon_fits_fewer_models(first: &[u8], second: &[u8], error: &mut CError) -> i64
     ensures { AnswersRelationModels FitsFewer first.now second.now error.old result error.new }
 {
-    are_related_in(Relation::FitsFewer, first, second, error)
+    models_of_relation(Relation::FitsFewer, first, second, error)
 }
 
 fn are_related(
@@ -131,16 +131,30 @@ fn are_related(
         (λ m. AnswersRelation relation m first.now second.now error.old result error.new)
         result (error.new ≡ error.old) }
 {
-    let Some(model) = model_of(model) else {
-        return NO_MODEL;
-    };
+    match model_of(model) {
+        Some(model) => are_related_in(relation, model, first, second, error),
+        None => NO_MODEL,
+    }
+}
+
+fn are_related_in(
+    relation: Relation,
+    model: Model,
+    first: &[u8],
+    second: &[u8],
+    error: &mut CError,
+) -> i64
+    ensures { AnswersRelation relation model first.now second.now error.old result error.new }
+{
     match relates(relation, model, first, second) {
-        Ok(is) => i64::from(is),
+        Ok(true) => 1,
+        Ok(false) => 0,
         Err((side, refusal)) => put_refusal(error, side, refusal),
     }
 }
 
-fn are_related_in(relation: Relation, first: &[u8], second: &[u8], error: &mut CError) -> i64
+// Answers with the data models in which two formats are related.
+fn models_of_relation(relation: Relation, first: &[u8], second: &[u8], error: &mut CError) -> i64
     ensures { AnswersRelationModels relation first.now second.now error.old result error.new }
 {
     match related_models(relation, first, second) {
@@ -149,12 +163,8 @@ fn are_related_in(relation: Relation, first: &[u8], second: &[u8], error: &mut C
     }
 }
 
-// The data models in which they are related, as a sum.
-fn related_models(
-    relation: Relation,
-    first: &[u8],
-    second: &[u8],
-) -> Result<u8, (Side, Refusal)>
+// The data models in which two formats are related, as a sum.
+fn related_models(relation: Relation, first: &[u8], second: &[u8]) -> Result<u8, (Side, Refusal)>
     ensures { MatchResult result
         (λ sum. AllByRecursion (AcceptsRelated relation first.now second.now) ALL
         × AreModels (λ model. AreRelated relation model first.now second.now) 1 ALL sum)

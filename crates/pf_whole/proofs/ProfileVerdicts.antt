@@ -17,7 +17,7 @@ use Rattle.pf_posix.specs.Stretches.{Stretches, Last, ReadsWhole, whole_types}
 use Rattle.pf_posix.specs.Types.{widened}
 use Rattle.pf_posix.proofs.ReadOnce.{read_once}
 use Rattle.pf_whole.specs.Answers.{HaveOneShape, IsWholeComparisonOf, IsWholeVerdict, WholeVerdict, Same, TypesDiffer, Different, ShowsNeutral}
-use Rattle.pf_whole.specs.Comparisons.{FaultForWholeCompare, GivesArguments, HasShownType, IsComparison, IsVerdictOf, ShowsDifference, shown_as}
+use Rattle.pf_whole.specs.Comparisons.{FaultForWholeCompare, GivesArguments, HasShownType, IsComparison, IsVerdictOf, ShowsArguments, ShowsDifference, shown_as}
 use Rattle.pf_whole.specs.Laws.{Correspond}
 use Rattle.pf_whole.specs.declared.verdicts.WholeVerdict as declared
 use Rattle.pf_whole.specs.declared.verdicts.WholeVerdict.TheVariants as verdicts
@@ -170,3 +170,10 @@ module _ (model : Model) (t u : Text) (comparison : Comparison) (h : IsCompariso
     },
     λ alike. let same = h.same.1 alike in cc,
   )
+
+  pub shown_need : (verdict : declared.WholeVerdict) → IsVerdictOf comparison.verdict verdict → ShowsArguments verdict
+      → FaultForCompare model t u faults.Memory
+  shown_need verdicts.Same e shows = absurd shows
+  shown_need (verdicts.Types index) e shows = absurd shows
+  shown_need (verdicts.Directives index) e shows = absurd shows
+  shown_need (verdicts.Args shown) (args, e, all) shows = arguments_need (args, e)

@@ -3,7 +3,7 @@ use Rattle.std.specs.Int.{w64}
 use Rattle.std.proofs.lemmas.Int.{ints}
 use Rattle.pf_posix.specs.TypeNumbers.{number_of_type}
 use Rattle.fmtcanon_c.specs.Buffers.{put}
-use Rattle.fmtcanon_c.proofs.ArgumentTypeLemmas.{taken_types}
+use Rattle.fmtcanon_c.proofs.RelationLemmas.{taken_types}
 use Rattle.fmtcanon_c.proofs.argument_types.put_arguments.Goals as goal
 
 pub returns-else-count : goal.returns-else-count

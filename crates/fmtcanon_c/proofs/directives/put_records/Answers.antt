@@ -2,7 +2,7 @@ use Rattle.std.proofs.Common.{◌<◌, length, arith}
 use Rattle.std.specs.Prelude.{None}
 use Rattle.pf_posix.specs.declared.directive_spans.DirectiveSpan.{DirectiveSpan}
 use Rattle.pf_posix.specs.Types.{int_type}
-use Rattle.fmtcanon_c.specs.ArgumentTypes.{record_of}
+use Rattle.fmtcanon_c.specs.Directives.{record_of}
 use Rattle.fmtcanon_c.proofs.directives.put_records.Goals as goal
 use Rattle.fmtcanon_c.proofs.CodeLemmas.{put_one_more}
 

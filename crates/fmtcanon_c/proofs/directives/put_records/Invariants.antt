@@ -1,5 +1,5 @@
 use Rattle.std.proofs.Common.{length, ◌-◌, ◌≡◌, ◌≤◌, ◌++◌, drop, map, take}
-use Rattle.fmtcanon_c.specs.ArgumentTypes.{record_of}
+use Rattle.fmtcanon_c.specs.Directives.{record_of}
 use Rattle.fmtcanon_c.proofs.directives.put_records.Given as goal
 
 -- the records so far, and the rest of the buffer as it was
