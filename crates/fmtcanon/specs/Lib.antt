@@ -14,7 +14,6 @@ pub mod ArgumentWords
 pub mod UntypedArgs
 pub mod FormatArguments
 pub mod Comparisons
-pub mod WholeAnswers
 pub mod PairAnswers
 pub mod Answers
 pub mod Outcomes

@@ -7,12 +7,12 @@ ghost use Rattle.fmtcanon.specs.PairAnswers.{IsAnswerInEach, IsPairAnswer, IsPai
 ghost use Rattle.fmtcanon.specs.Questions.{language_of};
 
 use crate::answer::{Answer, Ending};
-use crate::comparison::comparison_in;
+use crate::comparison::{alike_in, comparison_in};
+use crate::fits::{fewer_in, fit_in};
 use crate::lines::Output;
 use crate::models::{Models, name_of};
 use crate::outcome::Fault;
 use crate::questions::PairQuestion;
-use crate::whole::{alike_in, fewer_in, fit_in};
 use pf_posix::{arguments, check_unnumbered};
 use pf_text::{Side, check};
 use pf_values::Model;

@@ -2,11 +2,9 @@
 use Rattle.std.specs.Prelude.{◌≡◌, ◌⊎◌, ℕ, ℤ, pos, [], length}
 use Rattle.pf_values.specs.declared.models.Model.{Model}
 use Rattle.pf_values.specs.meaning.Text.{Text}
-use Rattle.pf_compare.specs.Answers.{FaultForCompare, IsComparisonOf}
 use Rattle.pf_compare.specs.declared.comparisons.CompareFault.{CompareFault}
 use Rattle.pf_compare.specs.declared.comparisons.CompareFault.TheVariants.{Refused, Memory}
-use Rattle.pf_compare.specs.declared.comparisons.Comparison.{Comparison}
-use Rattle.pf_whole.specs.Comparisons.{FaultForWholeCompare, IsComparison, IsVerdictOf, ShowsArguments}
+use Rattle.pf_whole.specs.Comparisons.{IsComparison, ShowsArguments}
 use Rattle.pf_whole.specs.declared.verdicts.WholeVerdict.{WholeVerdict}
 use Rattle.pf_whole.specs.declared.verdicts.WholeVerdict.TheVariants.{Same, Types, Directives, Args}
 use Rattle.fmtcanon_c.specs.declared.comparison.CComparison.{CComparison}
@@ -72,12 +70,6 @@ PutsComparison Is IsFault out answer error code out_now answer_now error_now =
     × PutsVerdict verdict renderings out error code out_now answer_now error_now)
     ⊎ ((fault : CompareFault) × IsFault fault
     × PutsNoVerdict fault out answer error code out_now answer_now error_now)
-
--- two formats of the profile are compared
-abbrev pub IsProfileVerdict : Model → Text → Text → WholeVerdict → ℕ → Type 0
-IsProfileVerdict model first second verdict renderings =
-    (comparison : Comparison) × IsComparisonOf model first second comparison
-    × IsVerdictOf comparison.verdict verdict × (renderings ≡ comparison.renderings)
 
 -- two formats of the whole language are compared, which counts no candidates
 abbrev pub IsUncountedVerdict : Model → Text → Text → WholeVerdict → ℕ → Type 0

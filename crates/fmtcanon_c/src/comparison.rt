@@ -1,8 +1,8 @@
 //! How two formats compare.
 ghost use Rattle.std.specs.Prelude.{◌≡◌, ◌++◌, IfOk, MatchResult};
 ghost use Rattle.pf_compare.specs.Answers.{FaultForCompare};
-ghost use Rattle.pf_whole.specs.Comparisons.{FaultForWholeCompare, ShowsArguments};
-ghost use Rattle.fmtcanon_c.specs.Comparisons.{AnswersVerdict, IsComparisonCode, IsProfileVerdict, IsUncountedVerdict, PutsComparison, IsFaultCode, verdict_code, verdict_number, words_of};
+ghost use Rattle.pf_whole.specs.Comparisons.{FaultForWholeCompare, IsProfileVerdict, ShowsArguments};
+ghost use Rattle.fmtcanon_c.specs.Comparisons.{AnswersVerdict, IsComparisonCode, IsUncountedVerdict, PutsComparison, IsFaultCode, verdict_code, verdict_number, words_of};
 ghost use Rattle.fmtcanon_c.specs.Models.{InModel};
 ghost use Rattle.fmtcanon_c.specs.Words.{ended_words, word_or_any};
 

@@ -4,7 +4,7 @@ use Rattle.std.proofs.lemmas.Int.{ints}
 use Rattle.pf_compare.specs.Answers.{FaultForCompare}
 use Rattle.pf_compare.specs.declared.comparisons.CompareFault.TheVariants.{Memory}
 use Rattle.pf_whole.proofs.ProfileVerdicts.{arguments_need, shown_need}
-use Rattle.fmtcanon_c.specs.Comparisons.{IsProfileVerdict}
+use Rattle.pf_whole.specs.Comparisons.{IsProfileVerdict}
 use Rattle.fmtcanon_c.proofs.AnswerLemmas.{answered}
 use Rattle.fmtcanon_c.proofs.comparison.compare_in.Goals as goal
 

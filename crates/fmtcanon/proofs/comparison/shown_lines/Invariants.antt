@@ -1,8 +1,8 @@
 use Rattle.std.proofs.Common.{◌≡◌, ◌++◌, codes, take}
 use Rattle.std.specs.Prelude.{flat_map}
 use Rattle.fmtcanon.specs.Lines.{line}
-use Rattle.fmtcanon.specs.WholeAnswers.{shown_line}
-use Rattle.fmtcanon.proofs.whole.shown_lines.Given as goal
+use Rattle.fmtcanon.specs.Comparisons.{shown_line}
+use Rattle.fmtcanon.proofs.comparison.shown_lines.Given as goal
 
 -- the lines so far
 abbrev pub invariant-loop-argument : goal.invariant-loop-argument
