@@ -5,10 +5,9 @@ ghost use Rattle.pf_literals.specs.Kinds as literals;
 ghost use Rattle.pf_values.specs.RefusalKinds.{name};
 ghost use Rattle.fmtcanon.specs.Faults.{of_comparison, of_literal, of_text};
 ghost use Rattle.fmtcanon.specs.Lines.{line};
-ghost use Rattle.fmtcanon.specs.Outcomes.{outcome_of_ending, status_of, status_of_fault};
+ghost use Rattle.fmtcanon.specs.Outcomes.{status_of, status_of_fault};
 ghost use Rattle.fmtcanon.specs.Reports.{WritesReport, fault_text, fault_words, literal_words, refusal_words, side_words, report_text};
 ghost use Rattle.fmtcanon.specs.declared.outcome.Fault.TheVariants.{Memory, Refused};
-ghost use Rattle.fmtcanon.specs.declared.outcome.Outcome.TheVariants.{Failed};
 
 use crate::answer::Ending;
 use crate::lines::{Line, push_number};
@@ -25,12 +24,8 @@ use std::io::Write;
 /// replies to the first of them.
 #[derive(Drop)]
 pub enum Outcome {
-    /// All was written.
-    Done,
-    /// All was written: the formats mean the same, or take the same arguments.
-    Same,
-    /// All was written: the formats differ, in types or in bytes.
-    Different,
+    /// All was written, and this is how the run ends then.
+    Ended(Ending),
     /// All records were answered; the highest status of their answers.
     Answered(u8),
     /// A question has no answer, or memory was refused.
@@ -57,33 +52,12 @@ impl Outcome {
         ensures { result ≡ status_of self.now }
     {
         match self {
-            Outcome::Done | Outcome::Same => 0,
-            Outcome::Different => 1,
+            Outcome::Ended(ending) => ending.status(),
             Outcome::Answered(status) => *status,
             Outcome::Failed(fault) => fault.status(),
             Outcome::NoSecond | Outcome::Usage(_) | Outcome::Missing | Outcome::Misplaced => 3,
             Outcome::Read | Outcome::Write(_) => 4,
         }
-    }
-}
-
-impl From<Ending> for Outcome {
-    ghost from_gives = { λ ending outcome. outcome ≡ outcome_of_ending ending };
-
-    fn from(ending: Ending) -> Outcome {
-        match ending {
-            Ending::Done => Outcome::Done,
-            Ending::Same => Outcome::Same,
-            Ending::Different => Outcome::Different,
-        }
-    }
-}
-
-impl From<Fault> for Outcome {
-    ghost from_gives = { λ fault outcome. outcome ≡ Failed fault };
-
-    fn from(fault: Fault) -> Outcome {
-        Outcome::Failed(fault)
     }
 }
 
@@ -208,9 +182,7 @@ fn write_report<E: Write>(outcome: &Outcome, errors: &mut Counted<E>) -> Result<
     ensures { Writes E.contents errors.old errors.new (report_text outcome.now) result }
 {
     match outcome {
-        Outcome::Done | Outcome::Same | Outcome::Different | Outcome::Answered(_) => {
-            write_bytes(errors, b"")
-        }
+        Outcome::Ended(_) | Outcome::Answered(_) => write_bytes(errors, b""),
         Outcome::Failed(fault) => write_line(errors, &fault_line(fault)),
         Outcome::NoSecond => write_bytes(errors, b"a second format is wanted\n"),
         Outcome::Usage(text) => write_bytes(errors, text.as_bytes()),

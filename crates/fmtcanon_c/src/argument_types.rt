@@ -1,12 +1,9 @@
 //! The types of the arguments that a format takes, in the profile and in the whole language.
-ghost use Rattle.std.specs.Prelude.{◌≡◌, ◌≤◌, ◌++◌, length, drop, map, pos};
-ghost use Rattle.pf_values.specs.TypeNumbers.{type_number};
-ghost use Rattle.fmtcanon_c.specs.Buffers.{put};
+ghost use Rattle.std.specs.Prelude.{◌≡◌};
 ghost use Rattle.fmtcanon_c.specs.Models.{InModel};
-ghost use Rattle.pf_posix.specs.TypeNumbers.{number_of_type};
 ghost use Rattle.fmtcanon_c.specs.Calls.{PutsArguments, PutsTypes};
 
-use crate::interface::{CError, NO_MEMORY, NO_MODEL, model_of, put_refusal};
+use crate::interface::{CError, NO_MEMORY, NO_MODEL, model_of, put_codes, put_refusal};
 use pf_posix::{ArgumentType, arguments, arguments_vec};
 use pf_text::{Side, TextFault, known_types, signature};
 use pf_values::{ArgType, Model};
@@ -41,7 +38,7 @@ fn put_types(alloc: Global, model: Model, text: &[u8], out: &mut [u8], error: &m
 {
     let mut types = [ArgType::Int; ROOM];
     match known_types(model, text, &mut types) {
-        Some(count) => put_all(out, &types[..count]),
+        Some(count) => put_codes(out, &types[..count]),
         None => put_signature(alloc, model, text, out, error),
     }
 }
@@ -58,31 +55,9 @@ fn put_signature(
     ensures { PutsTypes model text.now out.old error.old result out.new error.new }
 {
     match signature(alloc, model, text) {
-        Ok(signature) => put_all(out, signature.as_slice()),
+        Ok(signature) => put_codes(out, signature.as_slice()),
         Err(TextFault::Refused(refusal)) => put_refusal(error, Side::First, refusal),
         Err(TextFault::Memory) => NO_MEMORY,
-    }
-}
-
-// Puts the codes of some types, if there is room for all, and returns how many there are.
-fn put_all(out: &mut [u8], types: &[ArgType]) -> i64
-    ensures count { result ≡ pos (length types.now) }
-    ensures put { out.new ≡ put (map type_number types.now) out.old }
-{
-    if types.len() <= out.len() {
-        put_codes(out, types);
-    }
-    types.len() as i64
-}
-
-fn put_codes(out: &mut [u8], types: &[ArgType])
-    requires { length types.now ≤ length out.old }
-    ensures { out.new ≡ map type_number types.now ++ drop (length types.now) out.old }
-{
-    let mut at = 0;
-    while at < types.len() {
-        out[at] = types[at].number();
-        at += 1;
     }
 }
 
@@ -123,7 +98,7 @@ fn put_arguments(
             if count > ROOM as u64 {
                 return put_many_arguments(alloc, model, text, out, error);
             }
-            put_listed(out, &types[..count as usize])
+            put_codes(out, &types[..count as usize])
         }
         Err(refusal) => put_refusal(error, Side::First, refusal),
     }
@@ -141,30 +116,8 @@ fn put_many_arguments(
     ensures { PutsArguments model text.now out.old error.old result out.new error.new }
 {
     match arguments_vec(alloc, model, text) {
-        Ok(types) => put_listed(out, types.as_slice()),
+        Ok(types) => put_codes(out, types.as_slice()),
         Err(TextFault::Refused(refusal)) => put_refusal(error, Side::First, refusal),
         Err(TextFault::Memory) => NO_MEMORY,
-    }
-}
-
-// Puts the numbers of some types, if there is room for all, and returns how many there are.
-fn put_listed(out: &mut [u8], types: &[ArgumentType]) -> i64
-    ensures count { result ≡ pos (length types.now) }
-    ensures put { out.new ≡ put (map number_of_type types.now) out.old }
-{
-    if types.len() <= out.len() {
-        put_numbers(out, types);
-    }
-    types.len() as i64
-}
-
-fn put_numbers(out: &mut [u8], types: &[ArgumentType])
-    requires { length types.now ≤ length out.old }
-    ensures { out.new ≡ map number_of_type types.now ++ drop (length types.now) out.old }
-{
-    let mut at = 0;
-    while at < types.len() {
-        out[at] = types[at].number();
-        at += 1;
     }
 }
