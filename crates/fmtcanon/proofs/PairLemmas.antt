@@ -1,16 +1,13 @@
 -- Questions about two formats, in one data model after the other.
-use Rattle.std.proofs.Common.{◌≡◌, ℕ, suc, ◌+◌, ◌<◌, List, [], ◌∷◌, ◌++◌, length, get_or, take, drop, inl, inr, refl, sym, ap, ◌∙◌, subst, arith, Result, Ok, Err}
-use Rattle.std.specs.List.{AllByRecursion}
+use Rattle.std.proofs.Common.{◌≡◌, List, [], ◌∷◌, inl, inr, refl, sym, subst, Result, Ok, Err}
 use Rattle.std.specs.Prelude.{MatchOption, MatchResult, Option, None, Some}
-use Rattle.std.proofs.Math.Seq.{take-suc}
-use Rattle.std.proofs.lemmas.List.{drop_more, take-append-drop}
 use Rattle.pf_text.specs.declared.refusals.Side.TheVariants as sides
 use Rattle.pf_literals.specs.declared.faults.LiteralFault.{LiteralFault}
 use Rattle.pf_literals.specs.declared.faults.LiteralFault.TheVariants as literals
 use Rattle.pf_values.specs.declared.models.Model.{Model}
 use Rattle.pf_values.specs.declared.models.Model.TheVariants.{Ilp32, Llp64}
 use Rattle.pf_values.specs.meaning.Text.{Text}
-use Rattle.pf_posix.proofs.Agreeing.{all_map, all_push}
+use Rattle.pf_posix.proofs.Agreeing.{all_map}
 use Rattle.fmtcanon.specs.Answers.{AcceptsBoth, IsGivenPairFault, IsGivenPairFaultIn, IsFaultInTexts, IsPairFault, IsPairFaultIn, NeedsMemory, lacks_in, side_of}
 use Rattle.fmtcanon.specs.Faults.{of_literal}
 use Rattle.fmtcanon.specs.Formats.{HoldsOf, IsBytesFault, IsFormat}

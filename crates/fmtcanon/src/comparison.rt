@@ -7,7 +7,7 @@ ghost use Rattle.fmtcanon.specs.Lines.{line, output_bytes};
 ghost use Rattle.fmtcanon.specs.declared.questions.PairQuestion.TheVariants.{Same, WholeSame};
 
 use crate::answer::{Answer, Ending};
-use crate::lines::{Output, directives_line, same_line, types_line};
+use crate::lines::{Output, difference_line, line_of};
 use crate::outcome::Fault;
 use pf_compare::OwnedArg;
 use pf_values::Model;
@@ -74,9 +74,9 @@ fn verdict_lines(alloc: Global, verdict: &WholeVerdict) -> Result<Output, AllocE
         (λ _. ShowsArguments verdict.now) }
 {
     match verdict {
-        WholeVerdict::Same => Ok(Output::Line(same_line())),
-        WholeVerdict::Types(index) => Ok(Output::Line(types_line(*index))),
-        WholeVerdict::Directives(index) => Ok(Output::Line(directives_line(*index))),
+        WholeVerdict::Same => Ok(Output::Line(line_of("same"))),
+        WholeVerdict::Types(index) => Ok(Output::Line(difference_line("types", *index))),
+        WholeVerdict::Directives(index) => Ok(Output::Line(difference_line("directives", *index))),
         WholeVerdict::Args(shown) => Ok(Output::Bytes(shown_lines(alloc, shown)?)),
     }
 }

@@ -7,7 +7,7 @@ ghost use Rattle.fmtcanon.specs.Lines.{output_bytes};
 ghost use Rattle.fmtcanon.specs.declared.questions.PairQuestion.TheVariants.{Fits, FitsFewer};
 
 use crate::answer::{Answer, Ending};
-use crate::lines::{Line, Output, fits_line, types_line};
+use crate::lines::{Line, Output, difference_line, line_of};
 use crate::outcome::Fault;
 use pf_posix::{fits, fits_fewer};
 use pf_values::Model;
@@ -57,8 +57,8 @@ fn fit_line(index: Option<u64>) -> Line
     ensures { result.bytes ≡ fit_line index }
 {
     match index {
-        None => fits_line(),
-        Some(index) => types_line(index),
+        None => line_of("fits"),
+        Some(index) => difference_line("types", index),
     }
 }
 

@@ -10,7 +10,7 @@ ghost use Rattle.fmtcanon.specs.Reports.{WritesReport, fault_text, fault_words, 
 ghost use Rattle.fmtcanon.specs.declared.outcome.Fault.TheVariants.{Memory, Refused};
 
 use crate::answer::Ending;
-use crate::lines::{Line, push_number};
+use crate::lines::{Line, line_of, push_number};
 use pf_compare::CompareFault;
 use pf_literals::{LiteralFault, LiteralKind, LiteralRefusal};
 use pf_text::{Refusal, Side, TextFault};
@@ -212,19 +212,11 @@ pub fn fault_line(fault: &Fault) -> Line
     match fault {
         Fault::Refused { side, refusal } => refusal_line(*side, refusal),
         Fault::BadLiteral { side, refusal } => literal_line(*side, refusal),
-        Fault::BadWord(index) => bad_word_line(*index),
+        Fault::BadWord(index) => bad_argument_line(*index, "not an argument"),
         Fault::WrongCount { wanted, given } => count_line(*wanted, *given),
-        Fault::WrongType(index) => wrong_type_line(*index),
-        Fault::Memory => memory_line(),
+        Fault::WrongType(index) => bad_argument_line(*index, "wrong type"),
+        Fault::Memory => line_of("out of memory"),
     }
-}
-
-fn memory_line() -> Line
-    ensures { result.bytes ≡ line (codes "out of memory") }
-{
-    let mut line = Line::new();
-    line.push_str("out of memory\n");
-    line
 }
 
 fn refusal_line(side: Option<Side>, refusal: &Refusal) -> Line
@@ -269,20 +261,6 @@ fn fault_line_of(side: Option<Side>, what: &str, number: u8, name: &str, at: u64
     push_number(&mut line, at);
     line.push_str("\n");
     line
-}
-
-fn bad_word_line(index: u64) -> Line
-    ensures { result.bytes
-        ≡ line (codes "argument " ++ decimal index ++ codes ": " ++ codes "not an argument") }
-{
-    bad_argument_line(index, "not an argument")
-}
-
-fn wrong_type_line(index: u64) -> Line
-    ensures { result.bytes
-        ≡ line (codes "argument " ++ decimal index ++ codes ": " ++ codes "wrong type") }
-{
-    bad_argument_line(index, "wrong type")
 }
 
 // The line of an argument, with what is wrong with it.

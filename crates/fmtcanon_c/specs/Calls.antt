@@ -61,9 +61,9 @@ IsModelsCode Is code = (sum : ℕ) × AreModels Is 1 ALL sum × (code ≡ pos su
 
 -- elements are put as they are written, where the buffer has room for them, and their number is returned; or
 -- the text is refused, or memory is out for this reason
-abbrev pub Puts : {X Y : Type 0} → (List X → Type 0) → (List X → List Y) → (RefusalKind → ℕ → Type 0) → Type 0
+abbrev pub PutsElements : {X Y : Type 0} → (List X → Type 0) → (List X → List Y) → (RefusalKind → ℕ → Type 0) → Type 0
     → List Y → CError → ℤ → List Y → CError → Type 0
-Puts Has written Refuses NeedsMemory out error code out_now error_now =
+PutsElements Has written Refuses NeedsMemory out error code out_now error_now =
     ((elements : List _) × Has elements × (code ≡ pos (length elements))
     × (out_now ≡ put (written elements) out) × (error_now ≡ error))
     ⊎ ((out_now ≡ out)
@@ -76,17 +76,17 @@ with_nul t = t ++ 0 ∷ []
 -- the canonical text, and a NUL
 abbrev pub PutsCanonical : Model → Text → Text → CError → ℤ → Text → CError → Type 0
 PutsCanonical model t =
-    Puts (IsCanonicalFor model t) with_nul (IsRefusedAt t) (FaultForCanonical model t Memory)
+    PutsElements (IsCanonicalFor model t) with_nul (IsRefusedAt t) (FaultForCanonical model t Memory)
 
 -- that of a format of the whole language
 abbrev pub PutsWholeCanonical : Model → Text → Text → CError → ℤ → Text → CError → Type 0
-PutsWholeCanonical model t = Puts (IsWholeCanonicalFor model t) with_nul (IsWholeRefusedAt model t)
+PutsWholeCanonical model t = PutsElements (IsWholeCanonicalFor model t) with_nul (IsWholeRefusedAt model t)
     (FaultForWholeCanonical model t Memory)
 
 -- the codes of the types
 abbrev pub PutsTypes : Model → Text → Text → CError → ℤ → Text → CError → Type 0
 PutsTypes model t =
-    Puts (TakesTypes model t) (map type_number) (IsRefusedAt t) (TakesManyArguments model t)
+    PutsElements (TakesTypes model t) (map type_number) (IsRefusedAt t) (TakesManyArguments model t)
 
 -- there is a list, and it has elements
 abbrev pub HasSome : {X : Type 0} → (List X → Type 0) → Type 0
@@ -94,12 +94,12 @@ HasSome Has = (elements : List _) × Has elements × (elements ≢ [])
 
 -- the numbers of the types in the whole language
 abbrev pub PutsArguments : Model → Text → Text → CError → ℤ → Text → CError → Type 0
-PutsArguments model t = Puts (HasArguments model t) (map number_of_type) (IsPosixRefusedAt model t)
+PutsArguments model t = PutsElements (HasArguments model t) (map number_of_type) (IsPosixRefusedAt model t)
     (HasSome (HasArguments model t))
 
 -- the records of the specifications
 abbrev pub PutsDirectives : Model → Text → List CDirective → CError → ℤ → List CDirective → CError → Type 0
-PutsDirectives model t = Puts (HasDirectives model t) (map record_of) (IsPosixRefusedAt model t)
+PutsDirectives model t = PutsElements (HasDirectives model t) (map record_of) (IsPosixRefusedAt model t)
     (HasSome (HasDirectives model t))
 
 -- a length as an answer; no memory holds a text with 2^63 bytes
