@@ -133,11 +133,7 @@ def try_header(trials):
     sets = {**sets, "IN_NEITHER": 0, "IN_BOTH": sets["IN_LP64"] + sets["IN_ILP32"], "IN_ALL": sum(sets.values())}
     trials.expect("sets of data models", header_numbers("fmtcanon_models"), sets)
     verdicts = source_numbers("fmtcanon_c/src/comparison.rt", r"Verdict::(\w+)[^=]*=> \((\d+),", {"Args": "DIFFERENT"})
-    whole = source_numbers(
-        "fmtcanon_c/src/whole_comparison.rt", r"Verdict::(\w+)[^=]*=> \((\d+),", {"Args": "DIFFERENT"}
-    )
-    trials.expect("verdicts that both languages have", {name: whole[name] for name in verdicts}, verdicts)
-    trials.expect("verdicts", header_numbers("fmtcanon_verdict"), whole)
+    trials.expect("verdicts", header_numbers("fmtcanon_verdict"), verdicts)
     structs = [
         ("fmtcanon_error", "interface", "CError"),
         ("fmtcanon_comparison", "comparison", "CComparison"),

@@ -13,7 +13,7 @@ use Rattle.pf_values.specs.declared.refusals.RefusalKind.{RefusalKind}
 use Rattle.pf_values.specs.declared.refusals.RefusalKind.TheVariants as kinds
 use Rattle.pf_values.specs.meaning.Refusals.{IsRefusedAt}
 use Rattle.pf_values.specs.meaning.Text.{Text, dollar, percent}
-use Rattle.fmtcanon.specs.Languages.{Language, Profile, Numbered, RefusesText, Unnumbered}
+use Rattle.pf_whole.specs.Languages.{Language, Profile, Numbered, RefusesText, Unnumbered}
 use Rattle.fmtcanon.specs.Answers.{IsFormatFault, IsPairFault, IsGivenFault, IsGivenPairFault, IsOneFault, IsRefusalOfFirst, IsFaultInTexts, IsFaultInText}
 use Rattle.fmtcanon.specs.Answers.{side_of}
 use Rattle.fmtcanon.specs.FormatArguments.{IsArgumentFault}

@@ -19,4 +19,3 @@ mod RecordSteps
 mod RecordTexts
 mod RecordLemmas
 mod PairLemmas
-mod MemoryLemmas

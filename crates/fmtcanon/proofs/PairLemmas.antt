@@ -1,20 +1,17 @@
 -- Questions about two formats, in one data model after the other.
-use Rattle.std.proofs.Common.{◌≡◌, ℕ, suc, ◌+◌, ◌<◌, List, [], ◌∷◌, ◌++◌, length, get_or, take, drop, inl, inr, refl, sym, ap, ◌∙◌, subst, arith, Result, Ok, Err}
-use Rattle.std.specs.List.{AllByRecursion}
+use Rattle.std.proofs.Common.{◌≡◌, List, [], ◌∷◌, inl, inr, refl, sym, subst, Result, Ok, Err}
 use Rattle.std.specs.Prelude.{MatchOption, MatchResult, Option, None, Some}
-use Rattle.std.proofs.Math.Seq.{take-suc}
-use Rattle.std.proofs.lemmas.List.{drop_more, take-append-drop}
 use Rattle.pf_text.specs.declared.refusals.Side.TheVariants as sides
 use Rattle.pf_literals.specs.declared.faults.LiteralFault.{LiteralFault}
 use Rattle.pf_literals.specs.declared.faults.LiteralFault.TheVariants as literals
 use Rattle.pf_values.specs.declared.models.Model.{Model}
 use Rattle.pf_values.specs.declared.models.Model.TheVariants.{Ilp32, Llp64}
 use Rattle.pf_values.specs.meaning.Text.{Text}
-use Rattle.pf_posix.proofs.Agreeing.{all_map, all_push}
-use Rattle.fmtcanon.specs.Answers.{AcceptsBoth, IsFirstFault, IsGivenPairFault, IsGivenPairFaultIn, IsFaultInTexts, IsPairFault, IsPairFaultIn, NeedsMemory, lacks_in, side_of}
+use Rattle.pf_posix.proofs.Agreeing.{all_map}
+use Rattle.fmtcanon.specs.Answers.{AcceptsBoth, IsGivenPairFault, IsGivenPairFaultIn, IsFaultInTexts, IsPairFault, IsPairFaultIn, NeedsMemory, lacks_in, side_of}
 use Rattle.fmtcanon.specs.Faults.{of_literal}
 use Rattle.fmtcanon.specs.Formats.{HoldsOf, IsBytesFault, IsFormat}
-use Rattle.fmtcanon.specs.Languages.{AcceptsText}
+use Rattle.pf_whole.specs.Languages.{AcceptsText}
 use Rattle.fmtcanon.specs.Models.{asked_models, first_model}
 use Rattle.fmtcanon.specs.PairAnswers.{IsPairAnswer}
 use Rattle.fmtcanon.specs.Questions.{language_of}
@@ -28,28 +25,6 @@ use Rattle.fmtcanon.specs.declared.questions.PairQuestion.{PairQuestion}
 use Rattle.fmtcanon.specs.declared.questions.PairQuestion.TheVariants.{Fits, FitsFewer, Same, WholeSame}
 use Rattle.fmtcanon.proofs.GivenLemmas.{pair_fault}
 
-module _ (models : List Model) (i : ℕ) (d : Model) (few : i < length models) where
-  -- one more data model
-  pub all_more : (Accepts : Model → Type 0) → AllByRecursion Accepts (take i models) → Accepts (get_or models i d)
-      → AllByRecursion Accepts (take (i + 1) models)
-  all_more Accepts h a =
-      let next : suc i ≡ i + 1 = omega arith in
-      subst (AllByRecursion Accepts) (sym (take-suc models i d few) ∙ ap (λ n. take n models) next)
-      (all_push Accepts (take i models) (get_or models i d) h a)
-
-  -- a fault in it
-  pub fault_at : (Accepts : Model → Type 0) (IsFault : Model → Fault → Type 0) (fault : Fault) → AllByRecursion Accepts (take i models)
-      → IsFault (get_or models i d) fault → IsFirstFault models Accepts IsFault fault
-  fault_at Accepts IsFault fault h is =
-      record {
-        before = take i models;
-        model = get_or models i d;
-        after = drop (i + 1) models;
-        split = sym (take-append-drop i models) ∙ ap (λ r. take i models ++ r) (drop_more models i d few);
-        accepted = h;
-        fault_is = is;
-      }
-
 -- what is answered about is accepted
 pub accepts_both : (question : PairQuestion) (model : Model) (first second out : Text) (ending : Ending)
     → IsPairAnswer question model first second out ending → AcceptsBoth question model first second
@@ -57,8 +32,9 @@ accepts_both Fits model first second out ending h =
     ((h.compares.types, h.compares.first_accepted), (h.compares.others, h.compares.second_accepted))
 accepts_both FitsFewer model first second out ending h =
     ((h.compares.types, h.compares.first_accepted), (h.compares.others, h.compares.second_accepted))
-accepts_both Same model first second out ending h = ((h.is.first, h.is.accepted_first), (h.is.second, h.is.accepted_second))
-accepts_both WholeSame model first second out ending h = (h.is.is.first, h.is.is.second)
+accepts_both Same model first second out ending h =
+    let is = h.2.1 in ((is.first, is.accepted_first), (is.second, is.accepted_second))
+accepts_both WholeSame model first second out ending h = (h.1.is.first, h.1.is.second)
 
 -- and so is that for which memory is needed
 needed_accepts : (question : PairQuestion) (model : Model) (first second : Text) → NeedsMemory question model first second
@@ -84,7 +60,7 @@ pub one_model : {X : Type 0} (Says : X → Type 0) (question : PairQuestion) (mo
     → MatchResult result Says (IsPairFaultIn question (One model) first second)
 one_model Says question model first second (Ok answer) h = h
 one_model Says question model first second (Err fault) h =
-    record { before = []; model = model; after = []; split = refl; accepted = tt; fault_is = h }
+    record { before = []; model = model; after = []; split = refl; accepted = tt; is = h }
 
 module _ (question : PairQuestion) (first second : GivenFormat) where
   -- a fault of texts is one of the formats that give them
@@ -100,7 +76,7 @@ module _ (question : PairQuestion) (first second : GivenFormat) where
         split = k.split;
         accepted = all_map _ (λ model. HoldsOf first (AcceptsText (language_of question) model) × HoldsOf second (AcceptsText (language_of question) model))
             k.before (λ model a. ((first_bytes, g, a.0), (second_bytes, h, a.1))) k.accepted;
-        fault_is = pair_fault (lacks_in models) question k.model first second first_bytes g second_bytes h fault reported k.fault_is is;
+        is = pair_fault (lacks_in models) question k.model first second first_bytes g second_bytes h fault reported k.is is;
       }
 
   rest_of : (models : Models) → (rest : List Model) × (asked_models models ≡ first_model models ∷ rest)
@@ -113,7 +89,7 @@ module _ (question : PairQuestion) (first second : GivenFormat) where
       → IsGivenPairFaultIn question models first second fault
   first_fault models fault h =
       let rest = rest_of models in
-      record { before = []; model = first_model models; after = rest.0; split = rest.1; accepted = tt; fault_is = h }
+      record { before = []; model = first_model models; after = rest.0; split = rest.1; accepted = tt; is = h }
 
   -- a format that no literals give
   literal_first : (models : Models) (model : Model) (fault : LiteralFault) → IsBytesFault first fault

@@ -1,14 +1,12 @@
 -- The answers to questions, and why there is none. This project's own.
-use Rattle.std.specs.Prelude.{◌≡◌, ℕ, ◌≤◌, List, ◌∷◌, ◌++◌, ◌⊎◌, length, Option, None, Some, map}
-use Rattle.std.specs.List.{AllByRecursion}
+use Rattle.std.specs.Prelude.{◌≡◌, ℕ, ◌≤◌, List, ◌⊎◌, length, Option, None, Some, map}
 use Rattle.pf_values.specs.declared.models.Model.{Model}
 use Rattle.pf_values.specs.meaning.Text.{Text}
-use Rattle.pf_values.specs.meaning.Printing.{AreEquivalent}
 use Rattle.pf_canon.specs.Answers.{IsCanonicalFor}
-use Rattle.pf_compare.specs.Answers.{HaveSameTypes}
-use Rattle.pf_posix.specs.Stretches.{IsWholeAccepted}
-use Rattle.pf_whole.specs.Answers.{HaveOneShape}
-use Rattle.pf_whole.specs.meaning.Traces.{AreWholeAlike}
+use Rattle.pf_compare.specs.Answers.{FaultForCompare}
+use Rattle.pf_compare.specs.declared.comparisons.CompareFault.TheVariants as compare_faults
+use Rattle.pf_whole.specs.Answers.{IsWholeCanonicalFor}
+use Rattle.pf_whole.specs.Comparisons.{FaultForWholeCompare}
 use Rattle.pf_text.specs.Refusals.{RefusesOne}
 use Rattle.pf_text.specs.declared.refusals.Side.{Side}
 use Rattle.pf_text.specs.declared.refusals.Side.TheVariants as sides
@@ -32,27 +30,25 @@ use Rattle.fmtcanon.specs.ArgumentLines.{HasArgumentLines}
 use Rattle.fmtcanon.specs.ByteCounts.{HasBoundsLine}
 use Rattle.fmtcanon.specs.FormatArguments.{IsArgumentFault, IsPrinted}
 use Rattle.fmtcanon.specs.Formats.{HoldsAt, HoldsOf, IsFormat, IsNoFormat, IsOffsetInText, MakesBytes, written_in}
-use Rattle.fmtcanon.specs.Languages.{Language, AcceptsText, RefusesText}
+use Rattle.pf_whole.specs.Languages.{Language, AcceptsText, IsFirstIn, RefusesText}
 use Rattle.fmtcanon.specs.Lines.{line}
 use Rattle.fmtcanon.specs.Models.{asked_models}
 use Rattle.fmtcanon.specs.PairAnswers.{IsPairAnswerIn}
 use Rattle.fmtcanon.specs.Questions.{language_of, language_of_format}
 use Rattle.fmtcanon.specs.Shows.{HasShownLines}
 use Rattle.fmtcanon.specs.TypeLines.{HasTypeLines}
-use Rattle.fmtcanon.specs.WholeAnswers.{HasWholeCanonicalLine}
 
 -- the canonical text of an accepted format, in a notation, and a newline
-abbrev pub HasCanonicalLine : Notation → Model → Text → Text → Type 0
-HasCanonicalLine notation model format out =
-    (canonical : Text) × IsCanonicalFor model format canonical
-    × (out ≡ line (written_in notation canonical))
+abbrev pub HasCanonicalLine : Notation → (Text → Type 0) → Text → Type 0
+HasCanonicalLine notation IsCanonical out =
+    (canonical : Text) × IsCanonical canonical × (out ≡ line (written_in notation canonical))
 
 -- what is answered about the bytes of a format, whatever it is
 abbrev pub HasAnswer : FormatQuestion → Notation → Model → Text → Text → Type 0
 HasAnswer Types notation model bytes out = HasTypeLines model bytes out
 HasAnswer WholeTypes notation model bytes out = HasArgumentLines model bytes out
-HasAnswer Canonical notation model bytes out = HasCanonicalLine notation model bytes out
-HasAnswer WholeCanonical notation model bytes out = HasWholeCanonicalLine notation model bytes out
+HasAnswer Canonical notation model bytes out = HasCanonicalLine notation (IsCanonicalFor model bytes) out
+HasAnswer WholeCanonical notation model bytes out = HasCanonicalLine notation (IsWholeCanonicalFor model bytes) out
 HasAnswer Parts notation model bytes out = HasShownLines model bytes out
 HasAnswer Bounds notation model bytes out = HasBoundsLine model bytes out
 
@@ -94,9 +90,8 @@ AcceptsBoth question model first second =
 abbrev pub NeedsMemory : PairQuestion → Model → Text → Text → Type 0
 NeedsMemory Fits model first second = ⊥
 NeedsMemory FitsFewer model first second = ⊥
-NeedsMemory Same model first second = HaveSameTypes model first second × (¬ AreEquivalent model first second)
-NeedsMemory WholeSame model first second = (a : IsWholeAccepted first) × (b : IsWholeAccepted second)
-    × HaveOneShape model a.stretches b.stretches × (¬ AreWholeAlike model first second)
+NeedsMemory Same model first second = FaultForCompare model first second compare_faults.Memory
+NeedsMemory WholeSame model first second = FaultForWholeCompare model first second compare_faults.Memory
 
 -- when an answer in the data models that are asked for does: if they are several, it is gathered there
 abbrev pub lacks_in : Models → PairQuestion → Model → Text → Text → Type 0
@@ -114,22 +109,12 @@ IsPairFault Needs question model first second (Refused (Some side) refusal) =
 IsPairFault Needs question model first second Memory = Needs question model first second
 IsPairFault Needs question model first second _ = ⊥
 
--- a fault in the first of some data models that has one
-pub record IsFirstFault (models : List Model) (Accepts : Model → Type 0)
-    (IsFault : Model → Fault → Type 0) (fault : Fault) : Type 0 where
-  pub before : List Model
-  pub model : Model
-  pub after : List Model
-  pub split : models ≡ before ++ model ∷ after
-  pub accepted : AllByRecursion Accepts before
-  pub fault_is : IsFault model fault
-
 -- why two texts have no answer in some data models
 abbrev pub IsFirstPairFault : (PairQuestion → Model → Text → Text → Type 0) → PairQuestion → List Model
     → Text → Text → Fault → Type 0
-IsFirstPairFault Needs question models first second = IsFirstFault models
+IsFirstPairFault Needs question models first second fault = IsFirstIn models
     (λ model. AcceptsBoth question model first second)
-    (λ model. IsPairFault Needs question model first second)
+    (λ model. IsPairFault Needs question model first second fault)
 
 -- in those that are asked for
 abbrev pub IsPairFaultIn : PairQuestion → Models → Text → Text → Fault → Type 0
@@ -171,10 +156,10 @@ IsGivenPairFault Needs question model first second _ = ⊥
 
 -- why two that are given have none in the data models that are asked for
 abbrev pub IsGivenPairFaultIn : PairQuestion → Models → GivenFormat → GivenFormat → Fault → Type 0
-IsGivenPairFaultIn question models first second = IsFirstFault (asked_models models)
+IsGivenPairFaultIn question models first second fault = IsFirstIn (asked_models models)
     (λ model. HoldsOf first (AcceptsText (language_of question) model)
     × HoldsOf second (AcceptsText (language_of question) model))
-    (λ model. IsGivenPairFault (lacks_in models) question model first second)
+    (λ model. IsGivenPairFault (lacks_in models) question model first second fault)
 
 -- why the bytes of a format have no answer to what is asked about them
 abbrev pub IsOneFault : OneQuestion → Model → Text → Fault → Type 0

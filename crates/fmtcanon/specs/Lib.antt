@@ -3,7 +3,6 @@ pub mod Models
 pub mod Words
 pub mod Formats
 pub mod Options
-pub mod Languages
 pub mod Questions
 pub mod Tasks
 pub mod Faults
@@ -15,7 +14,6 @@ pub mod ArgumentWords
 pub mod UntypedArgs
 pub mod FormatArguments
 pub mod Comparisons
-pub mod WholeAnswers
 pub mod PairAnswers
 pub mod Answers
 pub mod Outcomes

@@ -4,10 +4,9 @@ use Rattle.pf_values.specs.declared.models.Model.{Model}
 use Rattle.pf_values.specs.meaning.Text.{Text}
 use Rattle.pf_posix.specs.Laws.{ComparesArgumentTypes, ComparesBeginning}
 use Rattle.fmtcanon.specs.ArgumentLines.{IsFitAnswer}
-use Rattle.fmtcanon.specs.Comparisons.{IsComparisonAnswer}
+use Rattle.fmtcanon.specs.Comparisons.{IsAlikeAnswer, IsComparisonAnswer}
 use Rattle.fmtcanon.specs.Lines.{line}
 use Rattle.fmtcanon.specs.Models.{asked_models, model_name}
-use Rattle.fmtcanon.specs.WholeAnswers.{IsAlikeAnswer}
 use Rattle.fmtcanon.specs.declared.answer.Ending.{Ending}
 use Rattle.fmtcanon.specs.declared.answer.Ending.TheVariants as endings
 use Rattle.fmtcanon.specs.declared.models.Models.{Models}

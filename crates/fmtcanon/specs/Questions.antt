@@ -3,7 +3,7 @@ use Rattle.std.specs.Prelude.{◌≡◌, ◌≢◌, ℕ, true, false, List, [], 
 use Rattle.std.specs.List.{AllByRecursion}
 use Rattle.clap.specs.Walk.{Row}
 use Rattle.pf_values.specs.meaning.Text.{Text}
-use Rattle.fmtcanon.specs.Languages.{Language, Profile, Numbered, Unnumbered}
+use Rattle.pf_whole.specs.Languages.{Language, Profile, Numbered, Unnumbered}
 use Rattle.fmtcanon.specs.Models.{model_in, models_in}
 use Rattle.fmtcanon.specs.Options.{is_fewer, is_whole, notation_in}
 use Rattle.fmtcanon.specs.declared.questions.FormatQuestion.{FormatQuestion}

@@ -6,14 +6,14 @@ use Rattle.pf_values.specs.declared.counted.Counted.{Counted}
 use Rattle.pf_values.specs.Counting.{HasFailed, Known, WritesAll, WritesFirst, calls_of, device_of, failures_of, is_flushed, max_count}
 use Rattle.pf_values.specs.meaning.Text.{Text}
 use Rattle.fmtcanon.specs.Answers.{IsAnswer, IsQuestionFault}
-use Rattle.fmtcanon.specs.Outcomes.{outcome_of_ending, status_of}
+use Rattle.fmtcanon.specs.Outcomes.{status_of}
 use Rattle.fmtcanon.specs.Questions.{IsAbout, formats_wanted}
 use Rattle.fmtcanon.specs.Reports.{fault_text}
 use Rattle.fmtcanon.specs.declared.answer.Ending.{Ending}
 use Rattle.fmtcanon.specs.declared.outcome.Fault.{Fault}
 use Rattle.fmtcanon.specs.declared.outcome.Fault.TheVariants as faults
 use Rattle.fmtcanon.specs.declared.outcome.Outcome.{Outcome}
-use Rattle.fmtcanon.specs.declared.outcome.Outcome.TheVariants.{Answered, Failed, NoSecond, Read, Write}
+use Rattle.fmtcanon.specs.declared.outcome.Outcome.TheVariants.{Answered, Ended, Failed, NoSecond, Read, Write}
 use Rattle.fmtcanon.specs.declared.questions.Question.{Question}
 use Rattle.fmtcanon.specs.declared.questions.RecordQuestion.{RecordQuestion}
 
@@ -35,7 +35,7 @@ last_record (byte ∷ bytes) = (byte ∷ bytes) ∷ []
 -- output, or a line about the fault to standard error.
 abbrev pub RunWrites : Question → Text → Outcome → Type 0
 RunWrites question said outcome =
-    ((ending : Ending) × IsAnswer question said ending × (outcome ≡ outcome_of_ending ending))
+    ((ending : Ending) × IsAnswer question said ending × (outcome ≡ Ended ending))
     ⊎ ((fault : Fault) × IsQuestionFault question fault × (fault ≢ faults.Memory)
     × (outcome ≡ Failed fault) × (said ≡ fault_text fault))
 

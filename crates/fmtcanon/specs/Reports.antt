@@ -13,7 +13,7 @@ use Rattle.fmtcanon.specs.Lines.{line}
 use Rattle.fmtcanon.specs.declared.outcome.Fault.{Fault}
 use Rattle.fmtcanon.specs.declared.outcome.Fault.TheVariants.{Refused, BadLiteral, BadWord, WrongCount, WrongType, Memory}
 use Rattle.fmtcanon.specs.declared.outcome.Outcome.{Outcome}
-use Rattle.fmtcanon.specs.declared.outcome.Outcome.TheVariants.{Done, Same, Different, Answered, Failed, NoSecond, Usage, Missing, Misplaced, Read, Write}
+use Rattle.fmtcanon.specs.declared.outcome.Outcome.TheVariants.{Ended, Answered, Failed, NoSecond, Usage, Missing, Misplaced, Read, Write}
 
 -- which format is refused, where there are two
 abbrev pub side_words : Option Side → Text
@@ -49,9 +49,7 @@ fault_text Memory = line (codes "out of memory")
 -- What is reported of an outcome: nothing if all was written, the text of a usage error as it is, and
 -- otherwise a line.
 abbrev pub report_text : Outcome → Text
-report_text Done = []
-report_text Same = []
-report_text Different = []
+report_text (Ended ending) = []
 report_text (Answered status) = []
 report_text (Failed fault) = fault_text fault
 report_text NoSecond = line (codes "a second format is wanted")

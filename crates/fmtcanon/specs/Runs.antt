@@ -4,7 +4,6 @@ use Rattle.pf_values.specs.declared.counted.Counted.{Counted}
 use Rattle.pf_values.specs.Counting.{Known, WritesAll, WritesFirst, is_flushed}
 use Rattle.pf_values.specs.meaning.Text.{Text}
 use Rattle.fmtcanon.specs.Answers.{IsAnswer, IsQuestionFault}
-use Rattle.fmtcanon.specs.Outcomes.{outcome_of_ending}
 use Rattle.fmtcanon.specs.Streams.{CopyEnds}
 use Rattle.fmtcanon.specs.Records.{AllReplied, RecordsEnd}
 use Rattle.fmtcanon.specs.Tasks.{Asks, IsNoTaskOf}
@@ -12,7 +11,7 @@ use Rattle.fmtcanon.specs.declared.answer.Ending.{Ending}
 use Rattle.fmtcanon.specs.declared.outcome.Fault.{Fault}
 use Rattle.fmtcanon.specs.declared.outcome.Fault.TheVariants.{Memory}
 use Rattle.fmtcanon.specs.declared.outcome.Outcome.{Outcome}
-use Rattle.fmtcanon.specs.declared.outcome.Outcome.TheVariants.{Failed, Misplaced, Missing, Usage, Write}
+use Rattle.fmtcanon.specs.declared.outcome.Outcome.TheVariants.{Ended, Failed, Misplaced, Missing, Usage, Write}
 use Rattle.fmtcanon.specs.declared.task.NoTask.{NoTask}
 use Rattle.fmtcanon.specs.declared.task.NoTask.TheVariants as reasons
 use Rattle.fmtcanon.specs.declared.questions.Question.{Question}
@@ -24,7 +23,7 @@ module _ {W : Type 0} (contents : W → Known) (old new : Counted W) where
   -- failed
   abbrev pub WritingEnds : Text → Ending → Outcome → Type 0
   WritingEnds bytes ending outcome =
-      ((outcome ≡ outcome_of_ending ending) × WritesAll contents old new bytes × (is_flushed new ≡ true))
+      ((outcome ≡ Ended ending) × WritesAll contents old new bytes × (is_flushed new ≡ true))
       ⊎ ((count : ℕ) × (outcome ≡ Write count) × WritesFirst contents old new bytes count)
 
 module _ {W : Type 0} (contents : W → Known) (old new : Counted W) where
@@ -49,7 +48,7 @@ module _ {W : Type 0} (contents : W → Known) (old new : Counted W) where
   -- what the run of a question leaves
   abbrev pub AnswerEnds : Question → Outcome → Type 0
   AnswerEnds question outcome =
-      ((ending : Ending) × (outcome ≡ outcome_of_ending ending) × AnswersAll question ending)
+      ((ending : Ending) × (outcome ≡ Ended ending) × AnswersAll question ending)
       ⊎ ((fault : Fault) × (outcome ≡ Failed fault) × AnswersNothing question fault)
       ⊎ ((count : ℕ) × (outcome ≡ Write count) × AnswersFirst question count)
 

@@ -7,7 +7,9 @@ ghost use Rattle.pf_values.specs.meaning.Text.{Text};
 ghost use Rattle.fmtcanon.specs.Faults.{of_literal};
 ghost use Rattle.fmtcanon.specs.FormatArguments.{IsArgumentFault, IsPrinted};
 ghost use Rattle.fmtcanon.specs.Formats.{IsFormat};
-ghost use Rattle.fmtcanon.specs.Languages.{AcceptsText, Profile};
+ghost use Rattle.pf_whole.specs.Languages.{AcceptsText, Profile, Unnumbered};
+ghost use Rattle.pf_canon.specs.Answers.{IsCanonicalFor};
+ghost use Rattle.pf_whole.specs.Answers.{IsWholeCanonicalFor};
 ghost use Rattle.fmtcanon.specs.Lines.{line, output_bytes};
 ghost use Rattle.fmtcanon.specs.Outcomes.{status_of_ending};
 ghost use Rattle.fmtcanon.specs.PairAnswers.{IsPairAnswerIn};
@@ -25,8 +27,6 @@ use crate::pairs::{pair_answer, refusal_of_first};
 use crate::questions::{FormatQuestion, OneQuestion, PairQuestion, Question};
 use crate::show_lines::show_lines;
 use crate::type_lines::{type_lines, whole_type_lines};
-use crate::whole::whole_canonical_line;
-use pf_canon::canonical_with_room;
 use pf_literals::LiteralFault;
 use pf_render::{RenderVecFault, render_vec};
 use pf_text::{Refusal, Side};
@@ -288,11 +288,25 @@ fn canonical_line(
     model: Model,
     format: &[u8],
 ) -> Result<Vec<u8>, Fault>
-    ensures { MatchResult result (λ out. HasCanonicalLine notation model format.now out.items)
+    ensures { MatchResult result (λ out. HasCanonicalLine notation (IsCanonicalFor model format.now) out.items)
         (IsFormatFault Profile model format.now) }
 {
     // With room for the newline, so that it needs no allocation of its own.
-    let canonical = canonical_with_room(alloc, model, format, 1)?;
+    let canonical = pf_canon::canonical_with_room(alloc, model, format, 1)?;
+    Ok(with_newline(notation.write(alloc, canonical)?)?)
+}
+
+// That of a format of the whole language.
+fn whole_canonical_line(
+    alloc: Global,
+    notation: Notation,
+    model: Model,
+    format: &[u8],
+) -> Result<Vec<u8>, Fault>
+    ensures { MatchResult result (λ out. HasCanonicalLine notation (IsWholeCanonicalFor model format.now) out.items)
+        (IsFormatFault Unnumbered model format.now) }
+{
+    let canonical = pf_whole::canonical_with_room(alloc, model, format, 1)?;
     Ok(with_newline(notation.write(alloc, canonical)?)?)
 }
 

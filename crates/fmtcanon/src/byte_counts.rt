@@ -2,7 +2,7 @@
 ghost use Rattle.std.specs.Prelude.{◌≡◌, ◌++◌, IfOk, MatchResult, decimal};
 ghost use Rattle.fmtcanon.specs.Answers.{IsFormatFault};
 ghost use Rattle.fmtcanon.specs.ByteCounts.{HasBoundsLine, bounds_line, greatest_words};
-ghost use Rattle.fmtcanon.specs.Languages.{Profile};
+ghost use Rattle.pf_whole.specs.Languages.{Profile};
 
 use crate::outcome::Fault;
 use itoa::Buffer;

@@ -41,22 +41,9 @@ pub(crate) fn push_number(line: &mut Line, number: u64)
     line.push_str(digits.format(number));
 }
 
-/// Returns the line of the first argument at which types differ.
-pub fn types_line(index: u64) -> Line
-    ensures { result.bytes ≡ line (codes "types differ at argument " ++ decimal index) }
-{
-    difference_line("types", index)
-}
-
-/// Returns the line of the first argument with which a call begins that only one of the formats makes.
-pub fn directives_line(index: u64) -> Line
-    ensures { result.bytes ≡ line (codes "directives differ at argument " ++ decimal index) }
-{
-    difference_line("directives", index)
-}
-
-// The line of the first argument at which `what` differs.
-fn difference_line(what: &str, index: u64) -> Line
+/// Returns the line of the first argument at which types differ, or with which a call begins that only one
+/// of the formats makes: `what` differs there.
+pub fn difference_line(what: &str, index: u64) -> Line
     requires { length what.now ≤ 10 }
     ensures { result.bytes ≡ line (what.now ++ codes " differ at argument " ++ decimal index) }
 {
@@ -68,20 +55,13 @@ fn difference_line(what: &str, index: u64) -> Line
     line
 }
 
-/// Returns the line that says that two formats are the same.
-pub fn same_line() -> Line
-    ensures { result.bytes ≡ line (codes "same") }
+/// Returns a text as a line.
+pub fn line_of(text: &str) -> Line
+    requires { length text.now ≤ 20 }
+    ensures { result.bytes ≡ line text.now }
 {
     let mut line = Line::new();
-    line.push_str("same\n");
-    line
-}
-
-/// Returns the line that says that the second format takes the arguments of the first.
-pub fn fits_line() -> Line
-    ensures { result.bytes ≡ line (codes "fits") }
-{
-    let mut line = Line::new();
-    line.push_str("fits\n");
+    line.push_str(text);
+    line.push_str("\n");
     line
 }

@@ -11,6 +11,7 @@ mod arguments;
 mod byte_counts;
 mod command;
 mod comparison;
+mod fits;
 mod formats;
 mod input;
 mod laws;
@@ -28,7 +29,6 @@ mod show_lines;
 mod subcommands;
 mod task;
 mod type_lines;
-mod whole;
 
 use outcome::{Fault, Outcome, report};
 use pf_values::Counted;

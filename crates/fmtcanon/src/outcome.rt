@@ -5,13 +5,12 @@ ghost use Rattle.pf_literals.specs.Kinds as literals;
 ghost use Rattle.pf_values.specs.RefusalKinds.{name};
 ghost use Rattle.fmtcanon.specs.Faults.{of_comparison, of_literal, of_text};
 ghost use Rattle.fmtcanon.specs.Lines.{line};
-ghost use Rattle.fmtcanon.specs.Outcomes.{outcome_of_ending, status_of, status_of_fault};
+ghost use Rattle.fmtcanon.specs.Outcomes.{status_of, status_of_fault};
 ghost use Rattle.fmtcanon.specs.Reports.{WritesReport, fault_text, fault_words, literal_words, refusal_words, side_words, report_text};
 ghost use Rattle.fmtcanon.specs.declared.outcome.Fault.TheVariants.{Memory, Refused};
-ghost use Rattle.fmtcanon.specs.declared.outcome.Outcome.TheVariants.{Failed};
 
 use crate::answer::Ending;
-use crate::lines::{Line, push_number};
+use crate::lines::{Line, line_of, push_number};
 use pf_compare::CompareFault;
 use pf_literals::{LiteralFault, LiteralKind, LiteralRefusal};
 use pf_text::{Refusal, Side, TextFault};
@@ -25,12 +24,8 @@ use std::io::Write;
 /// replies to the first of them.
 #[derive(Drop)]
 pub enum Outcome {
-    /// All was written.
-    Done,
-    /// All was written: the formats mean the same, or take the same arguments.
-    Same,
-    /// All was written: the formats differ, in types or in bytes.
-    Different,
+    /// All was written, and this is how the run ends then.
+    Ended(Ending),
     /// All records were answered; the highest status of their answers.
     Answered(u8),
     /// A question has no answer, or memory was refused.
@@ -57,33 +52,12 @@ impl Outcome {
         ensures { result ≡ status_of self.now }
     {
         match self {
-            Outcome::Done | Outcome::Same => 0,
-            Outcome::Different => 1,
+            Outcome::Ended(ending) => ending.status(),
             Outcome::Answered(status) => *status,
             Outcome::Failed(fault) => fault.status(),
             Outcome::NoSecond | Outcome::Usage(_) | Outcome::Missing | Outcome::Misplaced => 3,
             Outcome::Read | Outcome::Write(_) => 4,
         }
-    }
-}
-
-impl From<Ending> for Outcome {
-    ghost from_gives = { λ ending outcome. outcome ≡ outcome_of_ending ending };
-
-    fn from(ending: Ending) -> Outcome {
-        match ending {
-            Ending::Done => Outcome::Done,
-            Ending::Same => Outcome::Same,
-            Ending::Different => Outcome::Different,
-        }
-    }
-}
-
-impl From<Fault> for Outcome {
-    ghost from_gives = { λ fault outcome. outcome ≡ Failed fault };
-
-    fn from(fault: Fault) -> Outcome {
-        Outcome::Failed(fault)
     }
 }
 
@@ -208,9 +182,7 @@ fn write_report<E: Write>(outcome: &Outcome, errors: &mut Counted<E>) -> Result<
     ensures { Writes E.contents errors.old errors.new (report_text outcome.now) result }
 {
     match outcome {
-        Outcome::Done | Outcome::Same | Outcome::Different | Outcome::Answered(_) => {
-            write_bytes(errors, b"")
-        }
+        Outcome::Ended(_) | Outcome::Answered(_) => write_bytes(errors, b""),
         Outcome::Failed(fault) => write_line(errors, &fault_line(fault)),
         Outcome::NoSecond => write_bytes(errors, b"a second format is wanted\n"),
         Outcome::Usage(text) => write_bytes(errors, text.as_bytes()),
@@ -240,19 +212,11 @@ pub fn fault_line(fault: &Fault) -> Line
     match fault {
         Fault::Refused { side, refusal } => refusal_line(*side, refusal),
         Fault::BadLiteral { side, refusal } => literal_line(*side, refusal),
-        Fault::BadWord(index) => bad_word_line(*index),
+        Fault::BadWord(index) => bad_argument_line(*index, "not an argument"),
         Fault::WrongCount { wanted, given } => count_line(*wanted, *given),
-        Fault::WrongType(index) => wrong_type_line(*index),
-        Fault::Memory => memory_line(),
+        Fault::WrongType(index) => bad_argument_line(*index, "wrong type"),
+        Fault::Memory => line_of("out of memory"),
     }
-}
-
-fn memory_line() -> Line
-    ensures { result.bytes ≡ line (codes "out of memory") }
-{
-    let mut line = Line::new();
-    line.push_str("out of memory\n");
-    line
 }
 
 fn refusal_line(side: Option<Side>, refusal: &Refusal) -> Line
@@ -297,20 +261,6 @@ fn fault_line_of(side: Option<Side>, what: &str, number: u8, name: &str, at: u64
     push_number(&mut line, at);
     line.push_str("\n");
     line
-}
-
-fn bad_word_line(index: u64) -> Line
-    ensures { result.bytes
-        ≡ line (codes "argument " ++ decimal index ++ codes ": " ++ codes "not an argument") }
-{
-    bad_argument_line(index, "not an argument")
-}
-
-fn wrong_type_line(index: u64) -> Line
-    ensures { result.bytes
-        ≡ line (codes "argument " ++ decimal index ++ codes ": " ++ codes "wrong type") }
-{
-    bad_argument_line(index, "wrong type")
 }
 
 // The line of an argument, with what is wrong with it.

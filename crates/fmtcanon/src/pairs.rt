@@ -1,18 +1,18 @@
 //! Answers about two formats, in one data model after another.
 ghost use Rattle.std.specs.Prelude.{◌≡◌, ◌++◌, IfOk, MatchOption, MatchResult};
 ghost use Rattle.fmtcanon.specs.Answers.{AcceptsBoth, IsFirstPairFault, IsPairFault, IsPairFaultIn, IsRefusalOfFirst, NeedsMemory};
-ghost use Rattle.fmtcanon.specs.Languages.{AcceptsText, Numbered};
+ghost use Rattle.pf_whole.specs.Languages.{AcceptsText, Numbered};
 ghost use Rattle.fmtcanon.specs.Lines.{line, output_bytes};
 ghost use Rattle.fmtcanon.specs.PairAnswers.{IsAnswerInEach, IsPairAnswer, IsPairAnswerIn, ending_with};
 ghost use Rattle.fmtcanon.specs.Questions.{language_of};
 
 use crate::answer::{Answer, Ending};
-use crate::comparison::comparison_in;
+use crate::comparison::{alike_in, comparison_in};
+use crate::fits::{fewer_in, fit_in};
 use crate::lines::Output;
 use crate::models::{Models, name_of};
 use crate::outcome::Fault;
 use crate::questions::PairQuestion;
-use crate::whole::{alike_in, fewer_in, fit_in};
 use pf_posix::{arguments, check_unnumbered};
 use pf_text::{Side, check};
 use pf_values::Model;

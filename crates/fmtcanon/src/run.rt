@@ -7,7 +7,7 @@ ghost use Rattle.fmtcanon.specs.Streams.{CopyEnds};
 ghost use Rattle.fmtcanon.specs.Tasks.{Asks};
 ghost use Rattle.fmtcanon.specs.declared.task.Task.{Task};
 
-use crate::answer::{Answer, answer_to};
+use crate::answer::{Answer, Ending, answer_to};
 use crate::input::Input;
 use crate::outcome::{Fault, Outcome};
 use crate::questions::Question;
@@ -19,8 +19,8 @@ use std::alloc::Global;
 use std::io::{Read, Write};
 
 /// Runs the command that the words name; the program's name isn't among them. What a command reads
-/// comes from `input`, and what it writes goes to `writer`. Its last call is a flush before `Done`,
-/// `Same` and `Different`, by `stream` also before `Failed` and `Read`, and over records before all
+/// comes from `input`, and what it writes goes to `writer`. Its last call is a flush before `Ended`,
+/// by `stream` also before `Failed` and `Read`, and over records before all
 /// outcomes except `Write`. What else is refused or invalid comes before the first call of the
 /// writer.
 ///
@@ -71,7 +71,7 @@ fn answer<W: Write>(alloc: Global, question: &Question<'_>, writer: &mut Counted
 {
     match answer_to(alloc, question) {
         Ok(answer) => write_answer(&answer, writer),
-        Err(fault) => Outcome::from(fault),
+        Err(fault) => Outcome::Failed(fault),
     }
 }
 
@@ -85,7 +85,7 @@ fn write_answer<W: Write>(answer: &Answer, writer: &mut Counted<W>) -> Outcome
         return Outcome::Write(short.written as u128);
     }
     match writer.flush() {
-        Ok(()) => Outcome::from(answer.ending),
+        Ok(()) => Outcome::Ended(answer.ending),
         Err(_) => Outcome::Write(bytes.len() as u128),
     }
 }
@@ -104,7 +104,7 @@ pub fn copy<R: Read, W: Write, I: Input<R, W>>(
 {
     match input.copy_all(model, writer) {
         Ok(count) => match writer.flush() {
-            Ok(()) => Outcome::Done,
+            Ok(()) => Outcome::Ended(Ending::Done),
             Err(_) => Outcome::Write(count),
         },
         Err(CopyFault::Refused(refusal)) => {

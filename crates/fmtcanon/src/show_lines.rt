@@ -6,7 +6,7 @@ ghost use Rattle.pf_values.specs.meaning.DataModel.{arg_type};
 ghost use Rattle.pf_values.specs.meaning.Spelling.{spelling_of};
 ghost use Rattle.pf_values.specs.meaning.Text.{Text};
 ghost use Rattle.fmtcanon.specs.Answers.{IsFormatFault};
-ghost use Rattle.fmtcanon.specs.Languages.{Profile};
+ghost use Rattle.pf_whole.specs.Languages.{Profile};
 ghost use Rattle.fmtcanon.specs.Lines.{line};
 ghost use Rattle.fmtcanon.specs.Shows.{HasShownLines, IsLineOf, reduced_line, reduced_text, shown_of};
 ghost use Rattle.fmtcanon.specs.TypeLines.{type_name};

@@ -1,7 +1,7 @@
 //! The types of a format's arguments, a line for each: in the profile, and in the whole language.
 ghost use Rattle.std.specs.Prelude.{◌≡◌, IfOk, MatchResult, flat_map};
 ghost use Rattle.fmtcanon.specs.Answers.{IsFormatFault};
-ghost use Rattle.fmtcanon.specs.Languages.{Numbered, Profile};
+ghost use Rattle.pf_whole.specs.Languages.{Numbered, Profile};
 ghost use Rattle.fmtcanon.specs.ArgumentLines.{HasArgumentLines, argument_line, argument_name};
 ghost use Rattle.pf_text.specs.Signatures.{TakesTypes, types_of};
 ghost use Rattle.fmtcanon.specs.TypeLines.{HasTypeLines, type_line, type_name};

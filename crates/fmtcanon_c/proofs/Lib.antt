@@ -1,10 +1,7 @@
 pub mod CodeLemmas
-pub mod ComparingLemmas
-mod RefusalLemmas
-mod SamenessLemmas
-mod ArgumentTypeLemmas
-pub mod WholeComparingLemmas
-mod WholeLemmas
+mod ModelSums
+mod RelationLemmas
 mod HeaderLemmas
 mod EndedLemmas
 mod PassedLemmas
+mod AnswerLemmas

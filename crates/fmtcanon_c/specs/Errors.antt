@@ -26,13 +26,6 @@ pub record IsRefusedAs (Refuses : RefusalKind → ℕ → Type 0) (side : Side) 
   pub kind_is : error.kind ≡ number kind
   pub side_is : error.side ≡ side_number side
 
--- the first text is refused, or it is accepted and the second refused
-abbrev pub IsOneRefusedAs : (Text → Type 0) → (Text → RefusalKind → ℕ → Type 0) → Text → Text → ℤ
-    → CError → Type 0
-IsOneRefusedAs Accepts Refuses first second code error =
-    IsRefusedAs (Refuses first) First code error
-    ⊎ (Accepts first × IsRefusedAs (Refuses second) Second code error)
-
 -- a text is refused by the profile
 abbrev pub IsRefusedBy : Side → Text → ℤ → CError → Type 0
 IsRefusedBy side t code error = IsRefusedAs (IsRefusedAt t) side code error

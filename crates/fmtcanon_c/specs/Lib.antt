@@ -5,9 +5,9 @@ pub mod Models
 pub mod Words
 pub mod Calls
 pub mod Literals
-pub mod ArgumentTypes
+pub mod Directives
+pub mod Relations
 pub mod ByteCounts
 pub mod Arguments
 pub mod Rendering
-pub mod Whole
-pub mod WholeComparisons
+pub mod Comparisons

@@ -1,19 +1,11 @@
 //! The types of the arguments that a format takes, in the profile and in the whole language.
-ghost use Rattle.std.specs.Prelude.{◌≡◌, ◌≤◌, ◌↔◌, ◌++◌, IsTrue, MatchResult, length, drop, map, pos};
-ghost use Rattle.std.specs.List.{AllByRecursion};
-ghost use Rattle.pf_values.specs.TypeNumbers.{type_number};
-ghost use Rattle.fmtcanon_c.specs.Buffers.{put};
-ghost use Rattle.fmtcanon_c.specs.Calls.{AreModels, PutsTypes};
+ghost use Rattle.std.specs.Prelude.{◌≡◌};
 ghost use Rattle.fmtcanon_c.specs.Models.{InModel};
-ghost use Rattle.pf_posix.specs.Items.{IsPosixAccepted};
-ghost use Rattle.pf_posix.specs.TypeNumbers.{number_of_type};
-ghost use Rattle.pf_posix.specs.Laws.{FaultForFits};
-ghost use Rattle.pf_values.specs.declared.models.TheConstants.Model.{ALL};
-ghost use Rattle.fmtcanon_c.specs.ArgumentTypes.{AnswersFewer, AnswersFewerModels, AnswersFit, AnswersFitModels, Fit, FitFewer, PutsArguments, StopsFitsIn};
+ghost use Rattle.fmtcanon_c.specs.Calls.{PutsArguments, PutsTypes};
 
-use crate::interface::{CError, NO_MEMORY, NO_MODEL, model_of, put_refusal};
-use pf_posix::{ArgumentType, arguments, arguments_vec, fits, fits_fewer};
-use pf_text::{Refusal, Side, TextFault, known_types, signature};
+use crate::interface::{CError, NO_MEMORY, NO_MODEL, model_of, put_codes, put_refusal};
+use pf_posix::{ArgumentType, arguments, arguments_vec};
+use pf_text::{Side, TextFault, known_types, signature};
 use pf_values::{ArgType, Model};
 use std::alloc::Global;
 
@@ -46,7 +38,7 @@ fn put_types(alloc: Global, model: Model, text: &[u8], out: &mut [u8], error: &m
 {
     let mut types = [ArgType::Int; ROOM];
     match known_types(model, text, &mut types) {
-        Some(count) => put_all(out, &types[..count]),
+        Some(count) => put_codes(out, &types[..count]),
         None => put_signature(alloc, model, text, out, error),
     }
 }
@@ -63,31 +55,9 @@ fn put_signature(
     ensures { PutsTypes model text.now out.old error.old result out.new error.new }
 {
     match signature(alloc, model, text) {
-        Ok(signature) => put_all(out, signature.as_slice()),
+        Ok(signature) => put_codes(out, signature.as_slice()),
         Err(TextFault::Refused(refusal)) => put_refusal(error, Side::First, refusal),
         Err(TextFault::Memory) => NO_MEMORY,
-    }
-}
-
-// Puts the codes of some types, if there is room for all, and returns how many there are.
-fn put_all(out: &mut [u8], types: &[ArgType]) -> i64
-    ensures count { result ≡ pos (length types.now) }
-    ensures put { out.new ≡ put (map type_number types.now) out.old }
-{
-    if types.len() <= out.len() {
-        put_codes(out, types);
-    }
-    types.len() as i64
-}
-
-fn put_codes(out: &mut [u8], types: &[ArgType])
-    requires { length types.now ≤ length out.old }
-    ensures { out.new ≡ map type_number types.now ++ drop (length types.now) out.old }
-{
-    let mut at = 0;
-    while at < types.len() {
-        out[at] = types[at].number();
-        at += 1;
     }
 }
 
@@ -128,7 +98,7 @@ fn put_arguments(
             if count > ROOM as u64 {
                 return put_many_arguments(alloc, model, text, out, error);
             }
-            put_listed(out, &types[..count as usize])
+            put_codes(out, &types[..count as usize])
         }
         Err(refusal) => put_refusal(error, Side::First, refusal),
     }
@@ -146,171 +116,8 @@ fn put_many_arguments(
     ensures { PutsArguments model text.now out.old error.old result out.new error.new }
 {
     match arguments_vec(alloc, model, text) {
-        Ok(types) => put_listed(out, types.as_slice()),
+        Ok(types) => put_codes(out, types.as_slice()),
         Err(TextFault::Refused(refusal)) => put_refusal(error, Side::First, refusal),
         Err(TextFault::Memory) => NO_MEMORY,
-    }
-}
-
-// Puts the numbers of some types, if there is room for all, and returns how many there are.
-fn put_listed(out: &mut [u8], types: &[ArgumentType]) -> i64
-    ensures count { result ≡ pos (length types.now) }
-    ensures put { out.new ≡ put (map number_of_type types.now) out.old }
-{
-    if types.len() <= out.len() {
-        put_numbers(out, types);
-    }
-    types.len() as i64
-}
-
-fn put_numbers(out: &mut [u8], types: &[ArgumentType])
-    requires { length types.now ≤ length out.old }
-    ensures { out.new ≡ map number_of_type types.now ++ drop (length types.now) out.old }
-{
-    let mut at = 0;
-    while at < types.len() {
-        out[at] = types[at].number();
-        at += 1;
-    }
-}
-
-/// Returns 1 if the second format takes just the arguments of the first, 0 if not, or minus the
-/// kind of the rejected one. Allocates nothing.
-#[unsafe(no_mangle)]
-pub extern "C" fn fmtcanon_fits(model: i32, first: &[u8], second: &[u8], error: &mut CError) -> i64
-    ensures { InModel model (λ m. AnswersFit m first.now second.now error.old result error.new)
-        result (error.new ≡ error.old) }
-{
-    match model_of(model) {
-        Some(model) => fits_in(model, first, second, error),
-        None => NO_MODEL,
-    }
-}
-
-fn fits_in(model: Model, first: &[u8], second: &[u8], error: &mut CError) -> i64
-    ensures { AnswersFit model first.now second.now error.old result error.new }
-{
-    match fits(model, first, second) {
-        Ok(None) => 1,
-        Ok(Some(_)) => 0,
-        Err((side, refusal)) => put_refusal(error, side, refusal),
-    }
-}
-
-/// Returns 1 if the second format takes the arguments of the first, or those at their beginning, 0 if
-/// not, or minus the kind of the rejected one. Allocates nothing.
-#[unsafe(no_mangle)]
-pub extern "C" fn fmtcanon_fits_fewer(
-    model: i32,
-    first: &[u8],
-    second: &[u8],
-    error: &mut CError,
-) -> i64
-    ensures { InModel model (λ m. AnswersFewer m first.now second.now error.old result error.new)
-        result (error.new ≡ error.old) }
-{
-    match model_of(model) {
-        Some(model) => fits_fewer_in(model, first, second, error),
-        None => NO_MODEL,
-    }
-}
-
-fn fits_fewer_in(model: Model, first: &[u8], second: &[u8], error: &mut CError) -> i64
-    ensures { AnswersFewer model first.now second.now error.old result error.new }
-{
-    match fits_fewer(model, first, second) {
-        Ok(None) => 1,
-        Ok(Some(_)) => 0,
-        Err((side, refusal)) => put_refusal(error, side, refusal),
-    }
-}
-
-/// Returns the data models in which the second format takes just the arguments of the first, as
-/// `fmtcanon_same_models` gives them. If one format is rejected in a data model, returns minus its
-/// kind in the first such data model. Allocates nothing.
-#[unsafe(no_mangle)]
-pub extern "C" fn fmtcanon_fits_models(first: &[u8], second: &[u8], error: &mut CError) -> i64
-    ensures { AnswersFitModels first.now second.now error.old result error.new }
-{
-    match fits_models(first, second) {
-        Ok(sum) => i64::from(sum),
-        Err((side, refusal)) => put_refusal(error, side, refusal),
-    }
-}
-
-// The data models in which it does, as a sum.
-fn fits_models(first: &[u8], second: &[u8]) -> Result<u8, (Side, Refusal)>
-    ensures { MatchResult result
-        (λ sum. AllByRecursion (λ model. IsPosixAccepted model first.now × IsPosixAccepted model second.now) ALL
-        × AreModels (λ model. Fit model first.now second.now) 1 ALL sum)
-        (StopsFitsIn ALL first.now second.now) }
-{
-    let mut sum = 0;
-    let mut weight = 1;
-    for model in &Model::ALL {
-        if is_fit(*model, first, second)? {
-            sum += weight;
-        }
-        weight *= 2;
-    }
-    Ok(sum)
-}
-
-// Whether it does in a data model.
-fn is_fit(model: Model, first: &[u8], second: &[u8]) -> Result<bool, (Side, Refusal)>
-    ensures { MatchResult result
-        (λ is. IsPosixAccepted model first.now × IsPosixAccepted model second.now
-        × (IsTrue is ↔ Fit model first.now second.now))
-        (FaultForFits model first.now second.now) }
-{
-    match fits(model, first, second) {
-        Ok(None) => Ok(true),
-        Ok(Some(_)) => Ok(false),
-        Err(refusal) => Err(refusal),
-    }
-}
-
-/// Returns the data models in which the second format takes the arguments of the first, or those at their
-/// beginning, as `fmtcanon_same_models` gives them. If one format is rejected in a data model, returns minus its
-/// kind in the first such data model. Allocates nothing.
-#[unsafe(no_mangle)]
-pub extern "C" fn fmtcanon_fits_fewer_models(first: &[u8], second: &[u8], error: &mut CError) -> i64
-    ensures { AnswersFewerModels first.now second.now error.old result error.new }
-{
-    match fits_fewer_models(first, second) {
-        Ok(sum) => i64::from(sum),
-        Err((side, refusal)) => put_refusal(error, side, refusal),
-    }
-}
-
-// The data models in which it does, as a sum.
-fn fits_fewer_models(first: &[u8], second: &[u8]) -> Result<u8, (Side, Refusal)>
-    ensures { MatchResult result
-        (λ sum. AllByRecursion (λ model. IsPosixAccepted model first.now × IsPosixAccepted model second.now) ALL
-        × AreModels (λ model. FitFewer model first.now second.now) 1 ALL sum)
-        (StopsFitsIn ALL first.now second.now) }
-{
-    let mut sum = 0;
-    let mut weight = 1;
-    for model in &Model::ALL {
-        if is_fewer(*model, first, second)? {
-            sum += weight;
-        }
-        weight *= 2;
-    }
-    Ok(sum)
-}
-
-// Whether it does in a data model.
-fn is_fewer(model: Model, first: &[u8], second: &[u8]) -> Result<bool, (Side, Refusal)>
-    ensures { MatchResult result
-        (λ is. IsPosixAccepted model first.now × IsPosixAccepted model second.now
-        × (IsTrue is ↔ FitFewer model first.now second.now))
-        (FaultForFits model first.now second.now) }
-{
-    match fits_fewer(model, first, second) {
-        Ok(None) => Ok(true),
-        Ok(Some(_)) => Ok(false),
-        Err(refusal) => Err(refusal),
     }
 }

@@ -1,12 +1,16 @@
 //! Whether a text is a format, whether it is canonical, and its canonical text.
-ghost use Rattle.fmtcanon_c.specs.Calls.{Checks, AnswersCanonical, IsLengthCode, PutsCanonical, AnswersLength};
 ghost use Rattle.std.specs.Prelude.{◌≡◌};
-ghost use Rattle.fmtcanon_c.specs.Models.{InModel};
+ghost use Rattle.pf_values.specs.meaning.Refusals.{IsRefusedAt};
+ghost use Rattle.pf_canon.specs.Answers.{IsCanonicalFor};
 ghost use Rattle.pf_canon.specs.VerbatimFronts.{IsVerbatimFront, front_model};
+ghost use Rattle.pf_posix.specs.Unnumbered.{IsWholeRefusedAt};
+ghost use Rattle.pf_whole.specs.Answers.{IsWholeCanonicalFor};
+ghost use Rattle.fmtcanon_c.specs.Calls.{AnswersCanonical, AnswersLength, Checks, IsLengthAnswer, IsLengthCode, PutsCanonical, PutsWholeCanonical};
+ghost use Rattle.fmtcanon_c.specs.Models.{InModel};
 
 use crate::interface::{CError, NO_MEMORY, NO_MODEL, model_of, put_refusal, put_string};
 use pf_canon::{ShortText, VerbatimFront, canonical, canonical_len, is_canonical};
-use pf_text::{Side, TextFault, check};
+use pf_text::{Refusal, Side, TextFault, check};
 use pf_values::Model;
 use std::alloc::Global;
 
@@ -133,26 +137,83 @@ fn put_long_canonical(
 /// the length is 2^63 or more. Allocates nothing.
 #[unsafe(no_mangle)]
 pub extern "C" fn fmtcanon_canonical_length(model: i32, text: &[u8], error: &mut CError) -> i64
-    ensures { InModel model (λ m. AnswersLength m text.now error.old result error.new)
+    ensures { InModel model (λ m. AnswersLength (IsCanonicalFor m text.now) (IsRefusedAt text.now) error.old result error.new)
         result (error.new ≡ error.old) }
 {
     match model_of(model) {
-        Some(model) => canonical_length_in(model, text, error),
+        Some(model) => length_answer(canonical_len(model, text), error),
         None => NO_MODEL,
     }
 }
 
-fn canonical_length_in(model: Model, text: &[u8], error: &mut CError) -> i64
-    ensures { AnswersLength model text.now error.old result error.new }
+/// Puts the canonical text of a format of the whole language and a NUL into a buffer that has room for
+/// them. Returns the length of the canonical text, or the code of an error.
+#[unsafe(no_mangle)]
+pub extern "C" fn fmtcanon_whole_canonical(
+    alloc: Global,
+    model: i32,
+    text: &[u8],
+    out: &mut [u8],
+    error: &mut CError,
+) -> i64
+    ensures { InModel model
+        (λ m. PutsWholeCanonical m text.now out.old error.old result out.new error.new)
+        result ((out.new ≡ out.old) × (error.new ≡ error.old)) }
 {
-    match canonical_len(model, text) {
+    match model_of(model) {
+        Some(model) => put_whole_canonical(alloc, model, text, out, error),
+        None => NO_MODEL,
+    }
+}
+
+fn put_whole_canonical(
+    alloc: Global,
+    model: Model,
+    text: &[u8],
+    out: &mut [u8],
+    error: &mut CError,
+) -> i64
+    ensures { PutsWholeCanonical model text.now out.old error.old result out.new error.new }
+{
+    match pf_whole::canonical(alloc, model, text) {
+        Ok(canonical) => {
+            put_string(out, &canonical);
+            canonical.len() as i64
+        }
+        Err(TextFault::Refused(refusal)) => put_refusal(error, Side::First, refusal),
+        Err(TextFault::Memory) => NO_MEMORY,
+    }
+}
+
+/// Returns the length of the canonical text of a format of the whole language, or the code of an error:
+/// the code for out of memory if the length is 2^63 or more. Allocates nothing.
+#[unsafe(no_mangle)]
+pub extern "C" fn fmtcanon_whole_canonical_length(
+    model: i32,
+    text: &[u8],
+    error: &mut CError,
+) -> i64
+    ensures { InModel model (λ m. AnswersLength (IsWholeCanonicalFor m text.now) (IsWholeRefusedAt m text.now) error.old result error.new)
+        result (error.new ≡ error.old) }
+{
+    match model_of(model) {
+        Some(model) => length_answer(pf_whole::canonical_len(model, text), error),
+        None => NO_MODEL,
+    }
+}
+
+// Returns the answer of a length that was found, or the code of a refusal.
+fn length_answer(found: Result<u128, Refusal>, error: &mut CError) -> i64
+    ensures { IsLengthAnswer found error.old result error.new }
+{
+    match found {
         Ok(len) => length_code(len),
         Err(refusal) => put_refusal(error, Side::First, refusal),
     }
 }
 
-/// Returns a length as an answer, or the code of no memory if it is 2^63 or more.
-pub(crate) fn length_code(len: u128) -> i64
+// Returns a length as an answer, or the code of no memory if it is 2^63 or more.
+fn length_code(len: u128) -> i64
     ensures { IsLengthCode len result }
 {
     if len < 1 << 63 { len as i64 } else { NO_MEMORY }

@@ -1,9 +1,10 @@
 //! The conversion specifications of a format, as records.
-ghost use Rattle.std.specs.Prelude.{◌≡◌, ◌≤◌, ◌++◌, length, drop, map};
+ghost use Rattle.std.specs.Prelude.{◌≡◌};
 ghost use Rattle.fmtcanon_c.specs.Models.{InModel};
-ghost use Rattle.fmtcanon_c.specs.ArgumentTypes.{PutsDirectives, record_of};
+ghost use Rattle.fmtcanon_c.specs.Calls.{PutsDirectives};
+ghost use Rattle.fmtcanon_c.specs.Directives.{record_of};
 
-use crate::interface::{CError, NO_MEMORY, NO_MODEL, model_of, put_refusal};
+use crate::interface::{CError, Coded, NO_MEMORY, NO_MODEL, model_of, put_codes, put_refusal};
 use pf_posix::{DirectiveSpan, directives_vec};
 use pf_text::{Side, TextFault};
 use pf_values::Model;
@@ -60,38 +61,23 @@ fn put_directives(
     ensures { PutsDirectives model text.now out.old error.old result out.new error.new }
 {
     match directives_vec(alloc, model, text) {
-        Ok(directives) => {
-            let directives = directives.as_slice();
-            if directives.len() <= out.len() {
-                put_records(out, directives);
-            }
-            directives.len() as i64
-        }
+        Ok(directives) => put_codes(out, directives.as_slice()),
         Err(TextFault::Refused(refusal)) => put_refusal(error, Side::First, refusal),
         Err(TextFault::Memory) => NO_MEMORY,
     }
 }
 
-fn put_records(out: &mut [CDirective], directives: &[DirectiveSpan])
-    requires { length directives.now ≤ length out.old }
-    ensures { out.new ≡ map record_of directives.now ++ drop (length directives.now) out.old }
-{
-    let mut at = 0;
-    while at < directives.len() {
-        out[at] = record_of(directives[at]);
-        at += 1;
-    }
-}
+impl Coded<CDirective> for DirectiveSpan {
+    ghost code_of = { record_of };
 
-fn record_of(directive: DirectiveSpan) -> CDirective
-    ensures { result ≡ record_of directive }
-{
-    CDirective {
-        begin: directive.begin,
-        end: directive.end,
-        argument: directive.argument,
-        width_argument: directive.width_argument.unwrap_or(NO_ARGUMENT),
-        precision_argument: directive.precision_argument.unwrap_or(NO_ARGUMENT),
-        kind: u64::from(directive.kind.number()),
+    fn code(&self) -> CDirective {
+        CDirective {
+            begin: self.begin,
+            end: self.end,
+            argument: self.argument,
+            width_argument: self.width_argument.unwrap_or(NO_ARGUMENT),
+            precision_argument: self.precision_argument.unwrap_or(NO_ARGUMENT),
+            kind: u64::from(self.kind.number()),
+        }
     }
 }

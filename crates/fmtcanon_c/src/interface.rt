@@ -1,6 +1,8 @@
 //! What the calls share: errors with their codes and the names of their kinds, data models by their
 //! numbers, and buffers of the caller; and the version.
-ghost use Rattle.std.specs.Prelude.{◌≡◌, neg_ℤ, option_map, pos, ◌∷◌, [], ◌++◌};
+ghost use Rattle.std.specs.Prelude.{◌≡◌, ◌≤◌, ◌<◌, ◌^◌, neg_ℤ, option_map, pos, ◌∷◌, [], ◌++◌, length, drop, map};
+ghost use Rattle.pf_posix.specs.TypeNumbers.{number_of_type};
+ghost use Rattle.pf_values.specs.TypeNumbers.{type_number};
 ghost use Rattle.pf_values.specs.RefusalKinds.{number};
 ghost use Rattle.fmtcanon_c.specs.Calls.{PutsName};
 ghost use Rattle.fmtcanon_c.specs.Errors.{IsKindOf, IsLiteralKindOf, IsLiteralNameOf, IsNameOf, side_number};
@@ -8,8 +10,9 @@ ghost use Rattle.fmtcanon_c.specs.Models.{model_of};
 ghost use Rattle.fmtcanon_c.specs.Buffers.{put};
 
 use pf_literals::LiteralKind;
+use pf_posix::ArgumentType;
 use pf_text::{Refusal, Side};
-use pf_values::{Model, RefusalKind};
+use pf_values::{ArgType, Model, RefusalKind};
 
 /// `FMTCANON_ERROR_NOMEMORY`
 pub(crate) const NO_MEMORY: i64 = -100;
@@ -177,6 +180,55 @@ pub(crate) fn put_string(out: &mut [u8], bytes: &[u8])
         let (front, rest) = out.split_at_mut(bytes.len());
         front.copy_from_slice(bytes);
         rest[0] = 0;
+    }
+}
+
+/// A value that is a code or a record in C.
+pub(crate) trait Coded<C> {
+    ghost code_of: { Self → C };
+
+    /// Returns the code or the record.
+    fn code(&self) -> C
+        ensures { result ≡ code_of self.now };
+}
+
+impl Coded<u8> for ArgType {
+    ghost code_of = { type_number };
+
+    fn code(&self) -> u8 {
+        self.number()
+    }
+}
+
+impl Coded<u8> for ArgumentType {
+    ghost code_of = { number_of_type };
+
+    fn code(&self) -> u8 {
+        self.number()
+    }
+}
+
+/// Puts the codes of values at the front of a buffer that has room for all, and leaves any other as it is.
+/// Returns how many values there are.
+pub(crate) fn put_codes<C: Copy, V: Coded<C>>(out: &mut [C], values: &[V]) -> i64
+    requires { length values.now < 2 ^ 63 }
+    ensures count { result ≡ pos (length values.now) }
+    ensures put { out.new ≡ put (map V.code_of values.now) out.old }
+{
+    if values.len() <= out.len() {
+        put_each(out, values);
+    }
+    values.len() as i64
+}
+
+fn put_each<C: Copy, V: Coded<C>>(out: &mut [C], values: &[V])
+    requires { length values.now ≤ length out.old }
+    ensures { out.new ≡ map V.code_of values.now ++ drop (length values.now) out.old }
+{
+    let mut at = 0;
+    while at < values.len() {
+        out[at] = values[at].code();
+        at += 1;
     }
 }
 

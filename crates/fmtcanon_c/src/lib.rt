@@ -10,6 +10,5 @@ mod directives;
 mod interface;
 mod laws;
 mod literals;
+mod relations;
 mod rendering;
-mod whole_comparison;
-mod whole_texts;

@@ -1,5 +1,6 @@
 -- What a comparison of the profile answers, as a verdict on the whole texts.
 use Rattle.std.proofs.Common.{◌≡◌, ◌≢◌, ℕ, zero, suc, ◌<◌, true, false, List, [], ◌∷◌, map, refl, sym, ap, ◌∙◌, arith, subst, inl, inr}
+use Rattle.std.specs.Global.{Vec}
 use Rattle.std.specs.Prelude.{Some, slice_get, take, ◌⊎◌}
 use Rattle.std.specs.List.{AllZip}
 use Rattle.pf_values.specs.declared.models.Model.{Model}
@@ -16,8 +17,10 @@ use Rattle.pf_posix.specs.Stretches.{Stretches, Last, ReadsWhole, whole_types}
 use Rattle.pf_posix.specs.Types.{widened}
 use Rattle.pf_posix.proofs.ReadOnce.{read_once}
 use Rattle.pf_whole.specs.Answers.{HaveOneShape, IsWholeComparisonOf, IsWholeVerdict, WholeVerdict, Same, TypesDiffer, Different, ShowsNeutral}
-use Rattle.pf_whole.specs.Comparisons.{FaultForWholeCompare, HasShownType, ShowsDifference, shown_as}
+use Rattle.pf_whole.specs.Comparisons.{FaultForWholeCompare, GivesArguments, HasShownType, IsComparison, IsVerdictOf, ShowsArguments, ShowsDifference, shown_as}
 use Rattle.pf_whole.specs.Laws.{Correspond}
+use Rattle.pf_whole.specs.declared.verdicts.WholeVerdict as declared
+use Rattle.pf_whole.specs.declared.verdicts.WholeVerdict.TheVariants as verdicts
 use Rattle.pf_whole.specs.meaning.Traces.{AreWholeAlike}
 use Rattle.pf_whole.proofs.AnswerLemmas.{comparison_is}
 use Rattle.pf_whole.proofs.Corresponding.{alike_is_corresponding}
@@ -128,15 +131,6 @@ last_shape model t u xs ys a b h g same k l =
     subst (λ z. HaveOneShape model z b) (read_once t (Last xs) a h.reads k)
     (subst (λ z. HaveOneShape model (Last xs) z) (read_once u (Last ys) b g.reads l) same)
 
-pub shown_memory : (model : Model) (t u : Text) (comparison : Comparison) (args : List OwnedArg) → (h : IsComparisonOf model t u comparison)
-    → comparison.verdict ≢ compared.Same → IsShownVerdict model t u comparison h args → FaultForWholeCompare model t u faults.Memory
-shown_memory model t u comparison args h other is = (
-  accepted_whole t (first_accepted model t u comparison h),
-  accepted_whole u (second_accepted model t u comparison h),
-  apart model t u comparison h other,
-  λ a b k l. last_shape model t u h.first h.second a b h.accepted_first h.accepted_second is.0 k l,
-)
-
 pub profile_memory : (model : Model) (t u : Text) → FaultForCompare model t u faults.Memory → FaultForWholeCompare model t u faults.Memory
 profile_memory model t u h =
     let first : IsAccepted t = (h.0.first.items, h.0.first.accepted) in
@@ -147,3 +141,39 @@ profile_memory model t u h =
       λ a b k l. last_shape model t u h.0.first.items h.0.second.items a b h.0.first.accepted h.0.second.accepted
           (sym h.0.first.types_are ∙ h.0.second.types_are) k l,
     )
+
+module _ (model : Model) (t u : Text) (comparison : Comparison) (h : IsComparisonOf model t u comparison) where
+  -- arguments of the profile are all shown
+  shown_of : (args : Vec OwnedArg) → comparison.verdict ≡ compared.Args args → IsShownVerdict model t u comparison h args.items
+  shown_of args e = verdict_of_items model t u comparison (compared.Args args) h.first h.second h e h.accepted_first h.accepted_second
+
+  pub profile_is : (verdict : declared.WholeVerdict) → IsVerdictOf comparison.verdict verdict → IsComparison model t u verdict
+  profile_is verdicts.Same e = record { is = profile_same model t u comparison h e; typed = tt }
+  profile_is (verdicts.Types index) e = record { is = profile_types model t u comparison index h e; typed = tt }
+  profile_is (verdicts.Directives index) e = absurd e
+  profile_is (verdicts.Args shown) (args, e, all) =
+      let given = shown_of args e in
+      record {
+        is = subst (λ l. IsWholeComparisonOf model t u (Different (shown_as l))) (sym all)
+            (profile_shown model t u comparison args.items h (λ same. cc) given);
+        typed = λ a k. subst (λ l. AllZip HasShownType l (whole_types model a)) (sym all)
+            (profile_typed model t u comparison args.items h given a k);
+      }
+
+  -- arguments need memory, in the profile and so in the whole language
+  pub arguments_need : GivesArguments comparison.verdict → FaultForCompare model t u faults.Memory
+  arguments_need (args, e) = (
+    record {
+      types = types model h.first;
+      first = record { items = h.first; accepted = h.accepted_first; types_are = refl };
+      second = record { items = h.second; accepted = h.accepted_second; types_are = (shown_of args e).0 };
+    },
+    λ alike. let same = h.same.1 alike in cc,
+  )
+
+  pub shown_need : (verdict : declared.WholeVerdict) → IsVerdictOf comparison.verdict verdict → ShowsArguments verdict
+      → FaultForCompare model t u faults.Memory
+  shown_need verdicts.Same e shows = absurd shows
+  shown_need (verdicts.Types index) e shows = absurd shows
+  shown_need (verdicts.Directives index) e shows = absurd shows
+  shown_need (verdicts.Args shown) (args, e, all) shows = arguments_need (args, e)

@@ -14,7 +14,10 @@ use Rattle.pf_posix.proofs.ReadOnce.{read_once}
 use Rattle.pf_posix.proofs.Unique.{never_both, one_list}
 use Rattle.pf_whole.specs.Answers.{IsWholeComparisonOf, IsWholeVerdict, WholeVerdict, Same, TypesDiffer, DirectivesDiffer, Different, HaveOneShape}
 use Rattle.pf_whole.specs.Calls.{CallsDiffer}
-use Rattle.pf_whole.specs.Comparisons.{ShowsDifference}
+use Rattle.pf_compare.specs.declared.comparisons.CompareFault.TheVariants as faults
+use Rattle.pf_whole.specs.Comparisons.{FaultForWholeCompare, IsComparison, ShowsArguments, ShowsDifference}
+use Rattle.pf_whole.specs.declared.verdicts.WholeVerdict as declared
+use Rattle.pf_whole.specs.declared.verdicts.WholeVerdict.TheVariants as verdicts
 use Rattle.pf_whole.specs.meaning.Traces.{AreWholeAlike, TraceAlike}
 use Rattle.pf_whole.proofs.AnswerLemmas.{comparison_is}
 use Rattle.pf_whole.proofs.Telling.{calls_give_shape}
@@ -78,3 +81,20 @@ fit_anyway model t u sides.First refusal h g fault =
     never_both model t (whole_types model h.stretches) refusal.kind refusal.at (types_are_kept model t h.stretches h.reads h.limit) fault
 fit_anyway model t u sides.Second refusal h g fault =
     never_both model u (whole_types model g.stretches) refusal.kind refusal.at (types_are_kept model u g.stretches g.reads g.limit) fault.1
+
+-- arguments that are shown need memory
+pub shown_needs : (model : Model) (t u : Text) (verdict : declared.WholeVerdict) → IsComparison model t u verdict → ShowsArguments verdict
+    → FaultForWholeCompare model t u faults.Memory
+shown_needs model t u verdicts.Same h shows = absurd shows
+shown_needs model t u (verdicts.Types index) h shows = absurd shows
+shown_needs model t u (verdicts.Directives index) h shows = absurd shows
+shown_needs model t u (verdicts.Args shown) h shows =
+    let first = h.is.first in
+    let second = h.is.second in
+    let shape = calls_give_shape model t u first.stretches second.stretches first.reads second.reads h.is.is.0 h.is.is.1 in (
+      first,
+      second,
+      λ alike. let same = h.is.same.1 alike in cc,
+      λ a b k l. subst (λ x. HaveOneShape model x b) (read_once t first.stretches a first.reads k)
+          (subst (HaveOneShape model first.stretches) (read_once u second.stretches b second.reads l) shape),
+    )

@@ -1,5 +1,6 @@
 -- What a comparison answers, as the code holds it.
-use Rattle.std.specs.Prelude.{◌≡◌, ◌⊎◌, Bool, true, false, List, map, option_map, Option, Some, None, ⊤}
+use Rattle.std.specs.Prelude.{◌≡◌, ◌⊎◌, Bool, true, false, ℕ, List, map, option_map, Option, Some, None, ⊤}
+use Rattle.std.specs.Global.{Vec}
 use Rattle.std.specs.List.{AllZip}
 use Rattle.pf_values.specs.declared.models.Model.{Model}
 use Rattle.pf_values.specs.Candidates.{neutrals}
@@ -7,8 +8,11 @@ use Rattle.pf_values.specs.meaning.Arguments.{Argument}
 use Rattle.pf_values.specs.meaning.Items.{HasItems, Item, types}
 use Rattle.pf_values.specs.meaning.Printing.{PrintAlike}
 use Rattle.pf_values.specs.meaning.Text.{Text}
+use Rattle.pf_compare.specs.declared.comparisons.Comparison.{Comparison}
+use Rattle.pf_compare.specs.declared.comparisons.Verdict.{Verdict}
+use Rattle.pf_compare.specs.declared.comparisons.Verdict.TheVariants as compared
 use Rattle.pf_compare.specs.declared.owned_args.OwnedArg.{OwnedArg}
-use Rattle.pf_compare.specs.Answers.{PrintTheSame, PrintUnlike}
+use Rattle.pf_compare.specs.Answers.{IsComparisonOf, PrintTheSame, PrintUnlike}
 use Rattle.pf_compare.specs.Owned.{argument_of_owned, type_of_owned}
 use Rattle.pf_posix.specs.declared.types.ArgumentType.{ArgumentType}
 use Rattle.pf_posix.specs.Types.{widened}
@@ -41,6 +45,29 @@ verdict_of verdicts.Same = answers.Same
 verdict_of (verdicts.Types index) = answers.TypesDiffer index
 verdict_of (verdicts.Directives index) = answers.DirectivesDiffer index
 verdict_of (verdicts.Args shown) = answers.Different (shown_as shown.items)
+
+-- a verdict of the profile gives arguments
+abbrev pub GivesArguments : Verdict → Type 0
+GivesArguments verdict = (args : Vec OwnedArg) × (verdict ≡ compared.Args args)
+
+-- a verdict shows arguments
+abbrev pub ShowsArguments : WholeVerdict → Type 0
+ShowsArguments (verdicts.Args shown) = ⊤
+ShowsArguments _ = ⊥
+
+-- a verdict of the profile, as one of the whole language
+abbrev pub IsVerdictOf : Verdict → WholeVerdict → Type 0
+IsVerdictOf found verdicts.Same = found ≡ compared.Same
+IsVerdictOf found (verdicts.Types index) = found ≡ compared.Types index
+IsVerdictOf found (verdicts.Directives index) = ⊥
+IsVerdictOf found (verdicts.Args shown) =
+    (args : Vec OwnedArg) × (found ≡ compared.Args args) × (shown.items ≡ map Some args.items)
+
+-- two formats of the profile are compared
+abbrev pub IsProfileVerdict : Model → Text → Text → WholeVerdict → ℕ → Type 0
+IsProfileVerdict model t u verdict renderings =
+    (comparison : Comparison) × IsComparisonOf model t u comparison
+    × IsVerdictOf comparison.verdict verdict × (renderings ≡ comparison.renderings)
 
 -- each argument that is shown has the type of the text's argument
 abbrev pub AreShownTyped : Model → Text → WholeVerdict → Type 0

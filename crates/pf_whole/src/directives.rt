@@ -1,14 +1,13 @@
 //! The parts of the normal spelling of an opaque directive.
 ghost use Rattle.std.specs.Prelude.{◌≡◌, ◌&&◌, if◌then◌else◌, Some};
 ghost use Rattle.pf_posix.specs.Specifications.{Given};
-ghost use Rattle.pf_values.specs.meaning.Conversions.{is_text};
 ghost use Rattle.pf_values.specs.meaning.Flags.{with_flag};
 ghost use Rattle.pf_whole.specs.meaning.NormalSpellings.{floating_modifier, given_precision, integer_modifier, is_amount, is_general, is_given, is_integer, keeps_sign, kept_conversion, kept_flags, kept_modifier, normal_precision, meant_precision, normal_parts};
 ghost use Rattle.pf_whole.specs.Parts.{made_set};
 ghost use Rattle.pf_posix.specs.OpaqueParts.{amount_of, parts_of_opaque};
 
 use pf_posix::{Conversion, Floating, Modifier, OpaqueAmount, OpaqueDirective};
-use pf_values::{Conv, Flag, FlagSet, Length, Model};
+use pf_values::{Conv, Flag, FlagSet, Kind, Length, Model};
 
 /// Returns the directive with the parts of its normal spelling in a data model.
 pub fn normal_directive(model: Model, directive: OpaqueDirective) -> OpaqueDirective
@@ -36,20 +35,11 @@ fn kept_conversion(conversion: Conversion) -> Conversion
     }
 }
 
-fn is_text(conv: Conv) -> bool
-    ensures { result ≡ is_text conv }
-{
-    match conv {
-        Conv::C | Conv::S => true,
-        _ => false,
-    }
-}
-
 fn is_integer(conversion: Conversion) -> bool
     ensures { result ≡ is_integer conversion }
 {
     match conversion {
-        Conversion::Profile(conv) => !is_text(conv),
+        Conversion::Profile(conv) => !conv.kind().is_text(),
         _ => false,
     }
 }
@@ -58,8 +48,7 @@ fn keeps_sign(conversion: Conversion) -> bool
     ensures { result ≡ keeps_sign conversion }
 {
     match conversion {
-        Conversion::Profile(Conv::D | Conv::I) => true,
-        Conversion::Profile(_) => false,
+        Conversion::Profile(conv) => matches!(conv.kind(), Kind::Signed),
         Conversion::Float(_) | Conversion::Pointer => true,
         Conversion::UpperC | Conversion::UpperS | Conversion::Count => false,
     }
@@ -69,21 +58,17 @@ fn kept_modifier(model: Model, conversion: Conversion, modifier: Modifier) -> Mo
     ensures { result ≡ kept_modifier model conversion modifier }
 {
     match conversion {
-        Conversion::Profile(conv) => profile_modifier(model, is_text(conv), modifier),
+        Conversion::Profile(conv) => {
+            if conv.kind().is_text() {
+                return modifier;
+            }
+            integer_modifier(model, modifier)
+        }
         Conversion::Float(_) => floating_modifier(modifier),
         Conversion::UpperC | Conversion::UpperS => Modifier::Integer(Length::L),
         Conversion::Pointer => modifier,
         Conversion::Count => integer_modifier(model, modifier),
     }
-}
-
-fn profile_modifier(model: Model, text: bool, modifier: Modifier) -> Modifier
-    ensures { result ≡ (if text then modifier else integer_modifier model modifier) }
-{
-    if text {
-        return modifier;
-    }
-    integer_modifier(model, modifier)
 }
 
 fn integer_modifier(model: Model, modifier: Modifier) -> Modifier
@@ -140,7 +125,7 @@ fn is_meant(conversion: Conversion, n: u16) -> bool
     ensures { result ≡ is_amount (meant_precision conversion) n }
 {
     match conversion {
-        Conversion::Profile(conv) => !is_text(conv) && n == 1,
+        Conversion::Profile(conv) => !conv.kind().is_text() && n == 1,
         Conversion::Float(Floating::A | Floating::UpperA) => false,
         Conversion::Float(_) => n == 6,
         _ => false,

@@ -5,7 +5,7 @@ ghost use Rattle.pf_values.specs.meaning.Items.{HasItems, Item, types};
 ghost use Rattle.pf_compare.specs.Answers.{IsComparisonOf};
 ghost use Rattle.pf_posix.specs.Stretches.{IsWholeAccepted, ReadsWhole, Stretches, whole_types};
 ghost use Rattle.pf_whole.specs.Answers.{HaveOneShape, neutral_shown};
-ghost use Rattle.pf_whole.specs.Comparisons.{AreShownNext, FaultForWholeCompare, HasShownType, IsComparison, IsDifference, ShowsDifference, shown_as};
+ghost use Rattle.pf_whole.specs.Comparisons.{AreShownNext, FaultForWholeCompare, GivesArguments, HasShownType, IsComparison, IsDifference, IsVerdictOf, ShowsDifference, shown_as};
 ghost use Rattle.pf_whole.specs.meaning.Traces.{AreWholeAlike};
 
 use crate::calls::{argument_count, first_call_difference};
@@ -31,6 +31,20 @@ pub enum WholeVerdict {
     Args(Vec<Option<OwnedArg>>),
 }
 
+impl WholeVerdict {
+    /// Returns a verdict of the profile as one of the whole language. `Err` if memory is refused, which
+    /// only arguments need.
+    pub fn of_profile(alloc: Global, verdict: Verdict) -> Result<WholeVerdict, AllocError>
+        ensures { MatchResult result (IsVerdictOf verdict) (λ _. GivesArguments verdict) }
+    {
+        match verdict {
+            Verdict::Same => Ok(WholeVerdict::Same),
+            Verdict::Types(index) => Ok(WholeVerdict::Types(index)),
+            Verdict::Args(args) => Ok(WholeVerdict::Args(all_shown(alloc, args)?)),
+        }
+    }
+}
+
 /// Compares two formats in a data model. `Err` if one is refused, the first before the second, or if
 /// memory is refused. Allocates only for arguments: if both are accepted, and their argument types and
 /// calls are equal, and they are not alike.
@@ -44,34 +58,11 @@ pub fn compare(
         (FaultForWholeCompare model first.now second.now) }
 {
     match pf_compare::compare(alloc, model, first, second) {
-        Ok(comparison) => verdict_of_profile(alloc, model, first, second, comparison),
+        Ok(comparison) => Ok(WholeVerdict::of_profile(alloc, comparison.verdict)?),
         Err(fault) => match fault {
             CompareFault::Memory => Err(CompareFault::Memory),
             CompareFault::Refused(_, _) => compare_by_stretches(alloc, model, first, second),
         },
-    }
-}
-
-// Returns the verdict on two formats of the profile, by their comparison.
-fn verdict_of_profile(
-    alloc: Global,
-    model: Model,
-    first: &[u8],
-    second: &[u8],
-    comparison: Comparison,
-) -> Result<WholeVerdict, CompareFault>
-    requires { IsComparisonOf model first.now second.now comparison }
-    ensures { MatchResult result (IsComparison model first.now second.now)
-        (FaultForWholeCompare model first.now second.now) }
-{
-    let Comparison {
-        verdict,
-        renderings: _,
-    } = comparison;
-    match verdict {
-        Verdict::Same => Ok(WholeVerdict::Same),
-        Verdict::Types(index) => Ok(WholeVerdict::Types(index)),
-        Verdict::Args(args) => Ok(WholeVerdict::Args(all_shown(alloc, args)?)),
     }
 }
 

@@ -7,7 +7,8 @@ use Rattle.fmtcanon.specs.Lines.{line, output_bytes}
 use Rattle.fmtcanon.specs.PairAnswers.{IsPairAnswer}
 use Rattle.fmtcanon.specs.declared.outcome.Fault.TheVariants.{Memory}
 use Rattle.fmtcanon.proofs.ComparisonLemmas.{verdict_pushed}
-use Rattle.fmtcanon.proofs.PairLemmas.{accepts_both, all_more, fault_at, several_fault}
+use Rattle.pf_whole.proofs.ModelLists.{all_more, first_at}
+use Rattle.fmtcanon.proofs.PairLemmas.{accepts_both, several_fault}
 use Rattle.fmtcanon.proofs.pairs.pair_answer_in_each.Goals as goal
 
 pub returns-in_err-answer : goal.returns-in_err-answer
@@ -16,9 +17,9 @@ returns-in_err-answer c =
     let first = c.args.first.now in
     let second = c.args.second.now in
     let p = err_from_is_err_and c.from_residual.result c.from_residual.ensures.1 in
-    rw (p.1, p.2) (fault_at c.args.models.now c.loop-model.model-index Lp64 c.loop-model-test.true
-    (λ (model : Model). AcceptsBoth question model first second)
-    (λ (model : Model). IsPairFault AcceptsBoth question model first second) _ c.loop-model.invariant.1
+    rw (p.1, p.2) (first_at c.args.models.now c.loop-model.model-index Lp64 c.loop-model-test.true
+    (λ (model : Model). AcceptsBoth question model first second) c.loop-model.invariant.1
+    (λ (model : Model). IsPairFault AcceptsBoth question model first second _)
     (several_fault question _ first second _ c.in_err-answer.ensures))
 
 pub returns-in_err-push_verdict : goal.returns-in_err-push_verdict
@@ -27,9 +28,9 @@ returns-in_err-push_verdict c =
     let first = c.args.first.now in
     let second = c.args.second.now in
     let p = err_from_is_err_and c.from_residual-in_err-push_verdict.result c.from_residual-in_err-push_verdict.ensures.1 in
-    rw (p.1, p.2) (fault_at c.args.models.now c.loop-model.model-index Lp64 c.loop-model-test.true
-    (λ (model : Model). AcceptsBoth question model first second)
-    (λ (model : Model). IsPairFault AcceptsBoth question model first second) Memory c.loop-model.invariant.1
+    rw (p.1, p.2) (first_at c.args.models.now c.loop-model.model-index Lp64 c.loop-model-test.true
+    (λ (model : Model). AcceptsBoth question model first second) c.loop-model.invariant.1
+    (λ (model : Model). IsPairFault AcceptsBoth question model first second Memory)
     (accepts_both question _ first second _ _ c.in_ok-answer.ensures))
 
 pub loop-model-preserved : goal.loop-model-preserved

@@ -1,17 +1,29 @@
-use Rattle.std.proofs.Common.{◌≡◌, inr, arith, to_z, of_z}
+use Rattle.std.proofs.Common.{◌≡◌, arith, inr, refl, to_z, of_z}
 use Rattle.std.specs.Int.{w64}
 use Rattle.std.proofs.lemmas.Int.{ints}
-use Rattle.fmtcanon_c.proofs.ComparingLemmas.{not_compared, made}
+use Rattle.pf_compare.specs.Answers.{FaultForCompare}
+use Rattle.pf_compare.specs.declared.comparisons.CompareFault.TheVariants.{Memory}
+use Rattle.pf_whole.proofs.ProfileVerdicts.{arguments_need, shown_need}
+use Rattle.pf_whole.specs.Comparisons.{IsProfileVerdict}
+use Rattle.fmtcanon_c.proofs.AnswerLemmas.{answered}
 use Rattle.fmtcanon_c.proofs.comparison.compare_in.Goals as goal
 
-pub returns-in-Ok : goal.returns-in-Ok
-returns-in-Ok c =
-    let code : to_z w64 (of_z w64 c.give.result) ≡ c.give.result = omega (arith, ints) in
-    rw code (made c.args.model c.args.first.now c.args.second.now c.args.out.now c.args.comparison.now c.args.error.now c.give.result c.give.new.out
-    c.give.new.comparison c.in-Ok.found c.in-Ok.ensures c.give.ensures)
+pub returns-in-Ok-of_profile : goal.returns-in-Ok-of_profile
+returns-in-Ok-of_profile c =
+    let model = c.args.model in
+    let first = c.args.first.now in
+    let second = c.args.second.now in
+    let found = c.in-Ok.found in
+    let is = c.in-Ok.ensures in
+    let verdict = c.in-Ok-of_profile.ensures in
+    let code : to_z w64 (of_z w64 c.put_verdict.result) ≡ c.put_verdict.result = omega (arith, ints) in
+    rw code (answered (IsProfileVerdict model first second) (FaultForCompare model first second) _ _ _ _ _ _ c.in-Ok-of_profile.verdict
+    c.from-renderings.result (found, is, verdict, c.from-renderings.ensures)
+    (shown_need model first second found is c.in-Ok-of_profile.verdict verdict) (c.put_verdict.ensures c.args.error.now))
 
-pub returns-in-Err : goal.returns-in-Err
-returns-in-Err c =
-    let code : to_z w64 (of_z w64 c.fault_code.result) ≡ c.fault_code.result = omega (arith, ints) in
-    rw code (inr (not_compared c.args.model c.args.first.now c.args.second.now c.args.out.now c.args.comparison.now c.args.error.now c.fault_code.new.error
-    c.fault_code.result c.in-Err.fault c.in-Err.ensures c.fault_code.ensures))
+pub returns-in-Err-of_profile : goal.returns-in-Err-of_profile
+returns-in-Err-of_profile c = inr (
+  Memory,
+  arguments_need c.args.model c.args.first.now c.args.second.now c.in-Ok.found c.in-Ok.ensures c.in-Err-of_profile.ensures,
+  record { out_is = refl; answer_is = refl; code_is = (refl, refl) },
+)

@@ -1,0 +1,86 @@
+-- Whether two formats are related, and types at the front of a slice.
+use Rattle.std.proofs.Common.{◌≡◌, ◌∙◌, ◌++◌, ◌≤◌, [], ◌∷◌, Bool, List, ℕ, None, Some, ap, arith, length, refl, slice_get, subst, sym, take, Result, Ok, Err}
+use Rattle.std.specs.Prelude.{MatchResult, Option}
+use Rattle.std.proofs.lemmas.Bool.{false≢true}
+use Rattle.pf_canon.specs.Comparison.{AreTextsSame, TextStops}
+use Rattle.pf_text.specs.declared.refusals.Refusal.{Refusal}
+use Rattle.pf_text.specs.declared.refusals.Side.{Side}
+use Rattle.pf_posix.specs.declared.types.ArgumentType.{ArgumentType}
+use Rattle.pf_posix.specs.Items.{HasArguments}
+use Rattle.pf_posix.specs.Laws.{ComparesArgumentTypes, ComparesBeginning, FaultForFits, HasCount, filled}
+use Rattle.pf_posix.proofs.BeginningLemmas.{fewer_once}
+use Rattle.pf_posix.proofs.Unique.{one_list}
+use Rattle.pf_values.specs.declared.models.Model.{Model}
+use Rattle.pf_values.specs.meaning.Text.{Text}
+use Rattle.pf_whole.specs.Faults.{AreWholeSame, FaultForWholeSame}
+use Rattle.fmtcanon_c.specs.Relations.{AcceptsRelated, AreRelated, Fit, FitFewer, Relates, is_nowhere}
+use Rattle.fmtcanon_c.specs.declared.relations.Relation.{Relation}
+use Rattle.fmtcanon_c.specs.declared.relations.Relation.TheVariants.{Fits, FitsFewer, Same, WholeSame}
+
+module _ (model : Model) (f g : Text) where
+  they_differ : (index : ℕ) → ComparesArgumentTypes model f g (Some index) → ¬ Fit model f g
+  they_differ index h (types, of_f, of_g) =
+      let one = one_list model f h.types types h.first_accepted of_f in
+      let other = one_list model g h.others types h.second_accepted of_g in
+      h.difference.0 (ap (λ (ts : _). slice_get ts index) (one ∙ sym other))
+
+  they_exceed : (index : ℕ) → ComparesBeginning model f g (Some index) → ¬ FitFewer model f g
+  they_exceed index h (types, more, of_f, of_g) =
+      let beginning : ComparesBeginning model f g None = record {
+        types = types ++ more;
+        others = types;
+        first_accepted = of_f;
+        second_accepted = of_g;
+        excess = (more, refl);
+      } in
+      let same = fewer_once model f g (Some index) None h beginning in
+      cc
+
+  they_begin : ComparesBeginning model f g None → FitFewer model f g
+  they_begin h = (h.others, h.excess.0, subst (HasArguments model f) h.excess.1 h.first_accepted, h.second_accepted)
+
+  -- what the profile answers, and the whole language
+  pub same_relates : (found : Result Bool (Side × Refusal)) → MatchResult found (AreTextsSame model f g) (TextStops f g)
+      → MatchResult found (Relates Same model f g) (TextStops f g)
+  same_relates (Ok is) h = ((h.first, h.second), h.same)
+  same_relates (Err stop) h = h
+
+  pub whole_relates : (found : Result Bool (Side × Refusal)) → MatchResult found (AreWholeSame model f g) (FaultForWholeSame model f g)
+      → MatchResult found (Relates WholeSame model f g) (FaultForWholeSame model f g)
+  whole_relates (Ok is) h = ((h.first, h.second), h.same)
+  whole_relates (Err stop) h = h
+
+  -- arguments differ nowhere, or somewhere
+  nowhere : (relation : Relation) (Compares : Option ℕ → Type 0) → ((index : Option ℕ) → Compares index → AcceptsRelated relation f g model)
+      → (Compares None → AreRelated relation model f g) → ((index : ℕ) → Compares (Some index) → ¬ AreRelated relation model f g)
+      → (Refuses : Side × Refusal → Type 0) (found : Result (Option ℕ) (Side × Refusal))
+      → MatchResult found Compares Refuses → MatchResult (is_nowhere found) (Relates relation model f g) Refuses
+  nowhere relation Compares accepted so not Refuses (Ok None) h = (accepted None h, ((λ yes. so h), (λ related. refl)))
+  nowhere relation Compares accepted so not Refuses (Ok (Some index)) h =
+      (accepted (Some index) h, ((λ no. absurd (false≢true no)), (λ related. absurd (not index h related))))
+  nowhere relation Compares accepted so not Refuses (Err stop) h = h
+
+  pub fits_relates : (found : Result (Option ℕ) (Side × Refusal)) → MatchResult found (ComparesArgumentTypes model f g) (FaultForFits model f g)
+      → MatchResult (is_nowhere found) (Relates Fits model f g) (FaultForFits model f g)
+  fits_relates found h =
+      nowhere Fits (ComparesArgumentTypes model f g) (λ index k. ((k.types, k.first_accepted), (k.others, k.second_accepted)))
+      (λ k. (k.types, k.first_accepted, subst (HasArguments model g) (sym k.difference) k.second_accepted))
+      they_differ (FaultForFits model f g) found h
+
+  pub fewer_relates : (found : Result (Option ℕ) (Side × Refusal)) → MatchResult found (ComparesBeginning model f g) (FaultForFits model f g)
+      → MatchResult (is_nowhere found) (Relates FitsFewer model f g) (FaultForFits model f g)
+  fewer_relates found h =
+      nowhere FitsFewer (ComparesBeginning model f g) (λ index k. ((k.types, k.first_accepted), (k.others, k.second_accepted)))
+      they_begin they_exceed (FaultForFits model f g) found h
+
+-- the elements at the front of a slice that has room for them
+taken_front : {X : Type 0} (old more : List X) → length more ≤ length old → take (length more) (filled old more) ≡ more
+taken_front [] [] few = refl
+taken_front [] (x ∷ more) few = absurd (omega (arith, few))
+taken_front (o ∷ old) [] few = refl
+taken_front (o ∷ old) (x ∷ more) few = ap (λ l. x ∷ l) (taken_front old more (omega (arith, few)))
+
+-- the types that a call has put there
+pub taken_types : (model : Model) (t : Text) (old new : List ArgumentType) (count : ℕ) (h : HasCount model t old new count) → length h.types ≤ length old
+    → take count new ≡ h.types
+taken_types model t old new count h few = ap (λ n. take n new) h.count_is ∙ ap (take (length h.types)) h.front ∙ taken_front old h.types few
