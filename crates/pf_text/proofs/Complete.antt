@@ -209,7 +209,7 @@ after_number_at_conv : (set : FlagSet) (width precision : Option ℕ) (conv : Co
 after_number_at_conv set width precision conv = let tests = letter_tests conv in rw (tests.modifier, tests.no_float, tests.conv_is) refl
 
 module _ (flags : List Flag) (width precision : Option ℕ) (t : Text) (s : SpellsPrecision t precision) where
-  conv_at_length : (length : Length) (conv : Conv)
+  pub conv_at_length : (length : Length) (conv : Conv)
       → next (at_length (at_point flags width precision t s) (flag_set flags) width precision length) (conv_letter conv) ≡ judged_as
       (flag_set flags) width precision length conv
   conv_at_length lengths.None conv =

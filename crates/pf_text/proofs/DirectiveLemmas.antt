@@ -1,17 +1,14 @@
 -- Whole directives at the front of what follows.
-use Rattle.std.proofs.Common.{◌≡◌, ℕ, ◌+◌, ◌≤◌, List, [], ◌∷◌, ◌++◌, length, take, drop, sym, ap, ◌∙◌, subst, arith}
-use Rattle.std.proofs.lemmas.List.{append_assoc, length-append, length-take-le, take-append-drop}
+use Rattle.std.proofs.Common.{◌≡◌, ℕ, ◌+◌, ◌≤◌, List, [], ◌∷◌, ◌++◌, length, take, sym, subst, arith}
+use Rattle.std.proofs.lemmas.List.{length-append, length-take-le}
 use Rattle.pf_values.specs.declared.limits.TheConstants.{MAX_TEXT_LEN}
 use Rattle.pf_values.specs.declared.conversions.Conv.{Conv}
 use Rattle.pf_values.specs.meaning.Conversions.{conv_letter}
 use Rattle.pf_values.specs.meaning.Items.{Item, Directive, IsReadAs, Reads}
 use Rattle.pf_values.specs.meaning.Specification.{Specification}
 use Rattle.pf_values.specs.meaning.Text.{Text, percent}
-use Rattle.pf_text.specs.declared.pieces.Piece.TheVariants as pieces
-use Rattle.pf_text.specs.declared.pieces.Pieces.{Pieces}
 use Rattle.pf_text.specs.declared.scanner.Scanner.{Scanner}
 use Rattle.pf_text.specs.History.{IsAfter, TakesDirective}
-use Rattle.pf_text.specs.PieceHistory.{NextIsPiece, HasGiven}
 use Rattle.pf_text.proofs.LiteralLemmas.{after_read}
 use Rattle.pf_text.proofs.CanonicalRunLemmas.{bare, conv_defined}
 use Rattle.pf_text.proofs.ReadBack.{spelled_read}
@@ -34,23 +31,4 @@ directive_taken scanner t text items len d h reads within read few =
       after = subst (λ k. IsAfter (record scanner { offset = scanner.offset + k }) whole (items ++ Directive d ∷ [])) long
           (after_read scanner t (take len text) items (Directive d ∷ []) h reads now (omega (arith, h.offset, few, long, length-append t (take len text))));
       reads = now;
-    }
-
--- and given
-pub directive_given : (old new : Pieces) (t read : Text) (items : List Item) (len : ℕ) (d : Specification) → HasGiven old t read items
-    → new.is_over ≡ old.is_over → new.rest.now ≡ drop len old.rest.now → TakesDirective read items old.rest.now len new.scanner d
-    → NextIsPiece new t read items (pieces.Directive d)
-directive_given old new t read items len d h over rest takes =
-    let front = take len old.rest.now in
-    let cut : old.rest.now ≡ front ++ new.rest.now = sym (take-append-drop len old.rest.now) ∙ ap (λ r. front ++ r) (sym rest) in
-    record {
-      more = front;
-      given = record {
-        going = over ∙ h.going;
-        split = h.split ∙ ap (λ r. read ++ r) cut
-            ∙ sym (append_assoc read front new.rest.now);
-        reads = takes.reads;
-        scanned = takes.after;
-      };
-      whole = tt;
     }

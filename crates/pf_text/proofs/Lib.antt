@@ -14,7 +14,9 @@ mod SearchLemmas
 mod MarkLemmas
 pub mod MarkedRunLemmas
 mod ItemLemmas
-pub mod SpelledLemmas
+pub mod FoundLemmas
+pub mod NoDirectiveLemmas
+pub mod NoItemLemmas
 mod BetweenLemmas
 pub mod ReadingLemmas
 pub mod PieceLemmas
@@ -22,6 +24,7 @@ pub mod DirectiveLemmas
 pub mod SpecificationLemmas
 pub mod WalkLemmas
 pub mod PieceTexts
+pub mod RefusalLemmas
 pub mod SignatureLemmas
 pub mod WholeRunLemmas
 mod KindLemmas

@@ -1,12 +1,14 @@
 -- The bits of a number that marks bytes of a text.
 use Rattle.std.proofs.Common.{◌≡◌, ◌≢◌, ℕ, zero, suc, ◌+◌, ◌-◌, ◌*◌, ◌/◌, ◌%◌, ◌^◌, ◌<◌, ◌≤◌, max, Bool, true, false, cond, List, ◌++◌}
 use Rattle.std.proofs.Common.{length, get_or, map, replicate, bit_or, refl, sym, ap, ap₂, subst, ◌∙◌, arith, inl, inr, w64}
+use Rattle.std.specs.Prelude.{◌⊎◌}
 use Rattle.std.specs.Int.{bit_at, trailing_zeros}
 use Rattle.std.specs.Simd.Lanes.{chunk, mask_l}
 use Rattle.std.proofs.Math.Nat.{div-div-eq-div-mul, div-le_self, pow-succ'}
 use Rattle.std.proofs.Math.Pow.{pow_mono}
 use Rattle.std.proofs.lemmas.Bool.{cases_lt}
-use Rattle.std.proofs.lemmas.List.{get_or-append_right, get_or-map, length-append, length-map, length-replicate}
+use Rattle.std.proofs.Math.ListN.{get_or-eq_default}
+use Rattle.std.proofs.lemmas.List.{get_or_append_left, get_or-append_right, get_or-map, get_or-replicate, length-append, length-map, length-replicate}
 use Rattle.std.proofs.lemmas.Nat.{or_lt, pow-add}
 use Rattle.std.proofs.lemmas.Nat.Bits.{bit_at_above, bit_at-lt, bit_at-trailing_zeros, bit_at-zero, bit_at_or}
 use Rattle.std.proofs.lemmas.Simd.{bit_mask_l, get_or-chunk, length-chunk, mask_l-lt, mask_l-mod}
@@ -31,43 +33,56 @@ set_bit : (b : Bool) → b ≡ true → ◌≡◌ {A = ℕ} (cond b 1 0) 1
 set_bit true e = refl
 set_bit false e = cc
 
+bit_set : (b : Bool) → ◌≡◌ {A = ℕ} (cond b 1 0) 1 → b ≡ true
+bit_set true e = refl
+bit_set false e = absurd (omega (arith, e))
+
 -- the bits of what one vector holds
-pub vector_marked : (text : Text) (at n : ℕ) → at + n ≤ length text → at + n ≤ 64 → (mask : ℕ) → mask ≡ mask_l (map (is_byte2 37 0) (chunk at n text))
-    → IsMarked (mask * 2 ^ at % 2 ^ 64) text at (at + n)
-vector_marked text at n room few mask is k low high ends =
-    let bytes = chunk at n text in
-    let lanes = map (is_byte2 37 0) bytes in
-    let long : length bytes ≡ n = length-chunk at n text room in
-    let len : length lanes ≡ n = length-map bytes (is_byte2 37 0) ∙ long in
-    let place : at + (k - at) ≡ k = omega (arith, low) in
-    let less : k - at < n = omega (arith, low, high) in
-    let lane : get_or (replicate at false ++ lanes) k false ≡ true =
-    get_or-append_right (replicate at false) lanes at k false (length-replicate at false) low
-    ∙ get_or-map (is_byte2 37 0) bytes (k - at) 0 false (omega (arith, less, long))
-    ∙ ap (is_byte2 37 0) (get_or-chunk at n text (k - at) 0 less ∙ ap (λ j. get_or text j 0) place)
-    ∙ ends in
-    ap (λ m. bit_at (m * 2 ^ at % 2 ^ 64) k) is ∙ ap (λ m. bit_at m k) (shifted_few at lanes (omega (arith, few, len)))
-    ∙ bit_mask_l (replicate at false ++ lanes) k ∙ set_bit (get_or (replicate at false ++ lanes) k false) lane
+module _ (text : Text) (at n : ℕ) (room : at + n ≤ length text) (few : at + n ≤ 64) (mask : ℕ) (is : mask ≡ mask_l (map (is_byte2 37 0) (chunk at n text))) where
+  abbrev lanes : List Bool
+  lanes = map (is_byte2 37 0) (chunk at n text)
 
--- and no bit is set after these
-pub vector_few : (text : Text) (at n : ℕ) → at + n ≤ length text → at + n ≤ 64 → (mask : ℕ) → mask ≡ mask_l (map (is_byte2 37 0) (chunk at n text))
-    → mask * 2 ^ at % 2 ^ 64 < 2 ^ (at + n)
-vector_few text at n room few mask is =
-    let bytes = chunk at n text in
-    let lanes = map (is_byte2 37 0) bytes in
-    let len : length lanes ≡ n = length-map bytes (is_byte2 37 0) ∙ length-chunk at n text room in
-    let all : length (replicate at false ++ lanes) ≡ at + n =
-    length-append (replicate at false) lanes ∙ ap₂ (λ (x y : ℕ). x + y) (length-replicate at false) len in
-    let same : mask * 2 ^ at % 2 ^ 64 ≡ mask_l (replicate at false ++ lanes) =
-    ap (λ m. m * 2 ^ at % 2 ^ 64) is ∙ shifted_few at lanes (omega (arith, few, len)) in
-    subst (λ k. mask * 2 ^ at % 2 ^ 64 < 2 ^ k) all (subst (λ m. m < 2 ^ length (replicate at false ++ lanes)) (sym same) (mask_l-lt (replicate at false ++ lanes)))
+  len : length lanes ≡ n
+  len = length-map (chunk at n text) (is_byte2 37 0) ∙ length-chunk at n text room
 
--- the bits of two numbers
-pub both_few : (a b i j k : ℕ) → a < 2 ^ i → b < 2 ^ j → i ≤ k → j ≤ k → bit_or a b < 2 ^ k
-both_few a b i j k h g first second = or_lt k a b (wider a i k h first) (wider b j k g second)
-  where
-    wider : (a i k : ℕ) → a < 2 ^ i → i ≤ k → a < 2 ^ k
-    wider a i k less up = let most : 2 ^ i ≤ 2 ^ k = pow_mono up in omega (arith, less, most)
+  all : length (replicate at false ++ lanes) ≡ at + n
+  all = length-append (replicate at false) lanes ∙ ap₂ (λ (x y : ℕ). x + y) (length-replicate at false) len
+
+  same_mask : mask * 2 ^ at % 2 ^ 64 ≡ mask_l (replicate at false ++ lanes)
+  same_mask = ap (λ m. m * 2 ^ at % 2 ^ 64) is ∙ shifted_few at lanes (omega (arith, few, len))
+
+  bit_is : (k : ℕ) → bit_at (mask * 2 ^ at % 2 ^ 64) k ≡ cond (get_or (replicate at false ++ lanes) k false) 1 0
+  bit_is k = ap (λ m. bit_at m k) same_mask ∙ bit_mask_l (replicate at false ++ lanes) k
+
+  lane_is : (k : ℕ) → at ≤ k → k < at + n → get_or (replicate at false ++ lanes) k false ≡ is_byte2 37 0 (get_or text k 0)
+  lane_is k low high =
+      let place : at + (k - at) ≡ k = omega (arith, low) in
+      let less : k - at < n = omega (arith, low, high) in
+      get_or-append_right (replicate at false) lanes at k false (length-replicate at false) low
+      ∙ get_or-map (is_byte2 37 0) (chunk at n text) (k - at) 0 false (omega (arith, less, length-chunk at n text room))
+      ∙ ap (is_byte2 37 0) (get_or-chunk at n text (k - at) 0 less ∙ ap (λ j. get_or text j 0) place)
+
+  below : (k : ℕ) → k < at → get_or (replicate at false ++ lanes) k false ≡ false
+  below k less = get_or_append_left (replicate at false) lanes false k (omega (arith, less, length-replicate at false)) ∙ get_or-replicate at k false false less
+
+  pub vector_marked : IsMarked (mask * 2 ^ at % 2 ^ 64) text at (at + n)
+  vector_marked = record {
+    ends = λ k low high ends. bit_is k ∙ set_bit _ (lane_is k low high ∙ ends);
+    only = λ k one.
+        let set = bit_set _ (sym (bit_is k) ∙ one) in
+        elim (cases_lt k at) [
+          | inl less ↦ absurd (let no : false ≡ true = sym (below k less) ∙ set in cc)
+          | inr low ↦ elim (cases_lt k (at + n)) [
+            | inl high ↦ sym (lane_is k low high) ∙ set
+            | inr over ↦ absurd (let no : false ≡ true = sym (get_or-eq_default (replicate at false ++ lanes) false (omega (arith, over, all))) ∙ set in cc)
+          ]
+        ];
+    few = subst (λ k. mask * 2 ^ at % 2 ^ 64 < 2 ^ k) all (subst (λ m. m < 2 ^ length (replicate at false ++ lanes)) (sym same_mask)
+        (mask_l-lt (replicate at false ++ lanes)));
+  }
+
+wider : (a i k : ℕ) → a < 2 ^ i → i ≤ k → a < 2 ^ k
+wider a i k less up = let most : 2 ^ i ≤ 2 ^ k = pow_mono up in omega (arith, less, most)
 
 max_left : (a b : ℕ) → a ≡ 1 → b < 2 → max a b ≡ 1
 max_left a b e less = omega (arith, e, less)
@@ -75,13 +90,23 @@ max_left a b e less = omega (arith, e, less)
 max_right : (a b : ℕ) → a < 2 → b ≡ 1 → max a b ≡ 1
 max_right a b less e = omega (arith, e, less)
 
+one_of : (a b : ℕ) → max a b ≡ 1 → (a ≡ 1) ⊎ (b ≡ 1)
+one_of a b e = elim (cases_lt a 1) [ inl none ↦ inr (omega (arith, e, none)) | inr some ↦ inl (omega (arith, e, some)) ]
+
 -- the bytes that either number marks
-pub both_marked : (a b : ℕ) (text : Text) (i j k l m : ℕ) → IsMarked a text i j → IsMarked b text k l → k ≤ j → m ≤ l → IsMarked (bit_or a b) text i m
-both_marked a b text i j k l m h g meet few place low high ends = elim (cases_lt place j) [
-  | inl less ↦ bit_at_or a b place ∙ max_left (bit_at a place) (bit_at b place) (h place low less ends) (bit_at-lt b place)
-  | inr more ↦ bit_at_or a b place ∙ max_right (bit_at a place) (bit_at b place) (bit_at-lt a place)
-      (g place (omega (arith, meet, more)) (omega (arith, few, high)) ends)
-]
+pub both_marked : (a b : ℕ) (text : Text) (i j k l : ℕ) → IsMarked a text i j → IsMarked b text k l → k ≤ j → j ≤ l → IsMarked (bit_or a b) text i l
+both_marked a b text i j k l h g meet up = record {
+  ends = λ place low high ends.
+      elim (cases_lt place j) [
+        | inl less ↦ bit_at_or a b place ∙ max_left (bit_at a place) (bit_at b place) (h.ends place low less ends) (bit_at-lt b place)
+        | inr more ↦ bit_at_or a b place ∙ max_right (bit_at a place) (bit_at b place) (bit_at-lt a place) (g.ends place (omega (arith, meet, more)) high ends)
+      ];
+  only = λ place one. elim (one_of (bit_at a place) (bit_at b place) (sym (bit_at_or a b place) ∙ one)) [
+    | inl first ↦ h.only place first
+    | inr second ↦ g.only place second
+  ];
+  few = or_lt l a b (wider a j l h.few up) g.few;
+}
 
 bits_left : (marks at k : ℕ) → bit_at (marks / 2 ^ at) k ≡ bit_at marks (at + k)
 bits_left marks at k = ap (λ m. m % 2) (div-div-eq-div-mul marks (2 ^ at) (2 ^ k) ∙ ap (λ p. marks / p) (sym (pow-add 2 at k)))

@@ -23,7 +23,7 @@ literal_between text at stop low within none =
 pub no_end_between : (marks : Marks) (text : Text) (at stop : ℕ) → stop ≤ length text → AreMarksOf marks text → HasNoMark marks at stop
     → Nowhere (Passes (is_byte2 37 0) text) at stop
 no_end_between marks text at stop within marked none k from below ends =
-    not_both (bit_at marks.bits k) (none k from below) (marked k (omega arith) (omega (arith, below, within)) ends)
+    not_both (bit_at marks.bits k) (none k from below) (marked.ends k (omega arith) (omega (arith, below, within)) ends)
   where
     not_both : (n : ℕ) → n ≡ 0 → n ≡ 1 → ⊥
     not_both n e f = omega (arith, e, f)

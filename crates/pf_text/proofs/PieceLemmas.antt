@@ -1,198 +1,162 @@
--- What the calls inside `next` leave.
-use Rattle.std.proofs.Common.{◌≡◌, ℕ, ◌≢◌, ◌<◌, ◌≤◌, Bool, false, true, List, [], ◌∷◌, ◌++◌, length, get_or, map, take, drop, refl, sym, ap, ◌∙◌, subst, arith}
-use Rattle.std.proofs.Common.{inl, inr, Some, None, Ok, Err, Result}
+-- The pieces of a text, one after another.
+use Rattle.std.proofs.Common.{◌≡◌, ℕ, ◌+◌, ◌-◌, ◌<◌, ◌≤◌, Bool, false, true, List, [], ◌++◌, drop, get_or, length, map, take, refl, sym, ap, ◌∙◌, subst, arith, inl, inr, Some, None, Ok, Err, Option}
 use denote.Ref.{Bor}
-use Rattle.std.proofs.lemmas.List.{append_assoc, append-nil, length_push, length-take-le, take-append-drop}
+use Rattle.std.specs.Prelude.{MatchOption}
+use Rattle.std.specs.List.{AllByRecursion}
+use Rattle.std.proofs.lemmas.Bool.{cases_lt}
+use Rattle.std.proofs.lemmas.List.{drop_all, drop_more, get_or-drop, length-drop, length-take, length-take-le, get_or-take, take-append-drop, take_all}
+use Rattle.memchr.specs.Find.{Nowhere, Passes, is_byte2}
 use Rattle.pf_values.specs.declared.limits.TheConstants.{MAX_TEXT_LEN}
-use Rattle.pf_values.specs.meaning.Items.{Item, Byte, Reads}
-use Rattle.pf_values.specs.meaning.Refusals.{IsRefusedAt}
+use Rattle.pf_values.specs.meaning.Items.{HasItems, Item, Byte, Reads}
 use Rattle.pf_values.specs.meaning.Text.{Text}
 use Rattle.pf_text.specs.declared.pieces.Piece.{Piece}
 use Rattle.pf_text.specs.declared.pieces.Piece.TheVariants as pieces
 use Rattle.pf_text.specs.declared.pieces.Pieces.{Pieces}
 use Rattle.pf_text.specs.declared.refusals.Refusal.{Refusal}
-use Rattle.pf_text.specs.declared.scanner.Scanner.{Scanner}
-use Rattle.pf_text.specs.declared.scanner.Step.{Step}
-use Rattle.pf_text.specs.declared.scanner.Step.TheVariants as steps
-use Rattle.pf_text.specs.History.{EndsRun, Feeds, Finishes, IsAfter, IsLiteral, Passes}
-use Rattle.pf_text.specs.PieceHistory.{NextReturns, NextIsPiece, HasGiven, IsFed, IsInside, IsLongestRun}
-use Rattle.pf_text.proofs.PieceTexts.{literal_text, read_rest}
+use Rattle.pf_text.specs.FoundDirectives.{BeginsNoItem}
+use Rattle.pf_text.specs.History.{EndsRun, IsLiteral}
+use Rattle.pf_text.specs.PieceHistory.{HasGiven, IsPieceAt, IsPieceBefore, IsPieceOf, NextIsPiece, NextIsRefusal, NextReturns, items_of}
+use Rattle.pf_text.specs.Walks.{IsItemsEnd}
+use Rattle.pf_text.proofs.CanonicalRunLemmas.{Reads-append}
+use Rattle.pf_text.proofs.LiteralLemmas.{Reads-literals, or_full, stops}
+use Rattle.pf_text.proofs.ReadingLemmas.{part_of_front}
+use Rattle.pf_text.proofs.RefusalLemmas.{take_between}
+use Rattle.pf_text.proofs.WalkLemmas.{literal_front}
 
--- no run of literal bytes begins here
-pub nothing_fed : (now : Pieces) (t read : Text) (items : List Item) → HasGiven now t read items → EndsRun read now.rest.now → IsInside now t read items
-nothing_fed now t read items h none =
+-- a run of literal bytes, as a search finds it in the rest of a text
+pub literal_piece : (t : Text) (at n : ℕ) (run : Bor Text) → 0 < n → at + n ≤ length t → run.now ≡ take (at + n - at) (drop at t)
+    → Nowhere (Passes (is_byte2 37 0) (drop at t)) 0 n → (n < length (drop at t) → Passes (is_byte2 37 0) (drop at t) n)
+    → IsPieceAt t at (pieces.Literal run) (at + n)
+literal_piece t at n run some within e none ended =
+    let len : at + n - at ≡ n = omega arith in
+    let literal = subst (λ k. AllByRecursion IsLiteral (take k (drop at t))) (sym len)
+    (literal_front (drop at t) n (omega (arith, within, length-drop at t)) none) in
     record {
-      fed = [];
-      no_run = none;
-      going = h.going;
-      split = h.split ∙ ap (λ u. u ++ now.rest.now) (sym (append-nil read));
-      scanned = subst (λ u. IsAfter now.scanner u items) (sym (append-nil read)) h.scanned;
+      some = omega (arith, some);
+      within = within;
+      reads = subst (λ u. Reads (take (at + n - at) (drop at t)) (map Byte u)) (sym e) (Reads-literals (take (at + n - at) (drop at t)) [] [] refl literal);
+      piece_is = (
+        e,
+        literal,
+        λ less. ap (is_byte2 37 0) (sym (get_or-drop at t n 0)) ∙ ended (omega (arith, less, length-drop at t)),
+      );
     }
 
--- the scanner has forgotten the items before
-pub restarted : (old : Pieces) (scanner : Scanner) (t read : Text) (items : List Item)
-    → (IsAfter old.scanner read items → Reads read items → IsAfter scanner read items) → HasGiven old t read items
-    → HasGiven (record old { scanner = scanner }) t read items
-restarted old scanner t read items still h = record { going = h.going; split = h.split; reads = h.reads; scanned = still h.scanned h.reads }
+-- what was given, and what is left
+pub given_split : (pieces : Pieces) (t read : Text) (items : List Item) → HasGiven pieces t read items → t ≡ read ++ drop pieces.at t
+given_split pieces t read items h = sym (ap (λ u. u ++ drop pieces.at t) h.read_is ∙ take-append-drop pieces.at t)
 
--- a run of literal bytes was taken
-module _ (old new : Pieces) (t read : Text) (items : List Item) (n : ℕ) (h : HasGiven old t read items) (over : new.is_over ≡ old.is_over)
-    (p : Passes read items old.rest.now n new.scanner) where
-  -- of no byte
-  pub no_run_taken : n ≡ 0 → new.rest.now ≡ old.rest.now → IsInside new t read items
-  no_run_taken e rest =
-      let after = subst (λ k. IsAfter new.scanner (read ++ take k old.rest.now) (items ++ map Byte (take k old.rest.now))) e p.after in
-      let ends = subst (λ k. EndsRun (read ++ take k old.rest.now) (drop k old.rest.now)) e p.longest in
-      nothing_fed new t read items
-      (record {
-        going = over ∙ h.going;
-        split = h.split ∙ ap (λ r. read ++ r) (sym rest);
-        reads = h.reads;
-        scanned = subst (IsAfter new.scanner read) (append-nil items) (subst (λ u. IsAfter new.scanner u (items ++ [])) (append-nil read) after);
-      })
-      (subst (EndsRun read) (sym rest) (subst (λ u. EndsRun u old.rest.now) (append-nil read) ends))
+-- where a run of literal bytes ends that was given
+module _ (t read : Text) (stop : ℕ) (long : length read ≡ stop) where
+  ends_at : stop < length (take MAX_TEXT_LEN t) → Passes (is_byte2 37 0) (take MAX_TEXT_LEN t) stop → EndsRun read (drop stop t)
+  ends_at inside passes =
+      let some : stop < length t = omega (arith, inside, length-take MAX_TEXT_LEN t) in
+      let byte : get_or (take MAX_TEXT_LEN t) stop 0 ≡ get_or t stop 0 = get_or-take MAX_TEXT_LEN t stop 0 (omega (arith, inside, length-take MAX_TEXT_LEN t)) in
+      subst (EndsRun read) (sym (drop_more t stop 0 some)) (or_full (get_or t stop 0) _ (stops (get_or t stop 0) (ap (is_byte2 37 0) (sym byte) ∙ passes)))
 
-  abbrev GivesRun : Text → Type 0
-  GivesRun u = HasGiven new t (read ++ u) (items ++ map Byte u) × IsLongestRun u (read ++ u) new.rest.now
+  ends_past : stop ≡ length (take MAX_TEXT_LEN t) → EndsRun read (drop stop t)
+  ends_past over = elim (cases_lt stop (length t)) [
+    | inl some ↦ subst (EndsRun read) (sym (drop_more t stop 0 some)) (inr (inr (omega (arith, long, over, some, length-take MAX_TEXT_LEN t))))
+    | inr none ↦ subst (EndsRun read) (sym (drop_all stop t none)) tt
+  ]
 
-  gives_run : n ≢ 0 → n ≤ length old.rest.now → new.rest.now ≡ drop n old.rest.now → GivesRun (take n old.rest.now)
-  gives_run some within rest =
-      let run = take n old.rest.now in
-      let cut : old.rest.now ≡ run ++ new.rest.now = sym (take-append-drop n old.rest.now) ∙ ap (λ r. run ++ r) (sym rest) in (
-        record {
-          going = over ∙ h.going;
-          split = h.split ∙ ap (λ r. read ++ r) cut
-              ∙ sym (append_assoc read run new.rest.now);
-          reads = p.reads;
-          scanned = p.after;
-        },
-        record {
-          some = λ e. some (sym (length-take-le n old.rest.now within) ∙ ap length e);
-          literal = p.literal;
-          longest = subst (EndsRun (read ++ run)) (sym rest) p.longest;
-        },
-      )
+  pub run_ends_there : stop ≤ length (take MAX_TEXT_LEN t)
+      → (stop < length (take MAX_TEXT_LEN t) → Passes (is_byte2 37 0) (take MAX_TEXT_LEN t) stop) → EndsRun read (drop stop t)
+  run_ends_there within ended = elim (cases_lt stop (length (take MAX_TEXT_LEN t))) [
+    | inl inside ↦ ends_at inside (ended inside)
+    | inr over ↦ ends_past (omega (arith, within, over))
+  ]
 
-  pub run_given : (taken : Bor Text) → n ≢ 0 → n ≤ length old.rest.now → taken.now ≡ take n old.rest.now → new.rest.now ≡ drop n old.rest.now
-      → NextIsPiece new t read items (pieces.Literal taken)
-  run_given taken some within e rest =
-      let here = subst GivesRun (sym e) (gives_run some within rest) in
-      record { more = taken.now; given = here.0; whole = here.1 }
+module _ (old new : Pieces) (t read : Text) (items : List Item) (h : HasGiven old t read items) where
+  -- one more piece
+  module _ (piece : Piece) (stop : ℕ) (going : new.is_over ≡ false) (text : new.text.now ≡ old.text.now) (at : new.at ≡ stop)
+      (next : IsPieceAt (take MAX_TEXT_LEN t) old.at piece stop) where
+    abbrev more : Text
+    more = take (stop - old.at) (drop old.at t)
 
-one_byte : (fed : Text) (byte b : ℕ) → fed ++ byte ∷ [] ≡ b ∷ [] → fed ≡ []
-one_byte [] byte b e = refl
-one_byte (x ∷ fed) byte b e = absurd (omega (arith, ap length e, length_push (x ∷ fed) byte))
+    more_is : take (stop - old.at) (drop old.at (take MAX_TEXT_LEN t)) ≡ more
+    more_is = part_of_front t MAX_TEXT_LEN old.at stop (omega (arith, next.some)) next.within
 
-ends_there : (read : Text) (byte : ℕ) (after : Text) → IsLiteral byte → length (read ++ byte ∷ []) ≤ MAX_TEXT_LEN → EndsRun read (byte ∷ after) → ⊥
-ends_there read byte after literal few (inl e) = literal.0 e
-ends_there read byte after literal few (inr (inl e)) = literal.1 e
-ends_there read byte after literal few (inr (inr full)) = omega (arith, full, few, length_push read byte)
+    front_is : read ++ more ≡ take stop t
+    front_is = ap (λ u. u ++ more) h.read_is ∙ sym (take_between t old.at stop (omega (arith, next.some)))
 
--- where no run begins, no literal byte is read
-pub no_literal_fed : (old : Pieces) (t read : Text) (items : List Item) (b : ℕ) → IsFed old (steps.Byte b) t read items → ⊥
-no_literal_fed old t read items b h =
-    let says = h.takes.says in
-    let whole : Reads (read ++ (h.fed ++ h.byte ∷ [])) (items ++ Byte b ∷ []) = subst (λ u. Reads u (items ++ Byte b ∷ []))
-    (append_assoc read h.fed (h.byte ∷ [])) says.0 in
-    let literal : IsLiteral b = subst IsLiteral (sym says.1) says.2 in
-    let none = one_byte h.fed h.byte b (literal_text (b ∷ []) (h.fed ++ h.byte ∷ []) (literal, tt)
-    (read_rest items (Byte b ∷ []) read (h.fed ++ h.byte ∷ []) h.reads whole)) in
-    let ends = subst (EndsRun read) h.first (subst (λ f. EndsRun read (f ++ old.rest.now)) none h.no_run) in
-    let few = subst (λ u. length (u ++ h.byte ∷ []) ≤ MAX_TEXT_LEN) (ap (λ f. read ++ f) none ∙ append-nil read) h.takes.after.limit in
-    ends_there read h.byte h.after says.2 few ends
+    long : length (read ++ more) ≡ stop
+    long = ap length front_is ∙ length-take-le stop t (omega (arith, next.within, length-take MAX_TEXT_LEN t))
+
+    before : (p : Piece) → IsPieceOf p (take MAX_TEXT_LEN t) old.at stop → IsPieceBefore p (read ++ more) (drop stop t)
+    before (pieces.Literal run) is = record {
+      some = λ e. absurd (omega (
+        arith,
+        ap length (sym is.0 ∙ e),
+        next.some,
+        length-take (stop - old.at) (drop old.at (take MAX_TEXT_LEN t)),
+        length-drop old.at (take MAX_TEXT_LEN t),
+        next.within,
+      ));
+      literal = subst (AllByRecursion IsLiteral) (sym is.0) is.1;
+      longest = run_ends_there t (read ++ more) stop long next.within is.2;
+    }
+    before pieces.Percent is = tt
+    before (pieces.Directive d) is = tt
+
+    pub piece_given : NextIsPiece new t read items piece
+    piece_given = record {
+      more = more;
+      given = record {
+        going = going;
+        text_is = text ∙ h.text_is;
+        within = omega (arith, at, next.within, length-take MAX_TEXT_LEN t);
+        few = omega (arith, at, next.within, length-take MAX_TEXT_LEN t);
+        read_is = front_is ∙ ap (λ k. take k t) (sym at);
+        reads = Reads-append read more items (items_of piece) h.reads (subst (λ u. Reads u (items_of piece)) more_is next.reads);
+      };
+      whole = subst (λ k. IsPieceBefore piece (read ++ more) (drop k t)) (sym at) (before piece next.piece_is);
+    }
+
+  -- where none begins
+  pub ends_there : BeginsNoItem (drop old.at (take MAX_TEXT_LEN t)) → IsItemsEnd t old.at
+  ends_there none = record { within = h.within; few = h.few; items = items; reads = subst (λ u. Reads u items) h.read_is h.reads; last = none }
+
+  pub all_given : old.at ≡ length t → HasItems t items
+  all_given e =
+      let whole : read ≡ t = h.read_is ∙ take_all old.at t (omega (arith, e)) in
+      record { reads = subst (λ u. Reads u items) whole h.reads; limit = omega (arith, h.few, e) }
 
 not_both : (b : Bool) → b ≡ true → b ≡ false → ⊥
 not_both b h g = cc
 
--- the first byte, and what comes after it
-pub first_cut : (rest : Text) (byte : ℕ) → 0 < length rest → byte ≡ get_or rest 0 byte → rest ≡ byte ∷ drop 1 rest
-first_cut [] byte some e = absurd (omega arith)
-first_cut (b ∷ rest) byte some e = ap (λ c. c ∷ rest) (sym e)
+-- what a call of `next` gives
+module _ (old new : Pieces) (going : old.is_over ≡ false) where
+  pub gives_piece : (piece : Piece) (stop : ℕ) → new.is_over ≡ old.is_over → new.text.now ≡ old.text.now → new.at ≡ stop
+      → IsPieceAt (take MAX_TEXT_LEN old.text.now) old.at piece stop → NextReturns old (Some (Ok piece)) new
+  gives_piece piece stop over text at next = record {
+    next = λ t read items h. piece_given old new t read items h piece stop (over ∙ going) text at
+        (subst (λ u. IsPieceAt (take MAX_TEXT_LEN u) old.at piece stop) h.text_is next);
+    over = λ closed. absurd (not_both old.is_over closed going);
+    last = tt;
+  }
 
-pub nothing_left : (rest : Text) → length rest ≤ 0 → rest ≡ []
-nothing_left [] h = refl
-nothing_left (b ∷ rest) h = absurd (omega arith)
+  module _ (over : new.is_over ≡ true) (none : BeginsNoItem (drop old.at (take MAX_TEXT_LEN old.text.now))) (found : Option Refusal)
+      (refused : (items : List Item) → IsItemsEnd old.text.now old.at → Reads (take old.at old.text.now) items
+      → MatchOption found (old.at ≡ length old.text.now) (NextIsRefusal old.text.now items)) where
+    refused_of : (t read : Text) (items : List Item) → HasGiven old t read items → MatchOption found (old.at ≡ length t) (NextIsRefusal t items)
+    refused_of t read items h =
+        let text = h.text_is in
+        let all : HasGiven old old.text.now read items = subst (λ u. HasGiven old u read items) (sym text) h in
+        subst (λ u. MatchOption found (old.at ≡ length u) (NextIsRefusal u items)) text
+        (refused items (ends_there old new old.text.now read items all none) (subst (λ u. Reads u items) all.read_is all.reads))
 
-pub gives_piece : (old new : Pieces) (piece : Piece) → old.is_over ≡ false
-    → ((t read : Text) (items : List Item) → HasGiven old t read items → NextIsPiece new t read items piece) → NextReturns old (Some (Ok piece)) new
-gives_piece old new piece going given = record { next = given; over = λ closed. absurd (not_both old.is_over closed going); last = tt }
+    pub gives_end : found ≡ None → NextReturns old None new
+    gives_end e = record {
+      next = λ t read items h.
+          all_given old new t read items h (subst (λ o. MatchOption o (old.at ≡ length t) (NextIsRefusal t items)) e (refused_of t read items h));
+      over = λ closed. absurd (not_both old.is_over closed going);
+      last = over;
+    }
 
--- The calls of `next`, from `old` to `now`.
-module _ (old now : Pieces) (inside : (t read : Text) (items : List Item) → HasGiven old t read items → IsInside now t read items)
-    (going : old.is_over ≡ false) where
-  -- a byte was fed
-  module _ (scanner : Scanner) (byte : ℕ) (after : Text) (cut : now.rest.now ≡ byte ∷ after) (r : Result Step Refusal)
-      (fed : (t : Text) (items : List Item) → IsAfter now.scanner t items → Feeds t items byte r scanner) where
-    pub is_fed : (step : Step) → r ≡ Ok step → (t read : Text) (items : List Item) → HasGiven old t read items
-        → IsFed (record now { scanner = scanner }) step t read items
-    is_fed step e t read items h =
-        let i = inside t read items h in
-        record {
-          fed = i.fed;
-          reads = h.reads;
-          no_run = i.no_run;
-          byte = byte;
-          after = after;
-          going = i.going;
-          split = i.split;
-          first = cut;
-          takes = subst (λ r. Feeds (read ++ i.fed) items byte r scanner) e (fed (read ++ i.fed) items i.scanned);
-        }
-
-    pub gives_refused : (refusal : Refusal) → r ≡ Err refusal → (new : Pieces) → new.is_over ≡ true → NextReturns old (Some (Err refusal)) new
-    gives_refused refusal e new over =
-        record {
-          next = λ t read items h.
-              let i = inside t read items h in
-              let f = subst (λ r. Feeds (read ++ i.fed) items byte r scanner) e (fed (read ++ i.fed) items i.scanned) in
-              let whole : t ≡ read ++ i.fed ++ byte ∷ after = i.split ∙ ap (λ u. read ++ i.fed ++ u) cut in
-              record {
-                refused = subst (λ u. IsRefusedAt u refusal.kind refusal.at) (sym whole) (f.1 after);
-                front = read ++ i.fed;
-                rest = byte ∷ after;
-                part = i.scanned.part;
-                split = whole;
-                offset = f.0;
-                good = i.scanned.good;
-              };
-          over = λ closed. absurd (not_both old.is_over closed going);
-          last = over;
-        }
-
-  -- no byte was left
-  module _ (none : now.rest.now ≡ []) (new : Pieces) (over : new.is_over ≡ true) (r : Result (Unit {0}) Refusal)
-      (finished : (t : Text) (items : List Item) → IsAfter now.scanner t items → Finishes t items r) where
-    whole_text : (t read : Text) (items : List Item) (h : HasGiven old t read items) → t ≡ read ++ (inside t read items h).fed
-    whole_text t read items h = let i = inside t read items h in i.split ∙ ap (λ u. read ++ i.fed ++ u) none ∙ append-nil (read ++ i.fed)
-
-    pub gives_end : (done : Unit {0}) → r ≡ Ok done → NextReturns old None new
-    gives_end done e =
-        record {
-          next = λ t read items h.
-              let i = inside t read items h in
-              let reads = subst (Finishes (read ++ i.fed) items) e (finished (read ++ i.fed) items i.scanned) in
-              let whole = whole_text t read items h in
-              record { reads = subst (λ u. Reads u items) (sym whole) reads; limit = subst (λ u. length u ≤ MAX_TEXT_LEN) (sym whole) i.scanned.limit };
-          over = λ closed. absurd (not_both old.is_over closed going);
-          last = over;
-        }
-
-    pub gives_truncated : (refusal : Refusal) → r ≡ Err refusal → NextReturns old (Some (Err refusal)) new
-    gives_truncated refusal e =
-        record {
-          next = λ t read items h.
-              let i = inside t read items h in
-              let f = subst (Finishes (read ++ i.fed) items) e (finished (read ++ i.fed) items i.scanned) in
-              let whole = whole_text t read items h in
-              record {
-                refused = subst (λ u. IsRefusedAt u refusal.kind refusal.at) (sym whole) f.2;
-                front = read ++ i.fed;
-                rest = [];
-                part = i.scanned.part;
-                split = whole ∙ sym (append-nil (read ++ i.fed));
-                offset = f.1;
-                good = i.scanned.good;
-              };
-          over = λ closed. absurd (not_both old.is_over closed going);
-          last = over;
-        }
+    pub gives_refused : (refusal : Refusal) → found ≡ Some refusal → NextReturns old (Some (Err refusal)) new
+    gives_refused refusal e = record {
+      next = λ t read items h. subst (λ o. MatchOption o (old.at ≡ length t) (NextIsRefusal t items)) e (refused_of t read items h);
+      over = λ closed. absurd (not_both old.is_over closed going);
+      last = over;
+    }

@@ -1,5 +1,5 @@
 -- A piece is the very text that it was read from.
-use Rattle.std.proofs.Common.{◌≡◌, ◌≢◌, ℕ, Bool, true, false, List, [], ◌∷◌, ◌++◌, map, refl, sym, ap, ap₂, ◌∙◌, subst}
+use Rattle.std.proofs.Common.{◌≡◌, ◌≢◌, ℕ, Bool, true, false, List, [], ◌∷◌, ◌++◌, drop, map, refl, sym, ap, ap₂, ◌∙◌, subst}
 use Rattle.std.specs.Prelude.{◌==◌, MatchBool}
 use Rattle.std.specs.List.{AllByRecursion}
 use Rattle.std.proofs.lemmas.Bool.{eqb-true}
@@ -61,4 +61,4 @@ text_read (pieces.Directive d) read more rest items h g w =
 
 pub text_of_piece : (old new : Pieces) (t read : Text) (items : List Item) (piece : Piece) → HasGiven old t read items
     → (g : NextIsPiece new t read items piece) → IsTextOf piece g.more
-text_of_piece old new t read items piece h g = text_read piece read g.more new.rest.now items h.reads g.given.reads g.whole
+text_of_piece old new t read items piece h g = text_read piece read g.more (drop new.at t) items h.reads g.given.reads g.whole

@@ -13,6 +13,7 @@ use Rattle.pf_values.specs.meaning.Specification.{Specification}
 use Rattle.pf_values.specs.meaning.Text.{Text}
 use Rattle.pf_values.proofs.ItemTypes.{types-append}
 use Rattle.pf_text.specs.CanonicalRuns.{IsCanonicalRun}
+use Rattle.pf_text.specs.FoundDirectives.{BeginsNoItem}
 use Rattle.pf_text.specs.Letters.{conv_of}
 use Rattle.pf_text.specs.Signatures.{ReadsTyped, TakesTypes}
 use Rattle.pf_text.specs.Walks.{HasPassed, HasPercent, IsCanonicalEnd, IsItemsEnd, IsNormalInEach, IsPassedRun, IsPercent, IsWalkOver}
@@ -64,9 +65,9 @@ read_item text walk stop more h up within g =
           (read_more walk.text.now walk.at (stop - walk.at) h.items more h.reads g);
     }
 
--- so the text up to the offset is whole items
-pub items_up_to : (text : Text) (walk : Walk) → HasRead text walk → IsItemsEnd text walk.at
-items_up_to text walk h =
+-- so the text up to the offset is whole items, and that is all if no item begins there
+pub items_up_to : (text : Text) (walk : Walk) → HasRead text walk → BeginsNoItem (drop walk.at walk.text.now) → IsItemsEnd text walk.at
+items_up_to text walk h none =
     let within : walk.at ≤ length (take MAX_TEXT_LEN text) = subst (λ u. walk.at ≤ length u) h.over.text_is h.within in
     record {
       within = omega (arith, within, length-take MAX_TEXT_LEN text);
@@ -74,6 +75,7 @@ items_up_to text walk h =
       items = h.items;
       reads = subst (λ u. Reads u h.items) (take_front walk.at MAX_TEXT_LEN text within)
           (subst (λ u. Reads (take walk.at u) h.items) h.over.text_is h.reads);
+      last = subst (λ u. BeginsNoItem (drop walk.at u)) h.over.text_is none;
     }
 
 -- and all of it may be
@@ -84,7 +86,7 @@ all_items text stop h e = (
 )
 
 -- a front of what comes after an offset, in a front of the text
-part_of_front : (text : Text) (most start stop : ℕ) → start ≤ stop → stop ≤ length (take most text)
+pub part_of_front : (text : Text) (most start stop : ℕ) → start ≤ stop → stop ≤ length (take most text)
     → take (stop - start) (drop start (take most text)) ≡ take (stop - start) (drop start text)
 part_of_front text most start stop up within =
     let long = length-take most text in
@@ -175,9 +177,9 @@ typed_item model text walk stop found more h up within g = record {
 }
 
 -- at the end, all are found
-pub typed_all : (model : Model) (text : Text) (walk : Walk) (found : List ArgType) → HasTyped model text walk found → walk.at ≡ length text
-    → TakesTypes model text found
+pub typed_all : (model : Model) (text : Text) (walk : Walk) (found : List ArgType) → HasTyped model text walk found
+    → BeginsNoItem (drop walk.at walk.text.now) → walk.at ≡ length text → TakesTypes model text found
 unfolding all_items items_up_to
-typed_all model text walk found h e =
-    let all = all_items text walk.at (items_up_to text walk h.read) e in
+typed_all model text walk found h none e =
+    let all = all_items text walk.at (items_up_to text walk h.read none) e in
     record { items = all.0; accepted = all.1; types_are = h.types_are }

@@ -1,5 +1,5 @@
 -- The types of items, and what the calls that collect them leave.
-use Rattle.std.proofs.Common.{◌≡◌, ◌≤◌, true, false, List, [], ◌∷◌, ◌++◌, length, sym, ap, ◌∙◌, subst, arith, Some, None, Ok, Err, Result}
+use Rattle.std.proofs.Common.{◌≡◌, ◌≤◌, true, false, List, [], ◌∷◌, ◌++◌, drop, length, sym, ap, ◌∙◌, subst, arith, Some, None, Ok, Err, Result}
 use Rattle.std.specs.Prelude.{is_err, IsOk, OnOk}
 use Rattle.std.proofs.lemmas.List.{append-nil, length_push}
 use Rattle.pf_values.specs.declared.models.Model.{Model}
@@ -7,6 +7,7 @@ use Rattle.pf_values.specs.declared.types.ArgType.{ArgType}
 use Rattle.pf_values.specs.meaning.Items.{Item, types}
 use Rattle.pf_values.specs.meaning.Text.{Text}
 use Rattle.pf_values.proofs.ItemTypes.{types-append}
+use Rattle.pf_text.proofs.PieceLemmas.{given_split}
 use Rattle.pf_text.specs.declared.pieces.Piece.{Piece}
 use Rattle.pf_text.specs.declared.pieces.Pieces.{Pieces}
 use Rattle.pf_text.specs.declared.refusals.Refusal.{Refusal}
@@ -48,9 +49,9 @@ module _ (model : Model) (old new : Pieces) (t : Text) (found : List ArgType) (h
         let f = more_found piece (type ∷ []) e same in
         record {
           front = f.read;
-          rest = new.rest.now;
+          rest = drop new.at t;
           items = f.items;
-          split = f.given.split;
+          split = given_split new t f.read f.items f.given;
           reads = f.given.reads;
           many = omega (arith, ap length f.types_are, length_push found type);
         }

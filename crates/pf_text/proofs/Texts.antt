@@ -70,7 +70,7 @@ given_width None h = refl
 given_width (Some zero) h = absurd (h refl)
 given_width (Some (suc n)) h = refl
 
-run-directive : (items : List Item) (t : Text) (s : Specification) → Spells t s → IsDefined s
+pub run-directive : (items : List Item) (t : Text) (s : Specification) → Spells t s → IsDefined s
     → run (On items Between) t ≡ On (items ++ Directive s ∷ []) Between
 run-directive items t s h defined =
     let same = given_width s.width defined.width in
@@ -86,7 +86,7 @@ run-byte items t byte false e h =
     let some : (byte == 0) ≡ false = grind (arith, nat_tests, h.0) in
     ap (run (On items Between)) h.1 ∙ rw (some, e) refl
 
-run-item : (items : List Item) (t : Text) (item : Item) → IsReadAs t item → run (On items Between) t ≡ On (items ++ item ∷ []) Between
+pub run-item : (items : List Item) (t : Text) (item : Item) → IsReadAs t item → run (On items Between) t ≡ On (items ++ item ∷ []) Between
 run-item items t (Byte byte) h = run-byte items t byte (byte == 37) refl h
 run-item items t (Directive s) h = run-directive items t s h.0 h.1
 

@@ -27,7 +27,7 @@ use Rattle.pf_text.proofs.Sound.{Judges, judge}
 use Rattle.pf_text.proofs.Texts.{start, items_in, state_in, run-reads, run-split, stepped, IsStepped, begun_run}
 
 -- items that came before
-abbrev prefixed : List Item → Progress → Progress
+abbrev pub prefixed : List Item → Progress → Progress
 prefixed before (Ok p) = Ok (p.0, before ++ p.1)
 prefixed before (Err kind) = Err kind
 
@@ -49,7 +49,7 @@ run_behind : (t : Text) (before : List Item) (p : Progress) → run (prefixed be
 run_behind [] before p = refl
 run_behind (b ∷ t) before p = ap (λ q. run q t) (advance_behind before p b) ∙ run_behind t before (advance p b)
 
-run_from : (t : Text) (items : List Item) (state : State) → run (On items state) t ≡ prefixed items (run (On [] state) t)
+pub run_from : (t : Text) (items : List Item) (state : State) → run (On items state) t ≡ prefixed items (run (On [] state) t)
 run_from t items state = ap (λ i. run (On i state) t) (sym (append-nil items)) ∙ run_behind t items (On [] state)
 
 none_before : (a b : List Item) → [] ≡ a ++ b → a ≡ []
@@ -60,7 +60,7 @@ none_after : (a b : List Item) → a ++ b ≡ a → b ≡ []
 none_after [] b e = e
 none_after (x ∷ a) b e = let rest : a ++ b ≡ a = cc in none_after a b rest
 
-no_items : (t : Text) (state q : State) (items : List Item) → run (On items state) t ≡ On [] q → items ≡ []
+pub no_items : (t : Text) (state q : State) (items : List Item) → run (On items state) t ≡ On [] q → items ≡ []
 no_items t state q items e = go (run (On [] state) t) refl where
   go : (p : Progress) → run (On [] state) t ≡ p → items ≡ []
   go (Ok p) g = none_before items p.1 (ap items_in (sym e ∙ run_from t items state ∙ ap (prefixed items) g))

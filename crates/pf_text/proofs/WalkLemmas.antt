@@ -1,6 +1,6 @@
 -- The walk over the items of a text.
-use Rattle.std.proofs.Common.{◌≡◌, ℕ, ◌+◌, ◌-◌, ◌^◌, ◌<◌, ◌≤◌, List, [], ◌∷◌, ◌++◌, length, get_or, map, take, drop, flat_map, Option, Some, None, refl, sym, ap, ap₂, ◌∙◌, subst, arith}
-use Rattle.std.specs.Prelude.{Bool, IfSome, IsTrue, MatchOption, false, true, is_some, ◌≢◌}
+use Rattle.std.proofs.Common.{◌≡◌, ℕ, ◌+◌, ◌-◌, ◌<◌, ◌≤◌, List, [], ◌∷◌, ◌++◌, length, get_or, map, take, drop, flat_map, Option, Some, None, refl, sym, ap, ap₂, ◌∙◌, subst, arith}
+use Rattle.std.specs.Prelude.{Bool, IfSome, MatchOption, true, is_some, ◌≢◌}
 use Rattle.std.specs.List.{AllByRecursion}
 use Rattle.std.proofs.Math.Seq.{take-add}
 use Rattle.std.proofs.lemmas.Grind.{flat_map-append}
@@ -44,18 +44,17 @@ none_in_rest text from stop n place none k low high ends =
 
 -- the marks, if there are some
 pub marks_of_runs : (runs : LiteralRuns) (text : Text) (marks : Marks) → runs.marks ≡ Some marks → AreRunsOf runs text
-    → (length text ≤ MAX_MARKED) × (marks.bits < 2 ^ length text) × AreMarksOf marks text
-marks_of_runs runs text marks e h = subst (λ o. IfSome o (λ m. (length text ≤ MAX_MARKED) × (m.bits < 2 ^ length text) × AreMarksOf m text)) e h
+    → (length text ≤ MAX_MARKED) × AreMarksOf marks text
+marks_of_runs runs text marks e h = subst (λ o. IfSome o (λ m. (length text ≤ MAX_MARKED) × AreMarksOf m text)) e h
 
 -- and what they say
-pub next_end_of : (marks : Marks) (text : Text) (from : ℕ) (found : Option ℕ) → length text ≤ MAX_MARKED → marks.bits < 2 ^ length text
-    → AreMarksOf marks text
+pub next_end_of : (marks : Marks) (text : Text) (from : ℕ) (found : Option ℕ) → length text ≤ MAX_MARKED → AreMarksOf marks text
     → MatchOption found (HasNoMark marks from 64) (λ stop. (from ≤ stop) × (stop < 128) × HasNoMark marks from stop × HasMark marks stop)
     → IsNextEnd text from found
-next_end_of marks text from None few bits are h = no_end_between marks text from (length text) (omega arith) are (λ k low high. h k low (omega (arith, few, high)))
-next_end_of marks text from (Some stop) few bits are h =
-    let within = marked_within marks.bits stop (length text) bits h.3 in
-    (h.0, within, no_end_between marks text from stop (omega (arith, within)) are h.2)
+next_end_of marks text from None few are h = no_end_between marks text from (length text) (omega arith) are (λ k low high. h k low (omega (arith, few, high)))
+next_end_of marks text from (Some stop) few are h =
+    let within = marked_within marks.bits stop (length text) are.few h.3 in
+    (h.0, within, no_end_between marks text from stop (omega (arith, within)) are h.2, are.only stop h.3)
 
 -- two bytes of a text, the first a `%`
 pub two_bytes : (text : Text) (at : ℕ) → HasPercent text at → take 2 (drop at text) ≡ percent ∷ get_or text (at + 1) 0 ∷ []
@@ -180,10 +179,6 @@ module _ (passes : Item → Type 0) (old now : Walk) where
     -- up to the byte that ends a run
     pub passed_to : (stop : ℕ) → IsNextEnd now.text.now now.at (Some stop) → HasPassed passes old (record now { at = stop })
     passed_to stop next = passed_literals stop next.0 (omega (arith, next.1)) next.2
-
--- nothing is found
-pub not_found : (t : Text) (at : ℕ) → IsTrue false → HasPercent t at
-not_found t at never = absurd (cc)
 
 -- a run of directives that are normal in each data model is canonical
 canonical_items : (model : Model) (items : List Item) → AllByRecursion (IsPassed IsNormalInEach) items → AllByRecursion (IsCanonicalItem model) items

@@ -11,5 +11,5 @@ pub mod PieceHistory
 pub mod Refusals
 pub mod Signatures
 pub mod WholeRuns
-pub mod SpelledFronts
+pub mod FoundDirectives
 pub mod Walks

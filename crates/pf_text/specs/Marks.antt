@@ -1,14 +1,15 @@
 -- The bytes `%` and 0 of a text, marked by the bits of a number. This project's own.
-use Rattle.std.specs.Prelude.{◌≡◌, ℕ, ◌<◌, ◌≤◌, length}
+use Rattle.std.specs.Prelude.{◌≡◌, ◌^◌, ℕ, ◌<◌, ◌≤◌, length}
 use Rattle.std.specs.Int.{bit_at}
 use Rattle.memchr.specs.Find.{Passes, is_byte2}
 use Rattle.pf_values.specs.meaning.Text.{Text}
 use Rattle.pf_text.specs.declared.marks.Marks.{Marks}
 
--- for each offset from one up to another, a bit is set if the byte there is `%` or 0
-abbrev pub IsMarked : ℕ → Text → ℕ → ℕ → Type 0
-IsMarked bits t start stop =
-    (k : ℕ) → start ≤ k → k < stop → Passes (is_byte2 37 0) t k → bit_at bits k ≡ 1
+-- the bits that are set are those of bytes `%` and 0, and of each from one offset up to another
+pub record IsMarked (bits : ℕ) (t : Text) (start stop : ℕ) : Type 0 where
+  pub ends : (k : ℕ) → start ≤ k → k < stop → Passes (is_byte2 37 0) t k → bit_at bits k ≡ 1
+  pub only : (k : ℕ) → bit_at bits k ≡ 1 → Passes (is_byte2 37 0) t k
+  pub few : bits < 2 ^ stop
 
 -- no bit is set from one offset up to another
 abbrev pub HasNoBit : ℕ → ℕ → ℕ → Type 0

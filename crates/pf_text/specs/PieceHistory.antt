@@ -1,7 +1,9 @@
 -- What the pieces of a text have given. This project's own.
-use Rattle.std.specs.Prelude.{◌≡◌, ◌≢◌, ℕ, ◌+◌, true, false, List, [], ◌∷◌, ◌++◌, length, map, Option, Some, None, Result, Ok, Err, if◌then◌else◌, ⊤}
+use Rattle.std.specs.Prelude.{◌≡◌, ◌≢◌, ℕ, ◌+◌, ◌-◌, ◌<◌, ◌≤◌, true, false, List, [], ◌∷◌, ◌++◌, drop, length, map, take, Option, Some, None, Result, Ok, Err, if◌then◌else◌, ⊤}
 use Rattle.std.specs.Iterator.{Count, at_most}
 use Rattle.std.specs.List.{AllByRecursion}
+use Rattle.memchr.specs.Find.{Passes, is_byte2}
+use Rattle.pf_values.specs.declared.limits.TheConstants.{MAX_TEXT_LEN}
 use Rattle.pf_values.specs.meaning.Items.{HasItems, Item, Byte, Directive, Reads}
 use Rattle.pf_values.specs.meaning.Refusals.{IsGoodFront, IsRefusedAt}
 use Rattle.pf_values.specs.meaning.Text.{Text, percent}
@@ -9,8 +11,7 @@ use Rattle.pf_text.specs.declared.pieces.Piece.{Piece}
 use Rattle.pf_text.specs.declared.pieces.Piece.TheVariants as pieces
 use Rattle.pf_text.specs.declared.pieces.Pieces.{Pieces}
 use Rattle.pf_text.specs.declared.refusals.Refusal.{Refusal}
-use Rattle.pf_text.specs.declared.scanner.Step.{Step}
-use Rattle.pf_text.specs.History.{EndsRun, IsAfter, IsLiteral, Takes}
+use Rattle.pf_text.specs.History.{EndsRun, IsLiteral}
 
 -- the items of a piece
 abbrev pub items_of : Piece → List Item
@@ -22,9 +23,11 @@ items_of (pieces.Directive d) = Directive d ∷ []
 -- given.
 pub record HasGiven (pieces : Pieces) (t read : Text) (items : List Item) : Type 0 where
   pub going : pieces.is_over ≡ false
-  pub split : t ≡ read ++ pieces.rest.now
+  pub text_is : pieces.text.now ≡ t
+  pub within : pieces.at ≤ length t
+  pub few : pieces.at ≤ MAX_TEXT_LEN
+  pub read_is : read ≡ take pieces.at t
   pub reads : Reads read items
-  pub scanned : IsAfter pieces.scanner read items
 
 -- a run of literal bytes that ends with the text `read` is not empty, and no literal byte follows
 pub record IsLongestRun (run read rest : Text) : Type 0 where
@@ -43,28 +46,22 @@ pub record NextIsPiece (new : Pieces) (t read : Text) (items : List Item)
     (piece : Piece) : Type 0 where
   pub more : Text
   pub given : HasGiven new t (read ++ more) (items ++ items_of piece)
-  pub whole : IsPieceBefore piece (read ++ more) new.rest.now
+  pub whole : IsPieceBefore piece (read ++ more) (drop new.at t)
 
--- inside a call: no run of literal bytes begins after what was given, the scanner has taken some
--- more bytes, and no item has ended
-pub record IsInside (pieces : Pieces) (t read : Text) (items : List Item) : Type 0 where
-  pub fed : Text
-  pub no_run : EndsRun read (fed ++ pieces.rest.now)
-  pub going : pieces.is_over ≡ false
-  pub split : t ≡ read ++ fed ++ pieces.rest.now
-  pub scanned : IsAfter pieces.scanner (read ++ fed) items
+-- what a piece says of the bytes between two offsets of a text, and of what follows
+abbrev pub IsPieceOf : Piece → Text → ℕ → ℕ → Type 0
+IsPieceOf (pieces.Literal run) t start stop = (run.now ≡ take (stop - start) (drop start t))
+    × AllByRecursion IsLiteral (take (stop - start) (drop start t))
+    × (stop < length t → Passes (is_byte2 37 0) t stop)
+IsPieceOf pieces.Percent t start stop = ⊤
+IsPieceOf (pieces.Directive d) t start stop = ⊤
 
--- and now it has also taken the first byte of the rest, for which it made this step
-pub record IsFed (pieces : Pieces) (step : Step) (t read : Text) (items : List Item) : Type 0 where
-  pub fed : Text
-  pub byte : ℕ
-  pub after : Text
-  pub reads : Reads read items
-  pub no_run : EndsRun read (fed ++ pieces.rest.now)
-  pub going : pieces.is_over ≡ false
-  pub split : t ≡ read ++ fed ++ pieces.rest.now
-  pub first : pieces.rest.now ≡ byte ∷ after
-  pub takes : Takes (read ++ fed) items byte step pieces.scanner
+-- a piece begins at one offset of a text and ends at another
+pub record IsPieceAt (t : Text) (start : ℕ) (piece : Piece) (stop : ℕ) : Type 0 where
+  pub some : start < stop
+  pub within : stop ≤ length t
+  pub reads : Reads (take (stop - start) (drop start t)) (items_of piece)
+  pub piece_is : IsPieceOf piece t start stop
 
 -- the text is refused after the items that were given
 pub record NextIsRefusal (t : Text) (items : List Item) (refusal : Refusal) : Type 0 where
@@ -96,6 +93,6 @@ pub record NextReturns (old : Pieces) (result : Option (Result Piece Refusal))
   pub over : old.is_over ≡ true → (result ≡ None) × (new ≡ old)
   pub last : IsOverAfter result new
 
--- at most one piece for each byte of the rest, and a refusal
+-- at most one piece for each byte that is left, and a refusal
 abbrev pub pieces_to_come : Pieces → Count
-pieces_to_come pieces = at_most (if pieces.is_over then 0 else length pieces.rest.now + 1)
+pieces_to_come pieces = at_most (if pieces.is_over then 0 else length pieces.text.now - pieces.at + 1)

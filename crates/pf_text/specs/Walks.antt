@@ -1,5 +1,5 @@
 -- The walk over the items of a text in memory. This project's own.
-use Rattle.std.specs.Prelude.{◌≡◌, ◌≢◌, ℕ, Bool, ◌+◌, ◌-◌, ◌^◌, ◌<◌, ◌≤◌, List, drop, flat_map, get_or, length, max, take, Option, Some, None, IfSome, IsTrue, ⊤}
+use Rattle.std.specs.Prelude.{◌≡◌, ◌≢◌, ℕ, Bool, ◌+◌, ◌-◌, ◌<◌, ◌≤◌, List, drop, flat_map, get_or, length, max, take, Option, Some, None, IfSome, IsFalse, IsTrue, ⊤}
 use Rattle.std.specs.List.{AllByRecursion}
 use Rattle.memchr.specs.Find.{Nowhere, Passes, is_byte2}
 use Rattle.pf_values.specs.declared.limits.TheConstants.{MAX_TEXT_LEN}
@@ -13,16 +13,18 @@ use Rattle.pf_text.specs.declared.literal_runs.LiteralRuns.{LiteralRuns}
 use Rattle.pf_text.specs.declared.marks.TheConstants.{MAX_MARKED}
 use Rattle.pf_text.specs.declared.walk.Walk.{Walk}
 use Rattle.pf_text.specs.CanonicalRuns.{IsCanonicalRun}
+use Rattle.pf_text.specs.FoundDirectives.{BeginsNoItem}
 use Rattle.pf_text.specs.Marks.{AreMarksOf}
 
 -- the runs are this text's
 abbrev pub AreRunsOf : LiteralRuns → Text → Type 0
-AreRunsOf runs text = IfSome runs.marks (λ marks. (length text ≤ MAX_MARKED) × (marks.bits < 2 ^ length text) × AreMarksOf marks text)
+AreRunsOf runs text = IfSome runs.marks (λ marks. (length text ≤ MAX_MARKED) × AreMarksOf marks text)
 
--- from an offset on, no byte of a text ends a run of literal bytes before this one
+-- from an offset on, this byte of a text is the first one that ends a run of literal bytes
 abbrev pub IsNextEnd : Text → ℕ → Option ℕ → Type 0
 IsNextEnd t from None = Nowhere (Passes (is_byte2 37 0) t) from (length t)
-IsNextEnd t from (Some stop) = (from ≤ stop) × (stop < length t) × Nowhere (Passes (is_byte2 37 0) t) from stop
+IsNextEnd t from (Some stop) = (from ≤ stop) × (stop < length t)
+    × Nowhere (Passes (is_byte2 37 0) t) from stop × Passes (is_byte2 37 0) t stop
 
 -- an item that a walk passes: a literal byte, or one of these others
 abbrev pub IsPassed : (Item → Type 0) → Item → Type 0
@@ -67,10 +69,12 @@ pub record HasPassed (passes : Item → Type 0) (old new : Walk) : Type 0 where
   pub items : List Item
   pub run : IsPassedRun passes (take (new.at - old.at) (drop old.at new.text.now)) items
 
--- and has found a `%` that begins something else, or not
-pub record Finds (passes : Item → Type 0) (old new : Walk) (found : Bool) : Type 0 where
+-- and has found a `%` that begins something else, before such a byte; or where no item begins
+pub record Finds (passes : Item → Type 0) (leaves : ℕ → Type 0) (old new : Walk)
+    (found : Bool) : Type 0 where
   pub passed : HasPassed passes old new
-  pub stopped : IsTrue found → HasPercent new.text.now new.at
+  pub stopped : IsTrue found → HasPercent new.text.now new.at × leaves (get_or new.text.now (new.at + 1) 0)
+  pub ended : IsFalse found → BeginsNoItem (drop new.at new.text.now)
 
 -- between two offsets there are canonical items
 pub record IsCanonicalEnd (t : Text) (start stop : ℕ) : Type 0 where
@@ -78,9 +82,11 @@ pub record IsCanonicalEnd (t : Text) (start stop : ℕ) : Type 0 where
   pub within : stop ≤ length t
   pub canonical : (model : Model) → (items : List Item) × IsCanonicalRun model (take (stop - start) (drop start t)) items
 
--- the bytes up to an offset are whole items, and aren't too many
+-- the bytes up to an offset are whole items, and aren't too many; and no item begins there that would end
+-- within the limit
 pub record IsItemsEnd (t : Text) (stop : ℕ) : Type 0 where
   pub within : stop ≤ length t
   pub few : stop ≤ MAX_TEXT_LEN
   pub items : List Item
   pub reads : Reads (take stop t) items
+  pub last : BeginsNoItem (drop stop (take MAX_TEXT_LEN t))

@@ -4,13 +4,13 @@ ghost use Rattle.pf_values.specs.Directives.{specification_of};
 ghost use Rattle.pf_values.specs.declared.lengths.Length.TheVariants as lengths;
 ghost use Rattle.pf_values.specs.meaning.DataModel.{arg_type};
 ghost use Rattle.pf_values.specs.meaning.Flags.{no_flags};
-ghost use Rattle.pf_values.specs.meaning.Text.{percent};
+ghost use Rattle.pf_text.specs.FoundDirectives.{BeginsNoDirective};
 ghost use Rattle.pf_text.specs.Signatures.{ReadsTyped, TakesTypes};
 ghost use Rattle.pf_text.specs.Walks.{HasPercent};
 
 use crate::letters::conv_of;
 use crate::passed::Percents;
-use crate::specification::directive_of_parts;
+use crate::specification::directive_at_percent;
 use crate::walk::Walk;
 use pf_values::{ArgType, Conv, Length, Model};
 
@@ -47,13 +47,13 @@ fn put_type(types: &mut [ArgType], count: usize, arg_type: ArgType) -> Option<us
     Some(count + 1)
 }
 
-// The type of the argument that the directive at an offset takes, and where it ends. None if it isn't
-// known that there is one.
+// The type of the argument that the directive at an offset takes, and where it ends. None if none begins
+// there.
 #[inline(always)]
 fn type_at(model: Model, text: &[u8], at: usize) -> Option<(ArgType, usize)>
     requires { HasPercent text.now at }
-    ensures { MatchOption result ⊤ (λ found. (at < found.1) × (found.1 ≤ length text.now)
-        × ReadsTyped model (take (found.1 - at) (drop at text.now)) (found.0 ∷ [])) }
+    ensures { MatchOption result (BeginsNoDirective (drop at text.now)) (λ found. (at < found.1)
+        × (found.1 ≤ length text.now) × ReadsTyped model (take (found.1 - at) (drop at text.now)) (found.0 ∷ [])) }
 {
     match conv_of(text[at + 1]) {
         Some(conv) => Some((bare_type(model, conv), at + 2)),
@@ -74,21 +74,9 @@ fn bare_type(model: Model, conv: Conv) -> ArgType
 #[inline(never)]
 fn parts_type_at(model: Model, text: &[u8], at: usize) -> Option<(ArgType, usize)>
     requires { HasPercent text.now at }
-    ensures { MatchOption result ⊤ (λ found. (at < found.1) × (found.1 ≤ length text.now)
-        × ReadsTyped model (take (found.1 - at) (drop at text.now)) (found.0 ∷ [])) }
+    ensures { MatchOption result (BeginsNoDirective (drop at text.now)) (λ found. (at < found.1)
+        × (found.1 ≤ length text.now) × ReadsTyped model (take (found.1 - at) (drop at text.now)) (found.0 ∷ [])) }
 {
-    let (arg_type, len) = parts_type(model, &text[at..])?;
-    Some((arg_type, at + len))
-}
-
-// The type of the argument that the directive at the front of a text takes, which begins with `%`,
-// and how many bytes it has. None if it isn't known that there is one.
-#[inline(always)]
-fn parts_type(model: Model, text: &[u8]) -> Option<(ArgType, usize)>
-    requires { (1 ≤ length text.now) × (take 1 text.now ≡ percent ∷ []) }
-    ensures { MatchOption result ⊤ (λ front. (0 < front.1) × (front.1 ≤ length text.now)
-        × ReadsTyped model (take front.1 text.now) (front.0 ∷ [])) }
-{
-    let (directive, len) = directive_of_parts(text)?;
-    Some((directive.arg_type(model), len))
+    let found = directive_at_percent(text, at)?;
+    Some((found.directive.arg_type(model), found.stop))
 }

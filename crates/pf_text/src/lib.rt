@@ -26,14 +26,13 @@ mod scanner;
 mod search;
 mod signatures;
 mod specification;
-mod spelled_directives;
 mod spelling;
 mod state;
 mod walk;
 
 pub use argument_types::signature;
 pub use canonical_runs::canonical_end;
-pub use checking::{check, is_known_accepted};
+pub use checking::{check, items_end, refusal_at};
 pub use known_argument_types::known_types;
 pub use letters::{conv_of, flag_of, modifier_of};
 pub use marks::{MAX_MARKED, MIN_MARKED, Marks};
@@ -43,7 +42,8 @@ pub use refusals::{Refusal, Side, TextFault};
 pub use scanner::{Scanner, Step};
 pub use search::literal_len;
 pub use signatures::Signature;
-pub use specification::directive_at_front;
-pub use spelled_directives::{SpelledDirective, spelled_at_front};
+pub use specification::{
+    FoundDirective, digits_at, directive_at, flags_at, modifier_at, number_at, spelled_at,
+};
 pub use spelling::{Spelling, push_flags, spell};
 pub use walk::Walk;

@@ -1,5 +1,5 @@
 //! Where a short text has the bytes `%` and 0: so its runs of literal bytes need no search.
-ghost use Rattle.std.specs.Prelude.{◌≡◌, ◌+◌, ◌^◌, ◌<◌, ◌≤◌, length, MatchOption};
+ghost use Rattle.std.specs.Prelude.{◌≡◌, ◌+◌, ◌<◌, ◌≤◌, length, MatchOption};
 ghost use Rattle.std.specs.Int.{bit_at};
 ghost use Rattle.pf_text.specs.Marks.{AreMarksOf, HasMark, HasNoBit, HasNoMark, IsMarked};
 
@@ -28,8 +28,7 @@ impl Marks {
     pub fn of(text: &[u8]) -> Marks
         requires some { MIN_MARKED ≤ length text.now }
         requires few { length text.now ≤ MAX_MARKED }
-        ensures marks { AreMarksOf result text.now }
-        ensures few { result.bits < 2 ^ length text.now }
+        ensures { AreMarksOf result text.now }
     {
         Marks {
             bits: marks_of(text),
@@ -52,8 +51,7 @@ impl Marks {
 fn marks_of(text: &[u8]) -> u64
     requires some { MIN_MARKED ≤ length text.now }
     requires few { length text.now ≤ MAX_MARKED }
-    ensures marks { IsMarked result text.now 0 (length text.now) }
-    ensures few { result < 2 ^ length text.now }
+    ensures { IsMarked result text.now 0 (length text.now) }
 {
     let len = text.len();
     if len < LANES {
@@ -78,8 +76,7 @@ fn marks_at<const N: usize>(text: &[u8], at: usize) -> u64
     requires room { at + N ≤ length text.now }
     requires few { at + N ≤ 64 }
     requires some { 0 < N }
-    ensures marks { IsMarked result text.now at (at + N) }
-    ensures few { result < 2 ^ (at + N) }
+    ensures { IsMarked result text.now at (at + N) }
 {
     ends_at::<N>(text, at) << at as u32
 }

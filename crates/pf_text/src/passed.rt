@@ -1,6 +1,7 @@
 //! The items that a walk passes.
-ghost use Rattle.std.specs.Prelude.{◌≡◌, ◌+◌, ◌≤◌, List, [], ◌∷◌, drop, length, take, IsTrue, ⊤};
+ghost use Rattle.std.specs.Prelude.{◌≡◌, ◌≢◌, ℕ, ◌+◌, ◌≤◌, List, [], ◌∷◌, drop, get_or, length, take, IsFalse, IsTrue, ⊤};
 ghost use Rattle.pf_values.specs.meaning.Items.{Item};
+ghost use Rattle.pf_values.specs.meaning.Text.{percent};
 ghost use Rattle.pf_text.specs.CanonicalRuns.{alternative_bytes, has_canonical_parts, is_kept_modifier};
 ghost use Rattle.pf_text.specs.Offsets.{HasBytes};
 ghost use Rattle.pf_text.specs.Walks.{HasPercent, IsNormalInEach, IsPassedRun, IsPercent};
@@ -14,10 +15,14 @@ pub trait Passed {
     // these items
     ghost passes: { Item → Type 0 };
 
+    // what is known of the byte after the `%` of another item
+    ghost leaves: { ℕ → Type 0 };
+
     /// Returns how many bytes the item has that begins with the `%` at an offset, if it is passed. If not, 0.
     fn len(text: &[u8], at: usize) -> usize
         requires { HasPercent text.now at }
         ensures within { at + result ≤ length text.now }
+        ensures left { result ≡ 0 → leaves (get_or text.now (at + 1) 0) }
         ensures passed { (items : List Item) × IsPassedRun passes (take result (drop at text.now)) items };
 }
 
@@ -41,6 +46,8 @@ pub struct Canonical;
 impl Passed for Nothing {
     ghost passes = { λ item. ⊥ };
 
+    ghost leaves = { λ byte. ⊤ };
+
     #[inline(always)]
     fn len(_: &[u8], _: usize) -> usize {
         0
@@ -49,6 +56,8 @@ impl Passed for Nothing {
 
 impl Passed for Percents {
     ghost passes = { IsPercent };
+
+    ghost leaves = { λ byte. byte ≢ percent };
 
     #[inline(always)]
     fn len(text: &[u8], at: usize) -> usize {
@@ -61,6 +70,8 @@ impl Passed for Percents {
 
 impl Passed for Bare {
     ghost passes = { λ item. ⊤ };
+
+    ghost leaves = { λ byte. byte ≢ percent };
 
     #[inline(always)]
     fn len(text: &[u8], at: usize) -> usize {
@@ -78,6 +89,8 @@ impl Passed for Bare {
 impl Passed for Canonical {
     ghost passes = { IsNormalInEach };
 
+    ghost leaves = { λ byte. byte ≢ percent };
+
     #[inline(always)]
     fn len(text: &[u8], at: usize) -> usize {
         if ends_canonical_item(text[at + 1]) {
@@ -91,7 +104,8 @@ impl Passed for Canonical {
 // normal one.
 #[inline(always)]
 fn ends_canonical_item(letter: u8) -> bool
-    ensures { IsTrue result → (items : List Item) × IsPassedRun IsNormalInEach (37 ∷ letter ∷ []) items }
+    ensures passed { IsTrue result → (items : List Item) × IsPassedRun IsNormalInEach (percent ∷ letter ∷ []) items }
+    ensures left { IsFalse result → letter ≢ percent }
 {
     if letter == b'%' {
         return true;

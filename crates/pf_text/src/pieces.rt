@@ -1,12 +1,14 @@
 //! The pieces of a format in memory: runs of literal bytes, `%%`, and directives.
-ghost use Rattle.std.specs.Prelude.{◌≡◌, ◌<◌, ◌≤◌, List, [], length, take, IsFalse, MatchOption, ⊤};
-ghost use Rattle.pf_values.specs.declared.limits.TheConstants.{MAX_TEXT_LEN};
-ghost use Rattle.pf_values.specs.meaning.Items.{Item, Reads};
-ghost use Rattle.pf_values.specs.meaning.Text.{Text};
-ghost use Rattle.pf_text.specs.History.{EndsRun};
+ghost use Rattle.std.specs.Prelude.{◌≡◌, ◌≢◌, ◌<◌, [], drop, get_or, length, MatchOption};
+ghost use Rattle.pf_values.specs.meaning.Text.{percent};
+ghost use Rattle.pf_text.specs.FoundDirectives.{BeginsNoItem};
+ghost use Rattle.pf_text.specs.PieceHistory.{IsPieceAt};
 
+use crate::checking::refusal_at;
 use crate::refusals::Refusal;
-use crate::scanner::{Scanner, Step};
+use crate::search::literal_len;
+use crate::specification::directive_at_percent;
+use crate::walk::within_limit;
 use pf_values::{ArgType, Directive, Model};
 
 /// A piece of a format.
@@ -43,107 +45,61 @@ impl Piece<'_> {
 /// given once.
 #[derive(Debug, Drop)]
 pub struct Pieces<'a> {
-    rest: &'a [u8],
-    scanner: Scanner,
+    text: &'a [u8],
+    at: usize,
     is_over: bool,
 }
 
 impl<'a> Pieces<'a> {
-    ghost use Rattle.pf_text.specs.PieceHistory.{NextIsPiece, HasGiven, IsFed, IsInside};
+    ghost use Rattle.pf_text.specs.PieceHistory.{HasGiven};
 
     /// Returns all the pieces of a text.
     pub fn new(text: &'a [u8]) -> Pieces<'a>
         ensures { HasGiven result text.now [] [] }
     {
         Pieces {
-            rest: text,
-            scanner: Scanner::new(),
+            text,
+            at: 0,
             is_over: false,
-        }
-    }
-
-    /// The pieces of a text after its first `len` bytes, which are whole items.
-    pub(crate) fn after_items(text: &'a [u8], len: usize) -> Pieces<'a>
-        requires within { len ≤ length text.now }
-        requires few { len ≤ MAX_TEXT_LEN }
-        ensures { (items : List Item) → Reads (take len text.now) items
-            → HasGiven result text.now (take len text.now) items }
-    {
-        Pieces {
-            rest: &text[len..],
-            scanner: Scanner::after_items(len),
-            is_over: false,
-        }
-    }
-
-    // The whole directive at the front of the rest, if there is one.
-    #[inline(always)]
-    fn take_directive(&mut self) -> Option<Directive>
-        ensures given { (t read : Text) (items : List Item) → HasGiven self.old t read items
-            → MatchOption result ⊤ (λ d. NextIsPiece self.new t read items (Piece.Directive d)) }
-        ensures shorter { MatchOption result (self.new ≡ self.old)
-            (λ _. length self.new.rest.now < length self.old.rest.now) }
-        ensures going { self.new.is_over ≡ self.old.is_over }
-    {
-        let (directive, len) = self.scanner.take_directive(self.rest)?;
-        self.rest = &self.rest[len..];
-        Some(directive)
-    }
-
-    // The run of literal bytes at the front of the rest, if there is one.
-    #[inline(always)]
-    fn take_literal_run(&mut self) -> Option<&'a [u8]>
-        ensures given { (t read : Text) (items : List Item) → HasGiven self.old t read items
-            → MatchOption result (IsInside self.new t read items)
-            (λ run. NextIsPiece self.new t read items (Piece.Literal run)) }
-        ensures shorter { MatchOption result (length self.new.rest.now ≤ length self.old.rest.now)
-            (λ _. length self.new.rest.now < length self.old.rest.now) }
-        ensures going { self.new.is_over ≡ self.old.is_over }
-    {
-        if !may_be_literal(self.rest) {
-            return None;
-        }
-        let len = self.scanner.take_literals(self.rest);
-        if len == 0 {
-            return None;
-        }
-        let (run, rest) = self.rest.split_at(len);
-        self.rest = rest;
-        Some(run)
-    }
-
-    // Moves on past the first byte of the rest, for which the scanner returned this step. Returns
-    // the piece that ends there, if one does. That isn't a literal byte, since `take_literal_run`
-    // comes before.
-    #[inline(always)]
-    fn advance(&mut self, step: Step) -> Option<Piece<'a>>
-        requires { 0 < length self.old.rest.now }
-        ensures given { (t read : Text) (items : List Item) → IsFed self.old step t read items
-            → MatchOption result (IsInside self.new t read items)
-            (NextIsPiece self.new t read items) }
-        ensures shorter { length self.new.rest.now < length self.old.rest.now }
-        ensures going { self.new.is_over ≡ self.old.is_over }
-    {
-        let (byte, rest) = self.rest.split_at(1);
-        self.rest = rest;
-        match step {
-            Step::More => None,
-            Step::Byte(_) => Some(Piece::Literal(byte)),
-            Step::Percent => Some(Piece::Percent),
-            Step::Directive(directive) => Some(Piece::Directive(directive)),
         }
     }
 }
 
-// Whether a text begins with another byte than `%`.
+// The piece at an offset, and where it ends. None at the end, and where no item begins.
 #[inline(always)]
-fn may_be_literal(text: &[u8]) -> bool
-    ensures { IsFalse result → (read : Text) → EndsRun read text.now }
+fn piece_at(text: &[u8], at: usize) -> Option<(Piece<'_>, usize)>
+    ensures { MatchOption result (BeginsNoItem (drop at text.now))
+        (λ next. IsPieceAt text.now at next.0 next.1) }
 {
-    match text.first() {
-        Some(byte) => *byte != b'%',
-        None => false,
+    if at >= text.len() {
+        return None;
     }
+    if text[at] != b'%' {
+        return literal_at(text, at);
+    }
+    if at + 1 >= text.len() {
+        return None;
+    }
+    if text[at + 1] == b'%' {
+        return Some((Piece::Percent, at + 2));
+    }
+    let found = directive_at_percent(text, at)?;
+    Some((Piece::Directive(found.directive), found.stop))
+}
+
+// The run of literal bytes at an offset, and where it ends.
+#[inline(always)]
+fn literal_at(text: &[u8], at: usize) -> Option<(Piece<'_>, usize)>
+    requires within { at < length text.now }
+    requires other { get_or text.now at 0 ≢ percent }
+    ensures { MatchOption result (BeginsNoItem (drop at text.now))
+        (λ next. IsPieceAt text.now at next.0 next.1) }
+{
+    let stop = at + literal_len(&text[at..]);
+    if stop == at {
+        return None;
+    }
+    Some((Piece::Literal(&text[at..stop]), stop))
 }
 
 impl<'a> Iterator for Pieces<'a> {
@@ -160,30 +116,14 @@ impl<'a> Iterator for Pieces<'a> {
         if self.is_over {
             return None;
         }
-        self.scanner.restart();
-        if let Some(directive) = self.take_directive() {
-            return Some(Ok(Piece::Directive(directive)));
-        }
-        if let Some(run) = self.take_literal_run() {
-            return Some(Ok(Piece::Literal(run)));
-        }
-        while let Some(byte) = self.rest.first() {
-            match self.scanner.take(*byte) {
-                Ok(step) => {
-                    if let Some(piece) = self.advance(step) {
-                        return Some(Ok(piece));
-                    }
-                }
-                Err(kind) => {
-                    self.is_over = true;
-                    return Some(Err(self.scanner.refusal(kind)));
-                }
-            }
+        if let Some((piece, stop)) = piece_at(within_limit(self.text), self.at) {
+            self.at = stop;
+            return Some(Ok(piece));
         }
         self.is_over = true;
-        match self.scanner.finish() {
-            Ok(()) => None,
-            Err(refusal) => Some(Err(refusal)),
+        match refusal_at(self.text, self.at) {
+            Some(refusal) => Some(Err(refusal)),
+            None => None,
         }
     }
 }

@@ -12,7 +12,7 @@ ghost use Rattle.pf_text.specs.History.{IsAfter, HasRefused, Feeds, Finishes, Pa
 use crate::canonical_runs::{canonical_run_len, count_silents};
 use crate::refusals::Refusal;
 use crate::search::literal_len;
-use crate::specification::directive_at_front;
+use crate::specification::directive_at;
 use crate::state::{Automaton, Move};
 use pf_values::limits::MAX_TEXT_LEN;
 use pf_values::{Directive, RefusalKind};
@@ -139,17 +139,6 @@ impl Scanner {
             return false;
         }
         self.automaton.is_between()
-    }
-
-    /// Forgets what was read of the items before: none of it counts between items. So a loop over
-    /// items keeps none of it from one item to the next.
-    #[inline(always)]
-    pub(crate) fn restart(&mut self)
-        ensures { (t : Text) (items : List Item) → IsAfter self.old t items → Reads t items
-            → IsAfter self.new t items }
-    {
-        self.automaton = Automaton::new();
-        self.refused = None;
     }
 
     /// Takes the longest run of literal bytes at the front of `text`, and returns how many there
@@ -286,13 +275,13 @@ impl Scanner {
             → MatchOption result ⊤
             (λ front. TakesDirective t items text.now front.1 self.new front.0) }
     {
-        let (directive, len) = directive_at_front(text)?;
+        let found = directive_at(text, 0)?;
         // The offset is never above the limit, so nothing wraps.
-        if len as u64 > MAX_TEXT_LEN.wrapping_sub(self.offset) {
+        if found.stop as u64 > MAX_TEXT_LEN.wrapping_sub(self.offset) {
             return None;
         }
-        self.offset = self.offset.wrapping_add(len as u64);
-        Some((directive, len))
+        self.offset = self.offset.wrapping_add(found.stop as u64);
+        Some((found.directive, found.stop))
     }
 
     fn refuse(&mut self, kind: RefusalKind) -> Result<Step, Refusal>

@@ -1,6 +1,5 @@
-//! A conversion specification that is whole at the front of a text, read in one go. The automaton
-//! reads the same byte by byte, and finds out why a text has none.
-ghost use Rattle.std.specs.Prelude.{◌≡◌, ◌+◌, ◌<◌, ◌≤◌, List, [], ◌∷◌, ◌++◌, false, length, map, take, None, IsFalse, IsTrue, MatchOption, ⊤};
+//! The parts of a conversion specification, each read at its offset, and the directive that they are.
+ghost use Rattle.std.specs.Prelude.{◌≡◌, ◌≢◌, ◌+◌, ◌<◌, ◌≤◌, ◌&&◌, ◌||◌, ◌⊎◌, List, [], ◌∷◌, ◌++◌, drop, false, get_or, length, map, not, ℕ, None, Some, IfSome, IsFalse, IsTrue, MatchBool, MatchOption};
 ghost use Rattle.pf_values.specs.Directives.{specification_of};
 ghost use Rattle.pf_values.specs.declared.flags.Flag.{Flag};
 ghost use Rattle.pf_values.specs.declared.flags.Flag.TheVariants.{Alt, Group, Zero};
@@ -9,73 +8,191 @@ ghost use Rattle.pf_values.specs.declared.limits.TheConstants.{MAX_NUMBER};
 ghost use Rattle.pf_values.specs.meaning.Conversions.{conv_letter};
 ghost use Rattle.pf_values.specs.meaning.Defined.{first_broken, is_above_limit, undefined_kinds};
 ghost use Rattle.pf_values.specs.meaning.Flags.{flag_byte, flag_set, has};
-ghost use Rattle.pf_values.specs.meaning.Items.{IsReadAs};
-ghost use Rattle.pf_values.specs.meaning.Items as items;
-ghost use Rattle.pf_values.specs.meaning.Lengths.{length_letters};
-ghost use Rattle.pf_values.specs.meaning.Spelling.{SpellsPrecision, SpellsWidth};
-ghost use Rattle.pf_values.specs.meaning.Text.{Text, percent};
-ghost use Rattle.pf_text.specs.Offsets.{ContinuesNumber, HasBytes};
+ghost use Rattle.pf_values.specs.meaning.Lengths.{is_absent, length_letters};
+ghost use Rattle.pf_values.specs.meaning.Spelling.{SpellsPrecision, flags_spelled, precision_spelled, width_spelled};
+ghost use Rattle.pf_values.specs.meaning.Text.{Text};
+ghost use Rattle.pf_text.specs.FoundDirectives.{ArePartsAt, BeginsNoDirective, EndsParts, IsEnding, IsFoundAt, IsSpelledAt};
+ghost use Rattle.pf_text.specs.Letters.{conv_of, modifier_of};
+ghost use Rattle.pf_text.specs.Offsets.{ContinuesNumber, EndsFlags, EndsModifier, EndsNumber, EndsPrecision, EndsWidth, HasBytes};
+ghost use Rattle.pf_text.specs.Walks.{HasPercent};
 
 use crate::letters::{conv_of, flag_of, modifier_of};
 use pf_values::limits::MAX_NUMBER;
 use pf_values::{Conv, Directive, Flag, FlagSet, Length};
 
-/// Returns the directive at the front of a text, and how many bytes it has. `None` if the text
-/// begins otherwise, or its specification is cut off or refused.
+/// A directive at an offset of a text.
+#[derive(Clone, Copy, Debug)]
+pub struct FoundDirective {
+    /// The directive.
+    pub directive: Directive,
+    /// The offset of its length modifier, or of the conversion without one.
+    pub modifier_at: usize,
+    /// Where it ends.
+    pub stop: usize,
+}
+
+/// Returns the directive at an offset of a text, or `None` if no directive begins there.
 #[inline(always)]
-pub fn directive_at_front(text: &[u8]) -> Option<(Directive, usize)>
-    ensures { MatchOption result ⊤ (λ front. (0 < front.1) × (front.1 ≤ length text.now)
-        × IsReadAs (take front.1 text.now) (items.Directive front.0)) }
+pub fn directive_at(text: &[u8], start: usize) -> Option<FoundDirective>
+    ensures { MatchOption result (BeginsNoDirective (drop start text.now)) (IsFoundAt text.now start) }
 {
-    if text.len() < 2 {
+    if !has_percent(text, start) {
         return None;
     }
-    if text[0] != b'%' {
+    directive_at_percent(text, start)
+}
+
+/// Returns the directive at an offset of a text, if it is spelled as `spell` spells it, and has no flag
+/// but `-` or `0`. `None` if not.
+#[inline(always)]
+pub fn spelled_at(text: &[u8], start: usize) -> Option<FoundDirective>
+    ensures { IfSome result (IsSpelledAt text.now start) }
+{
+    if !has_percent(text, start) {
         return None;
     }
-    match conv_of(text[1]) {
-        Some(conv) => directive_of_conv(conv),
-        None => directive_of_parts(text),
+    let (flags, at) = padding_flag_at(text, start + 1);
+    let (width, at) = number_at(text, at);
+    let (precision, at) = spelled_precision_at(text, at)?;
+    ending_at(text, flags, width, precision, at)
+}
+
+// Whether a `%` is at an offset, and isn't the last byte.
+#[inline(always)]
+fn has_percent(text: &[u8], at: usize) -> bool
+    ensures { MatchBool result (HasPercent text.now at) (BeginsNoDirective (drop at text.now)) }
+{
+    if at >= text.len() {
+        return false;
+    }
+    if at + 1 >= text.len() {
+        return false;
+    }
+    text[at] == b'%'
+}
+
+/// The directive at the `%` at an offset. Most have one flag at most: then what the others do falls away.
+#[inline(always)]
+pub(crate) fn directive_at_percent(text: &[u8], start: usize) -> Option<FoundDirective>
+    requires { HasPercent text.now start }
+    ensures { MatchOption result (BeginsNoDirective (drop start text.now)) (IsFoundAt text.now start) }
+{
+    let (flags, at) = common_flag_at(text, start + 1);
+    match directive_with(text, flags, at) {
+        Some(found) => Some(found),
+        None => directive_with_more(text, start, at),
     }
 }
 
-// The directive that is spelled by its conversion alone, as most are.
+// The directive at the `%` at an offset, if there is one that has flags beyond another offset.
 #[inline(always)]
-fn directive_of_conv(conv: Conv) -> Option<(Directive, usize)>
-    ensures { MatchOption result ⊤ (λ front. (front.1 ≡ 2)
-        × IsReadAs (percent ∷ conv_letter conv ∷ []) (items.Directive front.0)) }
+fn directive_with_more(text: &[u8], start: usize, at: usize) -> Option<FoundDirective>
+    requires { HasPercent text.now start }
+    ensures { MatchOption result (EndsFlags text.now at ⊎ BeginsNoDirective (drop start text.now)) (IsFoundAt text.now start) }
 {
-    match Directive::new(FlagSet::empty(), None, None, Length::None, conv) {
-        Ok(directive) => Some((directive, 2)),
-        Err(_) => None,
+    if !has_flag(text, at) {
+        return None;
+    }
+    any_directive_at(text, start)
+}
+
+// The flag `-`, `0` or `#` at an offset, if there is one, and where it ends.
+#[inline(always)]
+fn common_flag_at(text: &[u8], start: usize) -> (FlagSet, usize)
+    requires { start < length text.now }
+    ensures { (flags : List Flag) × (result.0 ≡ flag_set flags)
+        × HasBytes text.now start result.1 (map flag_byte flags) }
+{
+    if text[start] == b'#' {
+        return (FlagSet::empty().with(Flag::Alt), start + 1);
+    }
+    padding_flag_at(text, start)
+}
+
+// The flag `-` or `0` at an offset, if there is one, and where it ends.
+#[inline(always)]
+fn padding_flag_at(text: &[u8], start: usize) -> (FlagSet, usize)
+    requires { start < length text.now }
+    ensures { HasBytes text.now start result.1 (flags_spelled result.0) }
+{
+    match text[start] {
+        b'-' => (FlagSet::empty().with(Flag::Minus), start + 1),
+        b'0' => (FlagSet::empty().with(Flag::Zero), start + 1),
+        _ => (FlagSet::empty(), start),
     }
 }
 
-/// The directive at the front of a text that begins with `%`.
+// Whether a flag is at an offset.
 #[inline(always)]
-pub(crate) fn directive_of_parts(text: &[u8]) -> Option<(Directive, usize)>
-    requires { (1 ≤ length text.now) × (take 1 text.now ≡ percent ∷ []) }
-    ensures { MatchOption result ⊤ (λ front. (0 < front.1) × (front.1 ≤ length text.now)
-        × IsReadAs (take front.1 text.now) (items.Directive front.0)) }
+fn has_flag(text: &[u8], at: usize) -> bool
+    ensures { IsFalse result → EndsFlags text.now at }
 {
-    let (flags, at) = flags_at(text, 1);
-    let (width, at) = width_at(text, at);
+    if at >= text.len() {
+        return false;
+    }
+    flag_of(text[at]).is_some()
+}
+
+// The directive at the `%` at an offset, with any flags.
+#[inline(never)]
+fn any_directive_at(text: &[u8], start: usize) -> Option<FoundDirective>
+    requires { HasPercent text.now start }
+    ensures { MatchOption result (BeginsNoDirective (drop start text.now)) (IsFoundAt text.now start) }
+{
+    let (flags, at) = flags_at(text, start + 1);
+    directive_with(text, flags, at)
+}
+
+// The directive with these flags, of which the rest is at an offset.
+#[inline(always)]
+fn directive_with(text: &[u8], flags: FlagSet, at: usize) -> Option<FoundDirective>
+    requires { at ≤ length text.now }
+    ensures { (start : ℕ) → ArePartsAt text.now start flags None None at
+        → MatchOption result (EndsFlags text.now at → BeginsNoDirective (drop start text.now))
+        (IsFoundAt text.now start) }
+{
+    let (width, at) = number_at(text, at);
     let (precision, at) = precision_at(text, at);
-    let (length, at) = modifier_at(text, at);
-    let conv = conv_at(text, at)?;
+    ending_at(text, flags, width, precision, at)
+}
+
+// The directive with these parts, of which the length modifier and the conversion are at an offset.
+#[inline(always)]
+fn ending_at(
+    text: &[u8],
+    flags: FlagSet,
+    width: Option<u16>,
+    precision: Option<u16>,
+    at: usize,
+) -> Option<FoundDirective>
+    requires within { at ≤ length text.now }
+    requires some { width ≢ Some 0 }
+    requires few { is_above_limit width ≡ false }
+    requires small { is_above_limit precision ≡ false }
+    ensures { MatchOption result
+        ((start : ℕ) → ArePartsAt text.now start flags width precision at → EndsParts text.now at width precision
+        → BeginsNoDirective (drop start text.now))
+        (IsEnding text.now at flags width precision) }
+{
+    let (length, stop) = modifier_at(text, at);
+    let conv = conv_at(text, stop)?;
     if !is_defined(flags, precision, length, conv) {
         return None;
     }
-    let directive = Directive::of_defined(flags, width, precision, length, conv);
-    Some((directive, at + 1))
+    Some(FoundDirective {
+        directive: Directive::of_defined(flags, width, precision, length, conv),
+        modifier_at: at,
+        stop: stop + 1,
+    })
 }
 
 /// Whether the standard and POSIX define these parts together. `Directive::new` also finds out why
 /// they don't, which takes longer.
 #[inline(always)]
 pub(crate) fn is_defined(flags: FlagSet, precision: Option<u16>, length: Length, conv: Conv) -> bool
-    ensures { IsTrue result
-        → first_broken undefined_kinds (specification_of flags None precision length conv) ≡ None }
+    ensures { MatchBool result
+        (first_broken undefined_kinds (specification_of flags None precision length conv) ≡ None)
+        (first_broken undefined_kinds (specification_of flags None precision length conv) ≢ None) }
 {
     let kind = conv.kind();
     if kind.is_text() {
@@ -91,8 +208,7 @@ pub(crate) fn is_defined(flags: FlagSet, precision: Option<u16>, length: Length,
 // no modifier.
 #[inline(always)]
 fn suits_text(flags: FlagSet, length: Length) -> bool
-    ensures { IsTrue result → (length ≡ lengths.None) × IsFalse (has flags Alt)
-        × IsFalse (has flags Zero) × IsFalse (has flags Group) }
+    ensures { result ≡ (is_absent length && not (has flags Alt || has flags Zero || has flags Group)) }
 {
     match length {
         Length::None => !(flags.has(Flag::Alt) | flags.has(Flag::Zero) | flags.has(Flag::Group)),
@@ -100,12 +216,13 @@ fn suits_text(flags: FlagSet, length: Length) -> bool
     }
 }
 
-// The flags from an offset on, and where they end (C11 7.21.6.1, paragraph 6).
+/// Returns the flags from an offset on, and where they end (C11 7.21.6.1, paragraph 6).
 #[inline(always)]
-fn flags_at(text: &[u8], start: usize) -> (FlagSet, usize)
+pub fn flags_at(text: &[u8], start: usize) -> (FlagSet, usize)
     requires { start ≤ length text.now }
-    ensures { (flags : List Flag) × (result.0 ≡ flag_set flags)
+    ensures flags { (flags : List Flag) × (result.0 ≡ flag_set flags)
         × HasBytes text.now start result.1 (map flag_byte flags) }
+    ensures ended { EndsFlags text.now result.1 }
 {
     let mut flags = FlagSet::empty();
     let mut at = start;
@@ -119,12 +236,15 @@ fn flags_at(text: &[u8], start: usize) -> (FlagSet, usize)
     (flags, at)
 }
 
-/// The field width at an offset, and where it ends (C11 7.21.6.1, paragraph 4).
+/// Returns the number at an offset that doesn't begin with 0, as that of a field width, and where it ends,
+/// which is before a digit with which it would pass the limit (C11 7.21.6.1, paragraph 4).
 #[inline(always)]
-pub(crate) fn width_at(text: &[u8], start: usize) -> (Option<u16>, usize)
+pub fn number_at(text: &[u8], start: usize) -> (Option<u16>, usize)
     requires { start ≤ length text.now }
-    ensures { (bytes : Text) × SpellsWidth bytes result.0 × (is_above_limit result.0 ≡ false)
-        × HasBytes text.now start result.1 bytes }
+    ensures bytes { HasBytes text.now start result.1 (width_spelled result.0) }
+    ensures some { result.0 ≢ Some 0 }
+    ensures small { is_above_limit result.0 ≡ false }
+    ensures ended { EndsWidth result.0 text.now result.1 }
 {
     if start >= text.len() {
         return (None, start);
@@ -142,8 +262,10 @@ pub(crate) fn width_at(text: &[u8], start: usize) -> (Option<u16>, usize)
 #[inline(always)]
 fn precision_at(text: &[u8], start: usize) -> (Option<u16>, usize)
     requires { start ≤ length text.now }
-    ensures { (bytes : Text) × SpellsPrecision bytes result.0 × (is_above_limit result.0 ≡ false)
+    ensures bytes { (bytes : Text) × SpellsPrecision bytes result.0
         × HasBytes text.now start result.1 bytes }
+    ensures small { is_above_limit result.0 ≡ false }
+    ensures ended { EndsPrecision result.0 text.now result.1 }
 {
     if start >= text.len() {
         return (None, start);
@@ -155,15 +277,35 @@ fn precision_at(text: &[u8], start: usize) -> (Option<u16>, usize)
     (Some(number), stop)
 }
 
-// The number that begins with the digits of `first`, and goes on with those from an offset on; and
-// where they end, which is before a digit with which it would pass the limit.
+// The precision at an offset, and where it ends. None if it has a zero in front, or no digits.
 #[inline(always)]
-fn digits_at(text: &[u8], start: usize, first: u16) -> (u16, usize)
+fn spelled_precision_at(text: &[u8], start: usize) -> Option<(Option<u16>, usize)>
+    requires { start ≤ length text.now }
+    ensures small { IfSome result (λ read. is_above_limit read.0 ≡ false) }
+    ensures bytes { IfSome result (λ read. HasBytes text.now start read.1 (precision_spelled read.0)) }
+{
+    if start >= text.len() {
+        return None;
+    }
+    if text[start] != b'.' {
+        return Some((None, start));
+    }
+    match number_at(text, start + 1) {
+        (Some(precision), stop) => Some((Some(precision), stop)),
+        (None, _) => None,
+    }
+}
+
+/// Returns the number that begins with the digits of `first`, and goes on with those from an offset on; and
+/// where they end, which is before a digit with which it would pass the limit.
+#[inline(always)]
+pub fn digits_at(text: &[u8], start: usize, first: u16) -> (u16, usize)
     requires within { start ≤ length text.now }
     requires small { first ≤ MAX_NUMBER }
     ensures small { result.0 ≤ MAX_NUMBER }
     ensures digits { (bytes : Text) × ContinuesNumber first bytes result.0
         × HasBytes text.now start result.1 bytes }
+    ensures ended { EndsNumber result.0 text.now result.1 }
 {
     let mut number = first;
     let mut at = start;
@@ -182,11 +324,12 @@ fn digits_at(text: &[u8], start: usize, first: u16) -> (u16, usize)
     (number, at)
 }
 
-/// The length modifier at an offset, and where it ends (C11 7.21.6.1, paragraph 7).
+/// Returns the length modifier of integers at an offset, and where it ends (C11 7.21.6.1, paragraph 7).
 #[inline(always)]
-pub(crate) fn modifier_at(text: &[u8], start: usize) -> (Length, usize)
+pub fn modifier_at(text: &[u8], start: usize) -> (Length, usize)
     requires { start ≤ length text.now }
-    ensures { HasBytes text.now start result.1 (length_letters result.0) }
+    ensures letters { HasBytes text.now start result.1 (length_letters result.0) }
+    ensures ended { EndsModifier result.0 text.now result.1 }
 {
     if start >= text.len() {
         return (Length::None, start);
@@ -201,8 +344,9 @@ pub(crate) fn modifier_at(text: &[u8], start: usize) -> (Length, usize)
 #[inline(always)]
 fn modifier_with(text: &[u8], start: usize, first: Length) -> (Length, usize)
     requires { start ≤ length text.now }
-    ensures { (bytes : Text) × (length_letters result.0 ≡ length_letters first ++ bytes)
+    ensures letters { (bytes : Text) × (length_letters result.0 ≡ length_letters first ++ bytes)
         × HasBytes text.now start result.1 bytes }
+    ensures ended { (letter : ℕ) → modifier_of letter ≡ Some first → EndsModifier result.0 text.now result.1 }
 {
     if start >= text.len() {
         return (first, start);
@@ -218,7 +362,8 @@ fn modifier_with(text: &[u8], start: usize, first: Length) -> (Length, usize)
 #[inline(always)]
 pub(crate) fn conv_at(text: &[u8], at: usize) -> Option<Conv>
     requires { at ≤ length text.now }
-    ensures { MatchOption result ⊤ (λ conv. HasBytes text.now at (at + 1) (conv_letter conv ∷ [])) }
+    ensures { MatchOption result (at < length text.now → conv_of (get_or text.now at 0) ≡ None)
+        (λ conv. HasBytes text.now at (at + 1) (conv_letter conv ∷ [])) }
 {
     if at >= text.len() {
         return None;

@@ -1,5 +1,5 @@
-//! The walk over the items of a text in memory. Each call that reads a whole text is a loop of `find`, and of
-//! what it does with the item that `find` leaves.
+//! The walk over the items of a text in memory. Each call that reads a whole text is a loop over `find`, with a
+//! step for the item that it stops at.
 ghost use Rattle.std.specs.Prelude.{◌≡◌, take};
 ghost use Rattle.pf_values.specs.declared.limits.TheConstants.{MAX_TEXT_LEN as LIMIT};
 ghost use Rattle.pf_text.specs.Walks.{Finds, IsWalk, IsWalkOver};
@@ -42,12 +42,12 @@ impl<'a> Walk<'a> {
         self.text
     }
 
-    /// Takes literal bytes and items of `P`, and returns whether it stops at a `%` that begins another item.
-    /// False at the end, at a NUL, and at a `%` that is the last byte.
+    /// Takes literal bytes and items of `P`, and returns whether it stops at a `%` that may begin another item.
+    /// False at the end, at a NUL, and at a `%` that is the last byte: no item begins there.
     #[inline(always)]
     pub fn find<P: Passed>(&mut self) -> bool
         requires { IsWalk self.old }
-        ensures { Finds P.passes self.old self.new result }
+        ensures { Finds P.passes P.leaves self.old self.new result }
     {
         while self.at < self.text.len() {
             let Some(offset) = self.runs.next_end(self.text, self.at) else {
@@ -73,7 +73,7 @@ impl<'a> Walk<'a> {
 
 /// The front of a text that is as long as a format may be.
 #[inline(always)]
-fn within_limit(text: &[u8]) -> &[u8]
+pub(crate) fn within_limit(text: &[u8]) -> &[u8]
     ensures { result.now ≡ take LIMIT text.now }
 {
     if text.len() as u64 > MAX_TEXT_LEN {

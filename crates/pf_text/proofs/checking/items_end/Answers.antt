@@ -1,6 +1,8 @@
 use Rattle.std.proofs.Common.{◌≤◌, ◌-◌, List, drop, length, subst, sym, take}
 use Rattle.pf_values.specs.meaning.Items.{Item, Reads}
+use Rattle.pf_text.specs.FoundDirectives.{BeginsNoDirective}
 use Rattle.pf_text.specs.Walks.{IsItemsEnd}
+use Rattle.pf_text.proofs.NoItemLemmas.{none_at_percent}
 use Rattle.pf_text.proofs.ReadingLemmas.{items_up_to, read_item, read_none, read_passed_too}
 use Rattle.pf_text.proofs.checking.items_end.Goals as goal
 
@@ -9,8 +11,13 @@ loop-walk-init c = read_none c.args.text.now c.new-walk.result c.new-walk.ensure
 
 pub returns-then-stop-walk : goal.returns-then-stop-walk
 returns-then-stop-walk c =
-    let now = read_passed_too _ c.args.text.now c.loop-walk.walk c.find.new.self c.loop-walk.invariant c.find.ensures.passed in
-    subst (IsItemsEnd c.args.text.now) (sym c.if-stop-walk.true) (items_up_to c.args.text.now c.find.new.self now)
+    let here = c.find.new.self in
+    let now = read_passed_too _ c.args.text.now c.loop-walk.walk here c.loop-walk.invariant c.find.ensures.passed in
+    let stopped = c.find.ensures.stopped c.loop-walk-test.true in
+    let none : BeginsNoDirective (drop here.at here.text.now) = subst (λ t. BeginsNoDirective (drop here.at t)) c.text.ensures
+    (c.directive_end-stop.ensures.none c.if-stop-walk.true) in
+    subst (IsItemsEnd c.args.text.now) (sym c.if-stop-walk.true)
+    (items_up_to c.args.text.now here now (none_at_percent here.text.now here.at stopped.0 stopped.1 none))
 
 pub loop-walk-preserved : goal.loop-walk-preserved
 loop-walk-preserved c =
@@ -23,4 +30,4 @@ loop-walk-preserved c =
 
 pub returns : goal.returns
 returns c = items_up_to c.args.text.now c.find.new.self
-    (read_passed_too _ c.args.text.now c.loop-walk.walk c.find.new.self c.loop-walk.invariant c.find.ensures.passed)
+    (read_passed_too _ c.args.text.now c.loop-walk.walk c.find.new.self c.loop-walk.invariant c.find.ensures.passed) (c.find.ensures.ended c.loop-walk-test.false)

@@ -27,4 +27,4 @@ pub returns-then-walk-text : goal.returns-then-walk-text
 returns-then-walk-text c =
     let found = take c.loop-model.count c.loop-model.types in
     let now = typed_passed_too c.args.model c.args.text.now c.loop-model.walk c.find.new.self found c.loop-model.invariant.typed c.find.ensures.passed in
-    (c.loop-model.invariant.room, typed_all c.args.model c.args.text.now c.find.new.self found now c.if-walk-text.true)
+    (c.loop-model.invariant.room, typed_all c.args.model c.args.text.now c.find.new.self found now (c.find.ensures.ended c.loop-model-test.false) c.if-walk-text.true)

@@ -15,7 +15,7 @@ returns-then-has_canonical_parts-clause-passed c =
     let conv = c.in-Some.conv in
     let items = Directive (parts alternative modifier conv) ∷ [] in
     let bytes = parts_between c.args.text.now (alternative_bytes alternative) (length_letters modifier) (conv_letter conv ∷ []) c.args.at _ _
-    c.requires c.alternative_at-alternative.ensures c.modifier_at-modifier.ensures c.in-Some.ensures in (
+    c.requires c.alternative_at-alternative.ensures c.modifier_at-modifier.ensures.letters c.in-Some.ensures in (
       items,
       subst (λ t. IsPassedRun IsNormalInEach t items) (sym bytes)
           (parts_passed alternative modifier conv (sym c.has_canonical_parts.ensures ∙ c.if-has_canonical_parts.true)),
