@@ -1,15 +1,12 @@
 -- The front of a format in which no argument has a number.
-use Rattle.std.proofs.Common.{◌≡◌, ◌≢◌, ℕ, zero, suc, ◌+◌, ◌-◌, ◌<◌, ◌≤◌, max, Bool, true, false, List, [], ◌∷◌, ◌++◌, length, get_or, drop, drop-cons, take, flat_map, refl, sym, ap, ap₂, ◌∙◌, arith, inl, inr, subst}
-use Rattle.std.specs.Prelude.{Some, None, ◌==◌, if◌then◌else◌}
-use Rattle.std.specs.List.{AllByRecursion}
+use Rattle.std.proofs.Common.{◌≡◌, ◌≢◌, ℕ, ◌+◌, ◌-◌, ◌<◌, ◌≤◌, true, List, [], ◌∷◌, ◌++◌, length, get_or, drop, take, refl, sym, ap, ◌∙◌, arith, inl, inr, subst}
+use Rattle.std.specs.Prelude.{Some, None}
 use Rattle.std.proofs.Math.Seq.{drop-length}
-use Rattle.std.proofs.lemmas.List.{get_or-drop, length-drop, length-map, length-take-le, length_push, map_push, take_all, take_rest}
+use Rattle.std.proofs.lemmas.List.{get_or-drop, length-drop, length-map, length_push, map_push, take_rest}
 use Rattle.memchr.specs.Find.{Nowhere, Passes, is_byte2}
 use Rattle.pf_values.specs.declared.limits.TheConstants.{MAX_TEXT_LEN}
 use Rattle.pf_values.specs.declared.models.Model.{Model}
-use Rattle.pf_values.specs.meaning.Canonical.{item_spelling}
-use Rattle.pf_values.specs.meaning.Items.{Item, Byte, Directive}
-use Rattle.pf_values.specs.meaning.Text.{Text, percent}
+use Rattle.pf_values.specs.meaning.Text.{Text}
 use Rattle.pf_posix.specs.declared.fetches.Fetch.{Fetch}
 use Rattle.pf_posix.specs.declared.partial_specification.Numbering.{Numbering}
 use Rattle.pf_posix.specs.declared.partial_specification.Numbering.TheVariants.{Undecided, Unnumbered}
@@ -21,11 +18,12 @@ use Rattle.pf_posix.specs.Refusals.{Follows}
 use Rattle.pf_posix.specs.Stages.{Between, Opened}
 use Rattle.pf_posix.specs.States.{posix_step}
 use Rattle.pf_posix.specs.Types.{fetch}
-use Rattle.pf_text.specs.Walks.{HasPassed, IsPassed, IsPercent, IsWalkOver}
+use Rattle.pf_text.specs.Walks.{HasPassed, IsPercent, IsWalkOver}
 use Rattle.pf_text.specs.declared.walk.Walk.{Walk}
 use Rattle.pf_text.proofs.LiteralLemmas.{stops}
 use Rattle.pf_posix.proofs.Bounds.{bounded_at}
 use Rattle.pf_posix.proofs.OrderLemmas.{end_in_order, filled_none, first_in_order, next_in_order}
+use Rattle.pf_posix.proofs.PassedLemmas.{walked}
 use Rattle.pf_posix.proofs.PlainLemmas.{led}
 use Rattle.pf_posix.proofs.StepLemmas.{IsOrdered, ordered_end, ordered_more}
 use Rattle.pf_posix.proofs.WalkLemmas.{run_passed}
@@ -146,14 +144,6 @@ module _ (model : Model) (t : Text) (old new : List ArgumentType) (count : ℕ) 
   abbrev Front : ℕ → Type 0
   Front at = IsPlainFront model t at old new count
 
-  next_byte : (at m b : ℕ) (rest : Text) → at + suc m ≤ length t → take (suc m) (drop at t) ≡ b ∷ rest
-      → (get_or t at 0 ≡ b) × (take m (drop (at + 1) t) ≡ rest)
-  next_byte at m b rest few e =
-      let one = drop-cons t at 0 (omega (arith, few)) in
-      let split : get_or t at 0 ∷ take m (drop (suc at) t) ≡ b ∷ rest = ap (take (suc m)) (sym one) ∙ e in
-      let place : at + 1 ≡ suc at = omega arith in
-      (ap (λ l. get_or l 0 0) split, ap (λ k. take m (drop k t)) place ∙ ap (drop 1) split)
-
   -- a literal byte
   front_byte : (at b : ℕ) → at < length t → get_or t at 0 ≡ b → b ≢ 37 → b ≢ 0 → Front at → Front (at + 1)
   front_byte at b less is other some h =
@@ -169,61 +159,9 @@ module _ (model : Model) (t : Text) (old new : List ArgumentType) (count : ℕ) 
       neither : is_byte2 37 0 b ≡ true → ⊥
       neither ends = elim (stops b ends) [ inl e ↦ other e | inr e ↦ some e ]
 
-  -- what of the text comes after it, and how many bytes it has
-  abbrev Goes : ℕ → ℕ → Text → Type 0
-  Goes at n rest = (k : ℕ) × (k ≤ n) × Front (at + k) × (take (n - k) (drop (at + k) t) ≡ rest)
-
-  step_byte : (x : Bool) (b : ℕ) (rest : Text) (at n : ℕ) → (b == percent) ≡ x → b ≢ 0
-      → take n (drop at t) ≡ (if x then percent ∷ percent ∷ [] else b ∷ []) ++ rest → at + n ≤ length t → Front at → Goes at n rest
-  step_byte true b rest at zero is some e few h = absurd (omega (arith, ap length e))
-  step_byte false b rest at zero is some e few h = absurd (omega (arith, ap length e))
-  step_byte true b rest at (suc zero) is some e few h =
-      let first = next_byte at zero percent (percent ∷ rest) few e in
-      absurd (omega (arith, ap length first.1))
-  step_byte true b rest at (suc (suc m)) is some e few h =
-      let first = next_byte at (suc m) percent (percent ∷ rest) few e in
-      let second = next_byte (at + 1) m percent rest (omega (arith, few)) first.1 in
-      let two : at + 2 ≡ at + 1 + 1 = omega arith in
-      let left : suc (suc m) - 2 ≡ m = omega arith in (
-        2,
-        omega arith,
-        front_percent model t at old new count h short (omega (arith, few)) first.0 second.0,
-        ap₂ (λ (k j : ℕ). take k (drop j t)) left two ∙ second.1,
-      )
-  step_byte false b rest at (suc m) is some e few h =
-      let byte = next_byte at m b rest few e in
-      let other : b ≢ 37 = λ same. differs same is in
-      let left : suc m - 1 ≡ m = omega arith in
-      (1, omega arith, front_byte at b (omega (arith, few)) byte.0 other some h, ap (λ k. take k (drop (at + 1) t)) left ∙ byte.1)
-    where
-      differs : b ≡ 37 → (b == 37) ≡ false → ⊥
-      differs same not = absurd (cc)
-
-  pub front_passed : (items : List Item) (at n : ℕ) → AllByRecursion (IsPassed IsPercent) items → take n (drop at t) ≡ flat_map item_spelling items
-      → at + n ≤ length t → Front at → Front (at + n)
-  front_passed [] at n all e few h =
-      let none : n ≡ 0 = omega (arith, ap length e, length-take-le n (drop at t) (omega (arith, few, length-drop at t))) in
-      subst Front (omega (arith, none)) h
-  front_passed (Byte b ∷ items) at n all e few h =
-      let s = step_byte (b == percent) b (flat_map item_spelling items) at n refl all.0.0 e few h in
-      subst Front (omega (arith, s.1)) (front_passed items (at + s.0) (n - s.0) all.1 s.3 (omega (arith, s.1, few)) s.2)
-  front_passed (Directive d ∷ items) at n all e few h = absurd all.0.1
-
   pub front_walked : (before after : Walk) → IsWalkOver t before → before.at ≤ length t → HasPassed IsPercent before after → Front before.at
       → IsWalkOver t after × (after.at ≤ length t) × Front after.at × (after.text.now ≡ t)
-  front_walked before after over low h front =
-      let text_is : after.text.now ≡ t = h.text ∙ over.text_is ∙ take_all MAX_TEXT_LEN t short in
-      let most : after.at ≤ max before.at (length t) = subst (λ u. after.at ≤ max before.at (length u)) text_is h.within in
-      let within : after.at ≤ length t = omega (arith, most, low) in
-      let n = after.at - before.at in
-      let place : before.at + n ≡ after.at = omega (arith, h.from) in
-      let run : take n (drop before.at t) ≡ flat_map item_spelling h.items =
-      subst (λ u. take n (drop before.at u) ≡ flat_map item_spelling h.items) text_is h.run.whole in (
-        record { walk_is = h.walk; text_is = h.text ∙ over.text_is },
-        within,
-        subst Front place (front_passed h.items before.at n h.run.passed run (omega (arith, place, within)) front),
-        text_is,
-      )
+  front_walked = walked t Front front_byte (λ at less first second h. front_percent model t at old new count h short less first second) short
 
 -- with an argument before it
 pub first_ordered : (model : Model) (t : Text) (type : ArgumentType) (at : ℕ) (left : FetchTrace) (old new : List ArgumentType)

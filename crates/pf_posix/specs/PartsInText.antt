@@ -1,6 +1,6 @@
--- What the parts of a specification without numbers are from an offset of a text on, as the code reads
--- them. Each says what is answered if the part is spelled there, and nothing that could belong to the
--- part comes after it. No public contract names these.
+-- What the parts of a specification are from an offset of a text on, as the code reads them. Each says
+-- what is answered if the part is spelled there, and nothing that could belong to the part comes after
+-- it. No public contract names these.
 use Rattle.std.specs.Prelude.{◌≡◌, ℕ, ◌<◌, ◌≤◌, Bool, false, ◌||◌, ◌==◌, List, [], ◌∷◌, ◌++◌, drop, map, Option, Some, None, IsSomeAnd, if◌then◌else◌, ⊤}
 use Rattle.std.specs.Fmt.{digit_glyph}
 use Rattle.std.specs.Int.Digits.{number_from_digits_after}
@@ -10,17 +10,17 @@ use Rattle.pf_values.specs.declared.flags.FlagSet.{FlagSet}
 use Rattle.pf_values.specs.declared.lengths.Length.TheVariants as lengths
 use Rattle.pf_values.specs.declared.limits.TheConstants.{MAX_NUMBER}
 use Rattle.pf_values.specs.meaning.Flags.{flag_byte, flag_set}
-use Rattle.pf_values.specs.meaning.Text.{Text, point, star}
+use Rattle.pf_values.specs.meaning.Text.{Text, dollar, point, star}
 use Rattle.pf_text.specs.States.{is_digit}
 use Rattle.pf_posix.specs.declared.conversions.Conversion.{Conversion}
 use Rattle.pf_posix.specs.declared.conversions.Modifier.{Modifier}
 use Rattle.pf_posix.specs.declared.conversions.Modifier.TheVariants.{Integer}
 use Rattle.pf_posix.specs.declared.opaque_directives.OpaqueAmount.{OpaqueAmount}
-use Rattle.pf_posix.specs.declared.opaque_directives.OpaqueDirective.{OpaqueDirective}
+use Rattle.pf_posix.specs.declared.specifications.Specification.{Specification}
 use Rattle.pf_posix.specs.Letters.{length_modifier_of}
-use Rattle.pf_posix.specs.OpaqueParts.{amount_of, parts_of_opaque}
+use Rattle.pf_posix.specs.OpaqueParts.{amount_at}
 use Rattle.pf_posix.specs.Specifications.{Amount, PosixSpecification, conversion_letter, modifier_letters}
-use Rattle.pf_posix.specs.Spelling.{SpellsPosix, SpellsPosixPrecision, SpellsPosixWidth}
+use Rattle.pf_posix.specs.Spelling.{SpellsPosition, SpellsPosix, SpellsPosixPrecision, SpellsPosixWidth}
 
 -- the test refuses the first byte, if there is one
 abbrev pub BeginsOutside : (ℕ → Bool) → Text → Type 0
@@ -33,10 +33,32 @@ is_flag byte =
     byte == 45 || byte == 43 || byte == 32 || byte == 35 || byte == 48 || byte == 39
 
 abbrev pub is_width : ℕ → Bool
-is_width byte = is_digit byte || byte == star
+is_width byte = is_digit byte || byte == star || byte == dollar
 
 abbrev pub is_precision : ℕ → Bool
-is_precision byte = is_digit byte || byte == star || byte == point
+is_precision byte = is_digit byte || byte == star || byte == point || byte == dollar
+
+-- `$` comes after the digits of a text, which may have none
+abbrev pub dollar_follows : Text → Bool
+dollar_follows [] = false
+dollar_follows (byte ∷ t) = if is_digit byte then dollar_follows t else byte == dollar
+
+-- the parts that the code has read
+abbrev pub specification_of : Specification → PosixSpecification
+specification_of read = record {
+  position = read.position;
+  flags = read.parts.flags;
+  width = amount_at read.parts.width read.width_position;
+  precision = amount_at read.parts.precision read.precision_position;
+  modifier = read.parts.modifier;
+  conversion = read.parts.conversion;
+}
+
+-- the number of an argument, or none
+abbrev pub PositionIs : Text → ℕ → Option ℕ → ℕ → Type 0
+PositionIs t start number stop = (text rest : Text) (position : Option ℕ)
+    → SpellsPosition text position → dollar_follows rest ≡ false → drop start t ≡ text ++ rest
+    → (number ≡ position) × (drop stop t ≡ rest)
 
 -- flags
 abbrev pub FlagsAre : Text → ℕ → FlagSet → ℕ → Type 0
@@ -53,24 +75,24 @@ DigitsAre t start first result = (digits : List ℕ) (rest : Text)
     × (drop front.1 t ≡ rest))
 
 -- a width, or none
-abbrev pub WidthIs : Text → ℕ → Option (Option OpaqueAmount × ℕ) → Type 0
-WidthIs t start result = (text rest : Text) (width : Option Amount)
-    → SpellsPosixWidth text None width → BeginsOutside is_width rest → drop start t ≡ text ++ rest
-    → IsSomeAnd result (λ front. (amount_of front.0 ≡ width) × (drop front.1 t ≡ rest))
+abbrev pub WidthIs : Text → ℕ → Option (Option OpaqueAmount × Option ℕ × ℕ) → Type 0
+WidthIs t start result = (text rest : Text) (position : Option ℕ) (width : Option Amount)
+    → SpellsPosixWidth text position width → BeginsOutside is_width rest → drop start t ≡ text ++ rest
+    → IsSomeAnd result (λ front. (amount_at front.0 front.1 ≡ width) × (drop front.2 t ≡ rest))
 
 -- a precision, or none
-abbrev pub PrecisionIs : Text → ℕ → Option (Option OpaqueAmount × ℕ) → Type 0
-PrecisionIs t start result = (text rest : Text) (precision : Option Amount)
-    → SpellsPosixPrecision text None precision → BeginsOutside is_precision rest
+abbrev pub PrecisionIs : Text → ℕ → Option (Option OpaqueAmount × Option ℕ × ℕ) → Type 0
+PrecisionIs t start result = (text rest : Text) (position : Option ℕ) (precision : Option Amount)
+    → SpellsPosixPrecision text position precision → BeginsOutside is_precision rest
     → drop start t ≡ text ++ rest
-    → IsSomeAnd result (λ front. (amount_of front.0 ≡ precision) × (drop front.1 t ≡ rest))
+    → IsSomeAnd result (λ front. (amount_at front.0 front.1 ≡ precision) × (drop front.2 t ≡ rest))
 
 -- what comes after the point of a precision
-abbrev pub IsAfterPoint : Text → ℕ → Option (OpaqueAmount × ℕ) → Type 0
-IsAfterPoint t start result = (text rest : Text) (precision : Option Amount)
-    → SpellsPosixPrecision (point ∷ text) None precision → BeginsOutside is_precision rest
+abbrev pub IsAfterPoint : Text → ℕ → Option (OpaqueAmount × Option ℕ × ℕ) → Type 0
+IsAfterPoint t start result = (text rest : Text) (position : Option ℕ) (precision : Option Amount)
+    → SpellsPosixPrecision (point ∷ text) position precision → BeginsOutside is_precision rest
     → drop start t ≡ text ++ rest
-    → IsSomeAnd result (λ front. (amount_of (Some front.0) ≡ precision) × (drop front.1 t ≡ rest))
+    → IsSomeAnd result (λ front. (amount_at (Some front.0) front.1 ≡ precision) × (drop front.2 t ≡ rest))
 
 -- the modifier of two letters that this byte ends, if it does (C11 7.21.6.1 p7)
 abbrev pub second_modifier : Modifier → ℕ → Option Modifier
@@ -98,7 +120,7 @@ ConversionIs t at result = (conversion : Conversion) (rest : Text)
     → drop at t ≡ conversion_letter conversion ∷ rest → result ≡ Some conversion
 
 -- a whole specification
-abbrev pub SpecificationIs : Text → ℕ → Option (OpaqueDirective × ℕ) → Type 0
+abbrev pub SpecificationIs : Text → ℕ → Option (Specification × ℕ) → Type 0
 SpecificationIs t start result = (text rest : Text) (s : PosixSpecification)
-    → SpellsPosix text s → s.position ≡ None → drop start t ≡ text ++ rest
-    → IsSomeAnd result (λ front. (parts_of_opaque front.0 ≡ s) × (drop front.1 t ≡ rest))
+    → SpellsPosix text s → drop start t ≡ text ++ rest
+    → IsSomeAnd result (λ front. (specification_of front.0 ≡ s) × (drop front.1 t ≡ rest))

@@ -1,7 +1,7 @@
 use Rattle.std.proofs.Common.{◌∙◌, arith, sym}
 use Rattle.pf_posix.proofs.PartLemmas.{first_read}
 use Rattle.pf_posix.proofs.PlainLemmas.{modifier_alone, modifier_longer}
-use Rattle.pf_posix.proofs.opaque_reader.modifier_with.Goals as goal
+use Rattle.pf_posix.proofs.specifications.modifier_with.Goals as goal
 
 pub returns-in-None-clause-modifier : goal.returns-in-None-clause-modifier
 returns-in-None-clause-modifier c = first_read c.args.text.now c.args.start c.args.first (sym c.second_modifier.ensures ∙ c.in-None.is)

@@ -1,11 +1,12 @@
 use Rattle.std.proofs.Common.{None, Some, refl, sym}
 use Rattle.pf_posix.proofs.PartLemmas.{point_given, point_star}
-use Rattle.pf_posix.proofs.opaque_reader.after_point.Goals as goal
+use Rattle.pf_posix.proofs.specifications.after_point.Goals as goal
 
 pub returns-then-has_byte-clause-amount : goal.returns-then-has_byte-clause-amount
 returns-then-has_byte-clause-amount c =
     let star = c.if-has_byte.ensures in
-    point_star c.args.text.now c.args.start (sym star.same) (star.within refl)
+    let number = c.position_at-number in
+    point_star c.args.text.now c.args.start number.result.0 number.result.1 (sym star.same) (star.within refl) number.ensures.position
 
 pub returns-in_err-number-clause-amount : goal.returns-in_err-number-clause-amount
 returns-in_err-number-clause-amount c =

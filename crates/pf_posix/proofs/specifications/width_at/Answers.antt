@@ -1,12 +1,13 @@
 use Rattle.std.proofs.Common.{◌+◌, None, Some, refl, subst, sym}
 use Rattle.pf_posix.specs.PartsInText.{DigitsAre}
 use Rattle.pf_posix.proofs.PartLemmas.{width_given, width_none, width_star}
-use Rattle.pf_posix.proofs.opaque_reader.width_at.Goals as goal
+use Rattle.pf_posix.proofs.specifications.width_at.Goals as goal
 
 pub returns-then-has_byte-clause-width : goal.returns-then-has_byte-clause-width
 returns-then-has_byte-clause-width c =
     let star = c.if-has_byte.ensures in
-    width_star c.args.text.now c.args.start (sym star.same) (star.within refl)
+    let number = c.position_at-number in
+    width_star c.args.text.now c.args.start number.result.0 number.result.1 (sym star.same) (star.within refl) number.ensures.position
 
 pub returns-then-not-begins_number-clause-width : goal.returns-then-not-begins_number-clause-width
 returns-then-not-begins_number-clause-width c =

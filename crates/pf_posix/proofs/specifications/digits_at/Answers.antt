@@ -1,9 +1,9 @@
-use Rattle.std.proofs.Common.{◌≡◌, arith, false, get_or, true}
+use Rattle.std.proofs.Common.{◌≡◌, ◌∙◌, arith, false, get_or, refl, true}
 use Rattle.std.proofs.lemmas.Bool.Decides.{nat_tests}
 use Rattle.pf_text.specs.States.{is_digit}
-use Rattle.pf_posix.proofs.PartLemmas.{digits_all, digits_begin, digits_end, digits_over, digits_step}
+use Rattle.pf_posix.proofs.PartLemmas.{digit_passed, digits_all, digits_begin, digits_end, digits_over, digits_step}
 use Rattle.pf_posix.proofs.PlainLemmas.{digits_more, digits_none}
-use Rattle.pf_posix.proofs.opaque_reader.digits_at.Goals as goal
+use Rattle.pf_posix.proofs.specifications.digits_at.Goals as goal
 
 pub returns-then-not-is_ascii_digit-clause-number : goal.returns-then-not-is_ascii_digit-clause-number
 returns-then-not-is_ascii_digit-clause-number c =
@@ -32,6 +32,7 @@ loop-at-preserved c =
       left = rw c.from.ensures (digits_step text c.args.start c.args.first loop.at loop.number loop.invariant.left c.loop-at-test.true digit);
       read = rw c.from.ensures (digits_more text c.args.start c.args.first loop.number loop.at loop.invariant.read c.loop-at-test.true digit
           (omega (arith, c.if-longer-gt-MAX_NUMBER.false, c.from.ensures)));
+      passed = loop.invariant.passed ∙ digit_passed text loop.at c.loop-at-test.true digit;
     }
 
 pub returns-clause-number : goal.returns-clause-number
@@ -46,4 +47,5 @@ loop-at-init c =
       small = c.requires.small;
       left = digits_begin c.args.text.now c.args.start c.args.first;
       read = digits_none c.args.text.now c.args.start c.args.first;
+      passed = refl;
     }

@@ -1,10 +1,11 @@
-//! A conversion specification without numbers of arguments, read part by part (C11 7.21.6.1,
-//! paragraph 4). The automaton reads the same byte by byte, and finds out why a text has none.
-ghost use Rattle.std.specs.Prelude.{◌≡◌, ◌≢◌, ◌<◌, ◌≤◌, ◌==◌, IfSome, IsTrue, get_or, length};
+//! A conversion specification of the whole language, read part by part (C11 7.21.6.1, paragraph 4; POSIX
+//! fprintf on numbered arguments). The automaton reads the same byte by byte, and finds out why a text has
+//! none.
+ghost use Rattle.std.specs.Prelude.{◌≡◌, ◌≢◌, ◌<◌, ◌≤◌, ◌==◌, IfSome, IsTrue, drop, get_or, length};
 ghost use Rattle.pf_values.specs.declared.limits.TheConstants.{MAX_NUMBER};
 ghost use Rattle.pf_posix.specs.Letters.{is_first_digit};
 ghost use Rattle.pf_posix.specs.Plain.{DigitsRead, ModifierRead};
-ghost use Rattle.pf_posix.specs.PartsInText.{ConversionIs, DigitsAre, FlagsAre, IsAfterPoint, ModifierGoesOn, ModifierIs, PrecisionIs, SpecificationIs, WidthIs, second_modifier};
+ghost use Rattle.pf_posix.specs.PartsInText.{ConversionIs, DigitsAre, FlagsAre, IsAfterPoint, ModifierGoesOn, ModifierIs, PositionIs, PrecisionIs, SpecificationIs, WidthIs, dollar_follows, second_modifier};
 
 use crate::conversions::{Conversion, Modifier};
 use crate::letters::{conversion_of, length_modifier_of};
@@ -13,26 +14,64 @@ use pf_text::flag_of;
 use pf_values::limits::MAX_NUMBER;
 use pf_values::{FlagSet, Length};
 
-/// The specification at a `%`, and where it ends. None if there is no whole one without numbers.
+/// A conversion specification: its parts, and the numbers of its arguments.
+#[derive(Clone, Copy, Debug)]
+pub(crate) struct Specification {
+    /// The number of the argument that it converts.
+    pub(crate) position: Option<u16>,
+    /// Its parts.
+    pub(crate) parts: OpaqueDirective,
+    /// The number of the argument of its width.
+    pub(crate) width_position: Option<u16>,
+    /// The number of the argument of its precision.
+    pub(crate) precision_position: Option<u16>,
+}
+
+/// The specification at a `%`, and where it ends. None if there is no whole one.
 #[inline(always)]
-pub(crate) fn specification_at(text: &[u8], start: usize) -> Option<(OpaqueDirective, usize)>
+pub(crate) fn specification_at(text: &[u8], start: usize) -> Option<(Specification, usize)>
     requires { start < length text.now }
     ensures parts { SpecificationIs text.now start result }
     ensures within { IfSome result (λ front. (start < front.1) × (front.1 ≤ length text.now)) }
 {
-    let (flags, at) = flags_at(text, start + 1);
-    let (width, at) = width_at(text, at)?;
-    let (precision, at) = precision_at(text, at)?;
+    let (position, at) = position_at(text, start + 1);
+    let (flags, at) = flags_at(text, at);
+    let (width, width_position, at) = width_at(text, at)?;
+    let (precision, precision_position, at) = precision_at(text, at)?;
     let (modifier, at) = modifier_at(text, at);
     let conversion = conversion_at(text, at)?;
-    let directive = OpaqueDirective {
-        flags,
-        width,
-        precision,
-        modifier,
-        conversion,
+    let read = Specification {
+        position,
+        parts: OpaqueDirective {
+            flags,
+            width,
+            precision,
+            modifier,
+            conversion,
+        },
+        width_position,
+        precision_position,
     };
-    Some((directive, at + 1))
+    Some((read, at + 1))
+}
+
+// The number of an argument at an offset, with its `$`, and where they end (POSIX fprintf on `%n$`).
+#[inline(always)]
+fn position_at(text: &[u8], start: usize) -> (Option<u16>, usize)
+    requires { start ≤ length text.now }
+    ensures position { PositionIs text.now start result.0 result.1 }
+    ensures within { (start ≤ result.1) × (result.1 ≤ length text.now) }
+{
+    if !begins_number(text, start) {
+        return (None, start);
+    }
+    let Some((number, stop)) = digits_at(text, start + 1, u16::from(text[start] - b'0')) else {
+        return (None, start);
+    };
+    if !has_byte(text, stop, b'$') {
+        return (None, start);
+    }
+    (Some(number), stop + 1)
 }
 
 // The flags from an offset on, and where they end (C11 7.21.6.1, paragraph 6).
@@ -54,49 +93,53 @@ fn flags_at(text: &[u8], start: usize) -> (FlagSet, usize)
     (flags, at)
 }
 
-// The field width at an offset, and where it ends (C11 7.21.6.1, paragraphs 4 and 5).
+// The field width at an offset, the number of its argument, and where it ends (C11 7.21.6.1, paragraphs 4
+// and 5).
 #[inline(always)]
-fn width_at(text: &[u8], start: usize) -> Option<(Option<OpaqueAmount>, usize)>
+fn width_at(text: &[u8], start: usize) -> Option<(Option<OpaqueAmount>, Option<u16>, usize)>
     requires { start ≤ length text.now }
     ensures width { WidthIs text.now start result }
-    ensures within { IfSome result (λ front. (start ≤ front.1) × (front.1 ≤ length text.now)) }
+    ensures within { IfSome result (λ front. (start ≤ front.2) × (front.2 ≤ length text.now)) }
 {
     if has_byte(text, start, b'*') {
-        return Some((Some(OpaqueAmount::Star), start + 1));
+        let (number, stop) = position_at(text, start + 1);
+        return Some((Some(OpaqueAmount::Star), number, stop));
     }
     if !begins_number(text, start) {
-        return Some((None, start));
+        return Some((None, None, start));
     }
     let (number, stop) = digits_at(text, start + 1, u16::from(text[start] - b'0'))?;
-    Some((Some(OpaqueAmount::Number(number)), stop))
+    Some((Some(OpaqueAmount::Number(number)), None, stop))
 }
 
-// The precision at an offset, and where it ends (C11 7.21.6.1, paragraphs 4 and 5).
+// The precision at an offset, the number of its argument, and where it ends (C11 7.21.6.1, paragraphs 4
+// and 5).
 #[inline(always)]
-fn precision_at(text: &[u8], start: usize) -> Option<(Option<OpaqueAmount>, usize)>
+fn precision_at(text: &[u8], start: usize) -> Option<(Option<OpaqueAmount>, Option<u16>, usize)>
     requires { start ≤ length text.now }
     ensures precision { PrecisionIs text.now start result }
-    ensures within { IfSome result (λ front. (start ≤ front.1) × (front.1 ≤ length text.now)) }
+    ensures within { IfSome result (λ front. (start ≤ front.2) × (front.2 ≤ length text.now)) }
 {
     if !has_byte(text, start, b'.') {
-        return Some((None, start));
+        return Some((None, None, start));
     }
-    let (amount, stop) = after_point(text, start + 1)?;
-    Some((Some(amount), stop))
+    let (amount, number, stop) = after_point(text, start + 1)?;
+    Some((Some(amount), number, stop))
 }
 
-// The precision after its point, and where it ends.
+// The precision after its point, as `precision_at` has it.
 #[inline(always)]
-fn after_point(text: &[u8], start: usize) -> Option<(OpaqueAmount, usize)>
+fn after_point(text: &[u8], start: usize) -> Option<(OpaqueAmount, Option<u16>, usize)>
     requires { start ≤ length text.now }
     ensures amount { IsAfterPoint text.now start result }
-    ensures within { IfSome result (λ front. (start ≤ front.1) × (front.1 ≤ length text.now)) }
+    ensures within { IfSome result (λ front. (start ≤ front.2) × (front.2 ≤ length text.now)) }
 {
     if has_byte(text, start, b'*') {
-        return Some((OpaqueAmount::Star, start + 1));
+        let (number, stop) = position_at(text, start + 1);
+        return Some((OpaqueAmount::Star, number, stop));
     }
     let (number, stop) = digits_at(text, start, 0)?;
-    Some((OpaqueAmount::Number(number), stop))
+    Some((OpaqueAmount::Number(number), None, stop))
 }
 
 /// Whether an offset of a text has this byte, which isn't zero.
@@ -132,6 +175,7 @@ pub(crate) fn digits_at(text: &[u8], start: usize, first: u16) -> Option<(u16, u
     requires small { first ≤ MAX_NUMBER }
     ensures number { DigitsAre text.now start first result }
     ensures read { IfSome result (λ front. DigitsRead text.now start first front.0 front.1) }
+    ensures passed { IfSome result (λ front. dollar_follows (drop start text.now) ≡ dollar_follows (drop front.1 text.now)) }
     ensures within { IfSome result (λ front. (start ≤ front.1) × (front.1 ≤ length text.now)) }
 {
     let mut number = first;

@@ -1,6 +1,6 @@
 use Rattle.std.proofs.Common.{◌∙◌, arith, sym}
 use Rattle.pf_posix.proofs.PartLemmas.{flags_all, flags_end, flags_step}
-use Rattle.pf_posix.proofs.opaque_reader.flags_at.Goals as goal
+use Rattle.pf_posix.proofs.specifications.flags_at.Goals as goal
 
 pub returns-in-None-clause-flags : goal.returns-in-None-clause-flags
 returns-in-None-clause-flags c =

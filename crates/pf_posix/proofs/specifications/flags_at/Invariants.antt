@@ -1,6 +1,6 @@
 use Rattle.std.proofs.Common.{◌-◌, ◌≤◌, length}
 use Rattle.pf_posix.proofs.PartLemmas.{FlagsLeft}
-use Rattle.pf_posix.proofs.opaque_reader.flags_at.Given as goal
+use Rattle.pf_posix.proofs.specifications.flags_at.Given as goal
 
 abbrev pub invariant-loop-at : goal.invariant-loop-at
 invariant-loop-at l = record {
