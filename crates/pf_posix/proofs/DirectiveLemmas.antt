@@ -1,132 +1,256 @@
--- A text that is gone through for its specifications: what one more byte makes of it.
-use Rattle.std.proofs.Common.{◌≡◌, ◌≢◌, ℕ, ◌+◌, Bool, true, false, List, [], ◌∷◌, ◌++◌, length, refl, sym, ap, ap₂, ◌∙◌, arith, Ok, length-append}
-use Rattle.std.specs.Prelude.{Some, None, nat_le, if◌then◌else◌}
-use Rattle.std.proofs.lemmas.List.{append_assoc, append-nil}
-use Rattle.pf_values.specs.declared.limits.TheConstants.{MAX_TEXT_LEN}
+-- The specifications of an accepted text, one item after another.
+use Rattle.std.proofs.Common.{◌≡◌, ◌≢◌, ℕ, ◌+◌, ◌*◌, ◌<◌, ◌≤◌, Bool, true, false, List, [], ◌∷◌, ◌++◌, length, length-append, get_or, drop, refl, sym, ap, ◌∙◌}
+use Rattle.std.proofs.Common.{arith, subst}
+use Rattle.std.specs.Prelude.{Option, Some, None, ◌==◌, MatchBool}
+use Rattle.std.specs.List.{AllByRecursion}
+use Rattle.std.proofs.lemmas.Bool.Decides.{nat_tests}
+use Rattle.std.proofs.lemmas.List.{append_assoc, append-nil, drop_all, length-drop, length_push}
 use Rattle.pf_values.specs.declared.models.Model.{Model}
 use Rattle.pf_values.specs.meaning.Text.{Text}
 use Rattle.pf_posix.specs.declared.directive_spans.DirectiveSpan.{DirectiveSpan}
-use Rattle.pf_posix.specs.declared.fetches.Fetch.{Fetch}
-use Rattle.pf_values.specs.declared.refusals.RefusalKind.{RefusalKind}
-use Rattle.pf_values.specs.declared.refusals.RefusalKind.TheVariants.{TooLong, TwoTypes}
-use Rattle.pf_posix.specs.declared.partial_specification.Numbering.{Numbering}
-use Rattle.pf_posix.specs.Directives.{directive_between, directives_from}
-use Rattle.pf_posix.specs.Fronts.{IsStateAfter}
-use Rattle.pf_posix.specs.Items.{Byte, SpellsPosixItem, ReadsPosix, Specification, PosixItem, fetched}
-use Rattle.pf_posix.specs.Readings.{Refused, Takes, conflicts, moved, trace_from, verdict_after}
-use Rattle.pf_posix.specs.Refusals.{Follows, numbering_by, numbering_in}
-use Rattle.pf_posix.specs.Stages.{PosixState, Between, Opened, First, Flags, Digits, Star, StarDigits, Placed, Point, Modified}
-use Rattle.pf_posix.specs.States.{PosixStep, posix_step}
+use Rattle.pf_posix.specs.declared.specifications.Specification.{Specification as Read}
+use Rattle.pf_posix.specs.declared.types.ArgumentType.{ArgumentType}
+use Rattle.pf_text.specs.Walks.{HasPassed, IsPercent, IsWalkOver}
+use Rattle.pf_text.specs.declared.walk.Walk.{Walk}
+use Rattle.pf_text.proofs.ReadingLemmas.{moved_over}
+use Rattle.pf_posix.specs.Directives.{HasDirectiveCount, TakesFrom, directive_between, directives_from}
+use Rattle.pf_posix.specs.DirectivesInText.{IsListedBehind, IsListedTo}
+use Rattle.pf_posix.specs.Items.{Byte, HasArguments, PosixItem, ReadsPosix, Specification}
+use Rattle.pf_posix.specs.Laws.{filled}
+use Rattle.pf_posix.specs.PartsInText.{BeginsNoSpecification, IsSpecificationAt, specification_of}
+use Rattle.pf_posix.specs.Specifications.{PosixSpecification}
+use Rattle.pf_posix.specs.Spelling.{SpellsPosix}
 use Rattle.pf_posix.specs.Types.{fetches}
-use Rattle.pf_posix.proofs.Judging.{Arrives, Brings}
+use Rattle.pf_posix.proofs.DirectiveTypes.{all_typed}
+use Rattle.pf_posix.proofs.DirectivesOnce.{some_text}
+use Rattle.pf_posix.proofs.OrderLemmas.{filled_none}
+use Rattle.pf_posix.proofs.PartLemmas.{head_at, same_there, tail_at}
+use Rattle.pf_posix.proofs.PassedLemmas.{walked}
+use Rattle.pf_posix.proofs.SpecificationsOnce.{begins_no_percent}
 
--- the specification that an item is, if it is one
-abbrev pub spans_of : Model → ℕ → ℕ → Text → PosixItem → List DirectiveSpan
-spans_of model begin next t (Byte byte) = []
-spans_of model begin next t (Specification s) = directive_between model begin (begin + length t) next s ∷ []
+behind : (t : Text) (at : ℕ) (first rest : Text) → drop at t ≡ first ++ rest → drop (at + length first) t ≡ rest
+behind t at [] rest e = let same : at + 0 ≡ at = omega arith in ap (λ k. drop k t) same ∙ e
+behind t at (byte ∷ first) rest e =
+    let more = behind t (at + 1) first rest (tail_at t at byte (first ++ rest) e) in
+    let same : at + length (byte ∷ first) ≡ at + 1 + length first = omega arith in
+    ap (λ k. drop k t) same ∙ more
 
-module _ (model : Model) where
-  -- a reading with one more item, and its specifications
-  abbrev pub Pushed : ℕ → ℕ → (whole first : Text) (items : List PosixItem) (item : PosixItem) → ReadsPosix whole items → Type 0
-  Pushed at next whole first items item reads =
-      (more : ReadsPosix (whole ++ first) (items ++ item ∷ []))
-      × (directives_from model at next (whole ++ first) (items ++ item ∷ []) more
-      ≡ directives_from model at next whole items reads ++ spans_of model (at + length whole) (next + length (fetched model items)) first item)
+-- the first item of what is left of a text
+module _ (t : Text) (at : ℕ) (less : at < length t) where
+  abbrev byte_here : ℕ
+  byte_here = get_or t at 0
 
-  pushed_first : (at next : ℕ) (whole first : Text) (item : PosixItem) (reads : whole ≡ []) → SpellsPosixItem first item
-      → Pushed at next whole first [] item reads
-  pushed_first at next whole first item reads spelled = ((first, [], spelled, refl, same), spans item spelled) where
-    same : whole ++ first ≡ first ++ []
-    same = ap (λ w. w ++ first) reads ∙ sym (append-nil first)
+  no_end : ReadsPosix (drop at t) [] → ⊥
+  no_end reads = omega (arith, less, ap length reads, length-drop at t)
 
-    here : at ≡ at + length whole
-    here = omega (arith, ap length reads)
+  -- a specification begins with `%`, and goes on with another byte
+  starts : (text rest : Text) (s : PosixSpecification) → SpellsPosix text s → drop at t ≡ text ++ rest → (byte_here ≡ 37) × ((get_or t (at + 1) 0 == 37) ≡ false)
+  starts text rest s spelled e =
+      let begins = begins_no_percent text s spelled in
+      let split = e ∙ ap (λ u. u ++ rest) begins.3 in
+      let second = head_at t (at + 1) begins.0 (begins.1 ++ rest) (tail_at t at 37 (begins.0 ∷ (begins.1 ++ rest)) split) in
+      (head_at t at 37 (begins.0 ∷ (begins.1 ++ rest)) split, ap (λ b. b == 37) second ∙ begins.2)
 
-    none : next ≡ next + 0
-    none = omega arith
+  -- a byte has one byte, or two if it is `%`
+  module _ (x : ℕ) (later : List PosixItem) (reads : ReadsPosix (drop at t) (Byte x ∷ later)) where
+    one_byte : (byte_here == 37) ≡ false → length reads.0 ≡ 1
+    one_byte other = go (x == 37) reads.2 where
+      go : (b : Bool) → MatchBool b (reads.0 ≡ 37 ∷ 37 ∷ []) ((x ≢ 0) × (reads.0 ≡ x ∷ [])) → length reads.0 ≡ 1
+      go true w =
+          let first = head_at t at 37 (37 ∷ reads.1) (reads.4 ∙ ap (λ u. u ++ reads.1) w) in
+          let no : true ≡ false = ap (λ b. b == 37) (sym first) ∙ other in cc
+      go false w = ap length w.1
 
-    spans : (item : PosixItem) (spelled : SpellsPosixItem first item)
-        → directives_from model at next (whole ++ first) (item ∷ []) (first, [], spelled, refl, same) ≡ spans_of model (at + length whole) (next + 0) first item
-    spans (Byte byte) spelled = refl
-    spans (Specification s) spelled = ap₂ (λ a n. directive_between model a (a + length first) n s ∷ []) here none
+    two_bytes : byte_here ≡ 37 → (length reads.0 ≡ 2) × (get_or t (at + 1) 0 ≡ 37)
+    two_bytes percent = go (x == 37) refl reads.2 where
+      go : (b : Bool) → (x == 37) ≡ b → MatchBool b (reads.0 ≡ 37 ∷ 37 ∷ []) ((x ≢ 0) × (reads.0 ≡ x ∷ []))
+          → (length reads.0 ≡ 2) × (get_or t (at + 1) 0 ≡ 37)
+      go true is w = (ap length w, head_at t (at + 1) 37 reads.1 (tail_at t at 37 (37 ∷ reads.1) (reads.4 ∙ ap (λ u. u ++ reads.1) w)))
+      go false is w =
+          let first = head_at t at x reads.1 (reads.4 ∙ ap (λ u. u ++ reads.1) w.1) in
+          let no : false ≡ true = sym is ∙ ap (λ b. b == 37) (sym first ∙ percent) in cc
 
-  pub pushed : (at next : ℕ) (whole first : Text) (items : List PosixItem) (item : PosixItem) (reads : ReadsPosix whole items) → SpellsPosixItem first item
-      → Pushed at next whole first items item reads
-  pushed at next whole first [] item reads spelled = pushed_first at next whole first item reads spelled
-  pushed at next whole first (Byte byte ∷ items) item reads spelled =
-      let rest = pushed (at + length reads.0) next reads.1 first items item reads.3 spelled in
-      let there : at + length reads.0 + length reads.1 ≡ at + length whole = omega (arith, ap length reads.4, length-append reads.0 reads.1) in (
-        (reads.0, reads.1 ++ first, reads.2, rest.0, ap (λ w. w ++ first) reads.4 ∙ append_assoc reads.0 reads.1 first),
-        rest.1 ∙ ap (λ a. directives_from model (at + length reads.0) next reads.1 items reads.3 ++ spans_of model a
-            (next + length (fetched model items)) first item) there,
-      )
-  pushed at next whole first (Specification s ∷ items) item reads spelled =
-      let rest = pushed (at + length reads.0) (next + length (fetches model s)) reads.1 first items item reads.3 spelled in
-      let there : at + length reads.0 + length reads.1 ≡ at + length whole = omega (arith, ap length reads.4, length-append reads.0 reads.1) in
-      let many : next + length (fetches model s) + length (fetched model items) ≡ next + length (fetches model s ++ fetched model items) = omega
-      (arith, length-append (fetches model s) (fetched model items)) in (
-        (reads.0, reads.1 ++ first, reads.2, rest.0, ap (λ w. w ++ first) reads.4 ∙ append_assoc reads.0 reads.1 first),
-        ap (λ l. directive_between model at (at + length reads.0) next s ∷ l)
-            (rest.1 ∙ ap₂ (λ a n. directives_from model (at + length reads.0)
-            (next + length (fetches model s)) reads.1 items reads.3 ++ spans_of model a n first item) there many),
-      )
+  no_byte : (x : ℕ) (later : List PosixItem) → ReadsPosix (drop at t) (Byte x ∷ later) → byte_here ≡ 37 → (get_or t (at + 1) 0 == 37) ≡ false → ⊥
+  no_byte x later reads percent other =
+      let second = (two_bytes x later reads percent).1 in
+      let no : true ≡ false = ap (λ b. b == 37) (sym second) ∙ other in cc
 
-  -- a byte leads into an item or to its end
-  pub arrived : (numbering : Numbering) (part : Text) (own : List Fetch) (byte : ℕ) (to : PosixState) → to ≢ Between → Arrives model numbering part own byte to
-      → IsStateAfter to (part ++ byte ∷ []) own × Follows numbering (numbering_in to)
-  arrived numbering part own byte Between other h = absurd (other refl)
-  arrived numbering part own byte Opened other h = h
-  arrived numbering part own byte (First n) other h = h
-  arrived numbering part own byte (Flags parts) other h = h
-  arrived numbering part own byte (Digits slot parts n) other h = h
-  arrived numbering part own byte (Star slot parts) other h = h
-  arrived numbering part own byte (StarDigits slot parts n) other h = h
-  arrived numbering part own byte (Placed slot parts) other h = h
-  arrived numbering part own byte (Point parts) other h = h
-  arrived numbering part own byte (Modified parts modifier) other h = h
+  pub some_specification : (items : List PosixItem) → ReadsPosix (drop at t) items → byte_here ≡ 37 → (get_or t (at + 1) 0 == 37) ≡ false
+      → BeginsNoSpecification (drop at t) → ⊥
+  some_specification [] reads percent other none = no_end reads
+  some_specification (Byte x ∷ later) reads percent other none = no_byte x later reads percent other
+  some_specification (Specification s ∷ later) reads percent other none = none reads.0 reads.1 s reads.2.0 reads.4
 
-  pub brought : (numbering : Numbering) (part : Text) (own : List Fetch) (byte : ℕ) (f : Fetch) (to : PosixState) → to ≢ Between
-      → Brings model numbering part own byte f to
-      → IsStateAfter to (part ++ byte ∷ []) (own ++ f ∷ []) × Follows numbering (Some (numbering_by f.number))
-      × (numbering_in to ≡ Some (numbering_by f.number))
-  brought numbering part own byte f Between other h = absurd (other refl)
-  brought numbering part own byte f Opened other h = h
-  brought numbering part own byte f (First n) other h = h
-  brought numbering part own byte f (Flags parts) other h = h
-  brought numbering part own byte f (Digits slot parts n) other h = h
-  brought numbering part own byte f (Star slot parts) other h = h
-  brought numbering part own byte f (StarDigits slot parts n) other h = h
-  brought numbering part own byte f (Placed slot parts) other h = h
-  brought numbering part own byte f (Point parts) other h = h
-  brought numbering part own byte f (Modified parts modifier) other h = h
+module _ (model : Model) (t : Text) (all done : List DirectiveSpan) (at next : ℕ) (h : IsListedTo model t all at next done) where
+  -- after an item
+  moved : (first rest : Text) (later : List PosixItem) (more : ReadsPosix rest later) (fetched : ℕ) (listed : List DirectiveSpan) → drop at t ≡ first ++ rest
+      → all ≡ listed ++ directives_from model (at + length first) fetched rest later more → IsListedTo model t all (at + length first) fetched listed
+  moved first rest later more fetched listed e are =
+      let stop = at + length first in
+      let there = subst (λ u. (reads : ReadsPosix u later) × (directives_from model stop fetched rest later more ≡ directives_from model stop fetched u later reads))
+      (sym (behind t at first rest e)) (more, refl) in
+      record {
+        items = later;
+        reads = there.0;
+        within = omega (arith, h.within, ap length e, length-append first rest, length-drop at t);
+        all_are = are ∙ ap (λ l. listed ++ l) there.1;
+      }
 
-  -- no step of an accepted text is refused
-  takes_none : (all : List Fetch) (kind : RefusalKind) (at : ℕ) → Refused kind at ≡ Takes all → ⊥
-  takes_none all kind at e = cc
+  module _ (less : at < length t) where
+    pub listed_byte : (get_or t at 0 == 37) ≡ false → IsListedTo model t all (at + 1) next done
+    listed_byte other = go h.items h.reads h.all_are where
+      go : (items : List PosixItem) (reads : ReadsPosix (drop at t) items) → all ≡ done ++ directives_from model at next (drop at t) items reads
+          → IsListedTo model t all (at + 1) next done
+      go [] reads e = absurd (no_end t at less reads)
+      go (Byte x ∷ later) reads e =
+          subst (λ n. IsListedTo model t all (at + n) next done) (one_byte t at less x later reads other)
+          (moved reads.0 reads.1 later reads.3 next done reads.4 e)
+      go (Specification s ∷ later) reads e =
+          let first = (starts t at less reads.0 reads.1 s reads.2.0 reads.4).0 in
+          let no : true ≡ false = ap (λ b. b == 37) (sym first) ∙ other in cc
 
-  module _ (seen all : List Fetch) (numbering : Numbering) (state : PosixState) (at byte : ℕ) (rest : Text)
-      (left : verdict_after seen (trace_from model numbering state at (byte ∷ rest)) ≡ Takes all) where
-    step_left : (n : PosixStep) → posix_step model numbering state byte ≡ n
-        → verdict_after seen (moved numbering at n (λ s q. trace_from model s q (at + 1) rest)) ≡ Takes all
-    step_left n e = go (nat_le MAX_TEXT_LEN at) refl where
-      go : (b : Bool) → nat_le MAX_TEXT_LEN at ≡ b → verdict_after seen (moved numbering at n (λ s q. trace_from model s q (at + 1) rest)) ≡ Takes all
-      go true b =
-          let full : verdict_after seen (trace_from model numbering state at (byte ∷ rest)) ≡ Refused TooLong at = rw b refl in
-          absurd (takes_none all TooLong at (sym full ∙ left))
-      go false b =
-          let next : verdict_after seen (trace_from model numbering state at (byte ∷ rest)) ≡ verdict_after seen
-          (moved numbering at (posix_step model numbering state byte) (λ s q. trace_from model s q (at + 1) rest)) = rw b refl in
-          ap (λ m. verdict_after seen (moved numbering at m (λ s q. trace_from model s q (at + 1) rest))) (sym e) ∙ sym next ∙ left
+    module _ (percent : get_or t at 0 ≡ 37) where
+      pub listed_percent : (get_or t (at + 1) 0 == 37) ≡ true → IsListedTo model t all (at + 2) next done
+      listed_percent second = go h.items h.reads h.all_are where
+        go : (items : List PosixItem) (reads : ReadsPosix (drop at t) items) → all ≡ done ++ directives_from model at next (drop at t) items reads
+            → IsListedTo model t all (at + 2) next done
+        go [] reads e = absurd (no_end t at less reads)
+        go (Byte x ∷ later) reads e =
+            subst (λ n. IsListedTo model t all (at + n) next done) (two_bytes t at less x later reads percent).0
+            (moved reads.0 reads.1 later reads.3 next done reads.4 e)
+        go (Specification s ∷ later) reads e =
+            let other = (starts t at less reads.0 reads.1 s reads.2.0 reads.4).1 in
+            let no : true ≡ false = sym second ∙ other in cc
 
-    pub passed_left : (to : PosixState) → posix_step model numbering state byte ≡ Ok (to, None)
-        → verdict_after seen (trace_from model numbering to (at + 1) rest) ≡ Takes all
-    passed_left to e = step_left (Ok (to, None)) e
+      pub listed_specification : (read : Read) (stop : ℕ) → (get_or t (at + 1) 0 == 37) ≡ false → IsSpecificationAt t at (read, stop)
+          → IsListedTo model t all stop (next + length (fetches model (specification_of read)))
+          (done ++ directive_between model at stop next (specification_of read) ∷ [])
+      listed_specification read stop other found = go h.items h.reads h.all_are where
+        After : ℕ → PosixSpecification → Type 0
+        After end s = IsListedTo model t all end (next + length (fetches model s)) (done ++ directive_between model at end next s ∷ [])
 
-    pub fetched_left : (to : PosixState) (f : Fetch) → posix_step model numbering state byte ≡ Ok (to, Some f)
-        → (conflicts seen f ≡ false) × (verdict_after (seen ++ f ∷ []) (trace_from model (numbering_by f.number) to (at + 1) rest) ≡ Takes all)
-    fetched_left to f e = go (conflicts seen f) refl (step_left (Ok (to, Some f)) e) where
-      go : (c : Bool) → conflicts seen f ≡ c → (if c then Refused TwoTypes at else verdict_after (seen ++ f ∷ [])
-          (trace_from model (numbering_by f.number) to (at + 1) rest)) ≡ Takes all
-          → (conflicts seen f ≡ false) × (verdict_after (seen ++ f ∷ []) (trace_from model (numbering_by f.number) to (at + 1) rest) ≡ Takes all)
-      go true c h = absurd (takes_none all TwoTypes at h)
-      go false c h = (c, h)
+        go : (items : List PosixItem) (reads : ReadsPosix (drop at t) items) → all ≡ done ++ directives_from model at next (drop at t) items reads
+            → After stop (specification_of read)
+        go [] reads e = absurd (no_end t at less reads)
+        go (Byte x ∷ later) reads e = absurd (no_byte t at less x later reads percent other)
+        go (Specification s ∷ later) reads e =
+            let there = same_there t at (read, stop) found reads.0 reads.1 s reads.2.0 reads.4 in
+            let end : at + length reads.0 ≡ stop =
+            omega (arith, found.some, found.within, h.within, ap length reads.4, length-append reads.0 reads.1, length-drop at t, ap length there.1, length-drop stop t) in
+            let span = directive_between model at (at + length reads.0) next s in
+            let fetched = next + length (fetches model s) in
+            let now = moved reads.0 reads.1 later reads.3 fetched (done ++ span ∷ []) reads.4
+            (e ∙ sym (append_assoc done (span ∷ []) (directives_from model (at + length reads.0) fetched reads.1 later reads.3))) in
+            subst (After stop) (sym there.0) (subst (λ k. After k s) end now)
+
+pub other_byte : (byte : ℕ) → byte ≢ 37 → (byte == 37) ≡ false
+other_byte byte h = grind (arith, nat_tests)
+
+-- a walk through an accepted text, whose specifications by then are at the front of a slice
+pub record IsListing (model : Model) (t : Text) (walk : Walk) (fetched count : ℕ) (old new : List DirectiveSpan) : Type 0 where
+  pub types : List ArgumentType
+  pub given : HasArguments model t types
+  pub done : List DirectiveSpan
+  pub listed : IsListedTo model t (directives_from model 0 0 t given.items given.reads) walk.at fetched done
+  pub over : IsWalkOver t walk
+  pub count_is : count ≡ length done
+  pub front : new ≡ filled old done
+  pub few : count ≤ walk.at
+  pub few_fetched : fetched ≤ 3 * walk.at
+
+module _ (model : Model) (t : Text) where
+  -- before the first item
+  pub listing_starts : (types : List ArgumentType) → HasArguments model t types → (walk : Walk) → IsWalkOver t walk → walk.at ≡ 0 → (old : List DirectiveSpan)
+      → IsListing model t walk 0 0 old old
+  listing_starts types given walk over start old =
+      let all = directives_from model 0 0 t given.items given.reads in
+      record {
+        types = types;
+        given = given;
+        done = [];
+        listed = subst (λ k. IsListedTo model t all k 0 []) (sym start)
+            (record { items = given.items; reads = given.reads; within = omega arith; all_are = refl });
+        over = over;
+        count_is = refl;
+        front = sym (filled_none old);
+        few = omega arith;
+        few_fetched = omega arith;
+      }
+
+  module _ (walk : Walk) (fetched count : ℕ) (old new : List DirectiveSpan) (h : IsListing model t walk fetched count old new) where
+    abbrev all : List DirectiveSpan
+    all = directives_from model 0 0 t h.given.items h.given.reads
+
+    -- what a walk passes after an item
+    behind_item : (after : Walk) (end next : ℕ) (done : List DirectiveSpan) → HasPassed IsPercent (record walk { at = end }) after
+        → IsListedTo model t all end next done
+        → IsWalkOver t after × (after.at ≤ length t) × IsListedTo model t all after.at next done × (after.text.now ≡ t)
+    behind_item after end next done passed listed =
+        walked t (λ k. IsListedTo model t all k next done)
+        (λ k b less is other some now. listed_byte model t all done k next now less (ap (λ x. x == 37) is ∙ other_byte b other))
+        (λ k less first second now. listed_percent model t all done k next now (omega (arith, less)) first (ap (λ x. x == 37) second))
+        h.given.limit (record walk { at = end }) after (moved_over t walk end h.over) listed.within passed listed
+
+    module _ (after : Walk) (end : ℕ) (low : walk.at < end) (passed : HasPassed IsPercent (record walk { at = end }) after) where
+      pub listing_passed : (found : Option Read) → ((read : Read) → found ≡ Some read → ⊥) → IsListedBehind model t all walk.at fetched h.done found end
+          → IsListing model t after fetched count old new
+      listing_passed (Some read) other listed = absurd (other read refl)
+      listing_passed None other listed =
+          let now = behind_item after end fetched h.done passed listed in
+          record {
+            types = h.types;
+            given = h.given;
+            done = h.done;
+            listed = now.2;
+            over = now.0;
+            count_is = h.count_is;
+            front = h.front;
+            few = omega (arith, h.few, low, passed.from);
+            few_fetched = omega (arith, h.few_fetched, low, passed.from);
+          }
+
+      pub listing_found : (found : Option Read) (read : Read) → found ≡ Some read → IsListedBehind model t all walk.at fetched h.done found end
+          → (span : DirectiveSpan) → span ≡ directive_between model walk.at end fetched (specification_of read)
+          → (more : ℕ) → more ≡ length (fetches model (specification_of read)) → more ≤ 3
+          → (put : List DirectiveSpan)
+          → ((start before : List DirectiveSpan) → new ≡ filled start before → count ≡ length before → put ≡ filled start (before ++ span ∷ []))
+          → IsListing model t after (fetched + more) (count + 1) old put
+      listing_found found read is listed span spanned more counted many put puts =
+          let there = subst (λ o. IsListedBehind model t all walk.at fetched h.done o end) is listed in
+          let span_there = subst (λ d. IsListedTo model t all end (fetched + length (fetches model (specification_of read))) (h.done ++ d ∷ [])) (sym spanned) there in
+          let all_there = subst (λ n. IsListedTo model t all end (fetched + n) (h.done ++ span ∷ [])) (sym counted) span_there in
+          let now = behind_item after end (fetched + more) (h.done ++ span ∷ []) passed all_there in
+          record {
+            types = h.types;
+            given = h.given;
+            done = h.done ++ span ∷ [];
+            listed = now.2;
+            over = now.0;
+            count_is = omega (arith, h.count_is, length_push h.done span);
+            front = puts old h.done h.front h.count_is;
+            few = omega (arith, h.few, low, passed.from);
+            few_fetched = omega (arith, h.few_fetched, low, passed.from, many);
+          }
+
+    -- after the last item
+    pub listing_ends : length t ≤ walk.at → HasDirectiveCount model t old new count
+    listing_ends over = go h.listed.items h.listed.reads h.listed.all_are where
+      none : drop walk.at t ≡ []
+      none = drop_all walk.at t over
+
+      go : (items : List PosixItem) (reads : ReadsPosix (drop walk.at t) items) → all ≡ h.done ++ directives_from model walk.at fetched (drop walk.at t) items reads
+          → HasDirectiveCount model t old new count
+      go (item ∷ later) reads e = absurd (some_text reads.0 reads.1 item reads.2 (sym reads.4 ∙ none))
+      go [] reads e =
+          let are : h.done ≡ all = sym (append-nil h.done) ∙ sym e in
+          record {
+            directives = h.done;
+            listed = record {
+              types = h.types;
+              accepted = h.given;
+              directives_are = are;
+              typed = subst (AllByRecursion (TakesFrom h.types)) (sym are) (all_typed model h.types t h.given.items h.given.reads h.given.types_are);
+            };
+            count_is = h.count_is;
+            front = h.front;
+          }

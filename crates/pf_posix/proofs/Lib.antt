@@ -10,7 +10,7 @@ pub mod Telling
 pub mod WalkLemmas
 pub mod TwoByteLemmas
 pub mod OrderLemmas
-pub mod PlainLemmas
+pub mod PassedLemmas
 pub mod PlainFrontLemmas
 pub mod TableLemmas
 pub mod Running
@@ -35,9 +35,6 @@ pub mod PartLemmas
 pub mod StretchLemmas
 mod KindLemmas
 mod Examples
-pub mod SpecificationBytes
-pub mod StarLemmas
 pub mod DirectiveTypes
-pub mod DirectiveLemmas
-pub mod DirectiveSteps
 pub mod DirectivesOnce
+pub mod DirectiveLemmas

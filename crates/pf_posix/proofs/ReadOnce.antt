@@ -39,7 +39,7 @@ no_end byte t rest e f = go (byte == 37) (sym e ∙ f) where
   go false e = cc
 
 no_directive_end : (t first rest : Text) (s : PosixSpecification) → HasParts first s → t ≡ [] → t ≡ first ++ rest → ⊥
-no_directive_end t first rest s h e f = let parts = begins_no_percent first s h in let no : [] ≡ 37 ∷ (parts.0 ∷ (parts.1 ++ rest)) = sym e ∙ f
+no_directive_end t first rest s h e f = let parts = begins_no_percent first s h.spelled in let no : [] ≡ 37 ∷ (parts.0 ∷ (parts.1 ++ rest)) = sym e ∙ f
     ∙ ap (λ u. u ++ rest) parts.3 in cc
 
 above_tests : (x y : ℕ) → (x == 37) ≡ true → (y == 37) ≡ true → x ≡ y
@@ -55,7 +55,7 @@ same_byte x y r q e = go (x == 37) (y == 37) refl refl e where
 
 no_byte : (x : ℕ) (first r q : Text) (s : PosixSpecification) → HasParts first s → spelled_byte x ++ r ≡ first ++ q → ⊥
 no_byte x first r q s h e =
-    let parts = begins_no_percent first s h in
+    let parts = begins_no_percent first s h.spelled in
     go parts.0 parts.1 (x == 37) refl parts.2 (e ∙ ap (λ u. u ++ q) parts.3) where
       go : (second : ℕ) (more : Text) (b : Bool) → (x == 37) ≡ b → (second == 37) ≡ false
           → (if b then 37 ∷ 37 ∷ [] else x ∷ []) ++ r ≡ 37 ∷ (second ∷ (more ++ q)) → ⊥

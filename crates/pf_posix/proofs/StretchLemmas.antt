@@ -1,7 +1,7 @@
 -- Stretches of a text, one after another.
 use Rattle.std.proofs.Common.{◌≡◌, ◌≢◌, ℕ, zero, suc, ◌+◌, ◌-◌, ◌<◌, ◌≤◌, Bool, true, false, List, [], ◌∷◌, ◌++◌, drop, get_or, length, length-append, take}
 use Rattle.std.proofs.Common.{refl, sym, ap, ◌∙◌, arith, subst}
-use Rattle.std.specs.Prelude.{Option, Some, None, IsSomeAnd, MatchBool, ◌==◌}
+use Rattle.std.specs.Prelude.{Some, None, MatchBool, ◌==◌}
 use Rattle.std.specs.List.{AllByRecursion}
 use Rattle.std.proofs.lemmas.Bool.{eqb-true}
 use Rattle.std.proofs.lemmas.Bool.Decides.{nat_tests}
@@ -11,13 +11,14 @@ use Rattle.pf_values.specs.meaning.Items.{Byte, Directive, Item, Reads}
 use Rattle.pf_values.specs.meaning.Text.{Text}
 use Rattle.pf_text.proofs.CanonicalRunLemmas.{Reads-append}
 use Rattle.pf_posix.specs.declared.opaque_directives.OpaqueDirective.{OpaqueDirective}
+use Rattle.pf_posix.specs.declared.specifications.Specification.{Specification}
 use Rattle.pf_posix.specs.declared.stretches.Found.TheVariants as found
 use Rattle.pf_posix.specs.Defined.{IsPosixDefined}
 use Rattle.pf_posix.specs.Heads.{IsHead}
 use Rattle.pf_posix.specs.Items.{Byte as PosixByte, PosixItem, ReadsPosix, Specification as PosixDirective}
 use Rattle.pf_posix.specs.Opaque.{SpellsOpaque, is_opaque}
 use Rattle.pf_posix.specs.OpaqueParts.{parts_of_opaque}
-use Rattle.pf_posix.specs.PartsInText.{SpecificationIs}
+use Rattle.pf_posix.specs.PartsInText.{BeginsNoSpecification, IsSpecificationAt}
 use Rattle.pf_posix.specs.Specifications.{PosixSpecification}
 use Rattle.pf_posix.specs.Spelling.{SpellsPosix}
 use Rattle.pf_posix.specs.Stretches.{Stretches, Last, Before, ReadsWhole}
@@ -25,7 +26,7 @@ use Rattle.pf_posix.specs.StretchesInText.{IsFound, push, push_all}
 use Rattle.pf_posix.specs.Unnumbered.{IsUnnumbered}
 use Rattle.pf_posix.proofs.KeptTypes.{posix_reads, unnumbered}
 use Rattle.pf_posix.proofs.Narrowed.{narrowed, reads_whole}
-use Rattle.pf_posix.proofs.PartLemmas.{head_at}
+use Rattle.pf_posix.proofs.PartLemmas.{head_at, same_there, unnumbered_parts}
 use Rattle.pf_posix.proofs.ReadOnce.{flat, narrow, push_all-before, push_all-last, pushed_or, read_once, stretched, stretches_back}
 use Rattle.pf_posix.proofs.SpecificationsOnce.{begins_no_percent, parts_of}
 use Rattle.pf_posix.proofs.WalkLemmas.{literal}
@@ -74,7 +75,7 @@ percent_items : (more : Text) (items : List PosixItem) → ReadsPosix (37 ∷ 37
 percent_items more [] h u = cc
 percent_items more (PosixDirective s ∷ items) h u =
     let parts = parts_of h.0 s h.2.0 u.0 in
-    let begins = begins_no_percent h.0 s parts in
+    let begins = begins_no_percent h.0 s h.2.0 in
     let split : 37 ∷ 37 ∷ more ≡ 37 ∷ (begins.0 ∷ (begins.1 ++ h.1)) = h.4 ∙ ap (λ t. t ++ h.1) begins.3 in
     let second : begins.0 ≡ 37 = cc in
     let yes : (begins.0 == 37) ≡ true = ap (λ b. b == 37) second in
@@ -281,18 +282,24 @@ module _ (t : Text) where
     directive_there = flat_read (FirstDirective (37 ∷ drop (at + 1) t)) (37 ∷ drop (at + 1) t) left (subst (λ u. ReadsWhole u left) here h)
         (λ items g u. directive_items (drop (at + 1) t) items no_second g u)
 
-    read_there : (result : Option (OpaqueDirective × ℕ)) → SpecificationIs t at result
-        → IsSomeAnd result (λ front. (parts_of_opaque front.0 ≡ FirstDirective.s directive_there) × (drop front.1 t ≡ FirstDirective.rest directive_there))
-    read_there result g = let d = directive_there in g d.first d.rest d.s d.spelled d.unnumbered_is (here ∙ d.split)
+    pub no_specification : BeginsNoSpecification (drop at t) → ⊥
+    no_specification g = let d = directive_there in g d.first d.rest d.s d.spelled (here ∙ d.split)
 
-    pub no_specification : SpecificationIs t at None → ⊥
-    no_specification g = read_there None g
+    module _ (read : Specification) (stop : ℕ) (g : IsSpecificationAt t at (read, stop)) where
+      read_there : (parts_of_opaque read.parts ≡ FirstDirective.s directive_there) × (drop stop t ≡ FirstDirective.rest directive_there)
+      read_there =
+          let d = directive_there in
+          let same = same_there t at (read, stop) g d.first d.rest d.s d.spelled (here ∙ d.split) in
+          let unnumbered = ap PosixSpecification.position same.0 ∙ d.unnumbered_is in
+          (unnumbered_parts d.first read (subst (SpellsPosix d.first) (sym same.0) d.spelled) unnumbered ∙ same.0, same.1)
 
-    module _ (directive : OpaqueDirective) (stop : ℕ) (g : SpecificationIs t at (Some (directive, stop))) where
+      abbrev directive : OpaqueDirective
+      directive = read.parts
+
       pub found_opaque : is_opaque (parts_of_opaque directive) ≡ true → IsFound t at left (found.Opaque directive stop)
       found_opaque o =
           let d = directive_there in
-          let r = read_there (Some (directive, stop)) g in
+          let r = read_there in
           let s = parts_of_opaque directive in
           let same : d.s ≡ s = sym r.0 in
           let opaque : is_opaque d.s ≡ true = ap is_opaque same ∙ o in (
@@ -312,7 +319,7 @@ module _ (t : Text) where
       pub found_directive : is_opaque (parts_of_opaque directive) ≡ false → IsFound t at left (found.Items stop)
       found_directive o =
           let d = directive_there in
-          let r = read_there (Some (directive, stop)) g in
+          let r = read_there in
           let opaque : is_opaque d.s ≡ false = ap is_opaque (sym r.0) ∙ o in (
             Directive (narrow d.s) ∷ [],
             d.first,

@@ -24,6 +24,6 @@ pub mod PartsInText
 pub mod StretchesInText
 pub mod Steps
 pub mod Directives
-pub mod DirectiveWalks
+pub mod DirectivesInText
 pub mod Within
 pub mod Plain

@@ -1,5 +1,5 @@
 -- The parts of an opaque directive, as the code holds them.
-use Rattle.std.specs.Prelude.{Option, Some, None}
+use Rattle.std.specs.Prelude.{ℕ, Option, Some, None}
 use Rattle.pf_posix.specs.Specifications.{Amount, Given, Fetched, PosixSpecification}
 use Rattle.pf_posix.specs.declared.opaque_directives.OpaqueDirective.{OpaqueDirective}
 use Rattle.pf_posix.specs.declared.opaque_directives.OpaqueAmount.{OpaqueAmount}
@@ -10,6 +10,12 @@ abbrev pub amount_of : Option OpaqueAmount → Option Amount
 amount_of None = None
 amount_of (Some (amounts.Number n)) = Some (Given n)
 amount_of (Some amounts.Star) = Some (Fetched None)
+
+-- so it is with the number of its argument, which only a `*` has
+abbrev pub amount_at : Option OpaqueAmount → Option ℕ → Option Amount
+amount_at None number = None
+amount_at (Some (amounts.Number n)) number = Some (Given n)
+amount_at (Some amounts.Star) number = Some (Fetched number)
 
 -- the specification with the directive's parts
 abbrev pub parts_of_opaque : OpaqueDirective → PosixSpecification

@@ -1,26 +1,22 @@
--- What the parts of a specification without numbers are from an offset of a text on, as the code reads
--- them. Each says what is answered if the part is spelled there, and nothing that could belong to the
--- part comes after it. No public contract names these.
-use Rattle.std.specs.Prelude.{◌≡◌, ℕ, ◌<◌, ◌≤◌, Bool, false, ◌||◌, ◌==◌, List, [], ◌∷◌, ◌++◌, drop, map, Option, Some, None, IsSomeAnd, if◌then◌else◌, ⊤}
-use Rattle.std.specs.Fmt.{digit_glyph}
-use Rattle.std.specs.Int.Digits.{number_from_digits_after}
-use Rattle.std.specs.List.{AllByRecursion}
+-- What the parts of a specification are from an offset of a text on, as the code reads them. Each says
+-- what is answered if the part is spelled there, and nothing that could belong to the part comes after
+-- it. No public contract names these.
+use Rattle.std.specs.Prelude.{◌≡◌, ℕ, ◌-◌, ◌<◌, ◌≤◌, Bool, false, ◌||◌, ◌==◌, List, [], ◌∷◌, ◌++◌, drop, is_some, length, map, take, Option, Some, None, IsSomeAnd, if◌then◌else◌, ⊤}
 use Rattle.pf_values.specs.declared.flags.Flag.{Flag}
 use Rattle.pf_values.specs.declared.flags.FlagSet.{FlagSet}
 use Rattle.pf_values.specs.declared.lengths.Length.TheVariants as lengths
-use Rattle.pf_values.specs.declared.limits.TheConstants.{MAX_NUMBER}
 use Rattle.pf_values.specs.meaning.Flags.{flag_byte, flag_set}
-use Rattle.pf_values.specs.meaning.Text.{Text, point, star}
+use Rattle.pf_values.specs.meaning.Text.{Text, dollar, point, star}
 use Rattle.pf_text.specs.States.{is_digit}
 use Rattle.pf_posix.specs.declared.conversions.Conversion.{Conversion}
 use Rattle.pf_posix.specs.declared.conversions.Modifier.{Modifier}
 use Rattle.pf_posix.specs.declared.conversions.Modifier.TheVariants.{Integer}
 use Rattle.pf_posix.specs.declared.opaque_directives.OpaqueAmount.{OpaqueAmount}
-use Rattle.pf_posix.specs.declared.opaque_directives.OpaqueDirective.{OpaqueDirective}
+use Rattle.pf_posix.specs.declared.specifications.Specification.{Specification}
 use Rattle.pf_posix.specs.Letters.{length_modifier_of}
-use Rattle.pf_posix.specs.OpaqueParts.{amount_of, parts_of_opaque}
+use Rattle.pf_posix.specs.OpaqueParts.{amount_at}
 use Rattle.pf_posix.specs.Specifications.{Amount, PosixSpecification, conversion_letter, modifier_letters}
-use Rattle.pf_posix.specs.Spelling.{SpellsPosix, SpellsPosixPrecision, SpellsPosixWidth}
+use Rattle.pf_posix.specs.Spelling.{SpellsPosition, SpellsPosix, SpellsPosixPrecision, SpellsPosixWidth}
 
 -- the test refuses the first byte, if there is one
 abbrev pub BeginsOutside : (ℕ → Bool) → Text → Type 0
@@ -33,44 +29,63 @@ is_flag byte =
     byte == 45 || byte == 43 || byte == 32 || byte == 35 || byte == 48 || byte == 39
 
 abbrev pub is_width : ℕ → Bool
-is_width byte = is_digit byte || byte == star
+is_width byte = is_digit byte || byte == star || byte == dollar
 
 abbrev pub is_precision : ℕ → Bool
-is_precision byte = is_digit byte || byte == star || byte == point
+is_precision byte = is_digit byte || byte == star || byte == point || byte == dollar
+
+-- `$` comes after the digits of a text, which may have none
+abbrev pub dollar_follows : Text → Bool
+dollar_follows [] = false
+dollar_follows (byte ∷ t) = if is_digit byte then dollar_follows t else byte == dollar
+
+-- the parts that the code has read
+abbrev pub specification_of : Specification → PosixSpecification
+specification_of read = record {
+  position = read.position;
+  flags = read.parts.flags;
+  width = amount_at read.parts.width read.width_position;
+  precision = amount_at read.parts.precision read.precision_position;
+  modifier = read.parts.modifier;
+  conversion = read.parts.conversion;
+}
+
+-- the number of an argument, or none
+abbrev pub PositionIs : Text → ℕ → Option ℕ → ℕ → Type 0
+PositionIs t start number stop = (text rest : Text) (position : Option ℕ)
+    → SpellsPosition text position → dollar_follows rest ≡ false → drop start t ≡ text ++ rest
+    → (number ≡ position) × (drop stop t ≡ rest)
 
 -- flags
 abbrev pub FlagsAre : Text → ℕ → FlagSet → ℕ → Type 0
 FlagsAre t start set stop = (flags : List Flag) (rest : Text) → BeginsOutside is_flag rest
     → drop start t ≡ map flag_byte flags ++ rest → (set ≡ flag_set flags) × (drop stop t ≡ rest)
 
--- digits that go on with a number, which stays within the limit
-abbrev pub DigitsAre : Text → ℕ → ℕ → Option (ℕ × ℕ) → Type 0
-DigitsAre t start first result = (digits : List ℕ) (rest : Text)
-    → AllByRecursion (λ d. d < 10) digits → BeginsOutside is_digit rest
-    → number_from_digits_after 10 first digits ≤ MAX_NUMBER
-    → drop start t ≡ map (digit_glyph false) digits ++ rest
-    → IsSomeAnd result (λ front. (front.0 ≡ number_from_digits_after 10 first digits)
-    × (drop front.1 t ≡ rest))
+-- what comes after a `*`: the number of its argument in a numbered specification alone
+abbrev pub StarIs : Text → ℕ → Option ℕ → Option (Option ℕ × ℕ) → Type 0
+StarIs t start position result = (text rest : Text) (number : Option ℕ) → SpellsPosition text number
+    → is_some number ≡ is_some position → dollar_follows rest ≡ false → drop start t ≡ text ++ rest
+    → IsSomeAnd result (λ read. (read.0 ≡ number) × (drop read.1 t ≡ rest))
 
 -- a width, or none
-abbrev pub WidthIs : Text → ℕ → Option (Option OpaqueAmount × ℕ) → Type 0
-WidthIs t start result = (text rest : Text) (width : Option Amount)
-    → SpellsPosixWidth text None width → BeginsOutside is_width rest → drop start t ≡ text ++ rest
-    → IsSomeAnd result (λ front. (amount_of front.0 ≡ width) × (drop front.1 t ≡ rest))
+abbrev pub WidthIs : Text → ℕ → Option ℕ → Option (Option OpaqueAmount × Option ℕ × ℕ) → Type 0
+WidthIs t start position result = (text rest : Text) (width : Option Amount)
+    → SpellsPosixWidth text position width → BeginsOutside is_width rest → drop start t ≡ text ++ rest
+    → IsSomeAnd result (λ read. (amount_at read.0 read.1 ≡ width) × (drop read.2 t ≡ rest))
 
 -- a precision, or none
-abbrev pub PrecisionIs : Text → ℕ → Option (Option OpaqueAmount × ℕ) → Type 0
-PrecisionIs t start result = (text rest : Text) (precision : Option Amount)
-    → SpellsPosixPrecision text None precision → BeginsOutside is_precision rest
+abbrev pub PrecisionIs : Text → ℕ → Option ℕ → Option (Option OpaqueAmount × Option ℕ × ℕ) → Type 0
+PrecisionIs t start position result = (text rest : Text) (precision : Option Amount)
+    → SpellsPosixPrecision text position precision → BeginsOutside is_precision rest
     → drop start t ≡ text ++ rest
-    → IsSomeAnd result (λ front. (amount_of front.0 ≡ precision) × (drop front.1 t ≡ rest))
+    → IsSomeAnd result (λ read. (amount_at read.0 read.1 ≡ precision) × (drop read.2 t ≡ rest))
 
 -- what comes after the point of a precision
-abbrev pub IsAfterPoint : Text → ℕ → Option (OpaqueAmount × ℕ) → Type 0
-IsAfterPoint t start result = (text rest : Text) (precision : Option Amount)
-    → SpellsPosixPrecision (point ∷ text) None precision → BeginsOutside is_precision rest
+abbrev pub IsAfterPoint : Text → ℕ → Option ℕ → Option (OpaqueAmount × Option ℕ × ℕ) → Type 0
+IsAfterPoint t start position result = (text rest : Text) (precision : Option Amount)
+    → SpellsPosixPrecision (point ∷ text) position precision → BeginsOutside is_precision rest
     → drop start t ≡ text ++ rest
-    → IsSomeAnd result (λ front. (amount_of (Some front.0) ≡ precision) × (drop front.1 t ≡ rest))
+    → IsSomeAnd result (λ read. (amount_at (Some read.0) read.1 ≡ precision) × (drop read.2 t ≡ rest))
 
 -- the modifier of two letters that this byte ends, if it does (C11 7.21.6.1 p7)
 abbrev pub second_modifier : Modifier → ℕ → Option Modifier
@@ -97,8 +112,13 @@ abbrev pub ConversionIs : Text → ℕ → Option Conversion → Type 0
 ConversionIs t at result = (conversion : Conversion) (rest : Text)
     → drop at t ≡ conversion_letter conversion ∷ rest → result ≡ Some conversion
 
--- a whole specification
-abbrev pub SpecificationIs : Text → ℕ → Option (OpaqueDirective × ℕ) → Type 0
-SpecificationIs t start result = (text rest : Text) (s : PosixSpecification)
-    → SpellsPosix text s → s.position ≡ None → drop start t ≡ text ++ rest
-    → IsSomeAnd result (λ front. (parts_of_opaque front.0 ≡ s) × (drop front.1 t ≡ rest))
+-- the bytes from an offset up to another spell a specification
+pub record IsSpecificationAt (t : Text) (start : ℕ) (found : Specification × ℕ) : Type 0 where
+  pub some : start < found.1
+  pub within : found.1 ≤ length t
+  pub spelled : SpellsPosix (take (found.1 - start) (drop start t)) (specification_of found.0)
+
+-- no specification begins a text
+abbrev pub BeginsNoSpecification : Text → Type 0
+BeginsNoSpecification t = (text rest : Text) (s : PosixSpecification) → SpellsPosix text s
+    → t ≡ text ++ rest → ⊥

@@ -1,23 +1,23 @@
 //! The conversion specifications of a format: which bytes they are, and which arguments they take.
-ghost use Rattle.std.specs.Prelude.{◌≡◌, ◌≢◌, ◌<◌, ◌≤◌, ◌+◌, ◌++◌, ◌∷◌, [], List, length, MatchOption, MatchResult, take, drop, ◌-◌};
-ghost use Rattle.pf_values.specs.declared.models.Model.{Model};
-ghost use Rattle.pf_values.specs.meaning.Text.{Text};
-ghost use Rattle.pf_posix.specs.declared.types.ArgumentType.{ArgumentType as ArgumentTypeOf};
+ghost use Rattle.std.specs.Prelude.{◌≡◌, ◌<◌, ◌≤◌, ◌*◌, ℕ, List, Option, length, drop, MatchResult};
+ghost use Rattle.pf_values.specs.declared.limits.TheConstants.{MAX_TEXT_LEN as LIMIT};
+ghost use Rattle.pf_values.specs.declared.models.Model.{Model as ModelOf};
 ghost use Rattle.pf_posix.specs.declared.directive_spans.DirectiveSpan.{DirectiveSpan as DirectiveSpanOf};
-ghost use Rattle.pf_posix.specs.Directives.{FaultForDirectives, HasDirectiveCount, HasDirectives, argument_index};
-ghost use Rattle.pf_posix.specs.DirectiveWalks.{IsWalkedTo, begins_with_star, directive_by, has_star_precision, precision_star, walk_behind, walk_in, width_star};
-ghost use Rattle.pf_posix.specs.Items.{HasArguments, IsPosixAccepted};
-ghost use Rattle.pf_posix.specs.Refusals.{IsPosixRefusedAt, numbering_by};
-ghost use Rattle.pf_posix.specs.Stages.{Between, posix_state_of};
+ghost use Rattle.pf_posix.specs.Directives.{FaultForDirectives, HasDirectiveCount, HasDirectives, argument_index, directive_between, star_index};
+ghost use Rattle.pf_posix.specs.DirectivesInText.{IsListedBehind, IsListedTo};
+ghost use Rattle.pf_posix.specs.Items.{IsPosixAccepted, PosixItem, ReadsPosix};
+ghost use Rattle.pf_posix.specs.OpaqueParts.{amount_at};
+ghost use Rattle.pf_posix.specs.PartsInText.{specification_of};
+ghost use Rattle.pf_posix.specs.Refusals.{IsPosixRefusedAt};
+ghost use Rattle.pf_posix.specs.Types.{fetches, star_fetches};
 
 use crate::argument_types::{arguments, room_for};
-use crate::automaton::{Automaton, Move};
-use crate::fetches::Fetch;
-use crate::partial_specification::Numbering;
-use crate::reader::numbering_by;
+use crate::fetches::conversion_type;
+use crate::opaque_directives::{OpaqueAmount, is_star};
+use crate::specifications::{Specification, has_byte, specification_at};
 use crate::tables::put;
 use crate::types::ArgumentType;
-use pf_text::{Refusal, TextFault};
+use pf_text::{Percents, Refusal, TextFault, Walk};
 use pf_values::Model;
 use std::alloc::{AllocError, Global};
 
@@ -87,200 +87,104 @@ fn put_directives(model: Model, text: &[u8], out: &mut [DirectiveSpan]) -> u64
     ensures directives { HasDirectiveCount model text.now out.old out.new result }
     ensures length { length out.new ≡ length out.old }
 {
-    let mut walk = DirectiveWalk::new();
+    let mut walk = Walk::new(text);
     let mut count: usize = 0;
+    let mut fetched: u64 = 0;
     while walk.at < text.len() {
-        if let Some(directive) = walk.take_byte(model, text) {
-            put(out, count, directive);
+        let begin = walk.at;
+        let (read, end) = item_at(text, begin);
+        walk.at = end;
+        walk.find::<Percents>();
+        if let Some(read) = read {
+            put(out, count, span_between(model, begin, end, fetched, &read));
             count += 1;
+            fetched += fetch_count(&read);
         }
     }
     count as u64
 }
 
-/// What was read of an accepted format.
-#[derive(Clone, Copy, Debug)]
-pub(crate) struct DirectiveWalk {
-    automaton: Automaton,
-    numbering: Numbering,
-    /// How many bytes were read.
-    at: usize,
-    /// The offset of the item that is being read.
-    begin: usize,
-    /// How many arguments were fetched.
-    fetched: u64,
-    /// The argument that the item's last `*` fetched.
-    star: Option<u64>,
-    /// The argument that the `*` before that one fetched.
-    earlier_star: Option<u64>,
+// The item at an offset of an accepted format, if it is a specification and no byte; and where it ends.
+#[inline(always)]
+fn item_at(text: &[u8], at: usize) -> (Option<Specification>, usize)
+    requires within { at < length text.now }
+    requires reads { (items : List PosixItem) × ReadsPosix (drop at text.now) items }
+    ensures further { at < result.1 }
+    ensures listed { (model : ModelOf) (all done : List DirectiveSpanOf) (next : ℕ) → IsListedTo model text.now all at next done
+        → IsListedBehind model text.now all at next done result.0 result.1 }
+{
+    if text[at] != b'%' {
+        return (None, at + 1);
+    }
+    if has_byte(text, at + 1, b'%') {
+        return (None, at + 2);
+    }
+    let Some((read, end)) = specification_at(text, at) else {
+        unreachable!();
+    };
+    (Some(read), end)
 }
 
-impl DirectiveWalk {
-    // A walk before the first byte.
-    fn new() -> DirectiveWalk
-        ensures at { result.at ≡ 0 }
-        ensures begin { result.begin ≡ 0 }
-        ensures fetched { result.fetched ≡ 0 }
-        ensures walked { (model : Model) (t : Text) (types : List ArgumentTypeOf)
-            → HasArguments model t types → IsWalkedTo model t result [] }
-    {
-        DirectiveWalk {
-            automaton: Automaton::new(),
-            numbering: Numbering::Undecided,
-            at: 0,
-            begin: 0,
-            fetched: 0,
-            star: None,
-            earlier_star: None,
-        }
+// The specification between two offsets, if so many arguments were fetched before it.
+#[inline(always)]
+fn span_between(
+    model: Model,
+    begin: usize,
+    end: usize,
+    next: u64,
+    read: &Specification,
+) -> DirectiveSpan
+    requires { next ≤ 3 * LIMIT }
+    ensures { result ≡ directive_between model begin end next (specification_of read.now) }
+{
+    let parts = read.parts;
+    let after_width = next + star_count(parts.width);
+    DirectiveSpan {
+        begin: begin as u64,
+        end: end as u64,
+        argument: argument_index(read.position, after_width + star_count(parts.precision)),
+        width_argument: star_index(parts.width, read.width_position, next),
+        precision_argument: star_index(parts.precision, read.precision_position, after_width),
+        kind: conversion_type(model, parts.modifier, parts.conversion),
     }
+}
 
-    // Reads one more byte, and returns the specification that it ends, if it ends one.
-    fn take_byte(&mut self, model: Model, text: &[u8]) -> Option<DirectiveSpan>
-        requires within { self.old.at < length text.now }
-        requires begun { self.old.begin ≤ self.old.at }
-        requires few { self.old.fetched ≤ self.old.at }
-        ensures at { self.new.at ≡ self.old.at + 1 }
-        ensures begun { self.new.begin ≤ self.new.at }
-        ensures few { self.new.fetched ≤ self.new.at }
-        ensures walked { (done : List DirectiveSpanOf) → IsWalkedTo model text.now self.old done
-            → MatchOption result (IsWalkedTo model text.now self.new done)
-            (λ d. IsWalkedTo model text.now self.new (done ++ d ∷ [])) }
-    {
-        let moved = self.automaton.step(model, self.numbering, text[self.at]);
-        self.at += 1;
-        match moved {
-            Ok(moved) => match moved {
-                Move::Fetched => self.take_fetch(text),
-                Move::More => {
-                    self.pass_literal();
-                    None
-                }
-            },
-            // No byte of an accepted format is refused.
-            Err(_) => None,
-        }
-    }
+// How many arguments a specification fetches.
+#[inline(always)]
+fn fetch_count(read: &Specification) -> u64
+    ensures count { (model : ModelOf) → result ≡ length (fetches model (specification_of read.now)) }
+    ensures few { result ≤ 3 }
+{
+    1 + star_count(read.parts.width) + star_count(read.parts.precision)
+}
 
-    // Starts a new item after one that isn't a specification.
-    fn pass_literal(&mut self)
-        ensures between { posix_state_of self.old.automaton ≡ Between
-            → self.new ≡ record self.old { begin = self.old.at } }
-        ensures inside { posix_state_of self.old.automaton ≢ Between → self.new ≡ self.old }
-    {
-        if self.automaton.is_between() {
-            self.begin = self.at;
-        }
-    }
+// How many of them its width or its precision fetches.
+#[inline(always)]
+fn star_count(amount: Option<OpaqueAmount>) -> u64
+    ensures count { (number : Option ℕ) → result ≡ length (star_fetches (amount_at amount number)) }
+    ensures few { result ≤ 1 }
+{
+    u64::from(is_star(amount))
+}
 
-    // Takes the argument that the last byte has fetched, and returns the specification that it
-    // ends, if it ends one.
-    fn take_fetch(&mut self, text: &[u8]) -> Option<DirectiveSpan>
-        requires within { self.old.at ≤ length text.now }
-        requires begun { self.old.begin ≤ self.old.at }
-        requires few { self.old.fetched < self.old.at }
-        ensures { MatchOption result
-            ((posix_state_of self.old.automaton ≢ Between)
-            × (self.new ≡ walk_in self.old self.old.automaton.fetch))
-            (λ d. (posix_state_of self.old.automaton ≡ Between)
-            × (self.new ≡ walk_behind self.old self.old.automaton.fetch)
-            × (d ≡ directive_by self.old
-            (take (self.old.at - self.old.begin) (drop self.old.begin text.now)) self.old.automaton.fetch)) }
-    {
-        let fetch = self.automaton.fetch();
-        if self.automaton.is_between() {
-            let directive = self.directive(&text[self.begin..self.at], fetch);
-            self.begin = self.at;
-            self.count_fetch(fetch, None, None);
-            return Some(directive);
-        }
-        let argument = argument_index(fetch.number, self.fetched);
-        self.count_fetch(fetch, self.star, Some(argument));
-        None
+// The argument of an amount that is a `*`, with a number or else the next one.
+#[inline(always)]
+fn star_index(amount: Option<OpaqueAmount>, number: Option<u16>, next: u64) -> Option<u64>
+    ensures { result ≡ star_index (amount_at amount number) next }
+{
+    if is_star(amount) {
+        return Some(argument_index(number, next));
     }
-
-    // Counts an argument. The `*`s of the item fetched these before it.
-    fn count_fetch(&mut self, fetch: Fetch, earlier_star: Option<u64>, star: Option<u64>)
-        requires { self.old.fetched < self.old.at }
-        ensures { self.new ≡ record self.old {
-          fetched = self.old.fetched + 1;
-          numbering = numbering_by fetch.number;
-          earlier_star = earlier_star;
-          star = star;
-        } }
-    {
-        self.fetched += 1;
-        self.numbering = numbering_by(fetch.number);
-        self.earlier_star = earlier_star;
-        self.star = star;
-    }
-
-    // The specification with these bytes, which ends here and converts an argument.
-    fn directive(&self, bytes: &[u8], fetch: Fetch) -> DirectiveSpan
-        ensures { result ≡ directive_by self.now bytes.now fetch }
-    {
-        let has_star_precision = has_star_precision(bytes);
-        DirectiveSpan {
-            begin: self.begin as u64,
-            end: self.at as u64,
-            argument: argument_index(fetch.number, self.fetched),
-            width_argument: width_star(has_star_precision, self.earlier_star, self.star),
-            precision_argument: precision_star(has_star_precision, self.earlier_star, self.star),
-            kind: fetch.wanted,
-        }
-    }
+    None
 }
 
 // The argument with a number, which is 1 at least, or else the next one.
+#[inline(always)]
 fn argument_index(number: Option<u16>, next: u64) -> u64
     ensures { result ≡ argument_index number next }
 {
     match number {
         None => next,
         Some(number) => u64::from(number).saturating_sub(1),
-    }
-}
-
-// The arguments of width and precision, by those that the last `*` and the one before it fetched.
-fn width_star(has_star_precision: bool, earlier: Option<u64>, last: Option<u64>) -> Option<u64>
-    ensures { result ≡ width_star has_star_precision earlier last }
-{
-    match earlier {
-        Some(width) => Some(width),
-        None if has_star_precision => None,
-        None => last,
-    }
-}
-
-fn precision_star(has_star_precision: bool, earlier: Option<u64>, last: Option<u64>) -> Option<u64>
-    ensures { result ≡ precision_star has_star_precision earlier last }
-{
-    match earlier {
-        Some(_) => last,
-        None if has_star_precision => last,
-        None => None,
-    }
-}
-
-// Whether the precision of a specification is a `*`.
-fn has_star_precision(specification: &[u8]) -> bool
-    ensures { result ≡ has_star_precision specification.now }
-{
-    let mut at = 0;
-    while at < specification.len() {
-        if specification[at] == b'.' {
-            return begins_with_star(&specification[at + 1..]);
-        }
-        at += 1;
-    }
-    false
-}
-
-fn begins_with_star(rest: &[u8]) -> bool
-    ensures { result ≡ begins_with_star rest.now }
-{
-    match rest.first() {
-        Some(byte) => *byte == b'*',
-        None => false,
     }
 }

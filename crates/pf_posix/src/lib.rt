@@ -2,8 +2,8 @@
 //! of C23: with numbered arguments, `*`, floating and wide conversions, `p` and `n`. Formats without
 //! numbered arguments, split at the directives that the profile lacks.
 //!
-//! The road is `automaton`, over which `reader` walks. The shortcuts, and what a call costs with one and
-//! without, in instructions over 4,000 formats: `plain_reader` reads formats without numbers and `*`
+//! The road is `automaton`, over which `reader` walks; where a format is accepted, `specifications` reads it
+//! part by part. The shortcuts, and what a call costs with one and without, in instructions over 4,000 formats: `plain_reader` reads formats without numbers and `*`
 //! (`arguments`: 213 and 530), in them `profile_reader` the conversions of the profile (213 and 238), and
 //! `comparison` sees that two formats are equal (`fits`: 241 and 875).
 #![tactic(auto)]
@@ -17,12 +17,11 @@ mod fetches;
 pub mod laws;
 mod letters;
 mod opaque_directives;
-mod opaque_reader;
 mod pairs;
 mod partial_specification;
 mod plain_reader;
-mod profile_reader;
 mod reader;
+mod specifications;
 mod stretches;
 mod tables;
 mod types;

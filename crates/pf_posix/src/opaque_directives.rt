@@ -48,7 +48,7 @@ pub(crate) fn is_opaque(directive: OpaqueDirective) -> bool
 }
 
 #[inline(always)]
-fn is_star(amount: Option<OpaqueAmount>) -> bool
+pub(crate) fn is_star(amount: Option<OpaqueAmount>) -> bool
     ensures { result ≡ is_star (amount_of amount) }
 {
     match amount {

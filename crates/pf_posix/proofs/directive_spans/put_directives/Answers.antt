@@ -1,27 +1,32 @@
-use Rattle.std.proofs.Common.{[], arith, refl, sym}
-use Rattle.pf_posix.proofs.DirectiveSteps.{walk_ends}
-use Rattle.pf_posix.proofs.OrderLemmas.{filled_none}
+use Rattle.std.proofs.Common.{◌∙◌, arith, refl}
+use Rattle.pf_posix.proofs.DirectiveLemmas.{listing_ends, listing_found, listing_passed, listing_starts}
 use Rattle.pf_posix.proofs.directive_spans.put_directives.Goals as goal
 
 pub loop-walk-init : goal.loop-walk-init
 loop-walk-init c =
-    let start = c.new-walk.ensures in (
-      [],
-      start.walked c.args.model c.args.text.now c.requires.0 c.requires.1,
-      refl,
-      sym (filled_none c.args.out.now),
-      omega arith,
-      omega (arith, start.at),
-      omega (arith, start.at, start.begin),
-      omega (arith, start.at, start.fetched),
+    let start = c.new-walk.ensures in
+    (listing_starts c.args.model c.args.text.now c.requires.0 c.requires.1 c.new-walk.result start.over start.at c.args.out.now, refl)
+
+pub loop-walk-preserved-in-Some : goal.loop-walk-preserved-in-Some
+loop-walk-preserved-in-Some c =
+    let i = c.loop-walk.invariant.0 in
+    let item = c.item_at-read in
+    let count = c.fetch_count-fetched.ensures in (
+      listing_found c.args.model c.args.text.now c.loop-walk.walk _ _ _ _ i c.find.new.self item.result.1 item.ensures.further c.find.ensures.passed
+          item.result.0 c.in-Some.read c.in-Some.is (item.ensures.listed c.args.model _ i.done c.loop-walk.fetched i.listed) c.span_between.result
+          c.span_between.ensures c.fetch_count-fetched.result (count.count c.args.model) count.few c.put.new.out c.put.ensures.filled,
+      c.put.ensures.length ∙ c.loop-walk.invariant.1,
+    )
+
+pub loop-walk-preserved : goal.loop-walk-preserved
+loop-walk-preserved c =
+    let i = c.loop-walk.invariant.0 in
+    let item = c.item_at-read in (
+      listing_passed c.args.model c.args.text.now c.loop-walk.walk _ _ _ _ i c.find.new.self item.result.1 item.ensures.further c.find.ensures.passed
+          item.result.0 c.in_default.not-Some (item.ensures.listed c.args.model _ i.done c.loop-walk.fetched i.listed),
+      c.loop-walk.invariant.1,
     )
 
 pub returns-clause-directives : goal.returns-clause-directives
 returns-clause-directives c =
-    let i = c.loop-walk.invariant in
-    record {
-      directives = i.0;
-      listed = walk_ends c.args.model c.args.text.now c.requires.0 c.requires.1 c.loop-walk.walk i.0 i.1 (omega (arith, c.loop-walk-test.false));
-      count_is = i.2;
-      front = i.3;
-    }
+    listing_ends c.args.model c.args.text.now _ _ _ _ _ c.loop-walk.invariant.0 (omega (arith, c.loop-walk-test.false))

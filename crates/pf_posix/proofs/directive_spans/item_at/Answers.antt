@@ -1,0 +1,22 @@
+use Rattle.std.proofs.Common.{sym}
+use Rattle.pf_posix.proofs.DirectiveLemmas.{listed_byte, listed_percent, listed_specification, other_byte, some_specification}
+use Rattle.pf_posix.proofs.directive_spans.item_at.Goals as goal
+
+pub returns-then-text-at-ne37-clause-listed : goal.returns-then-text-at-ne37-clause-listed
+returns-then-text-at-ne37-clause-listed c model all done next h =
+    listed_byte model c.args.text.now all done c.args.at next h c.requires.within (other_byte _ c.if-text-at-ne37.true)
+
+pub returns-then-has_byte-clause-listed : goal.returns-then-has_byte-clause-listed
+returns-then-has_byte-clause-listed c model all done next h =
+    listed_percent model c.args.text.now all done c.args.at next h c.requires.within c.if-text-at-ne37.false (sym c.if-has_byte.ensures.same)
+
+pub unreachable-requires : goal.unreachable-requires
+unreachable-requires c =
+    some_specification c.args.text.now c.args.at c.requires.within c.requires.reads.0 c.requires.reads.1 c.if-text-at-ne37.false
+    (sym c.if-has_byte.ensures.same) c.in_default.ensures
+
+pub returns-clause-listed : goal.returns-clause-listed
+returns-clause-listed c model all done next h =
+    let read = c.in-Some in
+    listed_specification model c.args.text.now all done c.args.at next h c.requires.within c.if-text-at-ne37.false read.read read.end
+    (sym c.if-has_byte.ensures.same) read.ensures

@@ -1,0 +1,26 @@
+-- The specifications of a text as the code goes through them. No public contract names these.
+use Rattle.std.specs.Prelude.{◌≡◌, ℕ, ◌+◌, ◌≤◌, List, [], ◌∷◌, ◌++◌, drop, length, Option, Some, None}
+use Rattle.pf_values.specs.declared.models.Model.{Model}
+use Rattle.pf_values.specs.meaning.Text.{Text}
+use Rattle.pf_posix.specs.declared.directive_spans.DirectiveSpan.{DirectiveSpan}
+use Rattle.pf_posix.specs.declared.specifications.Specification.{Specification}
+use Rattle.pf_posix.specs.Directives.{directive_between, directives_from}
+use Rattle.pf_posix.specs.Items.{PosixItem, ReadsPosix}
+use Rattle.pf_posix.specs.PartsInText.{specification_of}
+use Rattle.pf_posix.specs.Types.{fetches}
+
+-- the text from an offset on is read as items, and all specifications are these and theirs; `next`
+-- arguments were fetched by then
+pub record IsListedTo (model : Model) (t : Text) (all : List DirectiveSpan) (at next : ℕ)
+    (done : List DirectiveSpan) : Type 0 where
+  pub items : List PosixItem
+  pub reads : ReadsPosix (drop at t) items
+  pub within : at ≤ length t
+  pub all_are : all ≡ done ++ directives_from model at next (drop at t) items reads
+
+-- so it is behind the item at that offset, which may be a specification
+abbrev pub IsListedBehind : Model → Text → List DirectiveSpan → ℕ → ℕ → List DirectiveSpan → Option Specification → ℕ → Type 0
+IsListedBehind model t all at next done None stop = IsListedTo model t all stop next done
+IsListedBehind model t all at next done (Some read) stop =
+    IsListedTo model t all stop (next + length (fetches model (specification_of read)))
+    (done ++ directive_between model at stop next (specification_of read) ∷ [])
