@@ -1,5 +1,5 @@
 -- What is put of the items of a text, one part after another.
-use Rattle.std.proofs.Common.{◌≡◌, inl, inr, ℕ, ◌+◌, ◌*◌, ◌-◌, ◌≤◌, List, [], ◌∷◌, ◌++◌, length, take, drop, sym, ap₂, ◌∙◌, subst, arith}
+use Rattle.std.proofs.Common.{◌≡◌, inl, inr, ℕ, ◌+◌, ◌*◌, ◌-◌, ◌≤◌, List, [], ◌∷◌, ◌++◌, length, take, drop, sym, ap, ap₂, ◌∙◌, subst, arith}
 use Rattle.std.specs.Prelude.{Bool, true, false, get_or, refl, ◌⊎◌}
 use Rattle.std.proofs.lemmas.List.{append-nil, append_assoc, length-drop, length-take, length-take-le, take_all}
 use Rattle.pf_values.specs.declared.models.Model.{Model}
@@ -128,6 +128,10 @@ module _ {S : Type 0} {given : S → S → Text → Type 0} (laws : IsSink given
 -- a walk is one over its own text
 pub own_walk : (walk : Walk) → IsWalk walk → IsWalkOver walk.text.now walk
 own_walk walk h = record { walk_is = h; text_is = sym (take_all MAX_TEXT_LEN walk.text.now h.few) }
+
+-- the bytes up to an offset
+pub front_is : (text : Text) (at : ℕ) → between 0 at text ≡ take at text
+front_is text at = ap (λ n. take n text) (omega arith)
 
 -- the front of a walk's text is the front of the text
 pub front_of_walk : (text : Text) (walk : Walk) → IsWalkOver text walk → (at : ℕ) → at ≤ length walk.text.now

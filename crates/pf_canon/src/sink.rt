@@ -21,10 +21,6 @@ pub(crate) trait Sink {
     fn put(&mut self, bytes: &[u8])
         ensures { given self.old self.new bytes.now };
 
-    /// Whether it is known that nothing more is taken.
-    fn is_shut(&self) -> bool
-        ensures { IsTrue result → (bytes : Text) → given self.now self.now bytes };
-
     ghost laws: { IsSink given };
 }
 
@@ -143,10 +139,6 @@ impl<R: TextBuffer> Sink for TextBuilder<R> {
     }
 
     // A shorter text may still find room.
-    #[inline(always)]
-    fn is_shut(&self) -> bool {
-        false
-    }
 }
 
 /// How many bytes were given.
@@ -168,10 +160,6 @@ impl Sink for ByteCount {
         self.len = self.len.wrapping_add(bytes.len() as u128);
     }
 
-    #[inline(always)]
-    fn is_shut(&self) -> bool {
-        false
-    }
 }
 
 /// What is left of a text that is expected, as long as nothing else was given.
@@ -200,10 +188,6 @@ impl Sink for Expected<'_> {
         self.left = strip_front(bytes, self.left);
     }
 
-    #[inline(always)]
-    fn is_shut(&self) -> bool {
-        self.left.is_none()
-    }
 }
 
 // What is left after these bytes, if it begins with them.
