@@ -1,4 +1,4 @@
-//! A text taken chunk by chunk, and what each chunk settles put into a sink.
+//! A block of a text taken chunk by chunk, and what each chunk settles put into a sink.
 ghost use Rattle.std.specs.Prelude.{◌≡◌, ◌≤◌, ◌++◌, length, MatchResult};
 ghost use Rattle.pf_values.specs.meaning.Refusals.{IsRefusedAt};
 ghost use Rattle.pf_values.specs.meaning.Text.{Text};
@@ -30,39 +30,6 @@ pub(crate) struct Chunk {
 pub(crate) struct ChunkRefusal {
     pub(crate) verbatim_len: usize,
     pub(crate) refusal: Refusal,
-}
-
-/// Takes the chunks of a text from `at` on and then its end, and puts what they settle. Never inlined, since
-/// most texts need no chunks.
-#[inline(never)]
-pub(crate) fn put_chunks<S: Sink>(
-    transducer: Transducer,
-    text: &[u8],
-    at: usize,
-    sink: &mut S,
-) -> Result<(), Refusal>
-    ensures { (out : Text) → IsUpTo transducer text.now at out
-        → MatchResult result (λ _. (more : Text) × S.given sink.old sink.new more
-        × IsCanonicalFor (data_model_of transducer) text.now (out ++ more))
-        (λ refusal. IsRefusedAt text.now refusal.kind refusal.at) }
-{
-    let (mut transducer, mut at) = put_items(transducer, text, at, sink);
-    while at < text.len() {
-        let rest = &text[at..];
-        let chunk = match transducer.feed_chunk(rest) {
-            Ok(chunk) => chunk,
-            Err(refused) => return Err(refused.refusal),
-        };
-        chunk.put(rest, sink);
-        at += chunk.len;
-    }
-    match transducer.finish() {
-        Ok(output) => {
-            output.put(sink);
-            Ok(())
-        }
-        Err(refusal) => Err(refusal),
-    }
 }
 
 /// Takes whole items at the front of a text, first those that need no transducer, and puts what they settle.

@@ -38,19 +38,6 @@ impl Transducer {
         }
     }
 
-    /// A transducer that took a text of `len` bytes, of whose items `silents` wait.
-    pub(crate) fn after_items(model: Model, len: usize, silents: u64) -> Transducer
-        ensures model { data_model_of result ≡ model }
-        ensures after { (t out : Text) → IsWritten model t out silents → length t ≡ len
-            → len ≤ MAX_TEXT_LEN → (items : List Item) × IsThrough model result t items out }
-    {
-        Transducer {
-            model,
-            scanner: Scanner::after_items(len),
-            silents,
-        }
-    }
-
     /// Takes whole items at the front of a text as `put_items` does, and puts what they settle. Returns how many
     /// bytes they have: 0 inside an item, and if a silent directive waits.
     pub(crate) fn put_front<S: Sink>(&mut self, text: &[u8], sink: &mut S) -> usize
