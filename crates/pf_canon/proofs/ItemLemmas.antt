@@ -6,7 +6,7 @@ use Rattle.pf_values.specs.declared.models.Model.{Model}
 use Rattle.pf_values.specs.meaning.Items.{Item, Directive}
 use Rattle.pf_values.specs.meaning.Text.{Text}
 use Rattle.pf_text.specs.CanonicalRuns.{IsCanonicalRun}
-use Rattle.pf_text.specs.Walks.{Finds, HasPercent, IsPassedRun, IsPercent, IsWalk, IsWalkOver}
+use Rattle.pf_text.specs.Walks.{Finds, HasPercent, IsPassedRun, IsPercent, IsWalkOver}
 use Rattle.pf_text.specs.declared.walk.Walk.{Walk}
 use Rattle.pf_values.specs.declared.limits.TheConstants.{MAX_TEXT_LEN}
 use Rattle.pf_text.specs.FoundDirectives.{BeginsNoDirective, BeginsNoItem, IsFoundAt}
@@ -124,10 +124,6 @@ module _ {S : Type 0} {given : S → S → Text → Type 0} (laws : IsSink given
         (subst (λ t. IsWritten model t ((out ++ (a ++ b)) ++ left) 0) (append_assoc before x y)
         (subst (λ u. IsWritten model ((before ++ x) ++ y) (u ++ left) 0) (append_assoc out a b) (g (before ++ x) (out ++ a) (f before out h)))),
   )
-
--- a walk is one over its own text
-pub own_walk : (walk : Walk) → IsWalk walk → IsWalkOver walk.text.now walk
-own_walk walk h = record { walk_is = h; text_is = sym (take_all MAX_TEXT_LEN walk.text.now h.few) }
 
 -- the bytes up to an offset
 pub front_is : (text : Text) (at : ℕ) → between 0 at text ≡ take at text

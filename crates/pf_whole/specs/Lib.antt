@@ -6,3 +6,4 @@ pub mod Findings
 pub mod Faults
 pub mod Calls
 pub mod Comparisons
+pub mod Fronts
