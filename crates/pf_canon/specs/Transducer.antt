@@ -68,14 +68,9 @@ PutsBytes given old new before after bytes = (more : Text) × given old new more
     × ((model : Model) (t out : Text) (items : List Item) → IsThrough model before t items out
     → (now : List Item) × IsThrough model after (t ++ bytes) now (out ++ more))
 
--- in its data model, it took `before` and then the first `at` bytes of a text, which settle `out`
-abbrev pub IsUpToAfter : Text → Transducer → Text → ℕ → Text → Type 0
-IsUpToAfter before r text at out = (at ≤ length text) × (items : List Item)
-    × IsThrough r.model r (before ++ take at text) items out
-
--- it took the first `at` bytes of a text alone
+-- in its data model, it took the first `at` bytes of a text, which settle `out`
 abbrev pub IsUpTo : Transducer → Text → ℕ → Text → Type 0
-IsUpTo = IsUpToAfter []
+IsUpTo r text at out = (at ≤ length text) × (items : List Item) × IsThrough r.model r (take at text) items out
 
 -- the item that a step ends, if it does
 abbrev pub more_of : Step → List Item

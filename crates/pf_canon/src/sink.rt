@@ -159,7 +159,6 @@ impl Sink for ByteCount {
     fn put(&mut self, bytes: &[u8]) {
         self.len = self.len.wrapping_add(bytes.len() as u128);
     }
-
 }
 
 /// What is left of a text that is expected, as long as nothing else was given.
@@ -187,7 +186,6 @@ impl Sink for Expected<'_> {
     fn put(&mut self, bytes: &[u8]) {
         self.left = strip_front(bytes, self.left);
     }
-
 }
 
 // What is left after these bytes, if it begins with them.
