@@ -1,12 +1,12 @@
 -- What is put of the items of a text, one part after another.
-use Rattle.std.proofs.Common.{◌≡◌, inl, inr, ℕ, ◌+◌, ◌*◌, ◌-◌, ◌≤◌, List, [], ◌∷◌, ◌++◌, length, take, drop, sym, ap₂, ◌∙◌, subst, arith}
+use Rattle.std.proofs.Common.{◌≡◌, inl, inr, ℕ, ◌+◌, ◌*◌, ◌-◌, ◌≤◌, List, [], ◌∷◌, ◌++◌, length, take, drop, sym, ap, ap₂, ◌∙◌, subst, arith}
 use Rattle.std.specs.Prelude.{Bool, true, false, get_or, refl, ◌⊎◌}
 use Rattle.std.proofs.lemmas.List.{append-nil, append_assoc, length-drop, length-take, length-take-le, take_all}
 use Rattle.pf_values.specs.declared.models.Model.{Model}
 use Rattle.pf_values.specs.meaning.Items.{Item, Directive}
 use Rattle.pf_values.specs.meaning.Text.{Text}
 use Rattle.pf_text.specs.CanonicalRuns.{IsCanonicalRun}
-use Rattle.pf_text.specs.Walks.{Finds, HasPercent, IsPassedRun, IsPercent, IsWalk, IsWalkOver}
+use Rattle.pf_text.specs.Walks.{Finds, HasPercent, IsPassedRun, IsPercent, IsWalkOver}
 use Rattle.pf_text.specs.declared.walk.Walk.{Walk}
 use Rattle.pf_values.specs.declared.limits.TheConstants.{MAX_TEXT_LEN}
 use Rattle.pf_text.specs.FoundDirectives.{BeginsNoDirective, BeginsNoItem, IsFoundAt}
@@ -125,9 +125,9 @@ module _ {S : Type 0} {given : S → S → Text → Type 0} (laws : IsSink given
         (subst (λ u. IsWritten model ((before ++ x) ++ y) (u ++ left) 0) (append_assoc out a b) (g (before ++ x) (out ++ a) (f before out h)))),
   )
 
--- a walk is one over its own text
-pub own_walk : (walk : Walk) → IsWalk walk → IsWalkOver walk.text.now walk
-own_walk walk h = record { walk_is = h; text_is = sym (take_all MAX_TEXT_LEN walk.text.now h.few) }
+-- the bytes up to an offset
+pub front_is : (text : Text) (at : ℕ) → between 0 at text ≡ take at text
+front_is text at = ap (λ n. take n text) (omega arith)
 
 -- the front of a walk's text is the front of the text
 pub front_of_walk : (text : Text) (walk : Walk) → IsWalkOver text walk → (at : ℕ) → at ≤ length walk.text.now

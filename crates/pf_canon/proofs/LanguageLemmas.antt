@@ -1,13 +1,12 @@
 -- Texts of a language that has items beside those of the profile.
 use Rattle.std.proofs.Common.{◌≡◌, inl, inr, ℕ, ◌*◌, ◌-◌, ◌<◌, ◌≤◌, [], ◌++◌, drop, length, take, refl, sym, ap, ◌∙◌, subst, arith}
-use Rattle.std.specs.Prelude.{Bool, IsTrue, MatchResult, Result, Ok, Err, ◌↔◌}
+use Rattle.std.specs.Prelude.{MatchResult, Result, Ok, Err}
 use Rattle.std.proofs.lemmas.List.{append-nil, length-append, length-take, take_all}
 use Rattle.pf_values.specs.declared.models.Model.{Model}
 use Rattle.pf_values.specs.meaning.Text.{Text}
 use Rattle.pf_values.specs.declared.limits.TheConstants.{MAX_TEXT_LEN}
 use Rattle.pf_values.specs.declared.refusals.RefusalKind.{RefusalKind}
-use Rattle.pf_values.specs.meaning.Canonical.{IsCanonicalText}
-use Rattle.pf_values.specs.meaning.Items.{IsAccepted, Reads}
+use Rattle.pf_values.specs.meaning.Items.{Reads}
 use Rattle.pf_values.specs.meaning.Refusals.{IsRefusedAt}
 use Rattle.pf_text.specs.FoundDirectives.{BeginsNoItem}
 use Rattle.pf_text.specs.Walks.{IsItemsEnd, IsWalkOver}
@@ -16,7 +15,7 @@ use Rattle.pf_text.specs.declared.refusals.TextFault.{TextFault}
 use Rattle.pf_text.specs.declared.refusals.TextFault.TheVariants.{Refused, Memory}
 use Rattle.pf_canon.specs.Answers.{FaultForCanonical, IsCanonicalFor}
 use Rattle.pf_canon.specs.ChangedDirectives.{between}
-use Rattle.pf_canon.specs.Languages.{DecidesIn, EndsAt, FaultIn, Front, HasCanonicalIn}
+use Rattle.pf_canon.specs.Languages.{EndsAt, FaultIn, Front, HasCanonicalIn}
 use Rattle.pf_canon.specs.declared.limits.TheConstants.{MAX_DIRECTIVE_LEN}
 use Rattle.pf_canon.proofs.ItemLemmas.{front_of_walk}
 use Rattle.pf_canon.proofs.TextLemmas.{items_few}
@@ -118,14 +117,3 @@ module _ (model : Model) (t : Text) where
       → MatchResult r (λ c. IsCanonicalFor model t (of c)) (FaultForCanonical model t)
   answer_of_profile of (Ok c) h = of_profile (of c) h
   answer_of_profile of (Err fault) h = fault_of_profile fault h
-
-  -- whether its canonical text is the text itself
-  pub is_own : (c : Text) (is : Bool) → IsCanonicalFor model t c → (IsTrue is ↔ (c ≡ t)) → IsAccepted t × (IsTrue is ↔ IsCanonicalText model t)
-  is_own c is h own = (
-    (h.items, h.accepted),
-    (λ yes. subst (IsCanonicalText model) (own.0 yes) h.canonical_is.canonical, λ canonical. own.1 (h.kept canonical)),
-  )
-
-  pub decided_of_profile : (is : Bool) → DecidesIn no_front model t is → IsAccepted t × (IsTrue is ↔ IsCanonicalText model t)
-  decided_of_profile is (inl h) = h
-  decided_of_profile is (inr h) = is_own h.0 is (of_profile h.0 h.1) h.2

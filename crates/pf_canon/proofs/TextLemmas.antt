@@ -1,8 +1,8 @@
 -- What is settled of a text in memory, chunk after chunk, and where it is refused.
-use Rattle.std.proofs.Common.{◌≡◌, ◌≢◌, ℕ, ◌∷◌, ◌++◌, Bool, true, false, length, drop, sym, ap, ◌∙◌, subst, ◌+◌, ◌*◌, ◌≤◌, List, [], take, arith, Ok}
+use Rattle.std.proofs.Common.{◌≡◌, ◌≢◌, ℕ, ◌∷◌, ◌++◌, Bool, true, false, length, drop, sym, ap, ◌∙◌, subst, ◌+◌, ◌≤◌, List, [], take, arith}
 use Rattle.std.specs.Prelude.{MatchBool, ◌==◌}
 use Rattle.std.proofs.Math.Seq.{drop-append_seam, take-add}
-use Rattle.std.proofs.lemmas.List.{append_assoc, length-append, take_all, take-append-drop}
+use Rattle.std.proofs.lemmas.List.{append_assoc, length-append}
 use Rattle.pf_values.specs.declared.limits.TheConstants.{MAX_TEXT_LEN}
 use Rattle.pf_values.specs.declared.refusals.RefusalKind.{RefusalKind}
 use Rattle.pf_values.specs.declared.refusals.RefusalKind.TheVariants.{TooLong, Truncated}
@@ -10,13 +10,11 @@ use Rattle.pf_values.specs.meaning.Refusals.{HasCause, IsRefusedAt, IsRefusedByt
 use Rattle.pf_values.specs.meaning.Text.{Text, percent}
 use Rattle.pf_values.specs.declared.models.Model.{Model}
 use Rattle.pf_values.specs.meaning.Items.{Item, Byte, Directive, IsReadAs, Reads}
-use Rattle.pf_canon.specs.declared.output.Output.{Output}
 use Rattle.pf_canon.specs.declared.chunk.Chunk.{Chunk}
 use Rattle.pf_canon.specs.declared.chunk.ChunkRefusal.{ChunkRefusal}
 use Rattle.pf_canon.specs.declared.transducer.Transducer.{Transducer}
-use Rattle.pf_canon.specs.Answers.{IsCanonicalFor, most_len}
-use Rattle.pf_canon.specs.Output.{output_text}
-use Rattle.pf_canon.specs.Transducer.{SettlesEnd, GrowsByChunk, IsThrough, IsUpTo, RefusesChunk, chunk_output_text}
+use Rattle.pf_canon.specs.Answers.{most_len}
+use Rattle.pf_canon.specs.Transducer.{GrowsByChunk, IsThrough, RefusesChunk, chunk_output_text}
 
 no_byte_truncates : (b : Bool) (part : Text) (byte : ℕ) (kind : RefusalKind) → MatchBool b (kind ≡ TooLong) (IsRefusedByte part byte kind) → kind ≢ Truncated
 no_byte_truncates true part byte kind h e = let both : TooLong ≡ Truncated = sym h ∙ e in cc
@@ -49,31 +47,11 @@ most_len-append [] b = omega arith
 most_len-append (Byte byte ∷ a) b = omega (arith, most_len-append a b)
 most_len-append (Directive s ∷ a) b = omega (arith, most_len-append a b)
 
-module _ (model : Model) (t c out : Text) (r : Transducer) (items : List Item) (at : ℕ) (output : Output) (whole : length t ≤ at)
-    (h : IsThrough model r (take at t) items out) (ends : SettlesEnd model (take at t) items out (Ok output)) where
-  -- a text was taken to its end, and all that it settles was appended
-  pub all_built : length (output_text output) ≤ 4 * r.silents → c ≡ out ++ output_text output → IsCanonicalFor model t c
-  all_built few e =
-      let all = take_all at t whole in
-      let short = h.short in
-      record {
-        items = items;
-        accepted = record { reads = rw all at ends.0; limit = rw all at h.after.limit };
-        canonical_is = rw (e, ← all) ends.1;
-        kept = λ is. e ∙ rw all at ends.2 is;
-        few = omega (arith, short, few, ap length e, length-append out (output_text output));
-      }
-
 -- a byte of the text that follows is refused
 pub refused_behind : (model : Model) (t out text : Text) (refused : ChunkRefusal) → RefusesChunk model t out text refused
     → IsRefusedAt (t ++ text) refused.refusal.kind refused.refusal.at
 refused_behind model t out text refused h = subst (λ u. IsRefusedAt u refused.refusal.kind refused.refusal.at)
     (append_assoc t h.fed (h.last ∷ h.rest) ∙ ap (λ u. t ++ u) (sym h.split)) (h.refused h.rest)
-
-pub refused_at : (model : Model) (t out : Text) (at : ℕ) (refused : ChunkRefusal) → RefusesChunk model (take at t) out (drop at t) refused
-    → IsRefusedAt t refused.refusal.kind refused.refusal.at
-refused_at model t out at refused h = subst (λ u. IsRefusedAt u refused.refusal.kind refused.refusal.at) (take-append-drop at t)
-    (refused_behind model (take at t) out (drop at t) refused h)
 
 -- a chunk of the rest of a text was taken
 pub built_more : (model : Model) (t out now : Text) (at : ℕ) (chunk : Chunk) (new : Transducer) → GrowsByChunk model (take at t) out (drop at t) chunk new
@@ -87,7 +65,3 @@ in_its_own model r t out items h = subst (λ m. IsThrough m r t items out) (sym 
 -- more of a text, after what came before it
 pub taken_on : (t text : Text) (at len : ℕ) → (t ++ take at text) ++ take len (drop at text) ≡ t ++ take (at + len) text
 taken_on t text at len = append_assoc t (take at text) (take len (drop at text)) ∙ ap (λ u. t ++ u) (sym (take-add at len text))
-
--- it took nothing of a text
-pub begun_of : (model : Model) (r : Transducer) (t : Text) → IsThrough model r [] [] [] → IsUpTo r t 0 []
-begun_of model r t h = (omega arith, [], in_its_own model r [] [] [] h)

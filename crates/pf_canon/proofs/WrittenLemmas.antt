@@ -5,7 +5,7 @@ use Rattle.std.specs.Prelude.{flat_map}
 use Rattle.std.proofs.lemmas.List.{append-nil, append_assoc, length-append}
 use Rattle.pf_values.specs.declared.limits.TheConstants.{MAX_TEXT_LEN}
 use Rattle.pf_values.specs.declared.models.Model.{Model}
-use Rattle.pf_values.specs.meaning.Items.{Item, Byte, Directive, IsReadAs}
+use Rattle.pf_values.specs.meaning.Items.{Item, Byte, Directive, IsReadAs, Reads}
 use Rattle.pf_values.specs.Settled.{EndsInNoSilent}
 use Rattle.pf_values.specs.meaning.Normal.{silent}
 use Rattle.pf_values.specs.meaning.Specification.{Specification}
@@ -13,7 +13,8 @@ use Rattle.pf_values.specs.meaning.Text.{Text}
 use Rattle.pf_text.specs.CanonicalRuns.{IsCanonicalItem, IsCanonicalRun, silents}
 use Rattle.pf_text.specs.Walks.{IsPassed, IsPassedRun, IsPercent}
 use Rattle.pf_text.proofs.CanonicalRunLemmas.{Reads-append, Reads-canonical}
-use Rattle.pf_canon.specs.Answers.{IsCanonicalFor}
+use Rattle.pf_text.proofs.Texts.{Reads-unique}
+use Rattle.pf_canon.specs.Answers.{IsCanonicalFor, most_len}
 use Rattle.pf_values.specs.meaning.Canonical.{item_spelling}
 use Rattle.pf_values.specs.meaning.Printing.{PrintAlike}
 use Rattle.pf_text.specs.History.{IsAfter}
@@ -122,32 +123,17 @@ pub verbatim_canonical : (model : Model) (t : Text) (items : List Item) → leng
 verbatim_canonical model t items few h =
     subst (IsCanonicalFor model t) (append-nil t) (all_written model t t 0 few (run_written model [] [] t items (none_written model) h))
 
--- more items are made after others
-making_append : (model : Model) (out rest : Text) (held : ℕ) (items more : List Item) → IsMaking model out 0 items [] → IsMaking model rest held more []
-    → IsMaking model (out ++ rest) held (items ++ more) []
-making_append model out rest held items more h g =
-    let m = made_more model out 0 items [] more h in
-    let left = silents held ++ [] in
-    let place : m.done ++ (g.done ++ left) ≡ (m.done ++ g.done) ++ left = sym (append_assoc m.done g.done left) in
+-- a transducer takes whole items as they are written after what it took before
+pub written_through : (model : Model) (r new : Transducer) (t out text more : Text) (items others : List Item) → IsThrough model r t items out → Reads t items
+    → new.model ≡ r.model → ((before out : Text) → IsWritten model before out r.silents → IsWritten model (before ++ text) (out ++ more) new.silents)
+    → Reads text others → IsAfter new.scanner (t ++ text) (items ++ others) → IsThrough model new (t ++ text) (items ++ others) (out ++ more)
+written_through model r new t out text more items others h reads same written more_reads after =
+    let w = written t out (record { items = items; reads = reads; made = h.made; few = h.few; short = h.short }) in
+    let e : w.items ≡ items ++ others = Reads-unique (t ++ text) w.items (items ++ others) w.reads (Reads-append t text items others reads more_reads) in
     record {
-      done = m.done ++ g.done;
-      reads = Reads-append out rest m.done g.done m.reads g.reads;
-      whole = ap (λ t. t ++ rest) m.whole ∙ ap (λ t. flat_map item_spelling m.done ++ t) g.whole ∙ sym (item_spelling-append m.done g.done);
-      canonical = canonical-append model m.done g.done m.canonical m.open_end g.canonical;
-      open_end = ends_append m.done g.done m.open_end g.open_end;
-      alike = subst (PrintAlike model (items ++ more)) place (changed model (items ++ more) (m.done ++ more) (m.done ++ (g.done ++ left)) m.alike
-          (alike_after model m.done more (g.done ++ left) (printed-alike model more (g.done ++ left) g.alike)));
-      kept = λ c. m.kept c ∙ ap (λ l. m.done ++ l) (g.kept (canonical-back model m.done more (rw (m.kept c) at c))) ∙ place;
+      model_is = same ∙ h.model_is;
+      after = after;
+      made = subst (λ i. IsMaking model (out ++ more) new.silents i []) e w.made;
+      few = w.few;
+      short = subst (λ i. length (out ++ more) + 4 * new.silents ≤ most_len i) e w.short;
     }
-
--- a transducer that holds nothing takes whole items as they are written
-pub written_through : (model : Model) (r new : Transducer) (t out text more : Text) (items : List Item) → IsThrough model r t items out → r.silents ≡ 0
-    → new.model ≡ r.model → (w : IsWritten model text more new.silents) → IsAfter new.scanner (t ++ text) (items ++ w.items)
-    → IsThrough model new (t ++ text) (items ++ w.items) (out ++ more)
-written_through model r new t out text more items h none same w after = record {
-  model_is = same ∙ h.model_is;
-  after = after;
-  made = making_append model out more new.silents items w.items (rw none at h.made) w.made;
-  few = omega (arith, w.few, length-append t text);
-  short = omega (arith, none, h.short, w.short, length-append out more, most_len-append items w.items);
-}

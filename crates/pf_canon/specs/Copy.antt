@@ -10,7 +10,6 @@ use Rattle.pf_values.specs.meaning.Canonical.{IsCanonicalOf}
 use Rattle.pf_values.specs.meaning.Items.{Item, IsAccepted}
 use Rattle.pf_values.specs.meaning.Refusals.{IsRefusedAt}
 use Rattle.pf_text.specs.declared.refusals.Refusal.{Refusal}
-use Rattle.pf_canon.specs.declared.copy.CopyProgress.{CopyProgress}
 use Rattle.pf_canon.specs.declared.copy.Gathered.{Gathered}
 use Rattle.pf_canon.specs.Sink.{Counts}
 use Rattle.pf_canon.specs.declared.faults.CopyFault.{CopyFault}
@@ -74,15 +73,6 @@ pub record IsWritten (model : Model) (r : Transducer) (front : Text) (w x : Know
   pub writer : Appends w x out
   pub count : written ≡ length out
 
--- The transducer took `front`, and of what it settles the last bytes are in the buffer.
-pub record IsGathered (model : Model) (r : Transducer) (front : Text) (w x : Known)
-    (buffer : Text) (written : ℕ) : Type 0 where
-  pub items : List Item
-  pub out : Text
-  pub through : IsThrough model r front items (out ++ buffer)
-  pub writer : Appends w x out
-  pub count : written ≡ length out
-
 -- Just what `front` settles went out.
 pub record SettledOut (model : Model) (front : Text) (w x : Known) : Type 0 where
   pub given : Text
@@ -111,15 +101,6 @@ StopsIn model front text w x (faults.Refused refusal) =
     × IsRefusedAfter model (front ++ fed) last w x refusal
 StopsIn model front text w x (faults.Write written) = FirstOut model (front ++ text) w x written
 StopsIn model front text w x faults.Read = ⊥
-
--- part of a text after `front` was taken, and what it settles was gathered, or why the copy stopped there
-abbrev pub CopiesPart : Transducer → Transducer → Text → Known → Known → Text → Text → ℕ
-    → Result CopyProgress CopyFault → Type 0
-CopiesPart old new text x y buffer still written result =
-    (model : Model) (front : Text) (start : Known) → IsGathered model old front start x buffer written
-    → MatchResult result
-    (λ progress. IsGathered model new (front ++ take progress.len text) start y still progress.written)
-    (StopsIn model front text start y)
 
 -- a fault of the writer was counted
 abbrev pub WriteCounts : {W E : Type 0} → Counted W → Counted W → Result E CopyFault → Type 0

@@ -61,14 +61,16 @@ pub record IsThrough (model : Model) (r : Transducer) (t : Text) (items : List I
   pub few : r.silents ≤ length t
   pub short : length out + 4 * r.silents ≤ most_len items
 
--- in its data model, it took `before` and then the first `at` bytes of a text, which settle `out`
-abbrev pub IsUpToAfter : Text → Transducer → Text → ℕ → Text → Type 0
-IsUpToAfter before r text at out = (at ≤ length text) × (items : List Item)
-    × IsThrough r.model r (before ++ take at text) items out
+-- whatever a transducer took before, it took bytes after that, and what they settle was put
+abbrev pub PutsBytes : {A : Type 0} → (A → A → Text → Type 0) → A → A → Transducer → Transducer → Text
+    → Type 0
+PutsBytes given old new before after bytes = (more : Text) × given old new more
+    × ((model : Model) (t out : Text) (items : List Item) → IsThrough model before t items out
+    → (now : List Item) × IsThrough model after (t ++ bytes) now (out ++ more))
 
--- it took the first `at` bytes of a text alone
+-- in its data model, it took the first `at` bytes of a text, which settle `out`
 abbrev pub IsUpTo : Transducer → Text → ℕ → Text → Type 0
-IsUpTo = IsUpToAfter []
+IsUpTo r text at out = (at ≤ length text) × (items : List Item) × IsThrough r.model r (take at text) items out
 
 -- the item that a step ends, if it does
 abbrev pub more_of : Step → List Item
@@ -145,18 +147,27 @@ pub record GrowsByChunk (model : Model) (t out text : Text) (chunk : Chunk)
   pub through : IsThrough model new (t ++ take chunk.len text) items
       (out ++ chunk_output_text chunk text)
 
--- The byte `last` of a text is refused. Of those before it the first are their own canonical text,
--- and the others settle nothing.
-pub record RefusesChunk (model : Model) (t out text : Text) (stop : ChunkRefusal) : Type 0 where
+-- The byte `last` of a text that follows `t` is refused, and what comes before it settles `out`.
+pub record RefusesBlock (model : Model) (t out text : Text) (refusal : Refusal) : Type 0 where
   pub fed : Text
   pub last : ℕ
   pub rest : Text
   pub split : text ≡ fed ++ last ∷ rest
-  pub kind : stop.refusal.kind ≢ Truncated
-  pub offset : stop.refusal.at ≡ length (t ++ fed)
-  pub refused : StaysRefused (t ++ fed) last stop.refusal
-  pub settles : SettlesTo model (t ++ fed) (out ++ take stop.verbatim_len text)
-  pub few : length (out ++ take stop.verbatim_len text) < 2 ^ 128
+  pub kind : refusal.kind ≢ Truncated
+  pub offset : refusal.at ≡ length (t ++ fed)
+  pub refused : StaysRefused (t ++ fed) last refusal
+  pub settles : SettlesTo model (t ++ fed) out
+  pub few : length out < 2 ^ 128
+
+-- a block that follows `t` was taken, or a byte of it is refused, and all that was taken settles `out`
+abbrev pub TakesBlock : Model → Text → Text → Text → Result (Unit {0}) Refusal → Transducer → Type 0
+TakesBlock model t out block (Ok done) new = (items : List Item) × IsThrough model new (t ++ block) items out
+TakesBlock model t out block (Err refusal) new = RefusesBlock model t out block refusal
+
+-- the same, where the first bytes are their own canonical text, and the others settle nothing
+abbrev pub RefusesChunk : Model → Text → Text → Text → ChunkRefusal → Type 0
+RefusesChunk model t out text stop =
+    RefusesBlock model t (out ++ take stop.verbatim_len text) text stop.refusal
 
 abbrev pub TakesChunk : Model → Text → Text → Text → Result Chunk ChunkRefusal → Transducer → Type 0
 TakesChunk model t out text (Ok chunk) new = GrowsByChunk model t out text chunk new

@@ -1,15 +1,16 @@
 //! The canonical text of a reader's bytes, written to a writer.
-ghost use Rattle.std.specs.Prelude.{◌≡◌, ◌≢◌, ℕ, ◌<◌, ◌≤◌, ◌++◌, length, take, IfOk, MatchResult, Err};
+ghost use Rattle.std.specs.Prelude.{◌≡◌, ◌≢◌, ℕ, List, ◌++◌, length, MatchResult};
 ghost use Rattle.std.specs.Io.KnownBytes.{Appends, Consumes, IsAtEnd};
 ghost use Rattle.pf_values.specs.Counting.{Known, device_of};
+ghost use Rattle.pf_values.specs.declared.models.Model.{Model};
+ghost use Rattle.pf_values.specs.meaning.Items.{Item};
 ghost use Rattle.pf_values.specs.meaning.Text.{Text};
 ghost use Rattle.pf_canon.specs.declared.faults.CopyFault.TheVariants.{Read};
-ghost use Rattle.pf_canon.specs.Transducer.{IsChunkWithin, IsUpToAfter, RefusesChunk, chunk_output_text, data_model_of};
-ghost use Rattle.pf_canon.specs.Copy.{CopiesAll, CopiesPart, CopyStops, Gathers, HasGathered, IsWritten, Puts, ReadCounts, StopsIn, WriteCounts};
+ghost use Rattle.pf_canon.specs.Transducer.{IsThrough, TakesBlock};
+ghost use Rattle.pf_canon.specs.Copy.{CopiesAll, CopyStops, Gathers, HasGathered, IsWritten, Puts, ReadCounts, StopsIn, WriteCounts};
 ghost use Rattle.pf_canon.specs.Output.{output_text};
 ghost use Rattle.pf_canon.specs.SinkLaws.{gathers};
 
-use crate::chunk::{Chunk, put_all_items};
 use crate::faults::CopyFault;
 use crate::limits::{COPY_BLOCK, GATHERED};
 use crate::output::Output;
@@ -22,13 +23,6 @@ use std::io::{Read, Write};
 
 /// Bytes that are written together.
 pub(crate) type WriteBuffer = ArrayVec<u8, GATHERED>;
-
-/// How many bytes of a text were copied, and how many bytes have gone out by then.
-#[derive(Clone, Copy, Debug)]
-pub(crate) struct CopyProgress {
-    len: usize,
-    written: u128,
-}
 
 /// Writes the canonical text, in this data model, of what the reader hands out up to its end. It
 /// reads a block at a time, and doesn't flush. `Err` if the text is refused, or if the reader or
@@ -83,7 +77,7 @@ pub fn copy_canonical<R: Read, W: Write>(
     }
 }
 
-// Copies a block. What its chunks settle goes out by its end.
+// Copies a block. What it settles goes out by its end, and before a byte of it that is refused.
 #[inline(always)]
 fn copy_block<W: Write>(
     transducer: &mut Transducer,
@@ -99,128 +93,34 @@ fn copy_block<W: Write>(
         (StopsIn model front text.now start (W.contents (device_of w.new))) }
     ensures counts { WriteCounts w.old w.new result }
 {
-    let mut buffer = WriteBuffer::new();
-    let mut at = 0;
-    let mut written = written;
-    while at < text.len() {
-        let progress = match copy_front(transducer, &text[at..], w, &mut buffer, written) {
-            Ok(progress) => progress,
-            Err(fault) => return Err(fault),
-        };
-        at += progress.len;
-        written = progress.written;
-    }
-    match put(w, &buffer, written) {
-        Ok(count) => Ok(count),
-        Err(count) => Err(CopyFault::Write(count)),
-    }
-}
-
-// Copies what is at the front of a text: directives with the verbatim bytes after each, or else a chunk.
-#[inline(always)]
-fn copy_front<W: Write>(
-    transducer: &mut Transducer,
-    text: &[u8],
-    w: &mut Counted<W>,
-    buffer: &mut WriteBuffer,
-    written: u128,
-) -> Result<CopyProgress, CopyFault>
-    requires { 0 < length text.now }
-    ensures copied { CopiesPart transducer.old transducer.new text.now
-        (W.contents (device_of w.old)) (W.contents (device_of w.new)) buffer.old.items
-        buffer.new.items written result }
-    ensures some { IfOk result (λ progress. 0 < progress.len) }
-    ensures within { IfOk result (λ progress. progress.len ≤ length text.now) }
-    ensures counts { WriteCounts w.old w.new result }
-{
-    match copy_items(transducer, text, w, buffer, written) {
-        Ok(items) if items.len > 0 => Ok(items),
-        Ok(items) => copy_chunk(transducer, text, w, buffer, items.written),
-        Err(fault) => Err(fault),
-    }
-}
-
-// Copies whole directives at the front of a text, each with the verbatim bytes after it, as long as these
-// follow each other. The last bytes of what is settled may stay in the buffer.
-#[inline(always)]
-fn copy_items<W: Write>(
-    transducer: &mut Transducer,
-    text: &[u8],
-    w: &mut Counted<W>,
-    buffer: &mut WriteBuffer,
-    written: u128,
-) -> Result<CopyProgress, CopyFault>
-    ensures copied { CopiesPart transducer.old transducer.new text.now
-        (W.contents (device_of w.old)) (W.contents (device_of w.new)) buffer.old.items
-        buffer.new.items written result }
-    ensures within { IfOk result (λ progress. progress.len ≤ length text.now) }
-    ensures counts { WriteCounts w.old w.new result }
-{
-    let (taken, len, gathered) = gather_items(*transducer, text, w, buffer, written);
-    *transducer = taken;
-    match gathered {
-        Ok(written) => Ok(CopyProgress { len, written }),
-        Err(written) => Err(CopyFault::Write(written)),
-    }
-}
-
-// Copies the first chunk of a text. The last bytes of what is settled may stay in the buffer.
-#[inline(always)]
-fn copy_chunk<W: Write>(
-    transducer: &mut Transducer,
-    text: &[u8],
-    w: &mut Counted<W>,
-    buffer: &mut WriteBuffer,
-    written: u128,
-) -> Result<CopyProgress, CopyFault>
-    requires { 0 < length text.now }
-    ensures copied { CopiesPart transducer.old transducer.new text.now
-        (W.contents (device_of w.old)) (W.contents (device_of w.new)) buffer.old.items
-        buffer.new.items written result }
-    ensures some { IfOk result (λ progress. 0 < progress.len) }
-    ensures within { IfOk result (λ progress. progress.len ≤ length text.now) }
-    ensures counts { WriteCounts w.old w.new result }
-{
-    let chunk = match transducer.feed_chunk(text) {
-        Ok(chunk) => chunk,
-        Err(refused) => {
-            let verbatim = &text[..refused.verbatim_len];
-            return Err(copy_before_refusal(verbatim, w, buffer, written, refused.refusal));
-        }
-    };
-    match gather_chunk(&chunk, text, w, buffer, written) {
-        Ok(written) => Ok(CopyProgress {
-            len: chunk.len,
-            written,
-        }),
-        Err(written) => Err(CopyFault::Write(written)),
-    }
-}
-
-// Copies what is in the buffer, and the verbatim bytes before a byte that is refused.
-#[inline(never)]
-fn copy_before_refusal<W: Write>(
-    verbatim: &[u8],
-    w: &mut Counted<W>,
-    buffer: &[u8],
-    written: u128,
-    refusal: Refusal,
-) -> CopyFault
-    ensures copied { (model : Model) (front out text : Text) (start : Known) (len : ℕ)
-        → verbatim.now ≡ take len text
-        → Appends start (W.contents (device_of w.old)) out → written ≡ length out
-        → RefusesChunk model front (out ++ buffer.now) text
-        (record { verbatim_len = len; refusal = refusal })
-        → StopsIn model front text start (W.contents (device_of w.new)) result }
-    ensures counts { WriteCounts {E = Unit {0}} w.old w.new (Err result) }
-{
-    let written = match put(w, buffer, written) {
+    let (taken, count) = write_block(transducer, text, w, written);
+    let written = match count {
         Ok(written) => written,
-        Err(written) => return CopyFault::Write(written),
+        Err(written) => return Err(CopyFault::Write(written)),
     };
-    match put(w, verbatim, written) {
-        Ok(_) => CopyFault::Refused(refusal),
-        Err(written) => CopyFault::Write(written),
+    match taken {
+        Ok(()) => Ok(written),
+        Err(refusal) => Err(CopyFault::Refused(refusal)),
+    }
+}
+
+// Writes what a block settles, and counts on as `put` does. Returns the refusal of the block, too.
+#[inline(always)]
+fn write_block<W: Write>(
+    transducer: &mut Transducer,
+    text: &[u8],
+    w: &mut Counted<W>,
+    count: u128,
+) -> (Result<(), Refusal>, Result<u128, u128>)
+    ensures { (more : Text) × Puts W.contents w.old w.new more count result.1
+        × ((model : Model) (t out : Text) (items : List Item) → IsThrough model transducer.old t items out
+        → TakesBlock model t (out ++ more) text.now result.0 transducer.new) }
+{
+    let mut buffer = WriteBuffer::new();
+    let (taken, gathered) = gather_block(transducer, text, w, &mut buffer, count);
+    match gathered {
+        Ok(count) => (taken, put(w, &buffer, count)),
+        Err(count) => (taken, Err(count)),
     }
 }
 
@@ -287,11 +187,6 @@ impl<W: Write> Sink for Gathered<'_, '_, W> {
             }
         }
     }
-
-    #[inline(always)]
-    fn is_shut(&self) -> bool {
-        self.has_failed
-    }
 }
 
 // Puts bytes into the buffer after others, while there is room for them.
@@ -330,22 +225,19 @@ fn put_both<W: Write>(
     put(w, bytes, count)
 }
 
-// Gathers what the directives at the front of a text settle, as `put_all_items` takes them, and counts on as
-// `put` does.
+// Gathers what a block settles, and counts on as `put` does. Returns the refusal of the block, too.
 #[inline(always)]
-fn gather_items<W: Write>(
-    transducer: Transducer,
+fn gather_block<W: Write>(
+    transducer: &mut Transducer,
     text: &[u8],
     w: &mut Counted<W>,
     buffer: &mut WriteBuffer,
     count: u128,
-) -> (Transducer, usize, Result<u128, u128>)
-    ensures gathered { (more : Text)
-        × Gathers W.contents w.old w.new buffer.old.items more count buffer.new.items result.2
-        × ((before out : Text) → IsUpToAfter before transducer text.now 0 out
-        → (data_model_of result.0 ≡ data_model_of transducer)
-        × IsUpToAfter before result.0 text.now result.1 (out ++ more)) }
-    ensures within { result.1 ≤ length text.now }
+) -> (Result<(), Refusal>, Result<u128, u128>)
+    ensures { (more : Text)
+        × Gathers W.contents w.old w.new buffer.old.items more count buffer.new.items result.1
+        × ((model : Model) (t out : Text) (items : List Item) → IsThrough model transducer.old t items out
+        → TakesBlock model t (out ++ more) text.now result.0 transducer.new) }
 {
     let mut out = Gathered {
         writer: w,
@@ -353,36 +245,11 @@ fn gather_items<W: Write>(
         count,
         has_failed: false,
     };
-    let (taken, len) = put_all_items(transducer, text, &mut out);
+    let taken = transducer.put(text, &mut out);
     if out.has_failed {
-        return (taken, len, Err(out.count));
+        return (taken, Err(out.count));
     }
-    (taken, len, Ok(out.count))
-}
-
-/// Gathers what a chunk at the front of a text settles, and counts on as `put` does.
-pub(crate) fn gather_chunk<W: Write>(
-    chunk: &Chunk,
-    text: &[u8],
-    w: &mut Counted<W>,
-    buffer: &mut WriteBuffer,
-    count: u128,
-) -> Result<u128, u128>
-    requires { IsChunkWithin chunk.now text.now }
-    ensures { Gathers W.contents w.old w.new buffer.old.items
-        (chunk_output_text chunk.now text.now) count buffer.new.items result }
-{
-    let mut out = Gathered {
-        writer: w,
-        buffer,
-        count,
-        has_failed: false,
-    };
-    chunk.put(text, &mut out);
-    if out.has_failed {
-        return Err(out.count);
-    }
-    Ok(out.count)
+    (taken, Ok(out.count))
 }
 
 /// Gathers an output, and counts on as `put` does.

@@ -21,10 +21,6 @@ pub(crate) trait Sink {
     fn put(&mut self, bytes: &[u8])
         ensures { given self.old self.new bytes.now };
 
-    /// Whether it is known that nothing more is taken.
-    fn is_shut(&self) -> bool
-        ensures { IsTrue result → (bytes : Text) → given self.now self.now bytes };
-
     ghost laws: { IsSink given };
 }
 
@@ -143,10 +139,6 @@ impl<R: TextBuffer> Sink for TextBuilder<R> {
     }
 
     // A shorter text may still find room.
-    #[inline(always)]
-    fn is_shut(&self) -> bool {
-        false
-    }
 }
 
 /// How many bytes were given.
@@ -166,11 +158,6 @@ impl Sink for ByteCount {
     #[inline(always)]
     fn put(&mut self, bytes: &[u8]) {
         self.len = self.len.wrapping_add(bytes.len() as u128);
-    }
-
-    #[inline(always)]
-    fn is_shut(&self) -> bool {
-        false
     }
 }
 
@@ -198,11 +185,6 @@ impl Sink for Expected<'_> {
     #[inline(always)]
     fn put(&mut self, bytes: &[u8]) {
         self.left = strip_front(bytes, self.left);
-    }
-
-    #[inline(always)]
-    fn is_shut(&self) -> bool {
-        self.left.is_none()
     }
 }
 

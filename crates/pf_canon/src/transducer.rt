@@ -1,20 +1,21 @@
 //! A transducer of formats: it is fed a byte, a chunk or the end, and returns what that settles.
-ghost use Rattle.std.specs.Prelude.{◌≡◌, ◌+◌, ◌*◌, ◌<◌, ◌≤◌, ℕ, List, [], ◌∷◌, ◌++◌, length, take, IfOk, IfSome, MatchOption, MatchResult, OnOk};
+ghost use Rattle.std.specs.Prelude.{◌≡◌, ◌+◌, ◌*◌, ◌<◌, ◌≤◌, ℕ, List, [], ◌∷◌, ◌++◌, length, min, take, IfOk, IfSome, MatchOption, MatchResult, OnOk};
 ghost use Rattle.pf_values.specs.declared.limits.TheConstants.{MAX_TEXT_LEN};
-ghost use Rattle.pf_values.specs.meaning.Items.{Item};
+ghost use Rattle.pf_values.specs.meaning.Items.{Item, Reads};
 ghost use Rattle.pf_values.specs.meaning.Text.{Text};
 ghost use Rattle.pf_text.specs.History.{offset_of};
 ghost use Rattle.pf_canon.specs.Answers.{most_len};
 ghost use Rattle.pf_canon.specs.declared.limits.TheConstants.{MAX_DIRECTIVE_LEN};
-ghost use Rattle.pf_canon.specs.Making.{IsWritten};
+ghost use Rattle.pf_text.specs.Walks.{IsWalk};
+ghost use Rattle.pf_canon.specs.Making.{PutsItems};
 ghost use Rattle.pf_canon.specs.Output.{output_text};
-ghost use Rattle.pf_canon.specs.Transducer.{SettlesEnd, GrowsByChunk, HasScannedByte, IsChunkWithin, IsThrough, IsUpTo, IsUpToAfter, TakesVerbatim, TakesText, Settles, TakesByte, SettlesDirective, TakesChunk, GrowsByDirective, chunk_output_text, byte_output_text, data_model_of, more_of, scanner_of, held_silents_of};
+ghost use Rattle.pf_canon.specs.Transducer.{SettlesEnd, GrowsByChunk, HasScannedByte, IsChunkWithin, IsThrough, IsUpTo, PutsBytes, RefusesBlock, TakesBlock, TakesVerbatim, TakesText, Settles, TakesByte, SettlesDirective, TakesChunk, GrowsByDirective, chunk_output_text, byte_output_text, data_model_of, more_of, scanner_of, held_silents_of};
 
 use crate::chunk::{Chunk, ChunkRefusal};
 use crate::items::{put_items, run_end};
 use crate::output::{Output, StepOutput, settle};
 use crate::sink::Sink;
-use pf_text::{Canonical, Refusal, Scanner, Spelling, Step, Walk};
+use pf_text::{Canonical, Percents, Refusal, Scanner, Spelling, Step, Walk};
 use pf_values::{Directive, Model};
 
 /// A data model, the scanner's state inside the current item, and the number of `%.0s` not yet
@@ -38,40 +39,95 @@ impl Transducer {
         }
     }
 
-    /// A transducer that took a text of `len` bytes, of whose items `silents` wait.
-    pub(crate) fn after_items(model: Model, len: usize, silents: u64) -> Transducer
-        ensures model { data_model_of result ≡ model }
-        ensures after { (t out : Text) → IsWritten model t out silents → length t ≡ len
-            → len ≤ MAX_TEXT_LEN → (items : List Item) × IsThrough model result t items out }
+    /// Takes a block of a text, and puts what it settles: its whole items at once, and byte by byte an item that
+    /// begins before it, ends after it, or is refused. `Err` if a byte is refused: then what comes
+    /// before it was put.
+    pub(crate) fn put<S: Sink>(&mut self, block: &[u8], sink: &mut S) -> Result<(), Refusal>
+        ensures { (more : Text) × S.given sink.old sink.new more
+            × ((model : Model) (t out : Text) (items : List Item) → IsThrough model self.old t items out
+            → TakesBlock model t (out ++ more) block.now result self.new) }
     {
-        Transducer {
-            model,
-            scanner: Scanner::after_items(len),
-            silents,
+        let mut at = 0;
+        while at < block.len() {
+            at += self.put_front(&block[at..], sink);
+            match self.put_item(&block[at..], sink) {
+                Ok(len) => at += len,
+                Err(refusal) => return Err(refusal),
+            }
         }
+        Ok(())
     }
 
-    /// Takes whole items at the front of a text as `put_items` does, and puts what they settle. Returns how many
-    /// bytes they have: 0 inside an item, and if a silent directive waits.
-    pub(crate) fn put_front<S: Sink>(&mut self, text: &[u8], sink: &mut S) -> usize
-        ensures put { (more : Text) × S.given sink.old sink.new more
-            × ((before out : Text) → IsUpToAfter before self.old text.now 0 out
-            → (data_model_of self.new ≡ data_model_of self.old)
-            × IsUpToAfter before self.new text.now result (out ++ more)) }
+    // Takes whole items at the front of a text, and puts what they settle. Returns how many bytes they have: 0
+    // inside an item.
+    #[inline(always)]
+    fn put_front<S: Sink>(&mut self, text: &[u8], sink: &mut S) -> usize
+        ensures put { PutsBytes S.given sink.old sink.new self.old self.new (take result text.now) }
         ensures within { result ≤ length text.now }
     {
-        if self.silents > 0 {
-            return 0;
-        }
         if !self.scanner.may_pass(text.len()) {
             return 0;
         }
-        let mut walk = Walk::new(text);
-        walk.at = run_end::<Canonical>(walk, 0);
-        let (len, held) = put_items(self.model, walk, 0, sink);
+        let len = self.put_items(Walk::new(text), sink);
         self.scanner.pass_items(len);
+        len
+    }
+
+    // Puts what the items settle at the front of a walk's text: behind a silent directive that waits, literal
+    // bytes and `%%` alone. Returns where they end.
+    #[inline(always)]
+    fn put_items<S: Sink>(&mut self, walk: Walk<'_>, sink: &mut S) -> usize
+        requires { IsWalk walk }
+        ensures put { PutsItems S.given (data_model_of self.old) sink.old sink.new
+            (take result walk.entry.text.now) (held_silents_of self.old) (held_silents_of self.new) }
+        ensures reads { (items : List Item) × Reads (take result walk.entry.text.now) items }
+        ensures within { result ≤ length walk.entry.text.now }
+        ensures model { data_model_of self.new ≡ data_model_of self.old }
+        ensures scanner { scanner_of self.new ≡ scanner_of self.old }
+    {
+        if self.silents > 0 {
+            let len = run_end::<Percents>(walk, 0);
+            sink.put(&walk.text()[..len]);
+            return len;
+        }
+        let mut behind = walk;
+        behind.at = run_end::<Canonical>(walk, 0);
+        let (len, held) = put_items(self.model, behind, 0, sink);
         self.silents = held;
         len
+    }
+
+    // Takes the bytes at the front of a text up to the end of one item, or all if none ends, and puts what that
+    // settles. Returns how many these are.
+    #[inline(never)]
+    fn put_item<S: Sink>(&mut self, text: &[u8], sink: &mut S) -> Result<usize, Refusal>
+        ensures put { (more : Text) × S.given sink.old sink.new more
+            × ((model : Model) (t out : Text) (items : List Item) → IsThrough model self.old t items out
+            → MatchResult result
+            (λ len. (now : List Item) × IsThrough model self.new (t ++ take len text.now) now (out ++ more))
+            (RefusesBlock model t (out ++ more) text.now)) }
+        ensures within { IfOk result (λ len. (min 1 (length text.now) ≤ len) × (len ≤ length text.now)) }
+    {
+        let mut at = 0;
+        while at < text.len() {
+            let output = match self.feed(text[at]) {
+                Ok(output) => output,
+                Err(refusal) => return Err(refusal),
+            };
+            at += 1;
+            match output {
+                StepOutput::Nothing => {}
+                StepOutput::Literal => {
+                    sink.put(&text[at - 1..at]);
+                    return Ok(at);
+                }
+                StepOutput::Output(output) => {
+                    output.put(sink);
+                    return Ok(at);
+                }
+            }
+        }
+        Ok(at)
     }
 
     /// A transducer that took a text chunk by chunk, up to its end or to what is refused, and how
@@ -252,22 +308,6 @@ impl Transducer {
     {
         let (directive, len) = self.scanner.pass_directive(text)?;
         Some((self.settle_directive(&directive), len))
-    }
-
-    /// Takes the whole directive at the front of a text, puts what it settles, and returns how many bytes
-    /// it has. It takes none where `take_directive` doesn't.
-    #[inline(always)]
-    pub(crate) fn put_directive<S: Sink>(&mut self, text: &[u8], sink: &mut S) -> Option<usize>
-        ensures put { IfSome result (λ len. (settled : Text) × S.given sink.old sink.new settled
-            × ((model : Model) (t out : Text) (items : List Item)
-            → IsThrough model self.old t items out
-            → GrowsByDirective model t out text.now len settled self.new)) }
-        ensures within { MatchOption result ((self.new ≡ self.old) × (sink.new ≡ sink.old))
-            (λ len. (0 < len) × (len ≤ length text.now)) }
-    {
-        let (output, len) = self.take_directive(text)?;
-        output.put(sink);
-        Some(len)
     }
 
     /// A transducer that took a text after what this one took, or why that is refused.

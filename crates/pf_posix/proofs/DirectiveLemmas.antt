@@ -17,14 +17,14 @@ use Rattle.pf_posix.specs.Directives.{HasDirectiveCount, TakesFrom, directive_be
 use Rattle.pf_posix.specs.DirectivesInText.{IsListedBehind, IsListedTo}
 use Rattle.pf_posix.specs.Items.{Byte, HasArguments, PosixItem, ReadsPosix, Specification}
 use Rattle.pf_posix.specs.Laws.{filled}
-use Rattle.pf_posix.specs.PartsInText.{SpecificationIs, specification_of}
+use Rattle.pf_posix.specs.PartsInText.{BeginsNoSpecification, IsSpecificationAt, specification_of}
 use Rattle.pf_posix.specs.Specifications.{PosixSpecification}
 use Rattle.pf_posix.specs.Spelling.{SpellsPosix}
 use Rattle.pf_posix.specs.Types.{fetches}
 use Rattle.pf_posix.proofs.DirectiveTypes.{all_typed}
 use Rattle.pf_posix.proofs.DirectivesOnce.{some_text}
 use Rattle.pf_posix.proofs.OrderLemmas.{filled_none}
-use Rattle.pf_posix.proofs.PartLemmas.{head_at, tail_at}
+use Rattle.pf_posix.proofs.PartLemmas.{head_at, same_there, tail_at}
 use Rattle.pf_posix.proofs.PassedLemmas.{walked}
 use Rattle.pf_posix.proofs.SpecificationsOnce.{begins_no_percent}
 
@@ -76,7 +76,7 @@ module _ (t : Text) (at : ℕ) (less : at < length t) where
       let no : true ≡ false = ap (λ b. b == 37) (sym second) ∙ other in cc
 
   pub some_specification : (items : List PosixItem) → ReadsPosix (drop at t) items → byte_here ≡ 37 → (get_or t (at + 1) 0 == 37) ≡ false
-      → SpecificationIs t at None → ⊥
+      → BeginsNoSpecification (drop at t) → ⊥
   some_specification [] reads percent other none = no_end reads
   some_specification (Byte x ∷ later) reads percent other none = no_byte x later reads percent other
   some_specification (Specification s ∷ later) reads percent other none = none reads.0 reads.1 s reads.2.0 reads.4
@@ -122,11 +122,10 @@ module _ (model : Model) (t : Text) (all done : List DirectiveSpan) (at next : �
             let other = (starts t at less reads.0 reads.1 s reads.2.0 reads.4).1 in
             let no : true ≡ false = sym second ∙ other in cc
 
-      pub listed_specification : (read : Read) (stop : ℕ) → (get_or t (at + 1) 0 == 37) ≡ false → SpecificationIs t at (Some (read, stop)) → at < stop
-          → stop ≤ length t
+      pub listed_specification : (read : Read) (stop : ℕ) → (get_or t (at + 1) 0 == 37) ≡ false → IsSpecificationAt t at (read, stop)
           → IsListedTo model t all stop (next + length (fetches model (specification_of read)))
           (done ++ directive_between model at stop next (specification_of read) ∷ [])
-      listed_specification read stop other spelled low few = go h.items h.reads h.all_are where
+      listed_specification read stop other found = go h.items h.reads h.all_are where
         After : ℕ → PosixSpecification → Type 0
         After end s = IsListedTo model t all end (next + length (fetches model s)) (done ++ directive_between model at end next s ∷ [])
 
@@ -135,9 +134,9 @@ module _ (model : Model) (t : Text) (all done : List DirectiveSpan) (at next : �
         go [] reads e = absurd (no_end t at less reads)
         go (Byte x ∷ later) reads e = absurd (no_byte t at less x later reads percent other)
         go (Specification s ∷ later) reads e =
-            let there = spelled reads.0 reads.1 s reads.2.0 reads.4 in
+            let there = same_there t at (read, stop) found reads.0 reads.1 s reads.2.0 reads.4 in
             let end : at + length reads.0 ≡ stop =
-            omega (arith, low, few, h.within, ap length reads.4, length-append reads.0 reads.1, length-drop at t, ap length there.1, length-drop stop t) in
+            omega (arith, found.some, found.within, h.within, ap length reads.4, length-append reads.0 reads.1, length-drop at t, ap length there.1, length-drop stop t) in
             let span = directive_between model at (at + length reads.0) next s in
             let fetched = next + length (fetches model s) in
             let now = moved reads.0 reads.1 later reads.3 fetched (done ++ span ∷ []) reads.4

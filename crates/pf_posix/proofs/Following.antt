@@ -134,7 +134,7 @@ module _ (model : Model) where
       ap (λ g. verdict_after g (trace_from model (numbering_of base) Between at (first ++ rest))) (sym (append-nil base)) ∙ f.0
       ∙ ap (λ s. verdict_after (base ++ own) (trace_from model s Between (at + length first) rest)) f.1
 
-  reads_on : (items : List PosixItem) (base : List Fetch) (t rest : Text) (at : ℕ) → ReadsPosix t items → AreAgreed (base ++ fetched model items)
+  pub reads_on : (items : List PosixItem) (base : List Fetch) (t rest : Text) (at : ℕ) → ReadsPosix t items → AreAgreed (base ++ fetched model items)
       → at + length t ≤ MAX_TEXT_LEN → ReadsOn base t rest items at
   reads_on [] base t rest at h agreed few =
       let here : at ≡ at + length t = omega (arith, ap length h) in

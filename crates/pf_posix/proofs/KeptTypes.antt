@@ -8,18 +8,17 @@ use Rattle.pf_values.specs.meaning.Items.{Item, Byte, Directive, Reads, types}
 use Rattle.pf_values.specs.meaning.Text.{Text}
 use Rattle.pf_posix.specs.Items.{PosixItem, ReadsPosix, Specification, fetched}
 use Rattle.pf_posix.specs.Specifications.{Amount, Given, Fetched, PosixSpecification}
-use Rattle.pf_posix.specs.Spelling.{SpellsPosixPrecision, SpellsPosixWidth}
+use Rattle.pf_posix.specs.Spelling.{SpellsPosix, SpellsPosixPrecision, SpellsPosixWidth}
 use Rattle.pf_posix.specs.Types.{conversion_type, fetch, fetches, star_fetches, widened}
 use Rattle.pf_posix.specs.Unnumbered.{IsAcceptedUnnumbered, IsUnnumbered, TypesAreKept}
 use Rattle.pf_posix.specs.Stretches.{Stretches, Last, Before, IsWholeAccepted, ReadsWhole, types_of_opaque, whole_types}
-use Rattle.pf_posix.specs.Opaque.{SpellsOpaque}
 use Rattle.pf_posix.proofs.Bounds.{all_append}
 use Rattle.pf_posix.proofs.Soundness.{fetched_append}
 use Rattle.pf_posix.proofs.Profile.{fetched_here, item_of, none_numbered, reads_here, wanted_here}
 use Rattle.pf_posix.proofs.ReadOnce.{flat}
 use Rattle.pf_posix.proofs.SpecificationsOnce.{no_number, parts_of}
 
-posix_append : (t u : Text) (a b : List PosixItem) → ReadsPosix t a → ReadsPosix u b → ReadsPosix (t ++ u) (a ++ b)
+pub posix_append : (t u : Text) (a b : List PosixItem) → ReadsPosix t a → ReadsPosix u b → ReadsPosix (t ++ u) (a ++ b)
 posix_append t u [] b h g = rw h g
 posix_append t u (item ∷ a) b h g = (h.0, h.1 ++ u, h.2, posix_append h.1 u a b h.3 g, ap (λ l. l ++ u) h.4 ∙ append_assoc h.0 h.1 u)
 
@@ -70,13 +69,13 @@ star_unnumbered t None h = tt
 star_unnumbered t (Some (Given n)) h = tt
 star_unnumbered t (Some (Fetched number)) h = (no_number number h.1.numbering, tt)
 
-own_unnumbered : (model : Model) (t : Text) (s : PosixSpecification) → SpellsOpaque t s → AllByRecursion (λ f. f.number ≡ None) (fetches model s)
-own_unnumbered model t s h =
-    let parts = parts_of t s h.spelled h.unnumbered in
+pub own_unnumbered : (model : Model) (t : Text) (s : PosixSpecification) → SpellsPosix t s → s.position ≡ None → AllByRecursion (λ f. f.number ≡ None) (fetches model s)
+own_unnumbered model t s h e =
+    let parts = parts_of t s h e in
     all_append (λ f. f.number ≡ None) (star_fetches s.width ++ star_fetches s.precision) (fetch s.position (conversion_type model s.modifier s.conversion) ∷ [])
     (all_append (λ f. f.number ≡ None) (star_fetches s.width) (star_fetches s.precision) (stars_unnumbered parts.width s.width parts.width_is)
     (star_unnumbered parts.precision s.precision parts.precision_is))
-    (h.unnumbered, tt)
+    (e, tt)
 
 fetched_unnumbered : (model : Model) (t : Text) (a : Stretches) → ReadsWhole t a → AllByRecursion (λ f. f.number ≡ None) (fetched model (flat a))
 fetched_unnumbered model t (Last items) h = subst (AllByRecursion (λ f. f.number ≡ None)) (sym (fetched_here model t items h))
@@ -85,7 +84,7 @@ fetched_unnumbered model t (Before items s rest) h =
     subst (AllByRecursion (λ f. f.number ≡ None)) (sym (fetched_append model (map item_of items) (Specification s ∷ flat rest)))
     (all_append (λ f. f.number ≡ None) (fetched model (map item_of items)) (fetches model s ++ fetched model (flat rest))
     (subst (AllByRecursion (λ f. f.number ≡ None)) (sym (fetched_here model h.0 items h.3)) (none_numbered widened (types model items)))
-    (all_append (λ f. f.number ≡ None) (fetches model s) (fetched model (flat rest)) (own_unnumbered model h.1 s h.4) (fetched_unnumbered model h.2 rest h.5)))
+    (all_append (λ f. f.number ≡ None) (fetches model s) (fetched model (flat rest)) (own_unnumbered model h.1 s h.4.spelled h.4.unnumbered) (fetched_unnumbered model h.2 rest h.5)))
 
 pub types_are_kept : (model : Model) → TypesAreKept model
 types_are_kept model t a h few = record {

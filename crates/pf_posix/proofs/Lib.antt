@@ -10,7 +10,6 @@ pub mod Telling
 pub mod WalkLemmas
 pub mod TwoByteLemmas
 pub mod OrderLemmas
-pub mod PlainLemmas
 pub mod PassedLemmas
 pub mod PlainFrontLemmas
 pub mod TableLemmas

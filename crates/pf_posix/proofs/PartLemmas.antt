@@ -1,27 +1,33 @@
 -- The parts of a specification at a place of a text, one after another.
-use Rattle.std.proofs.Common.{◌≡◌, ℕ, ◌+◌, ◌-◌, ◌*◌, ◌<◌, ◌≤◌, Bool, true, false, ◌||◌, List, [], ◌∷◌, ◌++◌, drop, get_or, length, map, refl, sym, ap, ◌∙◌}
-use Rattle.std.proofs.Common.{arith, subst}
-use Rattle.std.specs.Prelude.{Option, Some, None, IsSomeAnd, MatchOption, fold, is_some, ◌==◌}
+use Rattle.std.proofs.Common.{◌≡◌, ◌≢◌, ℕ, ◌+◌, ◌-◌, ◌*◌, ◌<◌, ◌≤◌, Bool, true, false, List, [], ◌∷◌, ◌++◌, drop, get_or, length, map, take, refl, sym, ap, ◌∙◌}
+use Rattle.std.proofs.Common.{arith, drop-drop, inl, inr, subst}
+use Rattle.std.specs.Prelude.{Option, Some, None, ◌||◌, IsSomeAnd, MatchOption, if◌then◌else◌, is_some, nat_lt, ◌==◌}
 use Rattle.std.specs.Fmt.{digit_glyph}
 use Rattle.std.specs.Int.Digits.{number_from_digits_after}
 use Rattle.std.specs.List.{AllByRecursion}
-use Rattle.std.proofs.lemmas.Bool.{eqb-true}
+use Rattle.std.proofs.lemmas.Bool.{cases_lt, eqb-true}
 use Rattle.std.proofs.lemmas.Bool.Decides.{nat_tests}
 use Rattle.std.proofs.lemmas.Int.Digits.{number_after_ge}
-use Rattle.std.proofs.lemmas.List.{append_assoc, drop_more, get_or-drop, length-drop}
+use Rattle.std.proofs.lemmas.List.{append_assoc, drop_all, drop_more, get_or-drop, get_or_past, length-drop, take-append-drop}
 use Rattle.pf_values.specs.declared.flags.Flag.{Flag}
-use Rattle.pf_values.specs.declared.flags.Flag.TheVariants.{Minus, Plus, Space, Alt, Zero, Group}
 use Rattle.pf_values.specs.declared.flags.FlagSet.{FlagSet}
 use Rattle.pf_values.specs.declared.lengths.Length.TheVariants as lengths
 use Rattle.pf_values.specs.declared.limits.TheConstants.{MAX_NUMBER}
+use Rattle.pf_values.specs.meaning.Defined.{is_above_limit}
 use Rattle.pf_values.specs.meaning.Digits.{AreDigits, AreLeastDigits}
-use Rattle.pf_values.specs.meaning.Flags.{flag_byte, flag_set, with_flag}
+use Rattle.pf_values.specs.meaning.Flags.{flag_byte, flag_set}
+use Rattle.pf_values.specs.meaning.Spelling.{width_spelled}
 use Rattle.pf_values.specs.meaning.Text.{Text}
 use Rattle.pf_values.proofs.Numerals.{number_after-place_sum}
 use Rattle.pf_text.specs.Letters.{flag_of}
+use Rattle.pf_text.specs.Offsets.{ContinuesNumber, EndsFlags, EndsNumber, EndsWidth, HasBytes}
 use Rattle.pf_text.specs.States.{is_digit}
-use Rattle.pf_text.proofs.Complete.{digit_is, flag_of_byte}
-use Rattle.pf_text.proofs.Sound.{byte_of_flag}
+use Rattle.pf_text.proofs.Complete.{digit_is}
+use Rattle.pf_text.proofs.NoDirectiveLemmas.{bytes_rest, same_place}
+use Rattle.pf_text.proofs.NumberDigits.{first_above_zero}
+use Rattle.pf_text.proofs.ReadBack.{width_read}
+use Rattle.pf_text.proofs.SpecificationLemmas.{bytes_join, bytes_one}
+use Rattle.pf_text.proofs.WalkLemmas.{bytes_between}
 use Rattle.pf_posix.specs.declared.conversions.Conversion.{Conversion}
 use Rattle.pf_posix.specs.declared.conversions.Modifier.{Modifier}
 use Rattle.pf_posix.specs.declared.conversions.Modifier.TheVariants.{Integer, LongDouble}
@@ -30,14 +36,16 @@ use Rattle.pf_posix.specs.declared.opaque_directives.OpaqueAmount.TheVariants as
 use Rattle.pf_posix.specs.declared.specifications.Specification.{Specification}
 use Rattle.pf_posix.specs.Letters.{conversion_of, is_first_digit, length_modifier_of}
 use Rattle.pf_posix.specs.OpaqueParts.{amount_at, amount_of, parts_of_opaque}
-use Rattle.pf_posix.specs.PartsInText.{BeginsOutside, ConversionIs, DigitsAre, FlagsAre, IsAfterPoint, ModifierGoesOn, ModifierIs, PositionIs, PrecisionIs}
-use Rattle.pf_posix.specs.PartsInText.{SpecificationIs, WidthIs, dollar_follows, is_flag, is_precision, is_width, second_modifier, specification_of}
+use Rattle.pf_posix.specs.PartsInText.{BeginsNoSpecification, BeginsOutside, ConversionIs, FlagsAre, IsAfterPoint, IsSpecificationAt, ModifierGoesOn, ModifierIs}
+use Rattle.pf_posix.specs.PartsInText.{PositionIs, PrecisionIs, StarIs, WidthIs, dollar_follows, is_flag, is_precision, is_width, second_modifier, specification_of}
 use Rattle.pf_posix.specs.Specifications.{Given, Fetched, PosixSpecification, conversion_letter, modifier_letters}
-use Rattle.pf_posix.specs.Spelling.{SpellsPositive, SpellsPosix, SpellsPosixWidth, SpellsPosixPrecision}
-use Rattle.pf_text.proofs.NumberDigits.{first_above_zero}
+use Rattle.pf_posix.specs.Spelling.{SpellsPosition, SpellsPositive, SpellsPosix, SpellsPosixPrecision, SpellsPosixWidth, SpellsStar}
+use Rattle.pf_posix.proofs.Judging.{byte_of_conversion, byte_of_modifier}
 use Rattle.pf_posix.proofs.Reaching.{letter_tests}
+use Rattle.pf_posix.proofs.Spans.{spans}
 use Rattle.pf_posix.proofs.SpecificationsOnce.{HasAllParts, after_flags_outside, after_number_outside, after_precision_outside, after_width_outside, all_parts}
-use Rattle.pf_posix.proofs.SpecificationsOnce.{no_number, outside_dollar, same_fields, whole_with}
+use Rattle.pf_posix.proofs.SpecificationsOnce.{digits_inside, flags_inside, no_number, outside_dollar, position_dollar, same_digits, same_fields, same_flags}
+use Rattle.pf_posix.proofs.SpecificationsOnce.{specification_once, whole_with}
 
 -- the byte at a place, and what comes after it
 pub head_at : (t : Text) (at byte : ℕ) (rest : Text) → drop at t ≡ byte ∷ rest → get_or t at 0 ≡ byte
@@ -53,132 +61,61 @@ tail_at t at byte rest e =
     let split = sym (drop_more t at 0 (inside_at t at byte rest e)) ∙ e in
     cc
 
--- past the end there is no byte
-pub nothing_at : (t : Text) (at byte : ℕ) (rest : Text) → length t ≤ at → drop at t ≡ byte ∷ rest → ⊥
-nothing_at t at byte rest over e = omega (arith, over, inside_at t at byte rest e)
-
--- flags
-abbrev pub FlagsLeft : Text → ℕ → ℕ → FlagSet → Type 0
-FlagsLeft t start at set = (flags : List Flag) (rest : Text) → BeginsOutside is_flag rest → drop start t ≡ map flag_byte flags ++ rest
-    → (later : List Flag) × (drop at t ≡ map flag_byte later ++ rest) × (fold with_flag set later ≡ flag_set flags)
-
-flag_is : (flag : Flag) → is_flag (flag_byte flag) ≡ true
-flag_is Minus = refl
-flag_is Plus = refl
-flag_is Space = refl
-flag_is Alt = refl
-flag_is Zero = refl
-flag_is Group = refl
-
-byte_is_flag : (byte : ℕ) (flag : Flag) → flag_of byte ≡ Some flag → is_flag byte ≡ true
-byte_is_flag byte flag e = ap is_flag (byte_of_flag byte flag e) ∙ flag_is flag
-
 -- what is refused as a first byte is not the first byte
 no_first : (p : ℕ → Bool) (byte : ℕ) (more rest : Text) → BeginsOutside p rest → byte ∷ more ≡ rest → p byte ≡ true → ⊥
 no_first p byte more rest o e h = let no : false ≡ true = sym (subst (BeginsOutside p) (sym e) o) ∙ h in cc
 
-module _ (t : Text) (start : ℕ) where
-  module _ (at : ℕ) (set : FlagSet) (h : FlagsLeft t start at set) where
-    pub flags_step : (flag : Flag) → at < length t → flag_of (get_or t at 0) ≡ Some flag → FlagsLeft t start (at + 1) (with_flag set flag)
-    flags_step flag less f flags rest o e = let l = h flags rest o e in go l.0 l.1 l.2 where
-      byte : ℕ
-      byte = get_or t at 0
+-- a part ends where the test refuses the next byte
+outside : (p : ℕ → Bool) (t : Text) (at : ℕ) → (at < length t → p (get_or t at 0) ≡ false) → BeginsOutside p (drop at t)
+outside p t at h = elim (cases_lt at (length t)) [
+  | inl less ↦ subst (BeginsOutside p) (sym (drop_more t at 0 less)) (h less)
+  | inr over ↦ subst (BeginsOutside p) (sym (drop_all at t over)) tt
+]
 
-      here : drop at t ≡ byte ∷ drop (at + 1) t
-      here = drop_more t at 0 less
+no_flag : (byte : ℕ) → flag_of byte ≡ None → is_flag byte ≡ false
+no_flag byte e = grind (arith, nat_tests)
 
-      go : (later : List Flag) → drop at t ≡ map flag_byte later ++ rest → fold with_flag set later ≡ flag_set flags
-          → (later : List Flag) × (drop (at + 1) t ≡ map flag_byte later ++ rest) × (fold with_flag (with_flag set flag) later ≡ flag_set flags)
-      go [] x y = absurd (no_first is_flag byte (drop (at + 1) t) rest o (sym here ∙ x) (byte_is_flag byte flag f))
-      go (g ∷ later) x y =
-          let first = head_at t at (flag_byte g) (map flag_byte later ++ rest) x in
-          let same : Some flag ≡ Some g = sym f ∙ ap flag_of first ∙ flag_of_byte g in
-          let flag_is : flag ≡ g = cc in
-          (later, tail_at t at (flag_byte g) (map flag_byte later ++ rest) x, ap (λ k. fold with_flag (with_flag set k) later) flag_is ∙ y)
+-- flags
+pub flags_are : (t : Text) (start stop : ℕ) (set : FlagSet) → (flags : List Flag) × (set ≡ flag_set flags) × HasBytes t start stop (map flag_byte flags)
+    → EndsFlags t stop → FlagsAre t start set stop
+flags_are t start stop set h ends flags rest o e =
+    let split = spans is_flag (map flag_byte h.0) (drop stop t) (map flag_byte flags) rest (flags_inside h.0) (flags_inside flags)
+    (outside is_flag t stop (λ less. no_flag (get_or t stop 0) (ends less))) o (sym (bytes_rest t start stop (map flag_byte h.0) h.2) ∙ e) in
+    (h.1 ∙ ap flag_set (same_flags h.0 flags split.0), split.1)
 
-    pub flags_end : flag_of (get_or t at 0) ≡ None → FlagsAre t start set at
-    flags_end f flags rest o e = let l = h flags rest o e in go l.0 l.1 l.2 where
-      go : (later : List Flag) → drop at t ≡ map flag_byte later ++ rest → fold with_flag set later ≡ flag_set flags
-          → (set ≡ flag_set flags) × (drop at t ≡ rest)
-      go [] x y = (y, x)
-      go (g ∷ later) x y =
-          let first = head_at t at (flag_byte g) (map flag_byte later ++ rest) x in
-          let no : None ≡ Some g = sym f ∙ ap flag_of first ∙ flag_of_byte g in cc
+-- a number goes on at least by the next digit
+longer_number : (ds es : List ℕ) (n byte : ℕ) (more rest : Text) → AllByRecursion (λ d. d < 10) ds → AllByRecursion (λ d. d < 10) es → is_digit byte ≡ true
+    → BeginsOutside is_digit rest → map (digit_glyph false) ds ++ byte ∷ more ≡ map (digit_glyph false) es ++ rest
+    → 10 * number_from_digits_after 10 n ds + (byte - 48) ≤ number_from_digits_after 10 n es
+longer_number [] [] n byte more rest h g digit o e = absurd (no_first is_digit byte more rest o e digit)
+longer_number [] (x ∷ es) n byte more rest h g digit o e =
+    let same : byte ≡ digit_glyph false x = cc in
+    let value : byte - 48 ≡ x = ap (λ b. b - 48) same ∙ (digit_is x g.0).1 in
+    let least = number_after_ge 10 (n * 10 + x) es (omega arith) in
+    omega (arith, value, least)
+longer_number (d ∷ ds) [] n byte more rest h g digit o e =
+    absurd (no_first is_digit (digit_glyph false d) (map (digit_glyph false) ds ++ byte ∷ more) rest o e (digit_is d h.0).0)
+longer_number (d ∷ ds) (x ∷ es) n byte more rest h g digit o e =
+    let glyph : digit_glyph false d ≡ digit_glyph false x = cc in
+    let same : d ≡ x = sym (digit_is d h.0).1 ∙ ap (λ b. b - 48) glyph ∙ (digit_is x g.0).1 in
+    let rest_is = longer_number ds es (n * 10 + d) byte more rest h.1 g.1 digit o (cc) in
+    subst (λ k. 10 * number_from_digits_after 10 (n * 10 + d) ds + (byte - 48) ≤ number_from_digits_after 10 (n * 10 + k) es) same rest_is
 
-    pub flags_all : length t ≤ at → FlagsAre t start set at
-    flags_all over flags rest o e = let l = h flags rest o e in go l.0 l.1 l.2 where
-      go : (later : List Flag) → drop at t ≡ map flag_byte later ++ rest → fold with_flag set later ≡ flag_set flags
-          → (set ≡ flag_set flags) × (drop at t ≡ rest)
-      go [] x y = (y, x)
-      go (g ∷ later) x y = absurd (nothing_at t at (flag_byte g) (map flag_byte later ++ rest) over x)
+-- digits that were read, and what a number within the limit is spelled with
+module _ (t : Text) (start stop : ℕ) (ds es : List ℕ) (rest : Text) (below : AllByRecursion (λ d. d < 10) ds) (low : AllByRecursion (λ d. d < 10) es)
+    (read : drop start t ≡ map (digit_glyph false) ds ++ drop stop t) (spelled : drop start t ≡ map (digit_glyph false) es ++ rest)
+    (o : BeginsOutside is_digit rest) (few : number_from_digits_after 10 0 es ≤ MAX_NUMBER) (ends : EndsNumber (number_from_digits_after 10 0 ds) t stop) where
+  pub no_digit_more : is_digit (get_or t stop 0) ≡ true → stop < length t → ⊥
+  no_digit_more digit less =
+      let longer = longer_number ds es 0 (get_or t stop 0) (drop (stop + 1) t) rest below low digit o
+      (ap (λ u. map (digit_glyph false) ds ++ u) (sym (drop_more t stop 0 less)) ∙ sym read ∙ spelled) in
+      omega (arith, longer, few, ends less digit)
 
--- digits
-abbrev pub DigitsLeft : Text → ℕ → ℕ → ℕ → ℕ → Type 0
-DigitsLeft t start first at number = (digits : List ℕ) (rest : Text) → AllByRecursion (λ d. d < 10) digits → BeginsOutside is_digit rest
-    → number_from_digits_after 10 first digits ≤ MAX_NUMBER → drop start t ≡ map (digit_glyph false) digits ++ rest
-    → (later : List ℕ) × AllByRecursion (λ d. d < 10) later × (drop at t ≡ map (digit_glyph false) later ++ rest)
-    × (number_from_digits_after 10 number later ≡ number_from_digits_after 10 first digits)
-
-module _ (t : Text) (start first : ℕ) where
-  pub digits_begin : DigitsLeft t start first start first
-  digits_begin = λ digits rest below o few e. (digits, below, e, refl)
-
-  module _ (at number : ℕ) (h : DigitsLeft t start first at number) where
-    abbrev byte : ℕ
-    byte = get_or t at 0
-
-    next : (d : ℕ) → d < 10 → byte ≡ digit_glyph false d → 10 * number + (byte - 48) ≡ number * 10 + d
-    next d low e = let digit : byte - 48 ≡ d = ap (λ b. b - 48) e ∙ (digit_is d low).1 in omega (arith, digit)
-
-    pub digits_step : at < length t → is_digit byte ≡ true → DigitsLeft t start first (at + 1) (10 * number + (byte - 48))
-    digits_step less f digits rest below o few e = let l = h digits rest below o few e in go l.0 l.1 l.2 l.3 where
-      go : (later : List ℕ) → AllByRecursion (λ d. d < 10) later → drop at t ≡ map (digit_glyph false) later ++ rest
-          → number_from_digits_after 10 number later ≡ number_from_digits_after 10 first digits
-          → (later : List ℕ) × AllByRecursion (λ d. d < 10) later × (drop (at + 1) t ≡ map (digit_glyph false) later ++ rest)
-          × (number_from_digits_after 10 (10 * number + (byte - 48)) later ≡ number_from_digits_after 10 first digits)
-      go [] b x y = absurd (no_first is_digit byte (drop (at + 1) t) rest o (sym (drop_more t at 0 less) ∙ x) f)
-      go (d ∷ later) b x y =
-          let head = head_at t at (digit_glyph false d) (map (digit_glyph false) later ++ rest) x in (
-            later,
-            b.1,
-            tail_at t at (digit_glyph false d) (map (digit_glyph false) later ++ rest) x,
-            ap (λ n. number_from_digits_after 10 n later)
-                (next d b.0 head) ∙ y,
-          )
-
-    pub digits_over : at < length t → is_digit byte ≡ true → MAX_NUMBER < 10 * number + (byte - 48) → DigitsAre t start first None
-    digits_over less f over digits rest below o few e = let l = h digits rest below o few e in go l.0 l.1 l.2 l.3 where
-      go : (later : List ℕ) → AllByRecursion (λ d. d < 10) later → drop at t ≡ map (digit_glyph false) later ++ rest
-          → number_from_digits_after 10 number later ≡ number_from_digits_after 10 first digits → ⊥
-      go [] b x y = no_first is_digit byte (drop (at + 1) t) rest o (sym (drop_more t at 0 less) ∙ x) f
-      go (d ∷ later) b x y =
-          let head = head_at t at (digit_glyph false d) (map (digit_glyph false) later ++ rest) x in
-          let more = number_after_ge 10 (number * 10 + d) later (omega arith) in
-          let whole : number_from_digits_after 10 (number * 10 + d) later ≡ number_from_digits_after 10 first digits = y in
-          omega (arith, over, next d b.0 head, more, whole, few)
-
-    done : (digits : List ℕ) (rest : Text) → ((d : ℕ) (more : Text) → d < 10 → drop at t ≡ digit_glyph false d ∷ more → ⊥)
-        → (later : List ℕ) × AllByRecursion (λ d. d < 10) later × (drop at t ≡ map (digit_glyph false) later ++ rest)
-        × (number_from_digits_after 10 number later ≡ number_from_digits_after 10 first digits)
-        → (number ≡ number_from_digits_after 10 first digits) × (drop at t ≡ rest)
-    done digits rest never l = go l.0 l.1 l.2 l.3 where
-      go : (later : List ℕ) → AllByRecursion (λ d. d < 10) later → drop at t ≡ map (digit_glyph false) later ++ rest
-          → number_from_digits_after 10 number later ≡ number_from_digits_after 10 first digits
-          → (number ≡ number_from_digits_after 10 first digits) × (drop at t ≡ rest)
-      go [] b x y = (y, x)
-      go (d ∷ later) b x y = absurd (never d (map (digit_glyph false) later ++ rest) b.0 x)
-
-    pub digits_end : is_digit byte ≡ false → DigitsAre t start first (Some (number, at))
-    digits_end f digits rest below o few e = done digits rest (λ d more low x.
-        let no : true ≡ false = sym (digit_is d low).0 ∙ ap is_digit (sym (head_at t at (digit_glyph false d) more x)) ∙ f in cc) (h digits rest below o few e)
-
-    pub digits_all : length t ≤ at → DigitsAre t start first (Some (number, at))
-    digits_all over digits rest below o few e =
-        done digits rest (λ d more low x. nothing_at t at (digit_glyph false d) more over x) (h digits rest below o few e)
-
--- a `$` that comes after the digits of a text comes after those of what is left of it
-pub digit_passed : (t : Text) (at : ℕ) → at < length t → is_digit (get_or t at 0) ≡ true → dollar_follows (drop at t) ≡ dollar_follows (drop (at + 1) t)
-digit_passed t at less digit = ap dollar_follows (drop_more t at 0 less) ∙ rw digit refl
+  pub digits_same : is_digit (get_or t stop 0) ≡ false → (ds ≡ es) × (drop stop t ≡ rest)
+  digits_same other =
+      let split = spans is_digit (map (digit_glyph false) ds) (drop stop t) (map (digit_glyph false) es) rest (digits_inside is_digit ds (λ d h. (digit_is d h).0) below)
+      (digits_inside is_digit es (λ d h. (digit_is d h).0) low) (outside is_digit t stop (λ less. other)) o (sym read ∙ spelled) in
+      (same_digits ds es below low split.0, split.1)
 
 -- widths
 outside_digit : (rest : Text) → BeginsOutside is_width rest → BeginsOutside is_digit rest
@@ -198,14 +135,14 @@ outside_precision (byte ∷ rest) o = go (is_digit byte) (byte == 42) (byte == 4
   go false false true e h = cc
   go false false false e h = h
 
--- what the code makes of a number, and of what comes after a point
-abbrev pub as_width : Option (ℕ × ℕ) → Option (Option OpaqueAmount × Option ℕ × ℕ)
-as_width None = None
-as_width (Some front) = Some (Some (amounts.Number front.0), None, front.1)
+-- what the code makes of a `*` and its number, in a width and after a point
+abbrev pub starred : Option (Option ℕ × ℕ) → Option (Option OpaqueAmount × Option ℕ × ℕ)
+starred None = None
+starred (Some read) = Some (Some amounts.Star, read.0, read.1)
 
-abbrev pub as_amount : Option (ℕ × ℕ) → Option (OpaqueAmount × Option ℕ × ℕ)
-as_amount None = None
-as_amount (Some front) = Some (amounts.Number front.0, None, front.1)
+abbrev pub pointed : Option (Option ℕ × ℕ) → Option (OpaqueAmount × Option ℕ × ℕ)
+pointed None = None
+pointed (Some read) = Some (amounts.Star, read.0, read.1)
 
 -- a number begins with a digit from 1 on, and neither it nor a star is another byte
 first_is : (d : ℕ) → 0 < d → d < 10 → is_first_digit (digit_glyph false d) ≡ true
@@ -213,6 +150,23 @@ first_is d low high = grind (arith, nat_tests)
 
 digit_too : (byte : ℕ) → is_first_digit byte ≡ true → is_digit byte ≡ true
 digit_too byte f = grind (arith, nat_tests)
+
+star_no_first : (byte : ℕ) → is_first_digit byte ≡ true → (byte == 42) ≡ false
+star_no_first byte f = grind (arith, nat_tests)
+
+only_zero : (byte : ℕ) → (is_digit byte ≡ true → byte ≡ 48) → is_first_digit byte ≡ false
+only_zero byte h = go (is_first_digit byte) refl where
+  go : (b : Bool) → is_first_digit byte ≡ b → b ≡ false
+  go true f =
+      let zero_is = h (digit_too byte f) in
+      let no : true ≡ false = sym f ∙ ap is_first_digit zero_is in cc
+  go false f = refl
+
+digit_inside : (t : Text) (at : ℕ) → is_digit (get_or t at 0) ≡ true → at < length t
+digit_inside t at h = elim (cases_lt at (length t)) [
+  | inl less ↦ less
+  | inr over ↦ absurd (let no : true ≡ false = sym h ∙ ap is_digit (get_or_past t at 0 over) in cc)
+]
 
 digit_no_star : (d : ℕ) → d < 10 → (digit_glyph false d == 42) ≡ false
 digit_no_star d high = grind (arith, nat_tests)
@@ -228,134 +182,232 @@ module _ (t : Text) (start : ℕ) where
   abbrev byte_here : ℕ
   byte_here = get_or t start 0
 
-  -- a number from 1 on
-  positive_there : (digits rest : Text) (n : ℕ) → SpellsPositive digits n → BeginsOutside is_digit rest → drop start t ≡ digits ++ rest
-      → (is_first_digit byte_here ≡ true) × ((byte_here == 42) ≡ false) × ((result : Option (ℕ × ℕ)) → DigitsAre t (start + 1) (byte_here - 48) result
-      → IsSomeAnd result (λ front. (front.0 ≡ n) × (drop front.1 t ≡ rest)))
-  positive_there digits rest n w o e = go w.numeral.0 w.numeral.1 w.numeral.2 where
-    number_is : (d : ℕ) (ds : List ℕ) → AreLeastDigits 10 1 n (d ∷ ds) → number_from_digits_after 10 d ds ≡ n
-    number_is d ds l = omega (arith, number_after-place_sum 10 d ds, l.digits.sum)
-
-    given_by : (result : Option (ℕ × ℕ)) {m : ℕ} → m ≡ n → IsSomeAnd result (λ front. (front.0 ≡ m) × (drop front.1 t ≡ rest))
-        → IsSomeAnd result (λ front. (front.0 ≡ n) × (drop front.1 t ≡ rest))
-    given_by None v g = g
-    given_by (Some front) v g = (g.0 ∙ v, g.1)
-
-    go : (ds : List ℕ) → AreLeastDigits 10 1 n ds → digits ≡ map (digit_glyph false) ds
-        → (is_first_digit byte_here ≡ true) × ((byte_here == 42) ≡ false) × ((result : Option (ℕ × ℕ)) → DigitsAre t (start + 1) (byte_here - 48) result
-        → IsSomeAnd result (λ front. (front.0 ≡ n) × (drop front.1 t ≡ rest)))
+  -- a number from 1 on begins with a digit that isn't 0
+  positive_first : (digits rest : Text) (n : ℕ) → SpellsPositive digits n → drop start t ≡ digits ++ rest → is_first_digit byte_here ≡ true
+  positive_first digits rest n w e = go w.numeral.0 w.numeral.1 w.numeral.2 where
+    go : (ds : List ℕ) → AreLeastDigits 10 1 n ds → digits ≡ map (digit_glyph false) ds → is_first_digit byte_here ≡ true
     go [] l s = absurd (omega (arith, l.enough))
     go (d ∷ ds) l s =
-        let there = e ∙ ap (λ u. u ++ rest) s in
-        let low = l.digits.below.0 in
-        let first = head_at t start (digit_glyph false d) (map (digit_glyph false) ds ++ rest) there in
-        let head : byte_here - 48 ≡ d = ap (λ b. b - 48) first ∙ (digit_is d low).1 in
-        let value : number_from_digits_after 10 (byte_here - 48) ds ≡ n = ap (λ k. number_from_digits_after 10 k ds) head ∙ number_is d ds l in (
-          ap is_first_digit first ∙ first_is d (first_above_zero n d ds w.some l) low,
-          ap (λ b. b == 42) first ∙ digit_no_star d low,
-          λ result h. given_by result value (h ds rest l.digits.below.1 o (omega (arith, value, w.within))
-              (tail_at t start (digit_glyph false d) (map (digit_glyph false) ds ++ rest) there)),
-        )
+        ap is_first_digit (head_at t start (digit_glyph false d) (map (digit_glyph false) ds ++ rest) (e ∙ ap (λ u. u ++ rest) s))
+        ∙ first_is d (first_above_zero n d ds w.some l) l.digits.below.0
+
+  first_no_star : is_first_digit byte_here ≡ true → (byte_here == 42) ≡ false
+  first_no_star h = star_no_first byte_here h
+
+  no_first_digit : EndsWidth None t start → is_first_digit byte_here ≡ false
+  no_first_digit h = elim (cases_lt start (length t)) [
+    | inl less ↦ only_zero byte_here (h less)
+    | inr over ↦ ap is_first_digit (get_or_past t start 0 over)
+  ]
+
+  -- a number that was read
+  module _ (n stop : ℕ) (read : HasBytes t start stop (width_spelled (Some n))) (some : Some n ≢ Some 0) (few : is_above_limit (Some n) ≡ false)
+      (ends : EndsWidth (Some n) t stop) where
+    pub numeral_read : SpellsPositive (width_spelled (Some n)) n
+    numeral_read = let w = width_read (Some n) some few in record { some = w.0; numeral = w.1; within = within n few } where
+      within : (n : ℕ) → nat_lt MAX_NUMBER n ≡ false → n ≤ MAX_NUMBER
+      within n e = grind (arith, nat_tests)
+
+    module _ (digits rest : Text) (m : ℕ) (w : SpellsPositive digits m) (o : BeginsOutside is_digit rest) (e : drop start t ≡ digits ++ rest) where
+      abbrev ds : List ℕ
+      ds = numeral_read.numeral.0
+
+      abbrev es : List ℕ
+      es = w.numeral.0
+
+      value : (k : ℕ) (ks : List ℕ) → AreLeastDigits 10 1 k ks → number_from_digits_after 10 0 ks ≡ k
+      value k ks l = omega (arith, number_after-place_sum 10 0 ks, l.digits.sum)
+
+      read_is : drop start t ≡ map (digit_glyph false) ds ++ drop stop t
+      read_is = bytes_rest t start stop (width_spelled (Some n)) read ∙ ap (λ u. u ++ drop stop t) numeral_read.numeral.2
+
+      spelled_is : drop start t ≡ map (digit_glyph false) es ++ rest
+      spelled_is = e ∙ ap (λ u. u ++ rest) w.numeral.2
+
+      small : number_from_digits_after 10 0 es ≤ MAX_NUMBER
+      small = omega (arith, value m es w.numeral.1, w.within)
+
+      ends_here : EndsNumber (number_from_digits_after 10 0 ds) t stop
+      ends_here = subst (λ k. EndsNumber k t stop) (sym (value n ds numeral_read.numeral.1)) ends
+
+      never_longer : is_digit (get_or t stop 0) ≡ true → stop < length t → ⊥
+      never_longer = no_digit_more t start stop ds es rest numeral_read.numeral.1.digits.below w.numeral.1.digits.below read_is spelled_is o small ends_here
+
+      numeral_same : is_digit (get_or t stop 0) ≡ false → (n ≡ m) × (drop stop t ≡ rest)
+      numeral_same other =
+          let same = digits_same t start stop ds es rest numeral_read.numeral.1.digits.below w.numeral.1.digits.below read_is spelled_is o small ends_here other in
+          (sym (value n ds numeral_read.numeral.1) ∙ ap (number_from_digits_after 10 0) same.0 ∙ value m es w.numeral.1, same.1)
 
   -- no number of an argument
-  pub no_position : ((digits rest : Text) (n : ℕ) → SpellsPositive digits n → drop start t ≡ digits ++ 36 ∷ rest → ⊥) → PositionIs t start None start
+  no_position : ((digits rest : Text) (n : ℕ) → SpellsPositive digits n → drop start t ≡ digits ++ 36 ∷ rest → ⊥) → PositionIs t start None start
   no_position never text rest None h o e = (refl, e ∙ ap (λ u. u ++ rest) h)
   no_position never text rest (Some n) h o e =
       absurd (never h.0 rest n h.1 (e ∙ ap (λ u. u ++ rest) h.2 ∙ append_assoc h.0 (36 ∷ []) rest))
 
-  pub no_digit : is_first_digit byte_here ≡ false → PositionIs t start None start
-  no_digit other = no_position (λ digits rest n w e. bool_no (positive_there digits (36 ∷ rest) n w refl e).0 other)
+  pub no_numeral : (stop : ℕ) → HasBytes t start stop [] → EndsWidth None t stop → PositionIs t start None start
+  no_numeral stop h ends =
+      let other = no_first_digit (subst (EndsWidth None t) (sym (same_place t start stop h)) ends) in
+      no_position (λ digits rest n w e. bool_no (positive_first digits (36 ∷ rest) n w e) other)
 
-  pub no_numeral : DigitsAre t (start + 1) (byte_here - 48) None → PositionIs t start None start
-  no_numeral h = no_position (λ digits rest n w e. (positive_there digits (36 ∷ rest) n w refl e).2 None h)
-
-  module _ (number stop : ℕ) (h : DigitsAre t (start + 1) (byte_here - 48) (Some (number, stop))) where
+  module _ (n stop : ℕ) (read : HasBytes t start stop (width_spelled (Some n))) (some : Some n ≢ Some 0) (few : is_above_limit (Some n) ≡ false)
+      (ends : EndsWidth (Some n) t stop) where
     pub no_dollar : (get_or t stop 0 == 36) ≡ false → PositionIs t start None start
-    no_dollar other = no_position (λ digits rest n w e.
-        bool_no refl (tested (λ b. b == 36) t stop 36 rest false other ((positive_there digits (36 ∷ rest) n w refl e).2 (Some (number, stop)) h).1))
+    no_dollar other = no_position (λ digits rest m w e. go digits rest m w e (is_digit (get_or t stop 0)) refl) where
+      go : (digits rest : Text) (m : ℕ) → SpellsPositive digits m → drop start t ≡ digits ++ 36 ∷ rest → (b : Bool) → is_digit (get_or t stop 0) ≡ b → ⊥
+      go digits rest m w e true digit =
+          never_longer n stop read some few ends digits (36 ∷ rest) m w refl e digit (digit_inside t stop digit)
+      go digits rest m w e false digit =
+          bool_no refl (tested (λ b. b == 36) t stop 36 rest false other (numeral_same n stop read some few ends digits (36 ∷ rest) m w refl e digit).1)
 
     -- a number, and `$`
-    pub position_read : start < length t → is_first_digit byte_here ≡ true → dollar_follows (drop (start + 1) t) ≡ dollar_follows (drop stop t)
-        → stop < length t → (get_or t stop 0 == 36) ≡ true → PositionIs t start (Some number) (stop + 1)
-    position_read less first passed inside dollar text rest None w o e =
-        let digit : is_digit byte_here ≡ true = digit_too byte_here first in
-        let at_dollar : dollar_follows (drop stop t) ≡ true = ap dollar_follows (drop_more t stop 0 inside ∙ ap (λ b. b ∷ drop (stop + 1) t) (eqb-true (get_or t stop 0) 36 dollar)) in
-        let all : dollar_follows (drop start t) ≡ true = digit_passed t start less digit ∙ passed ∙ at_dollar in
-        absurd (bool_no all (ap dollar_follows (e ∙ ap (λ u. u ++ rest) w) ∙ o))
-    position_read less first passed inside dollar text rest (Some n) w o e =
-        let there = (positive_there w.0 (36 ∷ rest) n w.1 refl (e ∙ ap (λ u. u ++ rest) w.2 ∙ append_assoc w.0 (36 ∷ []) rest)).2 (Some (number, stop)) h in
-        (ap Some there.0, tail_at t stop 36 rest there.1)
+    pub position_read : stop < length t → (get_or t stop 0 == 36) ≡ true
+        → ((bytes : Text) × SpellsPosition bytes (Some n) × HasBytes t start (stop + 1) bytes) × PositionIs t start (Some n) (stop + 1)
+    position_read inside dollar = ((bytes, (width_spelled (Some n), numeral, refl), whole), is) where
+      numeral : SpellsPositive (width_spelled (Some n)) n
+      numeral = numeral_read n stop read some few ends
+
+      bytes : Text
+      bytes = width_spelled (Some n) ++ 36 ∷ []
+
+      byte_is : get_or t stop 0 ≡ 36
+      byte_is = eqb-true (get_or t stop 0) 36 dollar
+
+      whole : HasBytes t start (stop + 1) bytes
+      whole = bytes_join t start stop (stop + 1) (width_spelled (Some n)) (36 ∷ []) read (bytes_one t stop 36 inside (sym byte_is))
+
+      no_digit : is_digit (get_or t stop 0) ≡ false
+      no_digit = ap is_digit byte_is
+
+      is : PositionIs t start (Some n) (stop + 1)
+      is text rest None w o e =
+          let spelled = position_dollar bytes (drop (stop + 1) t) n (width_spelled (Some n), numeral, refl) in
+          absurd (bool_no spelled (ap dollar_follows (sym (bytes_rest t start (stop + 1) bytes whole) ∙ e ∙ ap (λ u. u ++ rest) w) ∙ o))
+      is text rest (Some m) w o e =
+          let there = numeral_same n stop read some few ends w.0 (36 ∷ rest) m w.1 refl (e ∙ ap (λ u. u ++ rest) w.2 ∙ append_assoc w.0 (36 ∷ []) rest) no_digit in
+          (ap Some there.0, tail_at t stop 36 rest there.1)
 
   -- no width
-  pub width_none : (byte_here == 42) ≡ false → is_first_digit byte_here ≡ false → WidthIs t start (Some (None, None, start))
-  width_none star digit text rest position None h o e = (refl, e ∙ ap (λ u. u ++ rest) h)
-  width_none star digit text rest position (Some (Given n)) h o e =
-      absurd (bool_no (positive_there text rest n h (outside_digit rest o) e).0 digit)
-  width_none star digit text rest position (Some (Fetched number)) h o e =
-      let no : true ≡ false = tested (λ b. b == 42) t start 42 (h.digits ++ rest) false star (e ∙ ap (λ u. u ++ rest) h.whole) in cc
+  pub width_none : (stop : ℕ) (position : Option ℕ) → (byte_here == 42) ≡ false → HasBytes t start stop [] → EndsWidth None t stop
+      → WidthIs t start position (Some (None, None, start))
+  width_none stop position star h ends text rest None w o e = (refl, e ∙ ap (λ u. u ++ rest) w)
+  width_none stop position star h ends text rest (Some (Given n)) w o e =
+      absurd (bool_no (positive_first text rest n w e) (no_first_digit (subst (EndsWidth None t) (sym (same_place t start stop h)) ends)))
+  width_none stop position star h ends text rest (Some (Fetched number)) w o e =
+      let no : true ≡ false = tested (λ b. b == 42) t start 42 (w.digits ++ rest) false star (e ∙ ap (λ u. u ++ rest) w.whole) in cc
 
-  -- `*`
-  pub width_star : (number : Option ℕ) (stop : ℕ) → (byte_here == 42) ≡ true → start < length t → PositionIs t (start + 1) number stop
-      → WidthIs t start (Some (Some amounts.Star, number, stop))
-  width_star number stop star less p text rest position None h o e =
-      let is : byte_here ≡ 42 = eqb-true byte_here 42 star in
-      absurd (no_first is_width byte_here (drop (start + 1) t) rest o (sym (drop_more t start 0 less) ∙ e ∙ ap (λ u. u ++ rest) h) (ap is_width is))
-  width_star number stop star less p text rest position (Some (Given n)) h o e =
-      absurd (bool_no star (positive_there text rest n h (outside_digit rest o) e).1)
-  width_star number stop star less p text rest position (Some (Fetched named)) h o e =
-      let read = p h.digits rest named h.digits_are (outside_dollar rest o) (tail_at t start 42 (h.digits ++ rest) (e ∙ ap (λ u. u ++ rest) h.whole)) in
-      (ap (λ k. Some (Fetched k)) read.0, read.1)
+  module _ (position : Option ℕ) where
+    -- `*`
+    pub star_bytes : (number : Option ℕ) (stop : ℕ) → (byte_here == 42) ≡ true → start < length t
+        → (bytes : Text) × SpellsPosition bytes number × (is_some number ≡ is_some position) × HasBytes t (start + 1) stop bytes
+        → (bytes : Text) × SpellsStar bytes position number × HasBytes t start stop bytes
+    star_bytes number stop star less h = (
+      42 ∷ h.0,
+      record { digits = h.0; digits_are = h.1; numbering = h.2; whole = refl },
+      bytes_join t start (start + 1) stop (42 ∷ []) h.0 (bytes_one t start 42 less (sym (eqb-true byte_here 42 star))) h.3,
+    )
 
-  -- a number
-  pub width_given : (result : Option (ℕ × ℕ)) → start < length t → is_first_digit byte_here ≡ true → DigitsAre t (start + 1) (byte_here - 48) result
-      → WidthIs t start (as_width result)
-  width_given result less first h text rest position None w o e =
-      absurd (no_first is_width byte_here (drop (start + 1) t) rest o (sym (drop_more t start 0 less) ∙ e ∙ ap (λ u. u ++ rest) w)
-      (let digit : is_digit byte_here ≡ true = digit_too byte_here first in rw digit refl))
-  width_given result less first h text rest position (Some (Fetched number)) w o e =
-      let no : false ≡ true = tested is_first_digit t start 42 (w.digits ++ rest) true first (e ∙ ap (λ u. u ++ rest) w.whole) in cc
-  width_given result less first h text rest position (Some (Given n)) w o e =
-      given_by result ((positive_there text rest n w (outside_digit rest o) e).2 result h) where
-        given_by : (result : Option (ℕ × ℕ)) → IsSomeAnd result (λ front. (front.0 ≡ n) × (drop front.1 t ≡ rest))
-            → IsSomeAnd (as_width result) (λ front. (amount_at front.0 front.1 ≡ Some (Given n)) × (drop front.2 t ≡ rest))
-        given_by None g = g
-        given_by (Some front) g = (ap (λ k. Some (Given k)) g.0, g.1)
+    pub width_star : (result : Option (Option ℕ × ℕ)) → (byte_here == 42) ≡ true → start < length t → StarIs t (start + 1) position result
+        → WidthIs t start position (starred result)
+    width_star result star less p text rest None h o e =
+        let is : byte_here ≡ 42 = eqb-true byte_here 42 star in
+        absurd (no_first is_width byte_here (drop (start + 1) t) rest o (sym (drop_more t start 0 less) ∙ e ∙ ap (λ u. u ++ rest) h) (ap is_width is))
+    width_star result star less p text rest (Some (Given n)) h o e =
+        absurd (bool_no star (first_no_star (positive_first text rest n h e)))
+    width_star result star less p text rest (Some (Fetched named)) h o e =
+        go result (p h.digits rest named h.digits_are h.numbering (outside_dollar rest o) (tail_at t start 42 (h.digits ++ rest) (e ∙ ap (λ u. u ++ rest) h.whole))) where
+          go : (result : Option (Option ℕ × ℕ)) → IsSomeAnd result (λ read. (read.0 ≡ named) × (drop read.1 t ≡ rest))
+              → IsSomeAnd (starred result) (λ read. (amount_at read.0 read.1 ≡ Some (Fetched named)) × (drop read.2 t ≡ rest))
+          go None r = r
+          go (Some read) r = (ap (λ k. Some (Fetched k)) r.0, r.1)
 
-  point_tail : (a b : Text) → 46 ∷ a ≡ 46 ∷ b → a ≡ b
-  point_tail a b e = cc
+    -- a number
+    module _ (n stop : ℕ) (star : (byte_here == 42) ≡ false) (read : HasBytes t start stop (width_spelled (Some n))) (some : Some n ≢ Some 0)
+        (few : is_above_limit (Some n) ≡ false) (ends : EndsWidth (Some n) t stop) where
+      begins_digit : is_first_digit byte_here ≡ true
+      begins_digit = positive_first (width_spelled (Some n)) (drop stop t) n (numeral_read n stop read some few ends) (bytes_rest t start stop _ read)
 
-  pub point_star : (number : Option ℕ) (stop : ℕ) → (byte_here == 42) ≡ true → start < length t → PositionIs t (start + 1) number stop
-      → IsAfterPoint t start (Some (amounts.Star, number, stop))
-  point_star number stop star less p text rest position None h o e = cc
-  point_star number stop star less p text rest position (Some (Given n)) h o e = go h.0.0 h.0.1 (point_tail _ _ h.0.2) where
-    is : byte_here ≡ 42
-    is = eqb-true byte_here 42 star
+      less_here : start < length t
+      less_here = digit_inside t start (digit_too byte_here begins_digit)
 
-    go : (ds : List ℕ) → AreDigits 10 n ds → text ≡ map (digit_glyph false) ds → (Some (Fetched number) ≡ Some (Given n)) × (drop stop t ≡ rest)
-    go [] l w = absurd (no_first is_precision byte_here (drop (start + 1) t) rest o (sym (drop_more t start 0 less) ∙ e ∙ ap (λ u. u ++ rest) w)
-        (ap is_precision is))
-    go (d ∷ ds) l w =
-        absurd (bool_no (tested (λ b. b == 42) t start (digit_glyph false d) (map (digit_glyph false) ds ++ rest) true star (e ∙ ap (λ u. u ++ rest) w))
-        (digit_no_star d l.below.0))
-  point_star number stop star less p text rest position (Some (Fetched named)) h o e =
-      let s = h.1 in
-      let read = p s.digits rest named s.digits_are (outside_dollar rest (outside_precision rest o))
-      (tail_at t start 42 (s.digits ++ rest) (e ∙ ap (λ u. u ++ rest) (point_tail _ _ h.2 ∙ s.whole))) in
-      (ap (λ k. Some (Fetched k)) read.0, read.1)
+      -- which is no other width
+      some_width : (result : Option (Option OpaqueAmount × Option ℕ × ℕ)) → ((text rest : Text) (m : ℕ) → SpellsPositive text m → BeginsOutside is_width rest
+          → drop start t ≡ text ++ rest → IsSomeAnd result (λ read. (amount_at read.0 read.1 ≡ Some (Given m)) × (drop read.2 t ≡ rest)))
+          → WidthIs t start position result
+      some_width result given text rest None w o e =
+          absurd (no_first is_width byte_here (drop (start + 1) t) rest o (sym (drop_more t start 0 less_here) ∙ e ∙ ap (λ u. u ++ rest) w)
+          (let digit : is_digit byte_here ≡ true = digit_too byte_here begins_digit in rw digit refl))
+      some_width result given text rest (Some (Fetched number)) w o e =
+          let no : true ≡ false = tested (λ b. b == 42) t start 42 (w.digits ++ rest) false star (e ∙ ap (λ u. u ++ rest) w.whole) in cc
+      some_width result given text rest (Some (Given m)) w o e = given text rest m w o e
 
-  pub point_given : (result : Option (ℕ × ℕ)) → (byte_here == 42) ≡ false → DigitsAre t start 0 result → IsAfterPoint t start (as_amount result)
-  point_given result star h text rest position None p o e = cc
-  point_given result star h text rest position (Some (Fetched number)) p o e =
-      let no : true ≡ false = tested (λ b. b == 42) t start 42 (p.1.digits ++ rest) false star (e ∙ ap (λ u. u ++ rest) (point_tail _ _ p.2 ∙ p.1.whole)) in cc
-  point_given result star h text rest position (Some (Given n)) p o e =
-      let ds = p.0.0 in
-      let value : number_from_digits_after 10 0 ds ≡ n = omega (arith, number_after-place_sum 10 0 ds, p.0.1.sum) in
-      given_by result value (h ds rest p.0.1.below (outside_digit rest (outside_precision rest o)) (omega (arith, value, p.1))
-      (e ∙ ap (λ u. u ++ rest) (point_tail _ _ p.0.2))) where
-        given_by : (result : Option (ℕ × ℕ)) {m : ℕ} → m ≡ n → IsSomeAnd result (λ front. (front.0 ≡ m) × (drop front.1 t ≡ rest))
-            → IsSomeAnd (as_amount result) (λ front. (amount_at (Some front.0) front.1 ≡ Some (Given n)) × (drop front.2 t ≡ rest))
-        given_by None v g = g
-        given_by (Some front) v g = (ap (λ k. Some (Given k)) (g.0 ∙ v), g.1)
+      pub width_over : is_digit (get_or t stop 0) ≡ true → stop < length t → WidthIs t start position None
+      width_over digit less = some_width None (λ text rest m w o e. never_longer n stop read some few ends text rest m w (outside_digit rest o) e digit less)
+
+      pub width_given : is_digit (get_or t stop 0) ≡ false → WidthIs t start position (Some (Some (amounts.Number n), None, stop))
+      width_given other = some_width (Some (Some (amounts.Number n), None, stop)) (λ text rest m w o e.
+          let same = numeral_same n stop read some few ends text rest m w (outside_digit rest o) e other in (ap (λ k. Some (Given k)) same.0, same.1))
+
+    point_tail : (a b : Text) → 46 ∷ a ≡ 46 ∷ b → a ≡ b
+    point_tail a b e = cc
+
+    pub point_star : (result : Option (Option ℕ × ℕ)) → (byte_here == 42) ≡ true → start < length t → StarIs t (start + 1) position result
+        → IsAfterPoint t start position (pointed result)
+    point_star result star less p text rest None h o e = cc
+    point_star result star less p text rest (Some (Given n)) h o e = absurd (go h.0.0 h.0.1 (point_tail _ _ h.0.2)) where
+      is : byte_here ≡ 42
+      is = eqb-true byte_here 42 star
+
+      go : (ds : List ℕ) → AreDigits 10 n ds → text ≡ map (digit_glyph false) ds → ⊥
+      go [] l w = no_first is_precision byte_here (drop (start + 1) t) rest o (sym (drop_more t start 0 less) ∙ e ∙ ap (λ u. u ++ rest) w) (ap is_precision is)
+      go (d ∷ ds) l w =
+          bool_no (tested (λ b. b == 42) t start (digit_glyph false d) (map (digit_glyph false) ds ++ rest) true star (e ∙ ap (λ u. u ++ rest) w))
+          (digit_no_star d l.below.0)
+    point_star result star less p text rest (Some (Fetched named)) h o e =
+        go result (p h.1.digits rest named h.1.digits_are h.1.numbering (outside_dollar rest (outside_precision rest o))
+        (tail_at t start 42 (h.1.digits ++ rest) (e ∙ ap (λ u. u ++ rest) (point_tail _ _ h.2 ∙ h.1.whole)))) where
+          go : (result : Option (Option ℕ × ℕ)) → IsSomeAnd result (λ read. (read.0 ≡ named) × (drop read.1 t ≡ rest))
+              → IsSomeAnd (pointed result) (λ read. (amount_at (Some read.0) read.1 ≡ Some (Fetched named)) × (drop read.2 t ≡ rest))
+          go None r = r
+          go (Some read) r = (ap (λ k. Some (Fetched k)) r.0, r.1)
+
+    -- digits after the point
+    module _ (n stop : ℕ) (star : (byte_here == 42) ≡ false) (few : n ≤ MAX_NUMBER) (read : (bytes : Text) × ContinuesNumber 0 bytes n × HasBytes t start stop bytes)
+        (ends : EndsNumber n t stop) where
+      pub point_bytes : (bytes : Text) × SpellsPosixPrecision (46 ∷ bytes) position (Some (Given n)) × HasBytes t start stop bytes
+      point_bytes =
+          let g = read.1 in (
+            read.0,
+            ((g.digits, record { below = g.below; sum = omega (arith, number_after-place_sum 10 0 g.digits, g.value) }, ap (λ u. 46 ∷ u) g.spelled), few),
+            read.2,
+          )
+
+      some_digits : (result : Option (OpaqueAmount × Option ℕ × ℕ)) → ((text rest : Text) (es : List ℕ) (m : ℕ) → AllByRecursion (λ d. d < 10) es
+          → number_from_digits_after 10 0 es ≡ m → m ≤ MAX_NUMBER → BeginsOutside is_digit rest → drop start t ≡ map (digit_glyph false) es ++ rest
+          → IsSomeAnd result (λ read. (amount_at (Some read.0) read.1 ≡ Some (Given m)) × (drop read.2 t ≡ rest)))
+          → IsAfterPoint t start position result
+      some_digits result given text rest None p o e = cc
+      some_digits result given text rest (Some (Fetched number)) p o e =
+          let no : true ≡ false = tested (λ b. b == 42) t start 42 (p.1.digits ++ rest) false star
+          (e ∙ ap (λ u. u ++ rest) (point_tail _ _ p.2 ∙ p.1.whole)) in cc
+      some_digits result given text rest (Some (Given m)) p o e =
+          let es = p.0.0 in
+          given text rest es m p.0.1.below (omega (arith, number_after-place_sum 10 0 es, p.0.1.sum)) p.1 (outside_digit rest (outside_precision rest o))
+          (e ∙ ap (λ u. u ++ rest) (point_tail _ _ p.0.2))
+
+      point_digits : drop start t ≡ map (digit_glyph false) read.1.digits ++ drop stop t
+      point_digits = bytes_rest t start stop read.0 read.2 ∙ ap (λ u. u ++ drop stop t) read.1.spelled
+
+      ends_there : EndsNumber (number_from_digits_after 10 0 read.1.digits) t stop
+      ends_there = subst (λ k. EndsNumber k t stop) read.1.value ends
+
+      pub point_over : is_digit (get_or t stop 0) ≡ true → stop < length t → IsAfterPoint t start position None
+      point_over digit less = some_digits None (λ text rest es m low value small o e.
+          no_digit_more t start stop read.1.digits es rest read.1.below low point_digits e o (omega (arith, value, small)) ends_there digit less)
+
+      pub point_given : is_digit (get_or t stop 0) ≡ false → IsAfterPoint t start position (Some (amounts.Number n, None, stop))
+      point_given other = some_digits (Some (amounts.Number n, None, stop)) (λ text rest es m low value small o e.
+          let same = digits_same t start stop read.1.digits es rest read.1.below low point_digits e o (omega (arith, value, small)) ends_there other in
+          (ap (λ k. Some (Given k)) (read.1.value ∙ ap (number_from_digits_after 10 0) same.0 ∙ value), same.1))
 
 -- the letter before a place, and what comes after it there
 abbrev MeansSecond : Text → ℕ → Modifier → Option Modifier → Modifier → ℕ → Text → Type 0
@@ -406,10 +458,50 @@ module _ (t : Text) (start : ℕ) (first : Modifier) where
   first_read s letter modifier conversion rest f e =
       subst (λ o. MeansSecond t start first o modifier (conversion_letter conversion) rest) s (goes_on letter modifier conversion rest f e)
 
+-- the letters of a modifier
+pub modifier_joined : (t : Text) (start stop : ℕ) (first modifier : Modifier) → start < length t → length_modifier_of (get_or t start 0) ≡ Some first
+    → (bytes : Text) × (modifier_letters modifier ≡ modifier_letters first ++ bytes) × HasBytes t (start + 1) stop bytes
+    → HasBytes t start stop (modifier_letters modifier)
+modifier_joined t start stop first modifier less e h =
+    let letter = (byte_of_modifier (get_or t start 0) first e).0 in
+    subst (HasBytes t start stop) (ap (λ u. u ++ h.0) letter ∙ sym h.1)
+    (bytes_join t start (start + 1) stop (get_or t start 0 ∷ []) h.0 (bytes_one t start (get_or t start 0) less refl) h.2)
+
+pub second_letter : (t : Text) (start : ℕ) (first modifier : Modifier) → start < length t → second_modifier first (get_or t start 0) ≡ Some modifier
+    → (bytes : Text) × (modifier_letters modifier ≡ modifier_letters first ++ bytes) × HasBytes t start (start + 1) bytes
+second_letter t start first modifier less e =
+    (get_or t start 0 ∷ [], letters first modifier (get_or t start 0) e, bytes_one t start (get_or t start 0) less refl) where
+      letters : (first modifier : Modifier) (byte : ℕ) → second_modifier first byte ≡ Some modifier → modifier_letters modifier ≡ modifier_letters first ++ byte ∷ []
+      letters (Integer lengths.H) modifier byte e = go (byte == 104) refl e where
+        go : (b : Bool) → (byte == 104) ≡ b → (if b then Some (Integer lengths.Hh) else None) ≡ Some modifier
+            → modifier_letters modifier ≡ 104 ∷ byte ∷ []
+        go true same e =
+            let is : modifier ≡ Integer lengths.Hh = cc in
+            ap modifier_letters is ∙ ap (λ b. 104 ∷ b ∷ []) (sym (eqb-true byte 104 same))
+        go false other e = cc
+      letters (Integer lengths.L) modifier byte e = go (byte == 108) refl e where
+        go : (b : Bool) → (byte == 108) ≡ b → (if b then Some (Integer lengths.Ll) else None) ≡ Some modifier
+            → modifier_letters modifier ≡ 108 ∷ byte ∷ []
+        go true same e =
+            let is : modifier ≡ Integer lengths.Ll = cc in
+            ap modifier_letters is ∙ ap (λ b. 108 ∷ b ∷ []) (sym (eqb-true byte 108 same))
+        go false other e = cc
+      letters LongDouble modifier byte e = cc
+      letters (Integer lengths.None) modifier byte e = cc
+      letters (Integer lengths.Hh) modifier byte e = cc
+      letters (Integer lengths.Ll) modifier byte e = cc
+      letters (Integer lengths.J) modifier byte e = cc
+      letters (Integer lengths.Z) modifier byte e = cc
+      letters (Integer lengths.T) modifier byte e = cc
+
 module _ (t : Text) (start : ℕ) where
   pub conversion_read : (result : Option Conversion) → result ≡ conversion_of (get_or t start 0) → ConversionIs t start result
   conversion_read result r conversion rest e = r ∙ ap conversion_of (head_at t start (conversion_letter conversion) rest e)
       ∙ (letter_tests conversion).conversion_is
+
+  pub letter_read : (conversion : Conversion) → start < length t → conversion_of (get_or t start 0) ≡ Some conversion
+      → HasBytes t start (start + 1) (conversion_letter conversion ∷ [])
+  letter_read conversion less e = bytes_one t start (conversion_letter conversion) less (sym (byte_of_conversion (get_or t start 0) conversion e))
 
 -- the parts of an unnumbered specification
 pub unnumbered_parts : (t : Text) (read : Specification) → SpellsPosix t (specification_of read) → read.position ≡ None
@@ -434,7 +526,8 @@ unnumbered_parts t read h e =
       precision_is (Some amounts.Star) text p = ap (λ k. Some (Fetched k)) (sym (same read.precision_position p.1.numbering))
 
 -- a whole specification
-module _ (t : Text) (start : ℕ) (position : Option ℕ) (k : ℕ) (n : PositionIs t (start + 1) position k) (set : FlagSet) (a : ℕ) (f : FlagsAre t k set a) where
+module _ (t : Text) (start : ℕ) (position : Option ℕ) (k : ℕ) (n : PositionIs t (start + 1) position k) (set : FlagSet) (a : ℕ)
+    (flags_read : (flags : List Flag) × (set ≡ flag_set flags) × HasBytes t k a (map flag_byte flags)) (flags_end : EndsFlags t a) where
   -- what each part leaves of the text
   module _ (text rest : Text) (s : PosixSpecification) (spelled : SpellsPosix text s) (e : drop start t ≡ text ++ rest) where
     parts : HasAllParts text s
@@ -450,60 +543,123 @@ module _ (t : Text) (start : ℕ) (position : Option ℕ) (k : ℕ) (n : Positio
     position_there = n parts.number behind_number s.position parts.number_is (after_number_outside text s parts rest)
         (tail_at t start 37 (parts.number ++ behind_number) (e ∙ whole_with text s rest parts))
 
-    flags_there : (set ≡ flag_set parts.flags) × (drop a t ≡ parts.width ++ (parts.precision ++ ending))
-    flags_there = f parts.flags (parts.width ++ (parts.precision ++ ending)) (after_flags_outside text s parts rest) position_there.1
+    flags_there : drop a t ≡ parts.width ++ (parts.precision ++ ending)
+    flags_there = (flags_are t k a set flags_read flags_end parts.flags (parts.width ++ (parts.precision ++ ending)) (after_flags_outside text s parts rest)
+        position_there.1).1
 
-    width_there : (result : Option (Option OpaqueAmount × Option ℕ × ℕ)) → WidthIs t a result
-        → IsSomeAnd result (λ front. (amount_at front.0 front.1 ≡ s.width) × (drop front.2 t ≡ parts.precision ++ ending))
-    width_there result h = h parts.width (parts.precision ++ ending) s.position s.width parts.width_is (after_width_outside text s parts rest) flags_there.1
+    width_there : (result : Option (Option OpaqueAmount × Option ℕ × ℕ)) → WidthIs t a position result
+        → IsSomeAnd result (λ read. (amount_at read.0 read.1 ≡ s.width) × (drop read.2 t ≡ parts.precision ++ ending))
+    width_there result h = h parts.width (parts.precision ++ ending) s.width
+        (subst (λ p. SpellsPosixWidth parts.width p s.width) (sym position_there.0) parts.width_is) (after_width_outside text s parts rest) flags_there
 
-    module _ (width : Option OpaqueAmount) (width_position : Option ℕ) (b : ℕ) (w : WidthIs t a (Some (width, width_position, b))) where
-      precision_there : (result : Option (Option OpaqueAmount × Option ℕ × ℕ)) → PrecisionIs t b result
-          → IsSomeAnd result (λ front. (amount_at front.0 front.1 ≡ s.precision) × (drop front.2 t ≡ ending))
-      precision_there result h = h parts.precision ending s.position s.precision parts.precision_is (after_precision_outside s rest)
+    module _ (width : Option OpaqueAmount) (width_position : Option ℕ) (b : ℕ) (w : WidthIs t a position (Some (width, width_position, b))) where
+      precision_there : (result : Option (Option OpaqueAmount × Option ℕ × ℕ)) → PrecisionIs t b position result
+          → IsSomeAnd result (λ read. (amount_at read.0 read.1 ≡ s.precision) × (drop read.2 t ≡ ending))
+      precision_there result h = h parts.precision ending s.precision
+          (subst (λ p. SpellsPosixPrecision parts.precision p s.precision) (sym position_there.0) parts.precision_is) (after_precision_outside s rest)
           (width_there (Some (width, width_position, b)) w).1
 
-      module _ (precision : Option OpaqueAmount) (precision_position : Option ℕ) (c : ℕ) (p : PrecisionIs t b (Some (precision, precision_position, c)))
-          (modifier : Modifier) (d : ℕ) (m : ModifierIs t c modifier d) where
-        modifier_there : (modifier ≡ s.modifier) × (drop d t ≡ conversion_letter s.conversion ∷ rest)
-        modifier_there = m s.modifier s.conversion rest (precision_there (Some (precision, precision_position, c)) p).1
-
+      module _ (precision : Option OpaqueAmount) (precision_position : Option ℕ) (c : ℕ)
+          (p : PrecisionIs t b position (Some (precision, precision_position, c))) (modifier : Modifier) (d : ℕ) (m : ModifierIs t c modifier d) where
         conversion_there : (result : Option Conversion) → ConversionIs t d result → result ≡ Some s.conversion
-        conversion_there result h = h s.conversion rest modifier_there.1
+        conversion_there result h = h s.conversion rest (m s.modifier s.conversion rest (precision_there (Some (precision, precision_position, c)) p).1).1
 
-        all_there : (conversion : Conversion) (read : Specification) → read ≡ record {
-          position = position;
-          parts = record { flags = set; width = width; precision = precision; modifier = modifier; conversion = conversion };
-          width_position = width_position;
-          precision_position = precision_position;
-        } → ConversionIs t d (Some conversion) → (specification_of read ≡ s) × (drop (d + 1) t ≡ rest)
-        all_there conversion read is h =
-            let same : Some conversion ≡ Some s.conversion = conversion_there (Some conversion) h in
-            let letter : conversion ≡ s.conversion = cc in (
-              ap specification_of is ∙ same_fields _ s position_there.0 (flags_there.0 ∙ sym parts.set_is) (width_there (Some (width, width_position, b)) w).0
-                  (precision_there (Some (precision, precision_position, c)) p).0 modifier_there.0 letter,
-              tail_at t d (conversion_letter s.conversion) rest modifier_there.1,
-            )
-
-  pub no_width_there : WidthIs t a None → SpecificationIs t start None
+  pub no_width_there : WidthIs t a position None → BeginsNoSpecification (drop start t)
   no_width_there w text rest s spelled e = width_there text rest s spelled e None w
 
-  module _ (width : Option OpaqueAmount) (width_position : Option ℕ) (b : ℕ) (w : WidthIs t a (Some (width, width_position, b))) where
-    pub no_precision_there : PrecisionIs t b None → SpecificationIs t start None
+  module _ (width : Option OpaqueAmount) (width_position : Option ℕ) (b : ℕ) (w : WidthIs t a position (Some (width, width_position, b))) where
+    pub no_precision_there : PrecisionIs t b position None → BeginsNoSpecification (drop start t)
     no_precision_there p text rest s spelled e = precision_there text rest s spelled e width width_position b w None p
 
-    module _ (precision : Option OpaqueAmount) (precision_position : Option ℕ) (c : ℕ) (p : PrecisionIs t b (Some (precision, precision_position, c)))
-        (modifier : Modifier) (d : ℕ) (m : ModifierIs t c modifier d) where
-      pub no_conversion_there : ConversionIs t d None → SpecificationIs t start None
-      no_conversion_there h text rest s spelled e =
-          let no : None ≡ Some s.conversion =
-          conversion_there text rest s spelled e width width_position b w precision precision_position c p modifier d m None h in cc
+    pub no_conversion_there : (precision : Option OpaqueAmount) (precision_position : Option ℕ) (c : ℕ)
+        → PrecisionIs t b position (Some (precision, precision_position, c)) → (modifier : Modifier) (d : ℕ) → ModifierIs t c modifier d → ConversionIs t d None
+        → BeginsNoSpecification (drop start t)
+    no_conversion_there precision precision_position c p modifier d m h text rest s spelled e =
+        let no : None ≡ Some s.conversion =
+        conversion_there text rest s spelled e width width_position b w precision precision_position c p modifier d m None h in cc
 
-      pub specification_there : (conversion : Conversion) (read : Specification) → read ≡ record {
-        position = position;
-        parts = record { flags = set; width = width; precision = precision; modifier = modifier; conversion = conversion };
-        width_position = width_position;
-        precision_position = precision_position;
-      } → ConversionIs t d (Some conversion) → SpecificationIs t start (Some (read, d + 1))
-      specification_there conversion read is h text rest s spelled e =
-          all_there text rest s spelled e width width_position b w precision precision_position c p modifier d m conversion read is h
+  -- all parts were read
+  module _ (less : start < length t) (percent : get_or t start 0 ≡ 37)
+      (number_read : (bytes : Text) × SpellsPosition bytes position × HasBytes t (start + 1) k bytes)
+      (width : Option OpaqueAmount) (width_position : Option ℕ) (b : ℕ)
+      (width_read : (bytes : Text) × SpellsPosixWidth bytes position (amount_at width width_position) × HasBytes t a b bytes)
+      (precision : Option OpaqueAmount) (precision_position : Option ℕ) (c : ℕ)
+      (precision_read : (bytes : Text) × SpellsPosixPrecision bytes position (amount_at precision precision_position) × HasBytes t b c bytes)
+      (modifier : Modifier) (d : ℕ) (modifier_read : HasBytes t c d (modifier_letters modifier)) where
+    pub specification_there : (conversion : Conversion) (read : Specification) → read ≡ record {
+      position = position;
+      parts = record { flags = set; width = width; precision = precision; modifier = modifier; conversion = conversion };
+      width_position = width_position;
+      precision_position = precision_position;
+    } → HasBytes t d (d + 1) (conversion_letter conversion ∷ []) → IsSpecificationAt t start (read, d + 1)
+    specification_there conversion read is letter_read =
+        record {
+          some = omega (arith, opened.from, numbered.from, flagged.from, wide.from, precise.from, modified.from);
+          within = whole.within;
+          spelled = subst (λ r. SpellsPosix (take (d + 1 - start) (drop start t)) (specification_of r)) (sym is)
+              (subst (λ u. SpellsPosix u (specification_of made)) (sym (bytes_between t _ start (d + 1) whole)) spelled);
+        } where
+          made : Specification
+          made = record {
+            position = position;
+            parts = record { flags = set; width = width; precision = precision; modifier = modifier; conversion = conversion };
+            width_position = width_position;
+            precision_position = precision_position;
+          }
+
+          flags : Text
+          flags = map flag_byte flags_read.0
+
+          opened : HasBytes t start (start + 1) (37 ∷ [])
+          opened = bytes_one t start 37 less (sym percent)
+
+          numbered : HasBytes t start k (37 ∷ number_read.0)
+          numbered = bytes_join t start (start + 1) k (37 ∷ []) number_read.0 opened number_read.2
+
+          flagged : HasBytes t start a (37 ∷ (number_read.0 ++ flags))
+          flagged = bytes_join t start k a (37 ∷ number_read.0) flags numbered flags_read.2
+
+          wide : HasBytes t start b (37 ∷ (number_read.0 ++ flags) ++ width_read.0)
+          wide = bytes_join t start a b (37 ∷ (number_read.0 ++ flags)) width_read.0 flagged width_read.2
+
+          precise : HasBytes t start c ((37 ∷ (number_read.0 ++ flags) ++ width_read.0) ++ precision_read.0)
+          precise = bytes_join t start b c (37 ∷ (number_read.0 ++ flags) ++ width_read.0) precision_read.0 wide precision_read.2
+
+          modified : HasBytes t start d (((37 ∷ (number_read.0 ++ flags) ++ width_read.0) ++ precision_read.0) ++ modifier_letters modifier)
+          modified = bytes_join t start c d ((37 ∷ (number_read.0 ++ flags) ++ width_read.0) ++ precision_read.0) (modifier_letters modifier) precise modifier_read
+
+          whole : HasBytes t start (d + 1) ((((37 ∷ (number_read.0 ++ flags) ++ width_read.0) ++ precision_read.0) ++ modifier_letters modifier)
+              ++ conversion_letter conversion ∷ [])
+          whole = bytes_join t start d (d + 1) _ (conversion_letter conversion ∷ []) modified letter_read
+
+          spelled : SpellsPosix ((((37 ∷ (number_read.0 ++ flags) ++ width_read.0) ++ precision_read.0) ++ modifier_letters modifier)
+              ++ conversion_letter conversion ∷ []) (specification_of made)
+          spelled = record {
+            before = (37 ∷ (number_read.0 ++ flags) ++ width_read.0) ++ precision_read.0;
+            before_is = record {
+              before = 37 ∷ (number_read.0 ++ flags) ++ width_read.0;
+              text = precision_read.0;
+              before_is = record {
+                before = 37 ∷ (number_read.0 ++ flags);
+                text = width_read.0;
+                before_is = record { number = number_read.0; flags = flags_read.0; number_is = number_read.1; set_is = flags_read.1; whole = refl };
+                width_is = width_read.1;
+                whole = refl;
+              };
+              precision_is = precision_read.1;
+              whole = refl;
+            };
+            whole = refl;
+          }
+
+-- a specification that is spelled where one was read is this one
+pub same_there : (t : Text) (start : ℕ) (found : Specification × ℕ) → IsSpecificationAt t start found → (text rest : Text) (s : PosixSpecification)
+    → SpellsPosix text s → drop start t ≡ text ++ rest → (specification_of found.0 ≡ s) × (drop found.1 t ≡ rest)
+same_there t start found h text rest s spelled e =
+    let stop = found.1 in
+    let place : start + (stop - start) ≡ stop = omega (arith, h.some) in
+    let split : drop start t ≡ take (stop - start) (drop start t) ++ drop stop t =
+    sym (take-append-drop (stop - start) (drop start t))
+    ∙ ap (λ u. take (stop - start) (drop start t) ++ u) (drop-drop (stop - start) start t ∙ ap (λ k. drop k t) place) in
+    let same = specification_once (take (stop - start) (drop start t)) text (drop stop t) rest (specification_of found.0) s h.spelled spelled (sym split ∙ e) in
+    (same.0, same.1)

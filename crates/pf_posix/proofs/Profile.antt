@@ -134,7 +134,7 @@ spelled_here t s h d =
       whole = h.whole;
     }
 
-read_here : (t : Text) (item : Item) → IsProfileReadAs t item → SpellsPosixItem t (item_of item)
+pub read_here : (t : Text) (item : Item) → IsProfileReadAs t item → SpellsPosixItem t (item_of item)
 read_here t (ProfileByte byte) h = h
 read_here t (Directive s) h = (spelled_here t s h.0 h.1, defined_here s h.1)
 
@@ -153,7 +153,7 @@ type_here model (kinds.Unsigned base capitals) length e = refl
 type_here model kinds.Char length e = rw e refl
 type_here model kinds.String length e = rw e refl
 
-fetches_here : (model : Model) (s : ProfileSpecification) → IsProfileDefined s → fetches model (whole_of s) ≡ fetch None (widened (arg_type model s)) ∷ []
+pub fetches_here : (model : Model) (s : ProfileSpecification) → IsProfileDefined s → fetches model (whole_of s) ≡ fetch None (widened (arg_type model s)) ∷ []
 fetches_here model s d =
     let limits = all s d in
     ap₂ (λ a b. a ++ b ++ fetch None (kind_type model (kind_of s.conv) s.length) ∷ []) (no_stars s.width) (no_stars s.precision)

@@ -100,7 +100,7 @@ parts_of t s h e =
     }
 
 -- single bytes
-flags_inside : (flags : List Flag) → AreInside is_flag (map flag_byte flags)
+pub flags_inside : (flags : List Flag) → AreInside is_flag (map flag_byte flags)
 flags_inside [] = tt
 flags_inside (Minus ∷ flags) = (refl, flags_inside flags)
 flags_inside (Plus ∷ flags) = (refl, flags_inside flags)
@@ -109,7 +109,7 @@ flags_inside (Alt ∷ flags) = (refl, flags_inside flags)
 flags_inside (Zero ∷ flags) = (refl, flags_inside flags)
 flags_inside (Group ∷ flags) = (refl, flags_inside flags)
 
-same_flags : (a b : List Flag) → map flag_byte a ≡ map flag_byte b → a ≡ b
+pub same_flags : (a b : List Flag) → map flag_byte a ≡ map flag_byte b → a ≡ b
 same_flags [] [] e = refl
 same_flags [] (y ∷ b) e = cc
 same_flags (x ∷ a) [] e = cc
@@ -166,7 +166,7 @@ modifier_is (Integer lengths.None) = refl
 modifier_is (Integer _) = refl
 
 -- digits
-digits_inside : (p : ℕ → Bool) (ds : List ℕ) → ((d : ℕ) → d < 10 → p (digit_glyph false d) ≡ true) → AllByRecursion (λ d. d < 10) ds
+pub digits_inside : (p : ℕ → Bool) (ds : List ℕ) → ((d : ℕ) → d < 10 → p (digit_glyph false d) ≡ true) → AllByRecursion (λ d. d < 10) ds
     → AreInside p (map (digit_glyph false) ds)
 digits_inside p [] h g = tt
 digits_inside p (d ∷ ds) h g = (h d g.0, digits_inside p ds h g.1)
@@ -180,7 +180,7 @@ digit_in_precision d h = let digit = (digit_is d h).0 in rw digit refl
 digit_no_flag : (d : ℕ) → 0 < d → d < 10 → is_flag (digit_glyph false d) ≡ false
 digit_no_flag d low high = grind (arith, nat_tests)
 
-same_digits : (a b : List ℕ) → AllByRecursion (λ d. d < 10) a → AllByRecursion (λ d. d < 10) b → map (digit_glyph false) a ≡ map (digit_glyph false) b → a ≡ b
+pub same_digits : (a b : List ℕ) → AllByRecursion (λ d. d < 10) a → AllByRecursion (λ d. d < 10) b → map (digit_glyph false) a ≡ map (digit_glyph false) b → a ≡ b
 same_digits [] [] h g e = refl
 same_digits [] (y ∷ b) h g e = cc
 same_digits (x ∷ a) [] h g e = cc

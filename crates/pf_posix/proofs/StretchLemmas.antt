@@ -1,7 +1,7 @@
 -- Stretches of a text, one after another.
 use Rattle.std.proofs.Common.{◌≡◌, ◌≢◌, ℕ, zero, suc, ◌+◌, ◌-◌, ◌<◌, ◌≤◌, Bool, true, false, List, [], ◌∷◌, ◌++◌, drop, get_or, length, length-append, take}
 use Rattle.std.proofs.Common.{refl, sym, ap, ◌∙◌, arith, subst}
-use Rattle.std.specs.Prelude.{Option, Some, None, IsSomeAnd, MatchBool, ◌==◌}
+use Rattle.std.specs.Prelude.{Some, None, MatchBool, ◌==◌}
 use Rattle.std.specs.List.{AllByRecursion}
 use Rattle.std.proofs.lemmas.Bool.{eqb-true}
 use Rattle.std.proofs.lemmas.Bool.Decides.{nat_tests}
@@ -18,7 +18,7 @@ use Rattle.pf_posix.specs.Heads.{IsHead}
 use Rattle.pf_posix.specs.Items.{Byte as PosixByte, PosixItem, ReadsPosix, Specification as PosixDirective}
 use Rattle.pf_posix.specs.Opaque.{SpellsOpaque, is_opaque}
 use Rattle.pf_posix.specs.OpaqueParts.{parts_of_opaque}
-use Rattle.pf_posix.specs.PartsInText.{SpecificationIs, specification_of}
+use Rattle.pf_posix.specs.PartsInText.{BeginsNoSpecification, IsSpecificationAt}
 use Rattle.pf_posix.specs.Specifications.{PosixSpecification}
 use Rattle.pf_posix.specs.Spelling.{SpellsPosix}
 use Rattle.pf_posix.specs.Stretches.{Stretches, Last, Before, ReadsWhole}
@@ -26,7 +26,7 @@ use Rattle.pf_posix.specs.StretchesInText.{IsFound, push, push_all}
 use Rattle.pf_posix.specs.Unnumbered.{IsUnnumbered}
 use Rattle.pf_posix.proofs.KeptTypes.{posix_reads, unnumbered}
 use Rattle.pf_posix.proofs.Narrowed.{narrowed, reads_whole}
-use Rattle.pf_posix.proofs.PartLemmas.{head_at, unnumbered_parts}
+use Rattle.pf_posix.proofs.PartLemmas.{head_at, same_there, unnumbered_parts}
 use Rattle.pf_posix.proofs.ReadOnce.{flat, narrow, push_all-before, push_all-last, pushed_or, read_once, stretched, stretches_back}
 use Rattle.pf_posix.proofs.SpecificationsOnce.{begins_no_percent, parts_of}
 use Rattle.pf_posix.proofs.WalkLemmas.{literal}
@@ -282,30 +282,24 @@ module _ (t : Text) where
     directive_there = flat_read (FirstDirective (37 ∷ drop (at + 1) t)) (37 ∷ drop (at + 1) t) left (subst (λ u. ReadsWhole u left) here h)
         (λ items g u. directive_items (drop (at + 1) t) items no_second g u)
 
-    read_there : (result : Option (Specification × ℕ)) → SpecificationIs t at result
-        → IsSomeAnd result (λ front. (parts_of_opaque front.0.parts ≡ FirstDirective.s directive_there) × (drop front.1 t ≡ FirstDirective.rest directive_there))
-    read_there result g = go result (g d.first d.rest d.s d.spelled (here ∙ d.split)) where
-      d : FirstDirective (37 ∷ drop (at + 1) t) left
-      d = directive_there
+    pub no_specification : BeginsNoSpecification (drop at t) → ⊥
+    no_specification g = let d = directive_there in g d.first d.rest d.s d.spelled (here ∙ d.split)
 
-      go : (result : Option (Specification × ℕ)) → IsSomeAnd result (λ front. (specification_of front.0 ≡ d.s) × (drop front.1 t ≡ d.rest))
-          → IsSomeAnd result (λ front. (parts_of_opaque front.0.parts ≡ d.s) × (drop front.1 t ≡ d.rest))
-      go None r = r
-      go (Some front) r =
-          let unnumbered = ap PosixSpecification.position r.0 ∙ d.unnumbered_is in
-          (unnumbered_parts d.first front.0 (subst (SpellsPosix d.first) (sym r.0) d.spelled) unnumbered ∙ r.0, r.1)
+    module _ (read : Specification) (stop : ℕ) (g : IsSpecificationAt t at (read, stop)) where
+      read_there : (parts_of_opaque read.parts ≡ FirstDirective.s directive_there) × (drop stop t ≡ FirstDirective.rest directive_there)
+      read_there =
+          let d = directive_there in
+          let same = same_there t at (read, stop) g d.first d.rest d.s d.spelled (here ∙ d.split) in
+          let unnumbered = ap PosixSpecification.position same.0 ∙ d.unnumbered_is in
+          (unnumbered_parts d.first read (subst (SpellsPosix d.first) (sym same.0) d.spelled) unnumbered ∙ same.0, same.1)
 
-    pub no_specification : SpecificationIs t at None → ⊥
-    no_specification g = read_there None g
-
-    module _ (read : Specification) (stop : ℕ) (g : SpecificationIs t at (Some (read, stop))) where
       abbrev directive : OpaqueDirective
       directive = read.parts
 
       pub found_opaque : is_opaque (parts_of_opaque directive) ≡ true → IsFound t at left (found.Opaque directive stop)
       found_opaque o =
           let d = directive_there in
-          let r = read_there (Some (read, stop)) g in
+          let r = read_there in
           let s = parts_of_opaque directive in
           let same : d.s ≡ s = sym r.0 in
           let opaque : is_opaque d.s ≡ true = ap is_opaque same ∙ o in (
@@ -325,7 +319,7 @@ module _ (t : Text) where
       pub found_directive : is_opaque (parts_of_opaque directive) ≡ false → IsFound t at left (found.Items stop)
       found_directive o =
           let d = directive_there in
-          let r = read_there (Some (read, stop)) g in
+          let r = read_there in
           let opaque : is_opaque d.s ≡ false = ap is_opaque (sym r.0) ∙ o in (
             Directive (narrow d.s) ∷ [],
             d.first,

@@ -1,14 +1,10 @@
 -- What the parts of a specification are from an offset of a text on, as the code reads them. Each says
 -- what is answered if the part is spelled there, and nothing that could belong to the part comes after
 -- it. No public contract names these.
-use Rattle.std.specs.Prelude.{◌≡◌, ℕ, ◌<◌, ◌≤◌, Bool, false, ◌||◌, ◌==◌, List, [], ◌∷◌, ◌++◌, drop, map, Option, Some, None, IsSomeAnd, if◌then◌else◌, ⊤}
-use Rattle.std.specs.Fmt.{digit_glyph}
-use Rattle.std.specs.Int.Digits.{number_from_digits_after}
-use Rattle.std.specs.List.{AllByRecursion}
+use Rattle.std.specs.Prelude.{◌≡◌, ℕ, ◌-◌, ◌<◌, ◌≤◌, Bool, false, ◌||◌, ◌==◌, List, [], ◌∷◌, ◌++◌, drop, is_some, length, map, take, Option, Some, None, IsSomeAnd, if◌then◌else◌, ⊤}
 use Rattle.pf_values.specs.declared.flags.Flag.{Flag}
 use Rattle.pf_values.specs.declared.flags.FlagSet.{FlagSet}
 use Rattle.pf_values.specs.declared.lengths.Length.TheVariants as lengths
-use Rattle.pf_values.specs.declared.limits.TheConstants.{MAX_NUMBER}
 use Rattle.pf_values.specs.meaning.Flags.{flag_byte, flag_set}
 use Rattle.pf_values.specs.meaning.Text.{Text, dollar, point, star}
 use Rattle.pf_text.specs.States.{is_digit}
@@ -65,34 +61,31 @@ abbrev pub FlagsAre : Text → ℕ → FlagSet → ℕ → Type 0
 FlagsAre t start set stop = (flags : List Flag) (rest : Text) → BeginsOutside is_flag rest
     → drop start t ≡ map flag_byte flags ++ rest → (set ≡ flag_set flags) × (drop stop t ≡ rest)
 
--- digits that go on with a number, which stays within the limit
-abbrev pub DigitsAre : Text → ℕ → ℕ → Option (ℕ × ℕ) → Type 0
-DigitsAre t start first result = (digits : List ℕ) (rest : Text)
-    → AllByRecursion (λ d. d < 10) digits → BeginsOutside is_digit rest
-    → number_from_digits_after 10 first digits ≤ MAX_NUMBER
-    → drop start t ≡ map (digit_glyph false) digits ++ rest
-    → IsSomeAnd result (λ front. (front.0 ≡ number_from_digits_after 10 first digits)
-    × (drop front.1 t ≡ rest))
+-- what comes after a `*`: the number of its argument in a numbered specification alone
+abbrev pub StarIs : Text → ℕ → Option ℕ → Option (Option ℕ × ℕ) → Type 0
+StarIs t start position result = (text rest : Text) (number : Option ℕ) → SpellsPosition text number
+    → is_some number ≡ is_some position → dollar_follows rest ≡ false → drop start t ≡ text ++ rest
+    → IsSomeAnd result (λ read. (read.0 ≡ number) × (drop read.1 t ≡ rest))
 
 -- a width, or none
-abbrev pub WidthIs : Text → ℕ → Option (Option OpaqueAmount × Option ℕ × ℕ) → Type 0
-WidthIs t start result = (text rest : Text) (position : Option ℕ) (width : Option Amount)
+abbrev pub WidthIs : Text → ℕ → Option ℕ → Option (Option OpaqueAmount × Option ℕ × ℕ) → Type 0
+WidthIs t start position result = (text rest : Text) (width : Option Amount)
     → SpellsPosixWidth text position width → BeginsOutside is_width rest → drop start t ≡ text ++ rest
-    → IsSomeAnd result (λ front. (amount_at front.0 front.1 ≡ width) × (drop front.2 t ≡ rest))
+    → IsSomeAnd result (λ read. (amount_at read.0 read.1 ≡ width) × (drop read.2 t ≡ rest))
 
 -- a precision, or none
-abbrev pub PrecisionIs : Text → ℕ → Option (Option OpaqueAmount × Option ℕ × ℕ) → Type 0
-PrecisionIs t start result = (text rest : Text) (position : Option ℕ) (precision : Option Amount)
+abbrev pub PrecisionIs : Text → ℕ → Option ℕ → Option (Option OpaqueAmount × Option ℕ × ℕ) → Type 0
+PrecisionIs t start position result = (text rest : Text) (precision : Option Amount)
     → SpellsPosixPrecision text position precision → BeginsOutside is_precision rest
     → drop start t ≡ text ++ rest
-    → IsSomeAnd result (λ front. (amount_at front.0 front.1 ≡ precision) × (drop front.2 t ≡ rest))
+    → IsSomeAnd result (λ read. (amount_at read.0 read.1 ≡ precision) × (drop read.2 t ≡ rest))
 
 -- what comes after the point of a precision
-abbrev pub IsAfterPoint : Text → ℕ → Option (OpaqueAmount × Option ℕ × ℕ) → Type 0
-IsAfterPoint t start result = (text rest : Text) (position : Option ℕ) (precision : Option Amount)
+abbrev pub IsAfterPoint : Text → ℕ → Option ℕ → Option (OpaqueAmount × Option ℕ × ℕ) → Type 0
+IsAfterPoint t start position result = (text rest : Text) (precision : Option Amount)
     → SpellsPosixPrecision (point ∷ text) position precision → BeginsOutside is_precision rest
     → drop start t ≡ text ++ rest
-    → IsSomeAnd result (λ front. (amount_at (Some front.0) front.1 ≡ precision) × (drop front.2 t ≡ rest))
+    → IsSomeAnd result (λ read. (amount_at (Some read.0) read.1 ≡ precision) × (drop read.2 t ≡ rest))
 
 -- the modifier of two letters that this byte ends, if it does (C11 7.21.6.1 p7)
 abbrev pub second_modifier : Modifier → ℕ → Option Modifier
@@ -119,8 +112,13 @@ abbrev pub ConversionIs : Text → ℕ → Option Conversion → Type 0
 ConversionIs t at result = (conversion : Conversion) (rest : Text)
     → drop at t ≡ conversion_letter conversion ∷ rest → result ≡ Some conversion
 
--- a whole specification
-abbrev pub SpecificationIs : Text → ℕ → Option (Specification × ℕ) → Type 0
-SpecificationIs t start result = (text rest : Text) (s : PosixSpecification)
-    → SpellsPosix text s → drop start t ≡ text ++ rest
-    → IsSomeAnd result (λ front. (specification_of front.0 ≡ s) × (drop front.1 t ≡ rest))
+-- the bytes from an offset up to another spell a specification
+pub record IsSpecificationAt (t : Text) (start : ℕ) (found : Specification × ℕ) : Type 0 where
+  pub some : start < found.1
+  pub within : found.1 ≤ length t
+  pub spelled : SpellsPosix (take (found.1 - start) (drop start t)) (specification_of found.0)
+
+-- no specification begins a text
+abbrev pub BeginsNoSpecification : Text → Type 0
+BeginsNoSpecification t = (text rest : Text) (s : PosixSpecification) → SpellsPosix text s
+    → t ≡ text ++ rest → ⊥

@@ -20,7 +20,6 @@ mod opaque_directives;
 mod pairs;
 mod partial_specification;
 mod plain_reader;
-mod profile_reader;
 mod reader;
 mod specifications;
 mod stretches;

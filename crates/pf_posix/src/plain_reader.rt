@@ -1,25 +1,26 @@
-//! The front of a format in which no argument has a number and none is a `*`, read at offsets of the
-//! text. What it can't read is left to the automaton, which reads byte by byte.
-ghost use Rattle.std.specs.Prelude.{◌≡◌, ◌<◌, ◌≤◌, IfSome, None, Some, length};
+//! The front of a format in which no argument has a number, read part by part. What comes after it is left to
+//! the automaton, which reads byte by byte.
+ghost use Rattle.std.specs.Prelude.{◌≡◌, ◌+◌, ◌<◌, ◌≤◌, ◌++◌, IfSome, List, length};
 ghost use Rattle.pf_values.specs.declared.limits.TheConstants.{MAX_TEXT_LEN as LIMIT};
-ghost use Rattle.pf_posix.specs.declared.partial_specification.Numbering.{Numbering as NumberingOf};
-ghost use Rattle.pf_posix.specs.declared.partial_specification.Numbering.TheVariants.{Unnumbered};
-ghost use Rattle.pf_posix.specs.Plain.{FlagsRead, IsBeforeModifier, IsFetchPut, IsFetchedFrom, IsFrontRead, PartsRead, PrecisionRead, TakesConversion, WidthRead};
-ghost use Rattle.pf_posix.specs.Refusals.{Follows};
-ghost use Rattle.pf_posix.specs.Stages.{Opened, PosixState};
+ghost use Rattle.pf_text.specs.Walks.{HasPercent};
+ghost use Rattle.pf_posix.specs.declared.types.ArgumentType.{ArgumentType as ArgumentTypeOf};
+ghost use Rattle.pf_posix.specs.Laws.{filled};
+ghost use Rattle.pf_posix.specs.OpaqueParts.{amount_of, parts_of_opaque};
+ghost use Rattle.pf_posix.specs.Plain.{HasTypeAt, IsFrontRead, IsPut};
+ghost use Rattle.pf_posix.specs.Defined.{undefined_of};
+ghost use Rattle.pf_posix.specs.Readings.{wanted_types};
+ghost use Rattle.pf_posix.specs.Types.{fetches, star_fetches};
 
-use crate::conversions::Modifier;
 use crate::fetches::{bare_type, conversion_type};
-use crate::letters::{conversion_of, length_modifier_of};
+use crate::opaque_directives::{OpaqueAmount, OpaqueDirective, is_star};
 use crate::partial_specification::PartialSpecification;
-use crate::profile_reader::profile_after;
-use crate::specifications::{begins_number, digits_at, has_byte, modifier_with};
+use crate::specifications::specification_at;
 use crate::tables::put;
 use crate::types::ArgumentType;
 use crate::undefined_combinations::undefined_as;
-use pf_text::{Percents, Walk, flag_of, modifier_of};
+use pf_text::{Percents, Walk, directive_at};
 use pf_values::limits::MAX_TEXT_LEN;
-use pf_values::{Length, Model};
+use pf_values::{ArgType, Model, RefusalKind};
 
 /// The front of a format, up to an offset between two items.
 #[derive(Clone, Copy, Debug)]
@@ -30,8 +31,8 @@ pub(crate) struct PlainFront {
     pub(crate) count: usize,
 }
 
-/// Reads the front of a format whose arguments have no numbers and that has no `*`, and puts their
-/// types at the front of `out`, as many as there is room for.
+/// Reads the front of a format whose arguments have no numbers, and puts their types at the front of
+/// `out`, as many as there is room for.
 #[inline(never)]
 pub(crate) fn plain_front(model: Model, text: &[u8], out: &mut [ArgumentType]) -> PlainFront
     ensures { IsFrontRead model text.now out.old out.new result }
@@ -42,10 +43,10 @@ pub(crate) fn plain_front(model: Model, text: &[u8], out: &mut [ArgumentType]) -
     }
     let mut walk = Walk::new(text);
     while walk.find::<Percents>() {
-        match put_fetch(model, text, walk.at + 1, out, count) {
-            Some(stop) => {
-                count += 1;
+        match put_specification(model, text, walk.at, out, count) {
+            Some((stop, more)) => {
                 walk.at = stop;
+                count = more;
             }
             None => return PlainFront { at: walk.at, count },
         }
@@ -53,232 +54,124 @@ pub(crate) fn plain_front(model: Model, text: &[u8], out: &mut [ArgumentType]) -
     PlainFront { at: walk.at, count }
 }
 
-// Puts the type of the argument of the specification after a `%`, and returns where it ends. None if it
-// has a `*`, or isn't accepted.
+// Puts the types of the arguments of the specification at an offset after `count` others, and returns where
+// it ends, and how many types there are now. None if its arguments have numbers, or if it isn't accepted.
 #[inline(always)]
-fn put_fetch(
+fn put_specification(
     model: Model,
     text: &[u8],
-    start: usize,
+    at: usize,
     out: &mut [ArgumentType],
     count: usize,
-) -> Option<usize>
-    requires start { start ≤ length text.now }
+) -> Option<(usize, usize)>
+    requires percent { HasPercent text.now at }
     requires short { length text.now ≤ LIMIT }
-    ensures { IsFetchPut model text.now start out.old out.new count result }
+    requires few { count ≤ at }
+    ensures { IsPut model text.now at out.old out.new count result }
 {
-    if start >= text.len() {
-        return None;
-    }
-    match bare_type(text[start]) {
-        Some(wanted) => {
-            put(out, count, wanted);
-            Some(start + 1)
-        }
-        None => put_with_parts(model, text, start, out, count),
-    }
-}
-
-// Puts the type of the argument of a specification with more than a conversion, as `put_fetch` does.
-#[inline(always)]
-fn put_with_parts(
-    model: Model,
-    text: &[u8],
-    start: usize,
-    out: &mut [ArgumentType],
-    count: usize,
-) -> Option<usize>
-    requires start { start ≤ length text.now }
-    requires short { length text.now ≤ LIMIT }
-    ensures { IsFetchPut model text.now start out.old out.new count result }
-{
-    match fetch_of_profile(model, text, start) {
+    match type_at(model, text, at) {
         Some((wanted, stop)) => {
             put(out, count, wanted);
-            Some(stop)
+            Some((stop, count + 1))
         }
-        None => put_any(model, text, start, out, count),
+        None => put_any(model, text, at, out, count),
     }
 }
 
-// Puts the type of the argument of a specification that `fetch_of_profile` doesn't read, as `put_fetch`
-// does. It isn't inlined: that keeps the loop of the others short.
+// The type of the argument of the specification at an offset, and where it ends, if it is one of the profile or a
+// conversion alone.
+#[inline(always)]
+fn type_at(model: Model, text: &[u8], at: usize) -> Option<(ArgumentType, usize)>
+    requires { HasPercent text.now at }
+    ensures { IfSome result (HasTypeAt model text.now at) }
+{
+    match bare_type(text[at + 1]) {
+        Some(wanted) => Some((wanted, at + 2)),
+        None => profile_type_at(model, text, at),
+    }
+}
+
+// The same of one of the profile. It isn't inlined: that keeps the loop of the others short.
+#[inline(never)]
+fn profile_type_at(model: Model, text: &[u8], at: usize) -> Option<(ArgumentType, usize)>
+    ensures { IfSome result (HasTypeAt model text.now at) }
+{
+    let found = directive_at(text, at)?;
+    let wanted = ArgumentType::Profile(found.directive.arg_type(model));
+    Some((wanted, found.stop))
+}
+
+// Puts the types of a specification that has others than these, as `put_specification` does.
 #[inline(never)]
 fn put_any(
     model: Model,
     text: &[u8],
-    start: usize,
+    at: usize,
     out: &mut [ArgumentType],
     count: usize,
-) -> Option<usize>
-    requires start { start ≤ length text.now }
+) -> Option<(usize, usize)>
+    requires percent { HasPercent text.now at }
     requires short { length text.now ≤ LIMIT }
-    ensures { IsFetchPut model text.now start out.old out.new count result }
+    requires few { count ≤ at }
+    ensures { IsPut model text.now at out.old out.new count result }
 {
-    match fetch_of_any(model, text, start) {
-        Some((wanted, stop)) => {
-            put(out, count, wanted);
-            Some(stop)
-        }
-        None => None,
-    }
-}
-
-// The type of the argument of a specification of the profile, as most are, and where it ends. If it begins
-// with a length modifier, the tests of flags fall away.
-#[inline(always)]
-fn fetch_of_profile(model: Model, text: &[u8], start: usize) -> Option<(ArgumentType, usize)>
-    requires start { start ≤ length text.now }
-    requires short { length text.now ≤ LIMIT }
-    ensures fetched { IfSome result (λ read. (numbering : NumberingOf) → Follows numbering (Some Unnumbered)
-        → IsFetchedFrom model numbering text.now Opened start read.0 read.1) }
-    ensures within { IfSome result (λ read. (start < read.1) × (read.1 ≤ length text.now)) }
-{
-    if start >= text.len() {
+    let (read, stop) = specification_at(text, at)?;
+    if read.position.is_some() {
         return None;
     }
-    match modifier_of(text[start]) {
-        Some(_) => profile_after(model, text, start, PartialSpecification::at(None)),
-        None => {
-            let (parts, at) = parts_from(text, start)?;
-            profile_after(model, text, at, parts)
-        }
-    }
-}
-
-// The type of the argument of any specification without a `*`, and where it ends.
-#[inline(always)]
-fn fetch_of_any(model: Model, text: &[u8], start: usize) -> Option<(ArgumentType, usize)>
-    requires start { start ≤ length text.now }
-    requires short { length text.now ≤ LIMIT }
-    ensures fetched { IfSome result (λ read. (numbering : NumberingOf) → Follows numbering (Some Unnumbered)
-        → IsFetchedFrom model numbering text.now Opened start read.0 read.1) }
-    ensures within { IfSome result (λ read. (start < read.1) × (read.1 ≤ length text.now)) }
-{
-    let (parts, at) = parts_from(text, start)?;
-    fetch_after(model, text, at, parts)
-}
-
-// The parts from an offset on that come before a length modifier, and where they end. None if a number
-// passes the limit.
-#[inline(always)]
-fn parts_from(text: &[u8], start: usize) -> Option<(PartialSpecification, usize)>
-    requires { start ≤ length text.now }
-    ensures parts { IfSome result (λ read. PartsRead text.now start read.0 read.1) }
-    ensures within { IfSome result (λ read. (start ≤ read.1) × (read.1 ≤ length text.now)) }
-{
-    let (parts, at) = flags_from(text, start);
-    let (parts, at) = width_from(text, at, parts)?;
-    precision_from(text, at, parts)
-}
-
-// The flags from an offset on, and where they end (C11 7.21.6.1, paragraph 6).
-#[inline(always)]
-fn flags_from(text: &[u8], start: usize) -> (PartialSpecification, usize)
-    requires { start ≤ length text.now }
-    ensures flags { FlagsRead text.now start result.0 result.1 }
-    ensures within { (start ≤ result.1) × (result.1 ≤ length text.now) }
-{
-    let mut parts = PartialSpecification::at(None);
-    let mut at = start;
-    while at < text.len() {
-        match flag_of(text[at]) {
-            Some(flag) => parts = parts.with_flag(flag),
-            None => return (parts, at),
-        }
-        at += 1;
-    }
-    (parts, at)
-}
-
-// These parts with the field width at an offset, if there is one, and where it ends (C11 7.21.6.1,
-// paragraph 4).
-#[inline(always)]
-fn width_from(
-    text: &[u8],
-    start: usize,
-    parts: PartialSpecification,
-) -> Option<(PartialSpecification, usize)>
-    requires { start ≤ length text.now }
-    ensures width { IfSome result (λ read. WidthRead text.now start parts read.0 read.1) }
-    ensures within { IfSome result (λ read. (start ≤ read.1) × (read.1 ≤ length text.now)) }
-{
-    if !begins_number(text, start) {
-        return Some((parts, start));
-    }
-    let (_, stop) = digits_at(text, start + 1, u16::from(text[start] - b'0'))?;
-    Some((parts.with_width(), stop))
-}
-
-// These parts with the precision at an offset, if there is one, and where it ends (C11 7.21.6.1,
-// paragraph 4).
-#[inline(always)]
-fn precision_from(
-    text: &[u8],
-    start: usize,
-    parts: PartialSpecification,
-) -> Option<(PartialSpecification, usize)>
-    requires { start ≤ length text.now }
-    ensures precision { IfSome result (λ read. PrecisionRead text.now start parts read.0 read.1) }
-    ensures within { IfSome result (λ read. (start ≤ read.1) × (read.1 ≤ length text.now)) }
-{
-    if !has_byte(text, start, b'.') {
-        return Some((parts, start));
-    }
-    let (_, stop) = digits_at(text, start + 1, 0)?;
-    Some((parts.with_precision(), stop))
-}
-
-// The type of the argument that a length modifier, if there is one, and a conversion after these parts
-// take, and where they end.
-#[inline(always)]
-fn fetch_after(
-    model: Model,
-    text: &[u8],
-    start: usize,
-    parts: PartialSpecification,
-) -> Option<(ArgumentType, usize)>
-    requires start { start ≤ length text.now }
-    requires short { length text.now ≤ LIMIT }
-    ensures fetched { IfSome result (λ read. (numbering : NumberingOf) (state : PosixState)
-        → IsBeforeModifier model numbering state parts
-        → IsFetchedFrom model numbering text.now state start read.0 read.1) }
-    ensures within { IfSome result (λ read. (start < read.1) × (read.1 ≤ length text.now)) }
-{
-    if start >= text.len() {
-        return None;
-    }
-    match length_modifier_of(text[start]) {
-        Some(first) => {
-            let (modifier, at) = modifier_with(text, start + 1, first);
-            fetch_by(model, text, at, parts, modifier)
-        }
-        None => fetch_by(model, text, start, parts, Modifier::Integer(Length::None)),
-    }
-}
-
-// The type of the argument that the conversion at an offset takes, and where it ends.
-#[inline(always)]
-fn fetch_by(
-    model: Model,
-    text: &[u8],
-    at: usize,
-    parts: PartialSpecification,
-    modifier: Modifier,
-) -> Option<(ArgumentType, usize)>
-    requires start { at ≤ length text.now }
-    requires short { length text.now ≤ LIMIT }
-    ensures fetched { IfSome result (λ read. (numbering : NumberingOf) (state : PosixState)
-        → parts.position ≡ None → TakesConversion model numbering state parts modifier
-        → IsFetchedFrom model numbering text.now state at read.0 read.1) }
-    ensures within { IfSome result (λ read. (at < read.1) × (read.1 ≤ length text.now)) }
-{
-    if at >= text.len() {
-        return None;
-    }
-    let conversion = conversion_of(text[at])?;
-    match undefined_as(parts, modifier, conversion) {
+    match undefined_parts(&read.parts) {
         Some(_) => None,
-        None => Some((conversion_type(model, modifier, conversion), at + 1)),
+        None => Some((stop, put_types(model, &read.parts, out, count))),
     }
+}
+
+// Why a specification of these parts is undefined, if it is.
+#[inline(always)]
+fn undefined_parts(parts: &OpaqueDirective) -> Option<RefusalKind>
+    ensures { result ≡ undefined_of (parts_of_opaque parts.now) }
+{
+    let front = PartialSpecification {
+        position: None,
+        flags: parts.flags,
+        width: parts.width.is_some(),
+        precision: parts.precision.is_some(),
+    };
+    undefined_as(front, parts.modifier, parts.conversion)
+}
+
+// Puts the types of the arguments of a specification of these parts after `count` others, and returns how many
+// there are now.
+#[inline(always)]
+fn put_types(model: Model, parts: &OpaqueDirective, out: &mut [ArgumentType], count: usize) -> usize
+    requires { count ≤ LIMIT }
+    ensures count { result ≡ count + length (fetches model (parts_of_opaque parts.now)) }
+    ensures put { (first before : List ArgumentTypeOf) → out.old ≡ filled first before → count ≡ length before
+        → out.new ≡ filled first (before ++ wanted_types (fetches model (parts_of_opaque parts.now))) }
+    ensures length { length out.new ≡ length out.old }
+{
+    let after_width = put_star(parts.width, out, count);
+    let last = put_star(parts.precision, out, after_width);
+    put(
+        out,
+        last,
+        conversion_type(model, parts.modifier, parts.conversion),
+    );
+    last + 1
+}
+
+// Puts the type of the argument of a width or of a precision that is a `*`, and returns how many there are now.
+#[inline(always)]
+fn put_star(amount: Option<OpaqueAmount>, out: &mut [ArgumentType], count: usize) -> usize
+    requires { count ≤ LIMIT + 1 }
+    ensures few { result ≤ count + 1 }
+    ensures count { result ≡ count + length (star_fetches (amount_of amount)) }
+    ensures put { (first before : List ArgumentTypeOf) → out.old ≡ filled first before → count ≡ length before
+        → out.new ≡ filled first (before ++ wanted_types (star_fetches (amount_of amount))) }
+    ensures length { length out.new ≡ length out.old }
+{
+    if is_star(amount) {
+        put(out, count, ArgumentType::Profile(ArgType::Int));
+        return count + 1;
+    }
+    count
 }

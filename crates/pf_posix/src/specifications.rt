@@ -1,18 +1,20 @@
 //! A conversion specification of the whole language, read part by part (C11 7.21.6.1, paragraph 4; POSIX
 //! fprintf on numbered arguments). The automaton reads the same byte by byte, and finds out why a text has
 //! none.
-ghost use Rattle.std.specs.Prelude.{◌≡◌, ◌≢◌, ◌<◌, ◌≤◌, ◌==◌, IfSome, IsTrue, drop, get_or, length};
-ghost use Rattle.pf_values.specs.declared.limits.TheConstants.{MAX_NUMBER};
-ghost use Rattle.pf_posix.specs.Letters.{is_first_digit};
-ghost use Rattle.pf_posix.specs.Plain.{DigitsRead, ModifierRead};
-ghost use Rattle.pf_posix.specs.PartsInText.{ConversionIs, DigitsAre, FlagsAre, IsAfterPoint, ModifierGoesOn, ModifierIs, PositionIs, PrecisionIs, SpecificationIs, WidthIs, dollar_follows, second_modifier};
+ghost use Rattle.std.specs.Prelude.{◌≡◌, ◌≢◌, ◌+◌, ◌<◌, ◌≤◌, ◌==◌, ◌++◌, ◌∷◌, [], IfSome, IsTrue, MatchOption, Some, drop, get_or, is_some, length};
+ghost use Rattle.pf_values.specs.meaning.Text.{Text, percent, point};
+ghost use Rattle.pf_text.specs.Offsets.{HasBytes};
+ghost use Rattle.pf_text.specs.States.{is_digit};
+ghost use Rattle.pf_posix.specs.OpaqueParts.{amount_at};
+ghost use Rattle.pf_posix.specs.PartsInText.{BeginsNoSpecification, ConversionIs, IsAfterPoint, IsSpecificationAt, ModifierGoesOn, ModifierIs, PositionIs, PrecisionIs, StarIs, WidthIs, second_modifier};
+ghost use Rattle.pf_posix.specs.Specifications.{conversion_letter, modifier_letters};
+ghost use Rattle.pf_posix.specs.Spelling.{SpellsPosition, SpellsPosixPrecision, SpellsPosixWidth};
 
 use crate::conversions::{Conversion, Modifier};
 use crate::letters::{conversion_of, length_modifier_of};
 use crate::opaque_directives::{OpaqueAmount, OpaqueDirective};
-use pf_text::flag_of;
-use pf_values::limits::MAX_NUMBER;
-use pf_values::{FlagSet, Length};
+use pf_text::{digits_at, flags_at, number_at};
+use pf_values::Length;
 
 /// A conversion specification: its parts, and the numbers of its arguments.
 #[derive(Clone, Copy, Debug)]
@@ -27,17 +29,17 @@ pub(crate) struct Specification {
     pub(crate) precision_position: Option<u16>,
 }
 
-/// The specification at a `%`, and where it ends. None if there is no whole one.
+/// The specification at a `%`, and where it ends. None if none begins there.
 #[inline(always)]
 pub(crate) fn specification_at(text: &[u8], start: usize) -> Option<(Specification, usize)>
-    requires { start < length text.now }
-    ensures parts { SpecificationIs text.now start result }
-    ensures within { IfSome result (λ front. (start < front.1) × (front.1 ≤ length text.now)) }
+    requires start { start < length text.now }
+    requires percent { get_or text.now start 0 ≡ percent }
+    ensures { MatchOption result (BeginsNoSpecification (drop start text.now)) (IsSpecificationAt text.now start) }
 {
     let (position, at) = position_at(text, start + 1);
     let (flags, at) = flags_at(text, at);
-    let (width, width_position, at) = width_at(text, at)?;
-    let (precision, precision_position, at) = precision_at(text, at)?;
+    let (width, width_position, at) = width_at(text, at, position)?;
+    let (precision, precision_position, at) = precision_at(text, at, position)?;
     let (modifier, at) = modifier_at(text, at);
     let conversion = conversion_at(text, at)?;
     let read = Specification {
@@ -59,13 +61,11 @@ pub(crate) fn specification_at(text: &[u8], start: usize) -> Option<(Specificati
 #[inline(always)]
 fn position_at(text: &[u8], start: usize) -> (Option<u16>, usize)
     requires { start ≤ length text.now }
+    ensures bytes { (bytes : Text) × SpellsPosition bytes result.0 × HasBytes text.now start result.1 bytes }
     ensures position { PositionIs text.now start result.0 result.1 }
-    ensures within { (start ≤ result.1) × (result.1 ≤ length text.now) }
 {
-    if !begins_number(text, start) {
-        return (None, start);
-    }
-    let Some((number, stop)) = digits_at(text, start + 1, u16::from(text[start] - b'0')) else {
+    let (number, stop) = number_at(text, start);
+    let Some(number) = number else {
         return (None, start);
     };
     if !has_byte(text, stop, b'$') {
@@ -74,71 +74,95 @@ fn position_at(text: &[u8], start: usize) -> (Option<u16>, usize)
     (Some(number), stop + 1)
 }
 
-// The flags from an offset on, and where they end (C11 7.21.6.1, paragraph 6).
+// The number of the argument of a `*` that ends at an offset, and where it ends. It has one exactly if the
+// specification has (POSIX fprintf on `*m$`); None if it should have one or shouldn't.
 #[inline(always)]
-fn flags_at(text: &[u8], start: usize) -> (FlagSet, usize)
+fn star_number_at(text: &[u8], start: usize, position: Option<u16>) -> Option<(Option<u16>, usize)>
     requires { start ≤ length text.now }
-    ensures flags { FlagsAre text.now start result.0 result.1 }
-    ensures within { (start ≤ result.1) × (result.1 ≤ length text.now) }
+    ensures bytes { IfSome result (λ read. (bytes : Text) × SpellsPosition bytes read.0
+        × (is_some read.0 ≡ is_some position) × HasBytes text.now start read.1 bytes) }
+    ensures number { StarIs text.now start position result }
 {
-    let mut flags = FlagSet::empty();
-    let mut at = start;
-    while at < text.len() {
-        match flag_of(text[at]) {
-            Some(flag) => flags = flags.with(flag),
-            None => return (flags, at),
-        }
-        at += 1;
+    let (number, stop) = position_at(text, start);
+    match position {
+        None => match number {
+            None => Some((None, stop)),
+            Some(_) => None,
+        },
+        Some(_) => match number {
+            None => None,
+            Some(number) => Some((Some(number), stop)),
+        },
     }
-    (flags, at)
 }
 
 // The field width at an offset, the number of its argument, and where it ends (C11 7.21.6.1, paragraphs 4
-// and 5).
+// and 5). None if it isn't one, or passes the limit.
 #[inline(always)]
-fn width_at(text: &[u8], start: usize) -> Option<(Option<OpaqueAmount>, Option<u16>, usize)>
+fn width_at(
+    text: &[u8],
+    start: usize,
+    position: Option<u16>,
+) -> Option<(Option<OpaqueAmount>, Option<u16>, usize)>
     requires { start ≤ length text.now }
-    ensures width { WidthIs text.now start result }
-    ensures within { IfSome result (λ front. (start ≤ front.2) × (front.2 ≤ length text.now)) }
+    ensures bytes { IfSome result (λ read. (bytes : Text) × SpellsPosixWidth bytes position (amount_at read.0 read.1)
+        × HasBytes text.now start read.2 bytes) }
+    ensures width { WidthIs text.now start position result }
 {
     if has_byte(text, start, b'*') {
-        let (number, stop) = position_at(text, start + 1);
+        let (number, stop) = star_number_at(text, start + 1, position)?;
         return Some((Some(OpaqueAmount::Star), number, stop));
     }
-    if !begins_number(text, start) {
+    let (number, stop) = number_at(text, start);
+    let Some(number) = number else {
         return Some((None, None, start));
+    };
+    if has_digit(text, stop) {
+        return None;
     }
-    let (number, stop) = digits_at(text, start + 1, u16::from(text[start] - b'0'))?;
     Some((Some(OpaqueAmount::Number(number)), None, stop))
 }
 
 // The precision at an offset, the number of its argument, and where it ends (C11 7.21.6.1, paragraphs 4
-// and 5).
+// and 5). None if it isn't one, or passes the limit.
 #[inline(always)]
-fn precision_at(text: &[u8], start: usize) -> Option<(Option<OpaqueAmount>, Option<u16>, usize)>
+fn precision_at(
+    text: &[u8],
+    start: usize,
+    position: Option<u16>,
+) -> Option<(Option<OpaqueAmount>, Option<u16>, usize)>
     requires { start ≤ length text.now }
-    ensures precision { PrecisionIs text.now start result }
-    ensures within { IfSome result (λ front. (start ≤ front.2) × (front.2 ≤ length text.now)) }
+    ensures bytes { IfSome result (λ read. (bytes : Text) × SpellsPosixPrecision bytes position (amount_at read.0 read.1)
+        × HasBytes text.now start read.2 bytes) }
+    ensures precision { PrecisionIs text.now start position result }
 {
     if !has_byte(text, start, b'.') {
         return Some((None, None, start));
     }
-    let (amount, number, stop) = after_point(text, start + 1)?;
+    let (amount, number, stop) = after_point(text, start + 1, position)?;
     Some((Some(amount), number, stop))
 }
 
 // The precision after its point, as `precision_at` has it.
 #[inline(always)]
-fn after_point(text: &[u8], start: usize) -> Option<(OpaqueAmount, Option<u16>, usize)>
+fn after_point(
+    text: &[u8],
+    start: usize,
+    position: Option<u16>,
+) -> Option<(OpaqueAmount, Option<u16>, usize)>
     requires { start ≤ length text.now }
-    ensures amount { IsAfterPoint text.now start result }
-    ensures within { IfSome result (λ front. (start ≤ front.2) × (front.2 ≤ length text.now)) }
+    ensures bytes { IfSome result (λ read. (bytes : Text) × SpellsPosixPrecision (point ∷ bytes) position (amount_at (Some read.0) read.1)
+        × HasBytes text.now start read.2 bytes) }
+    ensures amount { IsAfterPoint text.now start position result }
 {
     if has_byte(text, start, b'*') {
-        let (number, stop) = position_at(text, start + 1);
+        let (number, stop) = star_number_at(text, start + 1, position)?;
         return Some((OpaqueAmount::Star, number, stop));
     }
-    let (number, stop) = digits_at(text, start, 0)?;
+    let (number, stop) = digits_at(text, start, 0);
+    if has_digit(text, stop) {
+        return None;
+    }
     Some((OpaqueAmount::Number(number), None, stop))
 }
 
@@ -155,52 +179,24 @@ pub(crate) fn has_byte(text: &[u8], at: usize, byte: u8) -> bool
     text[at] == byte
 }
 
-// Whether an offset of a text has a digit from 1 to 9.
+// Whether an offset of a text has a digit.
 #[inline(always)]
-pub(crate) fn begins_number(text: &[u8], at: usize) -> bool
-    ensures same { result ≡ is_first_digit (get_or text.now at 0) }
+fn has_digit(text: &[u8], at: usize) -> bool
+    ensures same { result ≡ is_digit (get_or text.now at 0) }
     ensures within { IsTrue result → at < length text.now }
 {
     if at >= text.len() {
         return false;
     }
-    matches!(text[at], b'1'..=b'9')
-}
-
-// The number that begins with the digits of `first`, and goes on with those from an offset on; and
-// where they end. None if the number passes the limit.
-#[inline(always)]
-pub(crate) fn digits_at(text: &[u8], start: usize, first: u16) -> Option<(u16, usize)>
-    requires within { start ≤ length text.now }
-    requires small { first ≤ MAX_NUMBER }
-    ensures number { DigitsAre text.now start first result }
-    ensures read { IfSome result (λ front. DigitsRead text.now start first front.0 front.1) }
-    ensures passed { IfSome result (λ front. dollar_follows (drop start text.now) ≡ dollar_follows (drop front.1 text.now)) }
-    ensures within { IfSome result (λ front. (start ≤ front.1) × (front.1 ≤ length text.now)) }
-{
-    let mut number = first;
-    let mut at = start;
-    while at < text.len() {
-        let byte = text[at];
-        if !byte.is_ascii_digit() {
-            return Some((number, at));
-        }
-        let longer = 10 * number + u16::from(byte - b'0');
-        if longer > MAX_NUMBER {
-            return None;
-        }
-        number = longer;
-        at += 1;
-    }
-    Some((number, at))
+    text[at].is_ascii_digit()
 }
 
 // The length modifier at an offset, and where it ends (C11 7.21.6.1, paragraph 7).
 #[inline(always)]
 fn modifier_at(text: &[u8], start: usize) -> (Modifier, usize)
     requires { start ≤ length text.now }
+    ensures letters { HasBytes text.now start result.1 (modifier_letters result.0) }
     ensures modifier { ModifierIs text.now start result.0 result.1 }
-    ensures within { (start ≤ result.1) × (result.1 ≤ length text.now) }
 {
     if start >= text.len() {
         return (Modifier::Integer(Length::None), start);
@@ -213,11 +209,11 @@ fn modifier_at(text: &[u8], start: usize) -> (Modifier, usize)
 
 // The modifier that begins with this one of one letter, and where it ends.
 #[inline(always)]
-pub(crate) fn modifier_with(text: &[u8], start: usize, first: Modifier) -> (Modifier, usize)
+fn modifier_with(text: &[u8], start: usize, first: Modifier) -> (Modifier, usize)
     requires { start ≤ length text.now }
+    ensures letters { (bytes : Text) × (modifier_letters result.0 ≡ modifier_letters first ++ bytes)
+        × HasBytes text.now start result.1 bytes }
     ensures modifier { ModifierGoesOn text.now start first result.0 result.1 }
-    ensures read { ModifierRead text.now start first result.0 result.1 }
-    ensures within { (start ≤ result.1) × (result.1 ≤ length text.now) }
 {
     if start >= text.len() {
         return (first, start);
@@ -250,8 +246,8 @@ fn second_modifier(first: Modifier, byte: u8) -> Option<Modifier>
 #[inline(always)]
 fn conversion_at(text: &[u8], at: usize) -> Option<Conversion>
     requires { at ≤ length text.now }
+    ensures letter { IfSome result (λ conversion. HasBytes text.now at (at + 1) (conversion_letter conversion ∷ [])) }
     ensures conversion { ConversionIs text.now at result }
-    ensures within { IfSome result (λ _. at < length text.now) }
 {
     if at >= text.len() {
         return None;

@@ -35,7 +35,6 @@ pub use canonical_runs::canonical_end;
 pub use checking::{check, is_known_accepted, items_end, refusal_at};
 pub use known_argument_types::known_types;
 pub use letters::{conv_of, flag_of, modifier_of};
-pub use marks::{MAX_MARKED, MIN_MARKED, Marks};
 pub use passed::{Bare, Canonical, Nothing, Passed, Percents};
 pub use pieces::{Piece, Pieces};
 pub use refusals::{Refusal, Side, TextFault};

@@ -6,10 +6,10 @@ ghost use Rattle.pf_text.specs.Marks.{AreMarksOf, HasMark, HasNoBit, HasNoMark, 
 use crate::search::ends_at;
 
 /// The fewest bytes of a text that has marks.
-pub const MIN_MARKED: usize = HALF;
+pub(crate) const MIN_MARKED: usize = HALF;
 
 /// The most bytes of a text that has marks: one for each bit.
-pub const MAX_MARKED: usize = 64;
+pub(crate) const MAX_MARKED: usize = 64;
 
 const LANES: usize = 16;
 
@@ -18,13 +18,13 @@ const HALF: usize = 8;
 
 /// Marks at the bytes `%` and 0 of a text: each is the bit of its offset.
 #[derive(Clone, Copy, Debug)]
-pub struct Marks {
+pub(crate) struct Marks {
     bits: u64,
 }
 
 impl Marks {
     /// Marks a text of 8 to 64 bytes.
-    pub fn of(text: &[u8]) -> Marks
+    pub(crate) fn of(text: &[u8]) -> Marks
         requires some { MIN_MARKED ≤ length text.now }
         requires few { length text.now ≤ MAX_MARKED }
         ensures { AreMarksOf result text.now }
@@ -34,8 +34,8 @@ impl Marks {
         }
     }
 
-    /// Returns the first marked offset from `at` on, or `None` if there is none.
-    pub fn next_from(self, at: usize) -> Option<usize>
+    /// The first marked offset from `at` on.
+    pub(crate) fn next_from(self, at: usize) -> Option<usize>
         requires { at < 64 }
         ensures { MatchOption result (HasNoMark self at 64)
             (λ offset. (at ≤ offset) × (offset < 128) × HasNoMark self at offset

@@ -1,12 +1,7 @@
 -- What the next stretch of a text says of the text, for loops over stretches.
-use Rattle.std.proofs.Common.{◌≡◌, ℕ, ◌*◌, ◌-◌, ◌<◌, ◌≤◌, List, take, drop, length, refl, sym, ap, ◌∙◌, arith, subst, length-take, length-drop}
+use Rattle.std.proofs.Common.{◌≡◌, ℕ, ◌-◌, ◌<◌, ◌≤◌, List, take, drop, length, refl, sym, ap, ◌∙◌, arith, subst, length-take, length-drop}
 use Rattle.std.specs.Prelude.{Some, None, IsSome, IsSomeAnd}
 use Rattle.pf_values.specs.declared.limits.TheConstants.{MAX_TEXT_LEN}
-use Rattle.pf_values.specs.declared.models.Model.{Model}
-use Rattle.pf_canon.specs.declared.limits.TheConstants.{MAX_DIRECTIVE_LEN}
-use Rattle.pf_canon.specs.Answers.{IsCanonicalFor}
-use Rattle.pf_canon.proofs.TextLemmas.{items_few}
-use Rattle.pf_canon.proofs.TransducerLemmas.{most_items}
 use Rattle.pf_values.specs.meaning.Items.{HasItems, Item, Reads}
 use Rattle.pf_values.specs.meaning.Text.{Text}
 use Rattle.pf_posix.specs.declared.opaque_directives.OpaqueDirective.{OpaqueDirective}
@@ -75,17 +70,6 @@ pub less_left : (t : Text) (from : ℕ) (stretch : Stretch) (directive : OpaqueD
 less_left t from stretch directive h e =
     let further = goes_further t from stretch directive h e in
     omega (arith, further, h.within)
-
--- a directive has some bytes
-pub goes_on_behind : (t : Text) (from : ℕ) (stretch : Stretch) (directive : OpaqueDirective) → IsPlaced t from stretch → stretch.opaque ≡ Some directive
-    → stretch.end < stretch.after
-goes_on_behind t from stretch directive h e = let some : IsSome stretch.opaque = rw e refl in h.further some
-
--- how long the canonical text of a stretch is at most
-pub stretch_few : (model : Model) (t : Text) (from to : ℕ) (c : Text) → IsCanonicalFor model (between t from to) c → length c ≤ MAX_DIRECTIVE_LEN * (to - from)
-stretch_few model t from to c h =
-    let bytes = items_few (between t from to) h.items h.accepted.reads in
-    omega (arith, h.few, most_items h.items, bytes, length-take (to - from) (drop from t))
 
 -- the number of bytes between two offsets
 pub between_long : (t : Text) (from to : ℕ) → length (between t from to) ≤ to - from

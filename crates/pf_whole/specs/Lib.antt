@@ -7,3 +7,4 @@ pub mod Faults
 pub mod Calls
 pub mod Comparisons
 pub mod Languages
+pub mod Fronts

@@ -1,21 +1,20 @@
 //! Formats of the whole language of `printf`: compared by what the directives of the profile print,
 //! and by the calls that all other directives make.
 //!
-//! The road is `canonical_texts`, from stretch to stretch of the profile. The one shortcut takes a format of
-//! the profile as such: `canonical` costs 529 instructions with it over 4,000 formats, and 1,635 without.
+//! `languages` says what a format has beside the items of the profile, so `canonical_texts` is one line for each
+//! call of `pf_canon`. The other calls go from stretch to stretch of the profile (`next_stretch` of `pf_posix`).
 #![tactic(auto)]
 
 mod calls;
 mod canonical_texts;
 mod comparison;
 mod directives;
+mod languages;
 pub mod laws;
-mod lengths;
 mod spelling;
 mod verdicts;
 
-pub use canonical_texts::{canonical, canonical_with_room};
+pub use canonical_texts::{canonical, canonical_len, canonical_with_room, is_canonical};
 pub use comparison::same_text;
 pub use directives::normal_directive;
-pub use lengths::{canonical_len, is_canonical};
 pub use verdicts::{WholeVerdict, compare};

@@ -9,7 +9,7 @@ use Rattle.pf_posix.proofs.argument_types.arguments.Goals as goal
 pub returns-then-front-text-clause-types : goal.returns-then-front-text-clause-types
 returns-then-front-text-clause-types c =
     let front = c.plain_front-front in
-    front_whole c.args.model c.args.text.now front.result.at c.args.out.now front.new.out front.result.count front.ensures.front c.if-front-text.true
+    front_whole c.args.model c.args.text.now front.result.at c.args.out.now front.new.out front.result.count front.ensures.front c.if-front-text.true front.ensures.limit
 
 pub returns-then-front-eq0-clause-types : goal.returns-then-front-eq0-clause-types
 returns-then-front-eq0-clause-types c =
@@ -28,4 +28,5 @@ returns-clause-types c =
     let front = c.plain_front-front in
     c.in_order.ensures.types c.args.out.now
     (subst (λ left. IsOrderedFront model t left c.args.out.now front.new.out front.result.count) (sym (c.unnumbered_at.ensures.left model t))
-    (front_ordered model t front.result.at c.args.out.now front.new.out front.result.count front.ensures.front c.if-front-eq0.false))
+    (front_ordered model t front.result.at c.args.out.now front.new.out front.result.count front.ensures.front c.if-front-eq0.false
+    front.ensures.within front.ensures.limit))

@@ -13,10 +13,10 @@ returns-then-has_byte-clause-listed c model all done next h =
 pub unreachable-requires : goal.unreachable-requires
 unreachable-requires c =
     some_specification c.args.text.now c.args.at c.requires.within c.requires.reads.0 c.requires.reads.1 c.if-text-at-ne37.false
-    (sym c.if-has_byte.ensures.same) c.in_default.ensures.parts
+    (sym c.if-has_byte.ensures.same) c.in_default.ensures
 
 pub returns-clause-listed : goal.returns-clause-listed
 returns-clause-listed c model all done next h =
     let read = c.in-Some in
     listed_specification model c.args.text.now all done c.args.at next h c.requires.within c.if-text-at-ne37.false read.read read.end
-    (sym c.if-has_byte.ensures.same) read.ensures.parts read.ensures.within.0 read.ensures.within.1
+    (sym c.if-has_byte.ensures.same) read.ensures

@@ -3,12 +3,18 @@ use Rattle.pf_values.specs.declared.limits.TheConstants.{MAX_TEXT_LEN}
 use Rattle.pf_posix.specs.Plain.{IsPlainFront}
 use Rattle.pf_text.specs.Walks.{HasPercent}
 use Rattle.pf_text.proofs.ReadingLemmas.{moved_over}
-use Rattle.pf_posix.proofs.PlainFrontLemmas.{front_fetched, front_walked, no_front}
+use Rattle.pf_posix.proofs.PlainFrontLemmas.{front_put, front_walked, no_front, put_few}
 use Rattle.pf_posix.proofs.plain_reader.plain_front.Goals as goal
 
 pub returns-then-text-gt-MAX_TEXT_LEN : goal.returns-then-text-gt-MAX_TEXT_LEN
 returns-then-text-gt-MAX_TEXT_LEN c =
-    record { front = no_front c.args.model c.args.text.now c.args.out.now; same_length = refl; within = omega arith; few = omega arith }
+    record {
+      front = no_front c.args.model c.args.text.now c.args.out.now;
+      same_length = refl;
+      within = omega arith;
+      limit = omega arith;
+      few = omega arith;
+    }
 
 pub loop-model-init : goal.loop-model-init
 loop-model-init c = record {
@@ -20,15 +26,13 @@ loop-model-init c = record {
       (no_front c.args.model c.args.text.now c.args.out.now);
 }
 
-pub put_fetch-requires-clause-start : goal.put_fetch-requires-clause-start
-put_fetch-requires-clause-start c =
+pub put_specification-requires-clause-percent : goal.put_specification-requires-clause-percent
+put_specification-requires-clause-percent c =
     let t = c.args.text.now in
     let i = c.loop-model.invariant in
     let now = front_walked c.args.model t _ _ _ (omega (arith, c.if-text-gt-MAX_TEXT_LEN.false)) c.loop-model.walk c.find.new.self i.over i.within
     c.find.ensures.passed i.front in
-    let found : HasPercent t c.find.new.self.at =
-    subst (λ u. HasPercent u c.find.new.self.at) now.3 (c.find.ensures.stopped c.loop-model-test.true) in
-    omega (arith, found.0)
+    subst (λ u. HasPercent u c.find.new.self.at) now.3 (c.find.ensures.stopped c.loop-model-test.true).0
 
 pub loop-model-preserved : goal.loop-model-preserved
 loop-model-preserved c =
@@ -38,14 +42,13 @@ loop-model-preserved c =
     let short : length t ≤ MAX_TEXT_LEN = omega (arith, c.if-text-gt-MAX_TEXT_LEN.false) in
     let now = front_walked c.args.model t _ _ _ short c.loop-model.walk here i.over i.within c.find.ensures.passed i.front in
     let read = c.in-Some in
-    let found : HasPercent t here.at = subst (λ u. HasPercent u here.at) now.3 (c.find.ensures.stopped c.loop-model-test.true) in
+    let few : c.loop-model.count ≤ c.find.new.self.at = omega (arith, i.few, c.find.ensures.passed.from) in
     record {
       over = moved_over t here read.stop now.0;
-      within = read.ensures.within;
-      few = omega (arith, i.few, c.find.ensures.passed.from, read.ensures.from);
+      within = read.ensures.plain.within;
+      few = put_few c.args.model t here.at _ _ _ read.stop read.more read.ensures few;
       same = read.ensures.same_length ∙ i.same;
-      front = front_fetched c.args.model t here.at _ _ _ now.2 read.ensures.wanted read.stop c.put_fetch.new.out short (omega (arith, found.0)) found.1
-          read.ensures.fetched read.ensures.put;
+      front = front_put c.args.model t here.at _ _ _ now.2 c.put_specification.new.out read.stop read.more read.ensures;
     }
 
 pub returns-in-None : goal.returns-in-None
@@ -54,7 +57,8 @@ returns-in-None c =
     let i = c.loop-model.invariant in
     let short : length t ≤ MAX_TEXT_LEN = omega (arith, c.if-text-gt-MAX_TEXT_LEN.false) in
     let now = front_walked c.args.model t _ _ _ short c.loop-model.walk c.find.new.self i.over i.within c.find.ensures.passed i.front in
-    rw c.in-None.ensures (record { front = now.2; same_length = i.same; within = now.1; few = omega (arith, i.few, c.find.ensures.passed.from) })
+    let few : c.loop-model.count ≤ c.find.new.self.at = omega (arith, i.few, c.find.ensures.passed.from) in
+    rw c.in-None.ensures (record { front = now.2; same_length = i.same; within = now.1; limit = omega (arith, now.1, short); few = few })
 
 pub returns : goal.returns
 returns c =
@@ -62,4 +66,5 @@ returns c =
     let i = c.loop-model.invariant in
     let short : length t ≤ MAX_TEXT_LEN = omega (arith, c.if-text-gt-MAX_TEXT_LEN.false) in
     let now = front_walked c.args.model t _ _ _ short c.loop-model.walk c.find.new.self i.over i.within c.find.ensures.passed i.front in
-    record { front = now.2; same_length = i.same; within = now.1; few = omega (arith, i.few, c.find.ensures.passed.from) }
+    let few : c.loop-model.count ≤ c.find.new.self.at = omega (arith, i.few, c.find.ensures.passed.from) in
+    record { front = now.2; same_length = i.same; within = now.1; limit = omega (arith, now.1, short); few = few }

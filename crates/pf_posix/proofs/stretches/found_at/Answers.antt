@@ -10,18 +10,18 @@ returns-then-has_byte-clause-found c left h =
 pub returns-in_err-read-clause-found : goal.returns-in_err-read-clause-found
 returns-in_err-read-clause-found c left h =
     absurd (no_specification c.args.text.now c.args.at c.requires c.if-text-at-ne37.false
-    (sym c.if-has_byte.ensures.same) left h c.in_err-read.ensures.parts)
+    (sym c.if-has_byte.ensures.same) left h c.in_err-read.ensures)
 
 pub returns-then-is_opaque-clause-found : goal.returns-then-is_opaque-clause-found
 returns-then-is_opaque-clause-found c left h =
     let read = c.in_ok-read in
     found_opaque c.args.text.now c.args.at c.requires c.if-text-at-ne37.false
-    (sym c.if-has_byte.ensures.same) left h read.read read.stop read.ensures.parts
+    (sym c.if-has_byte.ensures.same) left h read.read read.stop read.ensures
     (sym c.if-is_opaque.ensures)
 
 pub returns-clause-found : goal.returns-clause-found
 returns-clause-found c left h =
     let read = c.in_ok-read in
     found_directive c.args.text.now c.args.at c.requires c.if-text-at-ne37.false
-    (sym c.if-has_byte.ensures.same) left h read.read read.stop read.ensures.parts
+    (sym c.if-has_byte.ensures.same) left h read.read read.stop read.ensures
     (sym c.if-is_opaque.ensures)

@@ -1,20 +1,10 @@
-//! Texts in memory: marks, where a walk stops, directives and their parts at offsets, and types.
+//! Texts in memory: where a walk stops, directives and their parts at offsets, and types.
 use pf_text::{
-    Bare, Canonical, Marks, Nothing, Passed, Percents, Refusal, Scanner, Walk, canonical_end,
-    digits_at, directive_at, flags_at, is_known_accepted, items_end, known_types, literal_len,
-    modifier_at, number_at, refusal_at, spell, spelled_at,
+    Bare, Canonical, Nothing, Passed, Percents, Refusal, Scanner, Walk, canonical_end, digits_at,
+    directive_at, flags_at, is_known_accepted, items_end, known_types, literal_len, modifier_at,
+    number_at, refusal_at, spell, spelled_at,
 };
 use pf_values::{ArgType, Flag, Length, Model, RefusalKind};
-
-#[test]
-fn percent_and_nul_are_marked(rt: HostRuntime) {
-    let text = b"ab%cd\0efgh".as_slice();
-    let marks = Marks::of(text);
-    assert!(rt;
-        [marks.next_from(0), marks.next_from(3), marks.next_from(6)] == [Some(2), Some(5), None]
-            && literal_len(text) == 2
-    );
-}
 
 // Where the canonical run ends that begins at an offset.
 fn run_end(text: &[u8], from: usize) -> usize {
@@ -136,7 +126,10 @@ fn spelled_directives_at_offsets(rt: HostRuntime) {
 fn parts_at_offsets(rt: HostRuntime) {
     let (flags, flags_stop) = flags_at(b"%#0-5d", 1);
     assert!(rt;
-        flags.has(Flag::Alt) && flags.has(Flag::Zero) && flags.has(Flag::Minus) && !flags.has(Flag::Plus)
+        flags.has(Flag::Alt)
+            && flags.has(Flag::Zero)
+            && flags.has(Flag::Minus)
+            && !flags.has(Flag::Plus)
             && flags_stop == 4
             && [
                 number_at(b"%05d", 1),
@@ -144,8 +137,11 @@ fn parts_at_offsets(rt: HostRuntime) {
                 number_at(b"%40960", 1),
             ] == [(None, 1), (Some(50), 3), (Some(409), 4)]
             && [digits_at(b"007", 0, 1), digits_at(b"x", 0, 12)] == [(1007, 3), (12, 0)]
-            && [modifier_at(b"%lld", 1), modifier_at(b"%hd", 1), modifier_at(b"%d", 1)]
-                == [(Length::Ll, 3), (Length::H, 2), (Length::None, 1)]
+            && [
+                modifier_at(b"%lld", 1),
+                modifier_at(b"%hd", 1),
+                modifier_at(b"%d", 1)
+            ] == [(Length::Ll, 3), (Length::H, 2), (Length::None, 1)]
     );
 }
 
@@ -162,6 +158,7 @@ fn items_end_where_a_text_is_refused(rt: HostRuntime) {
             items_end(b"a\0b"),
         ] == [14, 6, 1]
             && [refusal_at(b"%d of %f", 6), refusal_at(b"%d", 2)] == [Some(refusal), None]
+            && [literal_len(b"ab%c"), literal_len(b"abc\0")] == [2, 3]
     );
 }
 
