@@ -182,6 +182,7 @@ fn related_models(relation: Relation, first: &[u8], second: &[u8]) -> Result<u8,
     Ok(sum)
 }
 
+#[inline(always)]
 fn relates(
     relation: Relation,
     model: Model,
