@@ -23,8 +23,9 @@ use Rattle.pf_posix.specs.Spelling.{SpellsPosix}
 use Rattle.pf_posix.specs.Types.{fetches}
 use Rattle.pf_posix.proofs.DirectiveTypes.{all_typed}
 use Rattle.pf_posix.proofs.DirectivesOnce.{some_text}
+use Rattle.pf_posix.proofs.FoundLemmas.{same_there}
 use Rattle.pf_posix.proofs.OrderLemmas.{filled_none}
-use Rattle.pf_posix.proofs.PartLemmas.{head_at, same_there, tail_at}
+use Rattle.pf_posix.proofs.PartLemmas.{head_at, tail_at}
 use Rattle.pf_posix.proofs.PassedLemmas.{walked}
 use Rattle.pf_posix.proofs.SpecificationsOnce.{begins_no_percent}
 
