@@ -5,11 +5,9 @@ use Rattle.std.specs.Prelude.{Option, Some, None, IsSomeAnd, is_some}
 use Rattle.std.proofs.lemmas.List.{take-append-drop}
 use Rattle.pf_values.specs.declared.flags.Flag.{Flag}
 use Rattle.pf_values.specs.declared.flags.FlagSet.{FlagSet}
-use Rattle.pf_values.specs.declared.lengths.Length.TheVariants as lengths
 use Rattle.pf_values.specs.meaning.Flags.{flag_byte, flag_set}
 use Rattle.pf_values.specs.meaning.Text.{Text}
 use Rattle.pf_text.specs.Offsets.{EndsFlags, HasBytes}
-use Rattle.pf_text.proofs.ReadBack.{width_read}
 use Rattle.pf_text.proofs.SpecificationLemmas.{bytes_join, bytes_one}
 use Rattle.pf_text.proofs.WalkLemmas.{bytes_between}
 use Rattle.pf_posix.specs.declared.conversions.Conversion.{Conversion}

@@ -91,14 +91,21 @@ fn put_directives(model: Model, text: &[u8], out: &mut [DirectiveSpan]) -> u64
     let mut count: usize = 0;
     let mut fetched: u64 = 0;
     while walk.at < text.len() {
-        let begin = walk.at;
-        let (read, end) = item_at(text, begin);
-        walk.at = end;
-        walk.find::<Percents>();
-        if let Some(read) = read {
-            put(out, count, span_between(model, begin, end, fetched, &read));
-            count += 1;
-            fetched += fetch_count(&read);
+        match item_at(text, walk.at) {
+            (None, end) => {
+                walk.at = end;
+                walk.find::<Percents>();
+            }
+            (Some(read), end) => {
+                put(
+                    out,
+                    count,
+                    span_between(model, walk.at, end, fetched, &read),
+                );
+                walk.at = end;
+                count += 1;
+                fetched += fetch_count(&read);
+            }
         }
     }
     count as u64
