@@ -1,5 +1,5 @@
 -- Cutting a format into what has a line, one piece after another.
-use Rattle.std.proofs.Common.{◌≡◌, ◌≢◌, ◌≤◌, List, [], ◌∷◌, ◌++◌, length, codes, refl, sym, ap, ◌∙◌, subst, arith, inl, inr, Some, None, Ok, Err, Result}
+use Rattle.std.proofs.Common.{◌≡◌, ◌≢◌, ◌≤◌, List, [], ◌∷◌, ◌++◌, drop, length, codes, refl, sym, ap, ◌∙◌, subst, arith, inl, inr, Some, None, Ok, Err, Result}
 use Rattle.std.specs.Prelude.{IfOk, false, if◌then◌else◌, is_err, is_ok}
 use Rattle.std.specs.List.{AllByRecursion, AllZip, concat}
 use Rattle.std.specs.Fmt.{digits}
@@ -101,7 +101,7 @@ pub record HasShown (model : Model) (pieces : Pieces) (t out : Text) : Type 0 wh
   pub shown : List Shown
   pub parts : List Text
   pub given : HasGiven pieces t read items
-  pub cut : length t ≤ MAX_TEXT_LEN → IsCutBefore pieces.rest.now read shown
+  pub cut : length t ≤ MAX_TEXT_LEN → IsCutBefore (drop pieces.at t) read shown
   pub each : AllZip (IsLineOf model) shown parts
   pub whole : out ≡ concat parts
 
@@ -126,15 +126,15 @@ module _ (model : Model) (old new : Pieces) (t out : Text) (h : HasShown model o
     more_shown piece part e is =
         let g : NextIsPiece new t h.read h.items piece = subst (λ r. NextIs (Some r) new t h.read h.items) e (steps.next t h.read h.items h.given) in
         let text = text_of_piece old new t h.read h.items piece h.given g in
-        let left : old.rest.now ≡ g.more ++ new.rest.now = same_rest h.read _ _ (sym h.given.split ∙ g.given.split ∙ append_assoc h.read g.more new.rest.now) in
+        let left : (drop old.at t) ≡ g.more ++ (drop new.at t) = same_rest h.read _ _ (sym h.given.split ∙ g.given.split ∙ append_assoc h.read g.more (drop new.at t)) in
         record {
           read = h.read ++ g.more;
           items = h.items ++ items_of piece;
           shown = h.shown ++ shown_of piece ∷ [];
           parts = h.parts ++ part ∷ [];
           given = g.given;
-          cut = λ few. cut_more h.shown (shown_of piece) h.read g.more new.rest.now (subst (λ u. IsCutBefore u h.read h.shown) left (h.cut few))
-              (piece_cut piece h.read g.more new.rest.now text g.whole (subst (λ u. length u ≤ MAX_TEXT_LEN) g.given.split few));
+          cut = λ few. cut_more h.shown (shown_of piece) h.read g.more (drop new.at t) (subst (λ u. IsCutBefore u h.read h.shown) left (h.cut few))
+              (piece_cut piece h.read g.more (drop new.at t) text g.whole (subst (λ u. length u ≤ MAX_TEXT_LEN) g.given.split few));
           each = all_zipped_more (IsLineOf model) h.shown h.parts (shown_of piece) part h.each is;
           whole = ap (λ u. u ++ part) h.whole ∙ sym (concat-append h.parts (part ∷ []) ∙ ap (λ u. concat h.parts ++ u) (append-nil part));
         }
@@ -143,13 +143,13 @@ module _ (model : Model) (old new : Pieces) (t out : Text) (h : HasShown model o
   pub all_shown : NextReturns old None new → HasShownLines model t out
   all_shown steps =
       let end = steps.next t h.read h.items h.given in
-      let none = same_whole h.items h.read t old.rest.now h.given.reads end.reads h.given.split in
+      let none = same_whole h.items h.read t (drop old.at t) h.given.reads end.reads h.given.split in
       let all : h.read ≡ t = sym (h.given.split ∙ ap (λ u. h.read ++ u) none ∙ append-nil h.read) in
       record {
         accepted = (h.items, end);
         shown = h.shown;
         parts = h.parts;
-        cut = cut_whole h.shown t (subst (λ u. IsCutBefore u t h.shown) none (subst (λ u. IsCutBefore old.rest.now u h.shown) all (h.cut end.limit)));
+        cut = cut_whole h.shown t (subst (λ u. IsCutBefore u t h.shown) none (subst (λ u. IsCutBefore (drop old.at t) u h.shown) all (h.cut end.limit)));
         each = h.each;
         whole = h.whole;
       }

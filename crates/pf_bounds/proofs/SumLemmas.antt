@@ -42,7 +42,7 @@ module _ (model : Model) (old new : Pieces) (t : Text) (least : ℕ) (greatest :
   pub enough_room : AreWithin least greatest (2 ^ 100)
   enough_room =
       let few = length_items h.read h.items h.given.reads in
-      let short = h.given.scanned.limit in
+      let short = h.given.limit in
       within_more least _ (2 ^ 100) greatest (few_enough (length h.items) (omega (arith, few, short))) h.within
 
   module _ (next : Result Piece Refusal) (steps : NextReturns old (Some next) new) where

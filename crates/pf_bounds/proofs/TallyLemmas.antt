@@ -20,6 +20,7 @@ use Rattle.pf_text.proofs.LiteralLemmas.{Reads-literals}
 use Rattle.pf_text.proofs.DirectiveLemmas.{conv_read}
 use Rattle.pf_text.proofs.Sound.{byte_of_conv}
 use Rattle.pf_text.proofs.Texts.{Reads-push}
+use Rattle.pf_text.proofs.ReadingLemmas.{still_within, text_is}
 use Rattle.pf_text.proofs.WalkLemmas.{run_is_literal, two_bytes}
 use Rattle.pf_bounds.specs.Bounds.{AreBounds, AreBoundsOf, CanPrint, CanPrintAll, sum_of}
 use Rattle.pf_bounds.specs.FieldLengths.{item_limit}
@@ -153,24 +154,15 @@ module _ (model : Model) where
 
   -- the literal bytes that a walk has passed
   module _ (text : Text) (few : length text ≤ MAX_TEXT_LEN) (old new : Walk) (over : IsWalkOver text old) (h : HasPassed (λ item. ⊥) old new) where
-    pub text_is : new.text.now ≡ text
-    text_is = h.text ∙ over.text_is ∙ take_all MAX_TEXT_LEN text few
-
-    pub still_over : IsWalkOver text new
-    still_over = record { walk_is = h.walk; text_is = h.text ∙ over.text_is }
-
-    pub still_within : old.at ≤ length text → new.at ≤ length text
-    still_within low = let most : new.at ≤ max old.at (length text) = subst (λ t. new.at ≤ max old.at (length t)) text_is h.within in omega (arith, low, most)
-
     pub passed_tallied : (sum one other : Tally) → old.at ≤ length text → IsTallied model (take old.at text) one → other.least ≡ new.at - old.at
         → other.spread ≡ 0 → other.is_bounded ≡ true → IsSum sum one other → IsTallied model (take new.at text) sum
     passed_tallied sum one other low g least spread bounded e =
         let n = new.at - old.at in
         let run = take n (drop old.at text) in
         let place : old.at + n ≡ new.at = omega (arith, h.from) in
-        let long : length run ≡ n = length-take-le n (drop old.at text) (omega (arith, length-drop old.at text, h.from, still_within low)) in
+        let long : length run ≡ n = length-take-le n (drop old.at text) (omega (arith, length-drop old.at text, h.from, still_within _ text few old new over h low)) in
         let literal : AllByRecursion IsLiteral run =
-        subst (λ t. AllByRecursion IsLiteral (take n (drop old.at t))) text_is (run_is_literal (take n (drop old.at new.text.now)) h.items h.run) in
+        subst (λ t. AllByRecursion IsLiteral (take n (drop old.at t))) (text_is _ text few old new over h) (run_is_literal (take n (drop old.at new.text.now)) h.items h.run) in
         subst (λ k. IsTallied model (take k text) sum) place
         (tallied_more text old.at n sum one other g (bytes_tallied run other literal (omega (arith, least, long)) spread bounded) e)
 

@@ -11,7 +11,7 @@ ghost use Rattle.pf_bounds.specs.Tallies.{IsTallied, largest_of};
 use crate::directives::directive_bounds;
 use crate::sums::Bounds;
 use crate::tallies::Tally;
-use pf_text::{Nothing, Walk, conv_of, directive_at_front};
+use pf_text::{Nothing, Walk, conv_of, directive_at};
 use pf_values::{Conv, Model};
 
 // The most bytes of a text whose bounds are summed in 64 bits.
@@ -40,8 +40,7 @@ pub(crate) fn known_bounds(model: Model, text: &[u8]) -> Option<Tally>
     Some(sum.plus(Tally::exactly((walk.at - from) as u64)))
 }
 
-// The bounds of the `%%` or the directive at an offset, and where it ends. None if it isn't known that
-// there is one.
+// The bounds of the `%%` or the directive at an offset, and where it ends. None if none begins there.
 #[inline(always)]
 fn item_at(model: Model, text: &[u8], at: usize) -> Option<(Tally, usize)>
     requires { HasPercent text.now at }
@@ -57,16 +56,18 @@ fn item_at(model: Model, text: &[u8], at: usize) -> Option<(Tally, usize)>
     }
 }
 
-// The bounds of the directive at an offset, and where it ends. None if it isn't known that there is one. Never
-// inlined, which keeps the loop short.
+// The bounds of the directive at an offset, and where it ends. None if none begins there. Never inlined,
+// which keeps the loop short.
 #[inline(never)]
 fn parts_tally_at(model: Model, text: &[u8], at: usize) -> Option<(Tally, usize)>
-    requires { at ≤ length text.now }
     ensures { MatchOption result ⊤ (λ item. (at < item.1) × (item.1 ≤ length text.now)
         × IsTallied model (take (item.1 - at) (drop at text.now)) item.0) }
 {
-    let (tally, len) = parts_tally(model, &text[at..])?;
-    Some((tally, at + len))
+    let found = directive_at(text, at)?;
+    Some((
+        tally_of(directive_bounds(model, &found.directive)),
+        found.stop,
+    ))
 }
 
 // The bounds of a directive of this conversion alone: the numbers of an `int` in each data model.
@@ -103,17 +104,6 @@ fn up_to(greatest: u64) -> Tally
         spread: greatest - 1,
         is_bounded: true,
     }
-}
-
-// The bounds of the directive at the front of a text, and how many bytes it has. None if it isn't known
-// that there is one.
-#[inline(always)]
-fn parts_tally(model: Model, text: &[u8]) -> Option<(Tally, usize)>
-    ensures { MatchOption result ⊤ (λ front. (0 < front.1) × (front.1 ≤ length text.now)
-        × IsTallied model (take front.1 text.now) front.0) }
-{
-    let (directive, len) = directive_at_front(text)?;
-    Some((tally_of(directive_bounds(model, &directive)), len))
 }
 
 // These bounds in 64 bits.

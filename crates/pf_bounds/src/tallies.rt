@@ -46,7 +46,7 @@ impl Tally {
         }
     }
 
-    /// The same bounds in 128 bits.
+    /// These bounds in 128 bits.
     #[inline(always)]
     pub(crate) fn bounds(self) -> Bounds
         ensures least { result.least ≡ self.least }

@@ -1,5 +1,5 @@
 -- Directives whose canonical text is nearly their own bytes.
-use Rattle.std.proofs.Common.{◌≡◌, ◌≢◌, ℕ, ◌<◌, arith, Bool, true, false, take, refl, sym, ap, subst}
+use Rattle.std.proofs.Common.{◌≡◌, ◌≢◌, ℕ, ◌<◌, arith, Bool, true, false, refl, sym, ap, subst}
 use Rattle.std.specs.Prelude.{MatchBool}
 use Rattle.pf_values.specs.declared.flags.Flag.TheVariants.{Zero}
 use Rattle.pf_values.specs.declared.models.Model.{Model}
@@ -8,14 +8,14 @@ use Rattle.pf_values.specs.meaning.Normal.{IsNormal, silent}
 use Rattle.pf_values.specs.meaning.Specification.{Specification, width_of}
 use Rattle.pf_values.specs.meaning.Spelling.{spelling_of}
 use Rattle.pf_values.specs.meaning.Text.{Text}
-use Rattle.pf_text.specs.SpelledFronts.{IsSpelledFront}
-use Rattle.pf_text.specs.declared.spelled_directives.SpelledDirective.{SpelledDirective}
-use Rattle.pf_text.proofs.SpelledLemmas.{spelled_reads}
+use Rattle.pf_text.specs.FoundDirectives.{IsSpelledAt}
+use Rattle.pf_text.specs.declared.specification.FoundDirective.{FoundDirective}
+use Rattle.pf_text.proofs.FoundLemmas.{spelled_reads}
 use Rattle.pf_reduce.specs.Changes.{IsChange, as_precision, kept_letters, of_width, within_spaces}
 use Rattle.pf_reduce.specs.Reducing.{IsReduction, core_of, itself}
 use Rattle.pf_reduce.specs.declared.changes.Change.{Change}
 use Rattle.pf_reduce.specs.declared.changes.Change.TheVariants.{Filled, Letters, Padded}
-use Rattle.pf_canon.specs.ChangedDirectives.{IsKnownFront}
+use Rattle.pf_canon.specs.ChangedDirectives.{IsKnownAt, between}
 
 -- a directive that is reduced to another one isn't normal, nor `%.0s`
 reduced_other : (model : Model) (s t : Specification) → IsReduction model s (itself model t) → t ≢ s → (IsNormal model s → ⊥) × (s ≢ silent)
@@ -47,14 +47,14 @@ known model s Filled false bytes h spelled g = reduced_other model s (as_precisi
 known model s (Padded width) true bytes h spelled g = absurd (let e = g.0 in cc)
 known model s (Padded width) false bytes h spelled g = padded_other model s width h.5 h.4
 
-pub changed_known : (model : Model) (text : Text) (d : SpelledDirective) (change : Change) (is : Bool) → IsSpelledFront text d
+pub changed_known : (model : Model) (text : Text) (at : ℕ) (d : FoundDirective) (change : Change) (is : Bool) → IsSpelledAt text at d
     → IsChange model d.directive change
     → MatchBool is ((change ≡ Letters) × (kept_letters model d.directive ≡ d.directive)) (change ≡ Letters → kept_letters model d.directive ≢ d.directive)
-    → IsKnownFront model text is d.len
-changed_known model text d change is h g kept = record {
+    → IsKnownAt model text at is d.stop
+changed_known model text at d change is h g kept = record {
   directive = d.directive;
-  some = h.some;
+  some = omega (arith, h.some, h.modifier);
   within = h.within;
-  read = spelled_reads text d h;
-  known = known model d.directive change is (take d.len text) g h.whole kept;
+  read = spelled_reads text at d h;
+  known = known model d.directive change is (between at d.stop text) g h.whole kept;
 }

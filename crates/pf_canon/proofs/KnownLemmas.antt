@@ -1,5 +1,5 @@
 -- Texts that are known to be canonical, or known not to be.
-use Rattle.std.proofs.Common.{◌≡◌, ◌≢◌, ℕ, ◌+◌, ◌-◌, ◌≤◌, Bool, true, false, Some, None, List, [], ◌∷◌, ◌++◌, length, take, drop, refl, sym, ◌∙◌, subst, inl, inr, arith}
+use Rattle.std.proofs.Common.{◌≡◌, ◌≢◌, ℕ, ◌+◌, ◌-◌, ◌≤◌, Bool, true, false, Some, None, List, [], ◌∷◌, ◌++◌, length, take, drop, refl, sym, ap, ◌∙◌, subst, inl, inr, arith}
 use Rattle.std.specs.Prelude.{IsTrue, MatchOption, Option, ◌↔◌, ⊤}
 use Rattle.std.specs.List.{AllByRecursion}
 use Rattle.std.proofs.Math.Seq.{take-add}
@@ -35,10 +35,10 @@ module _ (model : Model) where
         subst (λ n. IsCanonicalRun model (take n text) (items ++ more)) place (run_more model text at (stop - at) items more h g)
 
     -- or a normal directive
-    pub directive_taken : (len : ℕ) (d : Specification) → IsNormal model d → spelling_of d ≡ take len (drop at text)
-        → IsCanonicalRun model (take (at + len) text) (items ++ Directive d ∷ [])
-    directive_taken len d normal spelled =
-        run_more model text at len items (Directive d ∷ []) h (record { canonical = (normal, tt); whole = sym spelled ∙ sym (append-nil (spelling_of d)) })
+    pub directive_taken : (stop : ℕ) (d : Specification) → at ≤ stop → IsNormal model d → spelling_of d ≡ take (stop - at) (drop at text)
+        → IsCanonicalRun model (take stop text) (items ++ Directive d ∷ [])
+    directive_taken stop d low normal spelled =
+        run_taken stop (Directive d ∷ []) low (record { canonical = (normal, tt); whole = sym spelled ∙ sym (append-nil (spelling_of d)) })
 
     pub all_taken : length text ≤ at → length text ≤ MAX_TEXT_LEN → IsAccepted text × (IsTrue true ↔ IsCanonicalText model text)
     all_taken whole short =
@@ -52,16 +52,17 @@ module _ (model : Model) where
         )
 
     -- a text isn't canonical with a directive that isn't normal
-    pub other_taken : (len : ℕ) (d : Specification) → IsReadAs (take len (drop at text)) (Directive d) → ¬ IsNormal model d → d ≢ silent
-        → length text ≤ MAX_TEXT_LEN → IsAccepted (drop (at + len) text) → IsAccepted text × (IsTrue false ↔ IsCanonicalText model text)
-    other_taken len d read other seen short rest =
-        let bytes = take len (drop at text) in
-        let front : Reads (take (at + len) text) (items ++ Directive d ∷ []) =
-        subst (λ t. Reads t (items ++ Directive d ∷ [])) (sym (take-add at len text))
+    pub other_taken : (stop : ℕ) (d : Specification) → at ≤ stop → IsReadAs (take (stop - at) (drop at text)) (Directive d) → ¬ IsNormal model d → d ≢ silent
+        → length text ≤ MAX_TEXT_LEN → IsAccepted (drop stop text) → IsAccepted text × (IsTrue false ↔ IsCanonicalText model text)
+    other_taken stop d low read other seen short rest =
+        let bytes = take (stop - at) (drop at text) in
+        let place : at + (stop - at) ≡ stop = omega (arith, low) in
+        let front : Reads (take stop text) (items ++ Directive d ∷ []) =
+        subst (λ t. Reads t (items ++ Directive d ∷ [])) (sym (take-add at (stop - at) text) ∙ ap (λ n. take n text) place)
         (Reads-append (take at text) bytes items (Directive d ∷ []) (run_reads (take at text) items h) (bytes, [], read, refl, sym (append-nil bytes))) in
         let whole : Reads text ((items ++ Directive d ∷ []) ++ rest.0) =
-        subst (λ t. Reads t ((items ++ Directive d ∷ []) ++ rest.0)) (take-append-drop (at + len) text)
-        (Reads-append (take (at + len) text) (drop (at + len) text) (items ++ Directive d ∷ []) rest.0 front rest.1.reads) in (
+        subst (λ t. Reads t ((items ++ Directive d ∷ []) ++ rest.0)) (take-append-drop stop text)
+        (Reads-append (take stop text) (drop stop text) (items ++ Directive d ∷ []) rest.0 front rest.1.reads) in (
           (_, record { reads = whole; limit = short }),
           (
             λ yes. absurd (cc),

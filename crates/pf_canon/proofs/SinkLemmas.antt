@@ -3,11 +3,10 @@ use Rattle.std.proofs.Common.{◌≡◌, ℕ, ◌+◌, ◌-◌, ◌*◌, ◌≤�
 use Rattle.std.specs.Prelude.{flat_map, MatchResult, Result, Ok, Err, IsTrue, MatchOption, ◌↔◌}
 use Rattle.std.proofs.lemmas.List.{replicate-append-replicate, append-nil, append_cancel_left}
 use Rattle.std.specs.Borrow.{Bor}
-use Rattle.pf_values.specs.meaning.Canonical.{item_spelling, IsCanonicalText}
+use Rattle.pf_values.specs.meaning.Canonical.{item_spelling}
 use Rattle.pf_values.specs.declared.models.Model.{Model}
-use Rattle.pf_values.specs.meaning.Items.{Directive, IsAccepted}
+use Rattle.pf_values.specs.meaning.Items.{Directive}
 use Rattle.pf_values.specs.meaning.Normal.{silent}
-use Rattle.pf_values.specs.meaning.Refusals.{IsRefusedAt}
 use Rattle.pf_values.specs.meaning.Text.{Text}
 use Rattle.pf_text.specs.declared.refusals.Refusal.{Refusal}
 use Rattle.pf_text.specs.CanonicalRuns.{silents}
@@ -51,16 +50,15 @@ module _ {S : Type 0} {given : S → S → Text → Type 0} (laws : IsSink given
   pub repeated_all : (old new : S) (times left : ℕ) → left ≤ 0 → given old new (of (times - left)) → given old new (of times)
   repeated_all old new times left none h = let e : times - left ≡ times = omega (arith, none) in subst (given old new) (ap of e) h
 
--- the verbatim bytes of a text, and then what follows of its canonical text
-pub front_put : {S : Type 0} {given : S → S → Text → Type 0} (laws : IsSink given) (model : Model) (t front : Text) (old mid new : S)
-    (r : Result (Unit {0}) Refusal) → given old mid front
-    → MatchResult r (λ _. (more : Text) × given mid new more × IsCanonicalFor model t (front ++ more)) (λ refusal. IsRefusedAt t refusal.kind refusal.at)
-    → MatchResult r (λ _. (c : Text) × given old new c × IsCanonicalFor model t c) (λ refusal. IsRefusedAt t refusal.kind refusal.at)
-front_put laws model t front old mid new (Ok done) h g = (front ++ g.0, laws.both old mid new front g.0 h g.1, g.2)
-front_put laws model t front old mid new (Err refusal) h g = g
+-- the front of a text, and then what follows of it
+pub front_put : {S : Type 0} {given : S → S → Text → Type 0} (laws : IsSink given) (Is : Text → Type 0) (Fails : Refusal → Type 0) (front : Text)
+    (old mid new : S) (r : Result (Unit {0}) Refusal) → given old mid front → MatchResult r (λ _. (more : Text) × given mid new more × Is (front ++ more)) Fails
+    → MatchResult r (λ _. (c : Text) × given old new c × Is c) Fails
+front_put laws Is Fails front old mid new (Ok done) h g = (front ++ g.0, laws.both old mid new front g.0 h g.1, g.2)
+front_put laws Is Fails front old mid new (Err refusal) h g = g
 
 -- the bytes of a canonical text can be counted
-few_bytes : (model : Model) (t c : Text) → IsCanonicalFor model t c → length c < 2 ^ 128
+pub few_bytes : (model : Model) (t c : Text) → IsCanonicalFor model t c → length c < 2 ^ 128
 few_bytes model t c h =
     let few = h.few in
     let limit = h.accepted.limit in
@@ -78,10 +76,9 @@ built_whole bytes_of old new c h empty kept =
     (h.whole kept).1 ∙ ap (λ t. t ++ c) none
 
 -- so they are where all went into empty room, whether there was enough or not
-pub counted_in_room : (model : Model) (t c : Text) (before after len : ℕ) → IsCanonicalFor model t c → before ≡ 0 → Counts before (length c) after
-    → (after < 2 ^ 128 → len ≡ after) → (c : Text) × IsCanonicalFor model t c × (len ≡ length c)
-counted_in_room model t c before after len h empty counts is =
-    let few = few_bytes model t c h in
+pub counted_in_room : (Is : Text → Type 0) (c : Text) (before after len : ℕ) → Is c → length c < 2 ^ 128 → before ≡ 0 → Counts before (length c) after
+    → (after < 2 ^ 128 → len ≡ after) → (c : Text) × Is c × (len ≡ length c)
+counted_in_room Is c before after len h few empty counts is =
     let all : after ≡ length c = omega (arith, empty, counts (omega (arith, few, empty))) in
     (c, h, is (omega (arith, all, few)) ∙ all)
 
@@ -101,13 +98,8 @@ same_used_up (Some start) (Some left) t bytes e h same = append_cancel_left byte
 same_used_up (Some start) None t bytes e h same = h [] (e ∙ sym same ∙ sym (append-nil bytes))
 same_used_up None left t bytes e h same = absurd e
 
--- a text is canonical exactly if nothing is left of it after its canonical text
-pub stripped_to_end : (model : Model) (t c : Text) (start left : Option (Bor Text)) (is : Bool) → IsLeft start t → IsCanonicalFor model t c
-    → IsFrontStripped start c left → IsTrue is ↔ IsLeft left [] → IsAccepted t × (IsTrue is ↔ IsCanonicalText model t)
-stripped_to_end model t c start left is rest h cut e = (
-  (h.items, h.accepted),
-  (
-    λ yes. subst (IsCanonicalText model) (sym (used_up start left t c rest cut (e.0 yes))) h.canonical_is.canonical,
-    λ is_text. e.1 (same_used_up start left t c rest cut (h.kept is_text)),
-  ),
-)
+-- a text is its canonical text exactly if nothing is left of it after that
+pub stripped_to_end : (t c : Text) (start left : Option (Bor Text)) (is : Bool) → IsLeft start t → IsFrontStripped start c left
+    → IsTrue is ↔ IsLeft left [] → IsTrue is ↔ (c ≡ t)
+stripped_to_end t c start left is rest cut e =
+    (λ yes. sym (used_up start left t c rest cut (e.0 yes)), λ same. e.1 (same_used_up start left t c rest cut same))

@@ -1,5 +1,5 @@
 -- What is settled of a text in memory, chunk after chunk, and where it is refused.
-use Rattle.std.proofs.Common.{◌≡◌, ◌≢◌, ℕ, ◌∷◌, ◌++◌, Bool, true, false, length, drop, sym, ap, ◌∙◌, subst, ◌+◌, ◌*◌, ◌<◌, ◌≤◌, List, [], take, arith, Ok}
+use Rattle.std.proofs.Common.{◌≡◌, ◌≢◌, ℕ, ◌∷◌, ◌++◌, Bool, true, false, length, drop, sym, ap, ◌∙◌, subst, ◌+◌, ◌*◌, ◌≤◌, List, [], take, arith, Ok}
 use Rattle.std.specs.Prelude.{MatchBool, ◌==◌}
 use Rattle.std.proofs.Math.Seq.{drop-append_seam, take-add}
 use Rattle.std.proofs.lemmas.List.{append_assoc, length-append, take_all, take-append-drop}
@@ -14,8 +14,7 @@ use Rattle.pf_canon.specs.declared.output.Output.{Output}
 use Rattle.pf_canon.specs.declared.chunk.Chunk.{Chunk}
 use Rattle.pf_canon.specs.declared.chunk.ChunkRefusal.{ChunkRefusal}
 use Rattle.pf_canon.specs.declared.transducer.Transducer.{Transducer}
-use Rattle.pf_text.specs.declared.refusals.TextFault.TheVariants.{Memory}
-use Rattle.pf_canon.specs.Answers.{FaultForCanonical, IsCanonicalFor, most_len}
+use Rattle.pf_canon.specs.Answers.{IsCanonicalFor, most_len}
 use Rattle.pf_canon.specs.Output.{output_text}
 use Rattle.pf_canon.specs.Transducer.{SettlesEnd, GrowsByChunk, IsThrough, IsUpTo, RefusesChunk, chunk_output_text}
 
@@ -92,7 +91,3 @@ taken_on t text at len = append_assoc t (take at text) (take len (drop at text))
 -- it took nothing of a text
 pub begun_of : (model : Model) (r : Transducer) (t : Text) → IsThrough model r [] [] [] → IsUpTo r t 0 []
 begun_of model r t h = (omega arith, [], in_its_own model r [] [] [] h)
-
--- there may be no memory for a text of some bytes
-pub hindered : (model : Model) (t c : Text) → IsCanonicalFor model t c → 0 < length c → FaultForCanonical model t Memory
-hindered model t c h some = (c, h, λ none. absurd (omega (arith, some, ap length none)))

@@ -1,15 +1,17 @@
 -- A canonical text that is put together from canonical runs and reduced directives.
-use Rattle.std.proofs.Common.{◌≡◌, ◌≤◌, List, [], ◌∷◌, ◌++◌, length, refl, sym, ap, ◌∙◌, subst, arith}
+use Rattle.std.proofs.Common.{◌≡◌, ℕ, ◌+◌, ◌*◌, ◌≤◌, List, [], ◌∷◌, ◌++◌, length, refl, sym, ap, ◌∙◌, subst, arith}
+use Rattle.std.specs.List.{AllByRecursion}
 use Rattle.std.specs.Prelude.{flat_map}
 use Rattle.std.proofs.lemmas.List.{append-nil, append_assoc, length-append}
 use Rattle.pf_values.specs.declared.limits.TheConstants.{MAX_TEXT_LEN}
 use Rattle.pf_values.specs.declared.models.Model.{Model}
-use Rattle.pf_values.specs.meaning.Items.{Item, Directive, IsReadAs}
+use Rattle.pf_values.specs.meaning.Items.{Item, Byte, Directive, IsReadAs}
 use Rattle.pf_values.specs.Settled.{EndsInNoSilent}
 use Rattle.pf_values.specs.meaning.Normal.{silent}
 use Rattle.pf_values.specs.meaning.Specification.{Specification}
 use Rattle.pf_values.specs.meaning.Text.{Text}
-use Rattle.pf_text.specs.CanonicalRuns.{IsCanonicalRun}
+use Rattle.pf_text.specs.CanonicalRuns.{IsCanonicalItem, IsCanonicalRun, silents}
+use Rattle.pf_text.specs.Walks.{IsPassed, IsPassedRun, IsPercent}
 use Rattle.pf_text.proofs.CanonicalRunLemmas.{Reads-append, Reads-canonical}
 use Rattle.pf_canon.specs.Answers.{IsCanonicalFor}
 use Rattle.pf_values.specs.meaning.Canonical.{item_spelling}
@@ -21,7 +23,8 @@ use Rattle.pf_canon.specs.declared.transducer.Transducer.{Transducer}
 use Rattle.pf_canon.proofs.CanonicalItems.{canonical-append, canonical-back, ends_append, item_spelling-append}
 use Rattle.pf_canon.specs.declared.limits.TheConstants.{MAX_DIRECTIVE_LEN}
 use Rattle.pf_values.proofs.Alike.{alike_after, alike_refl, alike-printed, printed-alike}
-use Rattle.pf_canon.proofs.MakingLemmas.{changed, made_more, made_run}
+use Rattle.pf_canon.proofs.MakingLemmas.{changed, made_byte, made_more, made_run}
+use Rattle.pf_canon.proofs.OutputLemmas.{length-silents}
 use Rattle.pf_canon.proofs.TextLemmas.{most_len-append}
 use Rattle.pf_canon.proofs.TransducerLemmas.{ended, run_is_short}
 
@@ -40,78 +43,111 @@ nothing_made model = record {
   kept = λ is. refl;
 }
 
-pub none_written : (model : Model) → IsWritten model [] []
-none_written model = record { items = []; reads = refl; made = nothing_made model; short = omega arith }
+pub none_written : (model : Model) → IsWritten model [] [] 0
+none_written model = record { items = []; reads = refl; made = nothing_made model; few = omega arith; short = omega arith }
 
 -- a canonical run is written as it is
-pub run_written : (model : Model) (t out run : Text) (more : List Item) → IsWritten model t out → IsCanonicalRun model run more
-    → IsWritten model (t ++ run) (out ++ run)
+pub run_written : (model : Model) (t out run : Text) (more : List Item) → IsWritten model t out 0 → IsCanonicalRun model run more
+    → IsWritten model (t ++ run) (out ++ run) 0
 run_written model t out run more h g =
     let start = subst (IsMaking model out 0 (h.items ++ more)) (sym (append-nil more)) (made_more model out 0 h.items [] more h.made) in
     record {
       items = h.items ++ more;
       reads = Reads-canonical model t run h.items more h.reads g;
       made = subst (λ u. IsMaking model (out ++ u) 0 (h.items ++ more) []) (sym g.whole) (made_run model more out (h.items ++ more) [] g.canonical start);
+      few = omega arith;
       short = omega (arith, h.short, length-append out run, ap length g.whole, run_is_short model more g.canonical, most_len-append h.items more);
     }
 
--- a directive is written as what it is reduced to
-pub directive_written : (model : Model) (t out bytes settled : Text) (d : Specification) → IsWritten model t out → IsReadAs bytes (Directive d)
-    → length settled ≤ MAX_DIRECTIVE_LEN
-    → ((out : Text) (items rest : List Item) → IsMaking model out 0 items (Directive d ∷ rest) → IsMaking model (out ++ settled) 0 items rest)
-    → IsWritten model (t ++ bytes) (out ++ settled)
-directive_written model t out bytes settled d h reads short settles =
+-- literal bytes and `%%` are canonical
+percents_canonical : (model : Model) (items : List Item) → AllByRecursion (IsPassed IsPercent) items → AllByRecursion (IsCanonicalItem model) items
+percents_canonical model [] h = tt
+percents_canonical model (Byte byte ∷ items) h = (h.0.0, percents_canonical model items h.1)
+percents_canonical model (Directive s ∷ items) h = absurd h.0.1
+
+-- and go out before the silent directives that wait
+percents_made : (model : Model) (more : List Item) (out : Text) (held : ℕ) (items rest : List Item) → AllByRecursion (IsPassed IsPercent) more
+    → IsMaking model out held items (more ++ rest) → IsMaking model (out ++ flat_map item_spelling more) held items rest
+percents_made model [] out held items rest all h = rw append-nil h
+percents_made model (Byte byte ∷ more) out held items rest all h =
+    let next = percents_made model more (out ++ item_spelling (Byte byte)) held items rest all.1
+    (made_byte model out held byte items (more ++ rest) all.0.0 h) in
+    rw (← append_assoc out (item_spelling (Byte byte)) (flat_map item_spelling more)) next
+percents_made model (Directive s ∷ more) out held items rest all h = absurd all.0.1
+
+pub percents_written : (model : Model) (t out run : Text) (held : ℕ) (more : List Item) → IsWritten model t out held → IsPassedRun IsPercent run more
+    → IsWritten model (t ++ run) (out ++ run) held
+percents_written model t out run held more h g =
+    let start = subst (IsMaking model out held (h.items ++ more)) (sym (append-nil more)) (made_more model out held h.items [] more h.made) in
+    let canonical = percents_canonical model more g.passed in
+    record {
+      items = h.items ++ more;
+      reads = Reads-canonical model t run h.items more h.reads (record { canonical = canonical; whole = g.whole });
+      made = subst (λ u. IsMaking model (out ++ u) held (h.items ++ more) []) (sym g.whole) (percents_made model more out held (h.items ++ more) [] g.passed start);
+      few = omega (arith, h.few, length-append t run);
+      short = omega (arith, h.short, length-append out run, ap length g.whole, run_is_short model more canonical, most_len-append h.items more);
+    }
+
+-- a directive is written as what it settles
+pub directive_written : (model : Model) (t out bytes settled : Text) (held still : ℕ) (d : Specification) → IsWritten model t out held
+    → IsReadAs bytes (Directive d) → still ≤ held + length bytes → length settled + 4 * still ≤ 4 * held + MAX_DIRECTIVE_LEN
+    → ((items : List Item) → IsMaking model out held items (Directive d ∷ []) → IsMaking model (out ++ settled) still items [])
+    → IsWritten model (t ++ bytes) (out ++ settled) still
+directive_written model t out bytes settled held still d h reads few short settles =
     let more = Directive d ∷ [] in
     record {
       items = h.items ++ more;
       reads = Reads-append t bytes h.items more h.reads (bytes, [], reads, refl, sym (append-nil bytes));
-      made = settles out (h.items ++ more) [] (made_more model out 0 h.items [] more h.made);
+      made = settles (h.items ++ more) (made_more model out held h.items [] more h.made);
+      few = omega (arith, few, h.few, length-append t bytes);
       short = omega (arith, h.short, short, length-append out settled, most_len-append h.items more);
     }
 
--- all of a text is written
-pub all_written : (model : Model) (t out : Text) → length t ≤ MAX_TEXT_LEN → IsWritten model t out → IsCanonicalFor model t out
-all_written model t out few h =
-    let end = ended model t out 0 h.items h.reads h.made [] refl in
+-- all of a text is written, and then the silent directives that wait
+pub all_written : (model : Model) (t out : Text) (held : ℕ) → length t ≤ MAX_TEXT_LEN → IsWritten model t out held
+    → IsCanonicalFor model t (out ++ flat_map item_spelling (silents held))
+all_written model t out held few h =
+    let last = flat_map item_spelling (silents held) in
+    let end = ended model t out held h.items h.reads h.made last (sym (append-nil last)) in
     record {
       items = h.items;
       accepted = record { reads = h.reads; limit = few };
-      canonical_is = rw append-nil at end.1;
-      kept = λ is. sym (append-nil out) ∙ end.2 is;
-      few = h.short;
+      canonical_is = end.1;
+      kept = end.2;
+      few = omega (arith, h.short, length-append out last, length-silents held);
     }
 
 -- a canonical run is its own canonical text
 pub verbatim_canonical : (model : Model) (t : Text) (items : List Item) → length t ≤ MAX_TEXT_LEN → IsCanonicalRun model t items → IsCanonicalFor model t t
-verbatim_canonical model t items few h = all_written model t t few (run_written model [] [] t items (none_written model) h)
+verbatim_canonical model t items few h =
+    subst (IsCanonicalFor model t) (append-nil t) (all_written model t t 0 few (run_written model [] [] t items (none_written model) h))
 
 -- more items are made after others
-making_append : (model : Model) (out rest : Text) (items more : List Item) → IsMaking model out 0 items [] → IsMaking model rest 0 more []
-    → IsMaking model (out ++ rest) 0 (items ++ more) []
-making_append model out rest items more h g =
+making_append : (model : Model) (out rest : Text) (held : ℕ) (items more : List Item) → IsMaking model out 0 items [] → IsMaking model rest held more []
+    → IsMaking model (out ++ rest) held (items ++ more) []
+making_append model out rest held items more h g =
     let m = made_more model out 0 items [] more h in
-    let place : m.done ++ (g.done ++ []) ≡ (m.done ++ g.done) ++ [] = sym (append_assoc m.done g.done []) in
+    let left = silents held ++ [] in
+    let place : m.done ++ (g.done ++ left) ≡ (m.done ++ g.done) ++ left = sym (append_assoc m.done g.done left) in
     record {
       done = m.done ++ g.done;
       reads = Reads-append out rest m.done g.done m.reads g.reads;
       whole = ap (λ t. t ++ rest) m.whole ∙ ap (λ t. flat_map item_spelling m.done ++ t) g.whole ∙ sym (item_spelling-append m.done g.done);
       canonical = canonical-append model m.done g.done m.canonical m.open_end g.canonical;
       open_end = ends_append m.done g.done m.open_end g.open_end;
-      alike = subst (PrintAlike model (items ++ more)) place (changed model (items ++ more) (m.done ++ more) (m.done ++ (g.done ++ [])) m.alike
-          (alike_after model m.done more (g.done ++ []) (printed-alike model more (g.done ++ []) g.alike)));
+      alike = subst (PrintAlike model (items ++ more)) place (changed model (items ++ more) (m.done ++ more) (m.done ++ (g.done ++ left)) m.alike
+          (alike_after model m.done more (g.done ++ left) (printed-alike model more (g.done ++ left) g.alike)));
       kept = λ c. m.kept c ∙ ap (λ l. m.done ++ l) (g.kept (canonical-back model m.done more (rw (m.kept c) at c))) ∙ place;
     }
 
 -- a transducer that holds nothing takes whole items as they are written
 pub written_through : (model : Model) (r new : Transducer) (t out text more : Text) (items : List Item) → IsThrough model r t items out → r.silents ≡ 0
-    → new.model ≡ r.model → new.silents ≡ r.silents → (w : IsWritten model text more) → IsAfter new.scanner (t ++ text) (items ++ w.items)
+    → new.model ≡ r.model → (w : IsWritten model text more new.silents) → IsAfter new.scanner (t ++ text) (items ++ w.items)
     → IsThrough model new (t ++ text) (items ++ w.items) (out ++ more)
-written_through model r new t out text more items h none same held w after =
-    let idle : new.silents ≡ 0 = held ∙ none in
-    record {
-      model_is = same ∙ h.model_is;
-      after = after;
-      made = rw idle (making_append model out more items w.items (rw none at h.made) w.made);
-      few = omega (arith, idle);
-      short = omega (arith, idle, none, h.short, w.short, length-append out more, most_len-append items w.items);
-    }
+written_through model r new t out text more items h none same w after = record {
+  model_is = same ∙ h.model_is;
+  after = after;
+  made = making_append model out more new.silents items w.items (rw none at h.made) w.made;
+  few = omega (arith, w.few, length-append t text);
+  short = omega (arith, none, h.short, w.short, length-append out more, most_len-append items w.items);
+}

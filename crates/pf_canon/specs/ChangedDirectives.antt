@@ -1,4 +1,4 @@
--- A directive at the front of a text that is its own canonical text, or nearly. This project's own.
+-- A directive of a text that is its own canonical text, or nearly. This project's own.
 use Rattle.std.specs.Prelude.{◌≡◌, ◌≢◌, ℕ, ◌<◌, ◌≤◌, ◌-◌, [], ◌∷◌, ◌++◌, Bool, MatchBool, length, take, drop}
 use Rattle.pf_values.specs.declared.models.Model.{Model}
 use Rattle.pf_values.specs.meaning.Conversions.{conv_letter, kept_conv}
@@ -10,13 +10,13 @@ use Rattle.pf_values.specs.meaning.Specification.{Specification}
 use Rattle.pf_values.specs.meaning.Spelling.{spelling_of}
 use Rattle.pf_values.specs.meaning.Text.{Text}
 use Rattle.pf_reduce.specs.Changes.{IsChange}
-use Rattle.pf_text.specs.SpelledFronts.{IsSpelledFront}
+use Rattle.pf_text.specs.FoundDirectives.{IsSpelledAt}
 use Rattle.pf_canon.specs.Making.{IsWritten}
 use Rattle.pf_canon.specs.declared.changed_directives.ChangedDirective.{ChangedDirective}
 
 -- the directive is there, and what changes is known
-abbrev pub IsChangedFront : Model → Text → ChangedDirective → Type 0
-IsChangedFront model text d = IsSpelledFront text d.spelled × IsChange model d.spelled.directive d.change
+abbrev pub IsChangedAt : Model → Text → ℕ → ChangedDirective → Type 0
+IsChangedAt model text at d = IsSpelledAt text at d.found × IsChange model d.found.directive d.change
 
 -- the bytes from one offset up to another
 abbrev pub between : ℕ → ℕ → Text → Text
@@ -26,19 +26,19 @@ between start stop text = take (stop - start) (drop start text)
 abbrev pub letters_kept : Model → Specification → Text
 letters_kept model s = length_letters (kept_length model s.length) ++ conv_letter (kept_conv s.conv) ∷ []
 
--- What is written of a text up to an offset, except for the bytes from another one on, was put, and now
--- what is written up to a later offset, except for the bytes from a last one on.
+-- The bytes from `start` up to `at` were written, but not yet put. Now those up to `stop` are written, and the
+-- bytes from `next` on are not yet put.
 abbrev pub PutsFront : {A : Type 0} → (A → A → Text → Type 0) → Model → Text → ℕ → ℕ → A → A → ℕ → ℕ → Type 0
 PutsFront given model text start at old new next stop = (more : Text) × given old new more
-    × ((out : Text) → IsWritten model (take at text) (out ++ between start at text)
-    → IsWritten model (take stop text) ((out ++ more) ++ between next stop text))
+    × ((before out : Text) → IsWritten model before (out ++ between start at text) 0
+    → IsWritten model (before ++ between at stop text) ((out ++ more) ++ between next stop text) 0)
 
--- The text begins with a directive of `len` bytes; `is` says whether it is a canonical item.
-pub record IsKnownFront (model : Model) (text : Text) (is : Bool) (len : ℕ) : Type 0 where
+-- A directive is there, up to `stop`; `is` says whether it is a canonical item.
+pub record IsKnownAt (model : Model) (text : Text) (at : ℕ) (is : Bool) (stop : ℕ) : Type 0 where
   pub directive : Specification
-  pub some : 0 < len
-  pub within : len ≤ length text
-  pub read : IsReadAs (take len text) (Directive directive)
+  pub some : at < stop
+  pub within : stop ≤ length text
+  pub read : IsReadAs (between at stop text) (Directive directive)
   pub known : MatchBool is
-      (IsNormal model directive × (spelling_of directive ≡ take len text))
+      (IsNormal model directive × (spelling_of directive ≡ between at stop text))
       ((IsNormal model directive → ⊥) × (directive ≢ silent))

@@ -1,31 +1,31 @@
-//! Directives whose canonical text is nearly their own bytes, at the front of a text.
+//! Directives whose canonical text is nearly their own bytes.
 ghost use Rattle.std.specs.Prelude.{◌≡◌, ◌≢◌, false, IfSome, MatchBool};
 ghost use Rattle.pf_values.specs.meaning.Normal.{silent};
 ghost use Rattle.pf_reduce.specs.Changes.{kept_letters};
 ghost use Rattle.pf_reduce.specs.declared.changes.Change.TheVariants.{Letters};
-ghost use Rattle.pf_canon.specs.ChangedDirectives.{IsChangedFront, IsKnownFront};
+ghost use Rattle.pf_canon.specs.ChangedDirectives.{IsChangedAt, IsKnownAt};
 
 use crate::comparison::are_equal;
 use pf_reduce::{Change, change_of, is_normal};
-use pf_text::{SpelledDirective, directive_at_front, spell, spelled_at_front};
+use pf_text::{FoundDirective, directive_at, spell, spelled_at};
 use pf_values::{Conv, Directive, Model};
 
-/// A directive at the front of a text, and what changes in its spelling.
+/// A directive at an offset of a text, and what changes in its spelling.
 #[derive(Clone, Copy, Debug)]
 pub(crate) struct ChangedDirective {
-    pub(crate) spelled: SpelledDirective,
+    pub(crate) found: FoundDirective,
     pub(crate) change: Change,
 }
 
 impl ChangedDirective {
-    /// The directive at the front of a text, if it is known what changes.
+    /// The directive at an offset of a text, if it is known what changes.
     #[inline(always)]
-    pub(crate) fn at_front(model: Model, text: &[u8]) -> Option<ChangedDirective>
-        ensures { IfSome result (IsChangedFront model text.now) }
+    pub(crate) fn at(model: Model, text: &[u8], start: usize) -> Option<ChangedDirective>
+        ensures { IfSome result (IsChangedAt model text.now start) }
     {
-        let spelled = spelled_at_front(text)?;
-        let change = change_of(model, &spelled.directive)?;
-        Some(ChangedDirective { spelled, change })
+        let found = spelled_at(text, start)?;
+        let change = change_of(model, &found.directive)?;
+        Some(ChangedDirective { found, change })
     }
 
     /// Whether nothing changes in this data model.
@@ -33,12 +33,12 @@ impl ChangedDirective {
     pub(crate) fn is_kept(&self, model: Model) -> bool
         ensures { MatchBool result
             ((self.now.change ≡ Letters)
-            × (kept_letters model self.now.spelled.directive ≡ self.now.spelled.directive))
+            × (kept_letters model self.now.found.directive ≡ self.now.found.directive))
             (self.now.change ≡ Letters
-            → kept_letters model self.now.spelled.directive ≢ self.now.spelled.directive) }
+            → kept_letters model self.now.found.directive ≢ self.now.found.directive) }
     {
         match self.change {
-            Change::Letters => keeps_letters(model, &self.spelled.directive),
+            Change::Letters => keeps_letters(model, &self.found.directive),
             Change::Filled | Change::Padded(_) => false,
         }
     }
@@ -55,34 +55,34 @@ pub(crate) fn keeps_letters(model: Model, directive: &Directive) -> bool
     length.representative(model) == length && conv.representative() == conv
 }
 
-/// Whether the directive at the front of a text is a canonical item, and how many bytes it has. `None` if
-/// that isn't known.
+/// Whether the directive at an offset of a text is a canonical item, and where it ends. `None` if that
+/// isn't known.
 #[inline(always)]
-pub(crate) fn known_at_front(model: Model, text: &[u8]) -> Option<(bool, usize)>
-    ensures { IfSome result (λ known. IsKnownFront model text.now known.0 known.1) }
+pub(crate) fn known_at(model: Model, text: &[u8], start: usize) -> Option<(bool, usize)>
+    ensures { IfSome result (λ known. IsKnownAt model text.now start known.0 known.1) }
 {
-    match ChangedDirective::at_front(model, text) {
-        Some(directive) => Some((directive.is_kept(model), directive.spelled.len)),
-        None => normal_at_front(model, text),
+    match ChangedDirective::at(model, text, start) {
+        Some(directive) => Some((directive.is_kept(model), directive.found.stop)),
+        None => normal_at(model, text, start),
     }
 }
 
-// `known_at_front` of a directive whose changes aren't known.
+// `known_at` of a directive whose changes aren't known.
 #[inline(never)]
-fn normal_at_front(model: Model, text: &[u8]) -> Option<(bool, usize)>
-    ensures { IfSome result (λ known. IsKnownFront model text.now known.0 known.1) }
+fn normal_at(model: Model, text: &[u8], start: usize) -> Option<(bool, usize)>
+    ensures { IfSome result (λ known. IsKnownAt model text.now start known.0 known.1) }
 {
-    let (directive, len) = directive_at_front(text)?;
-    if may_be_silent(&directive) {
+    let found = directive_at(text, start)?;
+    if may_be_silent(&found.directive) {
         return None;
     }
-    if !is_normal(model, &directive) {
-        return Some((false, len));
+    if !is_normal(model, &found.directive) {
+        return Some((false, found.stop));
     }
-    if !are_equal(&spell(&directive), &text[..len]) {
+    if !are_equal(&spell(&found.directive), &text[start..found.stop]) {
         return None;
     }
-    Some((true, len))
+    Some((true, found.stop))
 }
 
 // Whether a directive may be `%.0s`, which a canonical text may have though it isn't normal.

@@ -5,7 +5,7 @@ ghost use Rattle.pf_values.specs.meaning.Items.{IsAccepted};
 ghost use Rattle.pf_text.specs.History.{IsLiteral};
 ghost use Rattle.pf_canon.specs.Comparison.{AreCommon, AreTextsSame, BeginApart};
 
-use pf_text::{is_known_accepted, known_types};
+use pf_text::{items_end, known_types};
 use pf_values::limits::MAX_TEXT_LEN;
 use pf_values::{ArgType, Model};
 
@@ -95,7 +95,7 @@ fn is_literal(byte: u8) -> bool
 pub(crate) fn is_format(text: &[u8]) -> bool
     ensures { IsTrue result → IsAccepted text.now }
 {
-    is_known_accepted(text)
+    items_end(text) == text.len()
 }
 
 // Whether two texts begin with different ordinary characters, or one does and the other is empty.

@@ -1,12 +1,13 @@
 //! Canonical texts: the one spelling to which each printf format is brought.
 //!
-//! The road is `transducer`, over `chunk` and `sink`: it takes any format in any blocks. The shortcuts,
-//! and what a call costs with one and without, in instructions over 4,000 formats: `verbatim_front` sees
-//! bytes that need no change (`canonical`: 235 and 331), `plain_texts` puts texts without `%.0s` (235 and 342),
-//! `changed_directives` knows directives that change little (235 and 276), `short_texts` needs no vector
-//! (235 and 273), `plain_canonical` decides most texts (`is_canonical`: 187 and 580), the buffer on the
-//! stack in `canonical_texts` saves counting (490 and 540), `early_difference` sees different bytes and types
-//! (`same` of formats with other first bytes: 408 and 1,045), and `early_refusal` a refused item (342 and 577).
+//! The road through a text in memory is `items`, which puts its canonical text into a `sink`; that of streams
+//! is `transducer`, over `chunk`, which takes any format in any blocks. The shortcuts, and what a call costs with
+//! one and without, in instructions over 4,000 formats: `verbatim_front` sees bytes that need no change
+//! (`canonical`: 235 and 331), `changed_directives` knows directives that change little (235 and 276),
+//! `short_texts` needs no vector (235 and 273), `plain_canonical` decides most texts (`is_canonical`: 187 and
+//! 580), the buffer on the stack in `canonical_texts` saves counting (490 and 540), `early_difference` sees
+//! different bytes and types (`same` of formats with other first bytes: 408 and 1,045), and `early_refusal` a
+//! refused item (342 and 577).
 #![tactic(auto)]
 
 mod canonical_bytes;
@@ -20,11 +21,12 @@ mod copy;
 mod early_difference;
 mod early_refusal;
 mod faults;
+mod items;
+mod languages;
 pub mod laws;
 pub mod limits;
 mod output;
 mod plain_canonical;
-mod plain_texts;
 mod short_texts;
 mod sink;
 mod transducer;
@@ -32,11 +34,13 @@ mod verbatim_front;
 
 pub use canonical_bytes::CanonBytes;
 pub use canonical_texts::{
-    append_canonical, canonical, canonical_len, canonical_with_room, is_canonical,
+    canonical, canonical_in, canonical_len, canonical_len_in, canonical_with_room, is_canonical,
+    is_canonical_in,
 };
 pub use comparison::{same_stream, same_text};
 pub use copy::{canonical_stream, copy_canonical};
 pub use faults::{CopyFault, SideFault, StreamFault};
+pub use languages::{Language, OtherItem, Profile};
 pub use pf_text::{Side, TextFault as CanonFault};
 pub use short_texts::ShortText;
 pub use verbatim_front::VerbatimFront;

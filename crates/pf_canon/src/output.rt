@@ -1,16 +1,20 @@
 //! The output that one item settles, to be put into a sink whole, or to be given in slices or byte
 //! by byte.
-ghost use Rattle.std.specs.Prelude.{◌≡◌, ◌*◌, ◌<◌, ℕ, drop, flat_map, length, replicate, ◌+◌, ◌^◌};
+ghost use Rattle.std.specs.Prelude.{◌≡◌, ◌*◌, ◌<◌, ◌≤◌, ℕ, List, drop, flat_map, length, replicate, ◌+◌, ◌^◌};
 ghost use Rattle.pf_values.specs.meaning.Canonical.{item_spelling};
+ghost use Rattle.pf_values.specs.meaning.Items.{Item};
+ghost use Rattle.pf_values.specs.meaning.Text.{Text};
 ghost use Rattle.pf_text.specs.CanonicalRuns.{silents};
 ghost use Rattle.pf_values.specs.declared.padding.TheConstants.{MAX_RUN};
 ghost use Rattle.pf_canon.specs.Output.{IsFrontOf, text_after_zeros, output_text, silent_bytes, Pops, pending_text};
-ghost use Rattle.pf_canon.specs.Transducer.{byte_output_text};
+ghost use Rattle.pf_canon.specs.Transducer.{SettlesDirective, byte_output_text};
+ghost use Rattle.pf_canon.specs.declared.limits.TheConstants.{MAX_DIRECTIVE_LEN};
 
 use crate::sink::{Sink, put_repeated, put_silents};
-use pf_text::Spelling;
-use pf_values::padding;
+use pf_reduce::{Core, Reduced, reduce};
+use pf_text::{Spelling, spell};
 use pf_values::padding::MAX_RUN;
+use pf_values::{Directive, Model, padding};
 use std::slice;
 
 /// What a step of the scanner settles.
@@ -95,6 +99,46 @@ impl Output {
             self.spelling.len(),
             self.trail,
         )
+    }
+}
+
+/// Returns what a directive settles: its padding and, unless it is silent, the silent directives that were
+/// held, and its spelling. They are held no longer then, and a silent one is held with them.
+#[inline(always)]
+pub(crate) fn settle(model: Model, directive: &Directive, held: &mut u64) -> Output
+    ensures settles { (out : Text) (items rest : List Item)
+        → SettlesDirective model directive.now items rest out held.old result held.new }
+    ensures few { length (output_text result) + 4 * held.new ≤ 4 * held.old + MAX_DIRECTIVE_LEN }
+    ensures one { held.new ≤ held.old + 1 }
+{
+    let Reduced {
+        spaces,
+        zeros,
+        core,
+        trail,
+    } = reduce(model, directive);
+    match core {
+        Core::Silent => {
+            *held = held.saturating_add(1);
+            Output {
+                spaces,
+                zeros,
+                silents: 0,
+                spelling: Spelling::new(),
+                trail,
+            }
+        }
+        Core::Normal(normal) => {
+            let silents = *held;
+            *held = 0;
+            Output {
+                spaces,
+                zeros,
+                silents,
+                spelling: spell(&normal.directive()),
+                trail,
+            }
+        }
     }
 }
 

@@ -4,8 +4,8 @@ ghost use Rattle.std.specs.Prelude.{◌≡◌, false, ◌↔◌, IsTrue, MatchOp
 ghost use Rattle.pf_values.specs.meaning.Canonical.{IsCanonicalText};
 ghost use Rattle.pf_values.specs.meaning.Items.{IsAccepted};
 
-use crate::changed_directives::known_at_front;
-use pf_text::{Walk, canonical_end, is_known_accepted};
+use crate::changed_directives::known_at;
+use pf_text::{Walk, canonical_end, items_end};
 use pf_values::Model;
 use pf_values::limits::MAX_TEXT_LEN;
 
@@ -21,12 +21,11 @@ pub(crate) fn known_canonical(model: Model, text: &[u8]) -> Option<bool>
     let walk = Walk::new(text);
     let mut at = canonical_end(walk, 0);
     while at < text.len() {
-        let rest = &text[at..];
-        let (is_kept, len) = known_at_front(model, rest)?;
+        let (is_kept, stop) = known_at(model, text, at)?;
         if !is_kept {
-            return known_other(&rest[len..]);
+            return known_other(&text[stop..]);
         }
-        at = canonical_end(walk, at + len);
+        at = canonical_end(walk, stop);
     }
     Some(true)
 }
@@ -36,7 +35,7 @@ pub(crate) fn known_canonical(model: Model, text: &[u8]) -> Option<bool>
 fn known_other(rest: &[u8]) -> Option<bool>
     ensures { MatchOption result ⊤ (λ is. (is ≡ false) × IsAccepted rest.now) }
 {
-    if is_known_accepted(rest) {
+    if items_end(rest) == rest.len() {
         return Some(false);
     }
     None

@@ -6,6 +6,7 @@ ghost use Rattle.pf_canon.specs.ShortTexts.{IsUnused, short_text};
 ghost use Rattle.pf_canon.specs.VerbatimFronts.{IsVerbatimFront, front_model};
 
 use crate::canonical_texts::STACK_ROOM;
+use crate::languages::Profile;
 use crate::sink::TextBuilder;
 use crate::verbatim_front::VerbatimFront;
 use arrayvec::ArrayVec;
@@ -51,7 +52,7 @@ impl ShortText {
         if STACK_ROOM < text.len() {
             return Ok(false);
         }
-        front.put(text, &mut self.builder)?;
+        front.put::<Profile, _>(text, &mut self.builder)?;
         Ok(self.builder.lost == 0)
     }
 }

@@ -11,11 +11,10 @@ ghost use Rattle.pf_canon.specs.Output.{output_text};
 ghost use Rattle.pf_canon.specs.Transducer.{SettlesEnd, GrowsByChunk, HasScannedByte, IsChunkWithin, IsThrough, IsUpTo, IsUpToAfter, TakesVerbatim, TakesText, Settles, TakesByte, SettlesDirective, TakesChunk, GrowsByDirective, chunk_output_text, byte_output_text, data_model_of, more_of, scanner_of, held_silents_of};
 
 use crate::chunk::{Chunk, ChunkRefusal};
-use crate::output::{Output, StepOutput};
-use crate::plain_texts::put_plain;
+use crate::items::{put_items, run_end};
+use crate::output::{Output, StepOutput, settle};
 use crate::sink::Sink;
-use pf_reduce::{Core, Reduced, reduce};
-use pf_text::{Refusal, Scanner, Spelling, Step, Walk, spell};
+use pf_text::{Canonical, Refusal, Scanner, Spelling, Step, Walk};
 use pf_values::{Directive, Model};
 
 /// A data model, the scanner's state inside the current item, and the number of `%.0s` not yet
@@ -39,20 +38,20 @@ impl Transducer {
         }
     }
 
-    /// A transducer that took a text of `len` bytes, of whose items none waits.
-    pub(crate) fn after_items(model: Model, len: usize) -> Transducer
+    /// A transducer that took a text of `len` bytes, of whose items `silents` wait.
+    pub(crate) fn after_items(model: Model, len: usize, silents: u64) -> Transducer
         ensures model { data_model_of result ≡ model }
-        ensures after { (t out : Text) → IsWritten model t out → length t ≡ len
+        ensures after { (t out : Text) → IsWritten model t out silents → length t ≡ len
             → len ≤ MAX_TEXT_LEN → (items : List Item) × IsThrough model result t items out }
     {
         Transducer {
             model,
             scanner: Scanner::after_items(len),
-            silents: 0,
+            silents,
         }
     }
 
-    /// Takes whole items at the front of a text as `put_plain` does, and puts what they settle. Returns how many
+    /// Takes whole items at the front of a text as `put_items` does, and puts what they settle. Returns how many
     /// bytes they have: 0 inside an item, and if a silent directive waits.
     pub(crate) fn put_front<S: Sink>(&mut self, text: &[u8], sink: &mut S) -> usize
         ensures put { (more : Text) × S.given sink.old sink.new more
@@ -67,8 +66,11 @@ impl Transducer {
         if !self.scanner.may_pass(text.len()) {
             return 0;
         }
-        let len = put_plain(self.model, text, Walk::new(text), sink);
+        let mut walk = Walk::new(text);
+        walk.at = run_end::<Canonical>(walk, 0);
+        let (len, held) = put_items(self.model, walk, 0, sink);
         self.scanner.pass_items(len);
+        self.silents = held;
         len
     }
 
@@ -319,35 +321,7 @@ impl Transducer {
             ≤ 4 * held_silents_of self.old + MAX_DIRECTIVE_LEN }
         ensures one { held_silents_of self.new ≤ held_silents_of self.old + 1 }
     {
-        let Reduced {
-            spaces,
-            zeros,
-            core,
-            trail,
-        } = reduce(self.model, directive);
-        match core {
-            Core::Silent => {
-                self.silents = self.silents.saturating_add(1);
-                Output {
-                    spaces,
-                    zeros,
-                    silents: 0,
-                    spelling: Spelling::new(),
-                    trail,
-                }
-            }
-            Core::Normal(normal) => {
-                let silents = self.silents;
-                self.silents = 0;
-                Output {
-                    spaces,
-                    zeros,
-                    silents,
-                    spelling: spell(&normal.directive()),
-                    trail,
-                }
-            }
-        }
+        settle(self.model, directive, &mut self.silents)
     }
 
     /// Takes the end of the text, and returns what that settles.

@@ -1,17 +1,15 @@
 //! The bytes at the front of a format that need no change.
 ghost use Rattle.std.specs.Prelude.{IsTrue, MatchResult, ◌≡◌};
-ghost use Rattle.pf_values.specs.meaning.Refusals.{IsRefusedAt};
 ghost use Rattle.pf_values.specs.meaning.Text.{Text};
 ghost use Rattle.pf_canon.specs.Answers.{IsCanonicalFor};
+ghost use Rattle.pf_canon.specs.Languages.{HasCountableIn};
 ghost use Rattle.pf_canon.specs.VerbatimFronts.{IsVerbatimFront, front_model};
 
-use crate::chunk::put_chunks;
-use crate::plain_texts::put_plain;
+use crate::items::{put_stretch, run_end};
+use crate::languages::{Language, put_others};
 use crate::sink::Sink;
-use crate::transducer::Transducer;
-use pf_text::{Refusal, Walk, canonical_end};
+use pf_text::{Canonical, Refusal, Walk};
 use pf_values::Model as DataModel;
-use pf_values::limits::MAX_TEXT_LEN;
 
 /// The bytes at the front of a format that are verbatim, that is, their own canonical text in a data
 /// model.
@@ -30,7 +28,7 @@ impl<'a> VerbatimFront<'a> {
         ensures front { IsVerbatimFront text.now result }
     {
         let mut walk = Walk::new(text);
-        walk.at = canonical_end(walk, 0);
+        walk.at = run_end::<Canonical>(walk, 0);
         VerbatimFront { model, walk }
     }
 
@@ -42,27 +40,21 @@ impl<'a> VerbatimFront<'a> {
         requires { IsVerbatimFront text.now self.now }
         ensures { IsTrue result → IsCanonicalFor (front_model self.now) text.now text.now }
     {
-        if self.walk.at != text.len() {
-            return false;
-        }
-        if text.len() as u64 > MAX_TEXT_LEN {
-            return false;
-        }
-        true
+        self.walk.at == text.len()
     }
 
-    /// Puts all of the canonical text of the format.
+    /// Puts all of the canonical text of the format, in a language.
     #[inline(always)]
-    pub(crate) fn put<S: Sink>(&self, text: &[u8], sink: &mut S) -> Result<(), Refusal>
+    pub(crate) fn put<L: Language, S: Sink>(&self, text: &[u8], sink: &mut S) -> Result<(), Refusal>
         requires { IsVerbatimFront text.now self.now }
         ensures { MatchResult result (λ _. (c : Text) × S.given sink.old sink.new c
-            × IsCanonicalFor (front_model self.now) text.now c)
-            (λ refusal. IsRefusedAt text.now refusal.kind refusal.at) }
+            × HasCountableIn L.has_front (front_model self.now) text.now c)
+            (λ refusal. L.refuses (front_model self.now) text.now refusal.kind refusal.at) }
     {
-        let at = put_plain(self.model, text, self.walk, sink);
-        if at == text.len() {
+        let stop = put_stretch(self.model, self.walk, 0, sink);
+        if stop == text.len() {
             return Ok(());
         }
-        put_chunks(Transducer::after_items(self.model, at), text, at, sink)
+        put_others::<L, S>(self.model, self.walk, text, stop, sink)
     }
 }

@@ -1,5 +1,5 @@
 -- The argument types of two texts, side by side.
-use Rattle.std.proofs.Common.{◌≡◌, ◌≢◌, ℕ, zero, suc, ◌+◌, List, [], ◌∷◌, ◌++◌, length, refl, sym, ap, ◌∙◌, subst, arith, Some, None, Ok, Err, Result, Option}
+use Rattle.std.proofs.Common.{◌≡◌, ◌≢◌, ℕ, zero, suc, ◌+◌, List, [], ◌∷◌, ◌++◌, drop, length, refl, sym, ap, ◌∙◌, subst, arith, Some, None, Ok, Err, Result, Option}
 use Rattle.std.specs.Prelude.{slice_get, MatchOption}
 use Rattle.std.proofs.lemmas.List.{append-nil, append_assoc, length-map, length_push}
 use Rattle.std.proofs.lemmas.Option.{slice_get_within}
@@ -30,7 +30,7 @@ use Rattle.pf_compare.proofs.ListLemmas.{take_whole}
 taken_first : (model : Model) (pieces : Pieces) (t : Text) (done : List ArgType) (xs : List Item) → HasGivenTypes model pieces t done → Reads t xs
     → (rest : List ArgType) × (types model xs ≡ done ++ rest)
 taken_first model pieces t done xs h g =
-    let more = front_items h.read pieces.rest.now h.items xs h.given.reads (subst (λ u. Reads u xs) h.given.split g) in
+    let more = front_items h.read (drop pieces.at t) h.items xs h.given.reads (subst (λ u. Reads u xs) h.given.split g) in
     (types model more.0, ap (types model) more.1 ∙ types-append model h.items more.0 ∙ ap (λ ts. ts ++ types model more.0) (sym h.types_are))
 
 pub types_of_all : (model : Model) (t : Text) (wanted : List ArgType) (xs : List Item) → TakesTypes model t wanted → Reads t xs → types model xs ≡ wanted

@@ -10,7 +10,6 @@ const LANES: usize = 16;
 const BLOCK: usize = 64;
 
 /// How many bytes at the front of a text are verbatim: themselves in a literal, read or written.
-#[inline(always)]
 pub(crate) fn verbatim_len(text: &[u8]) -> usize
     ensures within { result ≤ length text.now }
     ensures verbatim { IsVerbatim (take result text.now) }
@@ -80,7 +79,6 @@ fn verbatim_len_bytewise(text: &[u8]) -> usize
     at
 }
 
-#[inline(always)]
 fn is_special(byte: u8) -> bool
     ensures { result ≡ is_special byte }
 {
@@ -89,7 +87,6 @@ fn is_special(byte: u8) -> bool
 
 // The search where all but the last few bytes are known to be verbatim: the last vector overlaps
 // bytes that were tested.
-#[inline(always)]
 fn verbatim_at_end(text: &[u8], seen: usize) -> usize
     requires room { LANES ≤ length text.now }
     requires few { length text.now - LANES ≤ seen }
@@ -103,7 +100,6 @@ fn verbatim_at_end(text: &[u8], seen: usize) -> usize
 }
 
 // Whether a block is verbatim, by the tests of `verbatim_in_vector`.
-#[inline(always)]
 fn is_verbatim_block(text: &[u8], at: usize) -> bool
     requires { at + BLOCK ≤ length text.now }
     ensures { IsTrue result → IsVerbatimBetween text.now at (at + BLOCK) }
@@ -116,7 +112,6 @@ fn is_verbatim_block(text: &[u8], at: usize) -> bool
 }
 
 // How many bytes at the front of a vector are verbatim.
-#[inline(always)]
 fn verbatim_in_vector(text: &[u8], at: usize) -> usize
     requires { at + LANES ≤ length text.now }
     ensures few { result ≤ LANES }

@@ -9,7 +9,6 @@ use crate::results::{Core, Normal, Reduced};
 use pf_values::{Directive, Flag, FlagSet, Model};
 
 /// The directive with these flags and this precision, in this padding.
-#[inline(always)]
 pub(crate) fn padded_core(
     model: Model,
     padding: Padding,
@@ -38,7 +37,6 @@ pub(crate) fn padded_core(
 }
 
 /// Returns the precision, or `None` for 1, which is the default.
-#[inline(always)]
 pub(crate) fn kept_precision(precision: u16) -> Option<u16>
     ensures { result ≡ kept_precision precision }
 {

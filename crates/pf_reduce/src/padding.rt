@@ -20,7 +20,6 @@ impl Padding {
     ghost use Rattle.pf_reduce.specs.Padded.{HasNoIdleWidth, IsNarrowedTo, HasHoistedZeros, IsRightIfUnseen, constants, padding_of};
 
     /// The width and the side that a directive has, with nothing constant around them.
-    #[inline(always)]
     pub(crate) fn of(directive: &Directive) -> Padding
         ensures value { result ≡ padding_of directive.now }
         ensures limit { result.width ≤ MAX_NUMBER }
@@ -36,7 +35,6 @@ impl Padding {
     }
 
     /// A width of at most `most` bytes, if no more are printed: the spaces beyond are constant.
-    #[inline(always)]
     pub(crate) fn with_width_at_most(self, most: u16) -> Padding
         requires { (self.spaces ≡ 0) × (self.zeros ≡ 0) × (self.trail ≡ 0) }
         ensures { IsNarrowedTo self most result }
@@ -59,7 +57,6 @@ impl Padding {
     }
 
     /// If at least `least` bytes are always printed, a width up to that has no effect.
-    #[inline(always)]
     pub(crate) fn without_idle_width(self, least: u16) -> Padding
         ensures { HasNoIdleWidth self least result }
     {
@@ -70,7 +67,6 @@ impl Padding {
     }
 
     /// Whether spaces may come before what is printed.
-    #[inline(always)]
     pub(crate) fn has_spaces_before(self) -> bool
         ensures yes { result ≡ true → (self.left ≡ false) × (0 < self.width) }
         ensures no { result ≡ false → (self.left ≡ true) ⊎ (self.width ≡ 0) }
@@ -79,7 +75,6 @@ impl Padding {
     }
 
     /// If `count` zeros are always printed first, moves them out of the field: they are constant.
-    #[inline(always)]
     pub(crate) fn hoist_zeros(self, count: u16) -> Padding
         requires apart { (self.left ≡ true) ⊎ (self.width ≡ 0) ⊎ (count ≡ 0) }
         requires room { constants self + count < 2 ^ 16 }
@@ -94,7 +89,6 @@ impl Padding {
 
     /// Right-justified, if the width is at most `unseen`: at those widths the side makes no visible
     /// difference.
-    #[inline(always)]
     pub(crate) fn right_justify_if_unseen(self, unseen: u16) -> Padding
         ensures { IsRightIfUnseen self unseen result }
     {

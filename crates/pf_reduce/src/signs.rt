@@ -15,7 +15,6 @@ pub(crate) enum Sign {
 impl Sign {
     /// The sign that the flags ask for: with `+` the flag space is ignored (C11 7.21.6.1, paragraph
     /// 6).
-    #[inline(always)]
     pub(crate) fn of(flags: FlagSet) -> Sign
         ensures { result ≡ sign_of flags }
     {
@@ -29,7 +28,6 @@ impl Sign {
     }
 
     /// The flag that asks for this sign.
-    #[inline(always)]
     pub(crate) fn flags(self) -> FlagSet
         ensures { result ≡ sign_flags self }
     {
@@ -40,7 +38,6 @@ impl Sign {
         }
     }
 
-    #[inline(always)]
     pub(crate) fn len(self) -> u16
         ensures { result ≡ sign_length self }
     {

@@ -1,5 +1,5 @@
 -- What a format prints, and the pieces of it that are written.
-use Rattle.std.proofs.Common.{◌≡◌, ℕ, ◌+◌, ◌*◌, ◌^◌, ◌≤◌, List, [], ◌∷◌, ◌++◌, length, map, sym, ap, ◌∙◌, subst, arith, Some, None, Ok, Err, Result, refl}
+use Rattle.std.proofs.Common.{◌≡◌, ℕ, ◌+◌, ◌*◌, ◌^◌, ◌≤◌, List, [], ◌∷◌, ◌++◌, drop, length, map, sym, ap, ◌∙◌, subst, arith, Some, None, Ok, Err, Result, refl}
 use Rattle.std.proofs.lemmas.List.{append-nil, append_assoc, append_cancel_left, length-append}
 use Rattle.pf_values.specs.declared.models.Model.{Model}
 use Rattle.pf_values.specs.declared.types.ArgType.{ArgType}
@@ -91,7 +91,7 @@ module _ (model : Model) {A O : Type 0} {type_of : A → ArgType} {argument_of :
   module _ {now : O} {before : Pieces} {progress : Progress} (h : IsUnderWay type_of argument_of wrote model old t args now before progress) where
     -- the bytes written so far are few enough to be counted
     pub counts : progress.written + 2 ^ 64 ≤ 2 ^ 128
-    counts = omega (arith, h.few, length_items h.read h.items h.given.reads, h.given.scanned.limit)
+    counts = omega (arith, h.few, length_items h.read h.items h.given.reads, h.given.limit)
 
     -- what a format prints has been written
     pub text_written : {new : Pieces} → NextReturns before None new → RendersToBy type_of argument_of model t args (λ out. wrote old now out)
@@ -115,7 +115,7 @@ module _ (model : Model) {A O : Type 0} {type_of : A → ArgType} {argument_of :
         piece_given = subst (λ x. NextIs (Some x) new t h.read h.items) is (steps.next t h.read h.items h.given)
 
         pub all_items : Begin (h.items ++ items_of piece) h.renders.takes.items
-        all_items = let g = piece_given in front_items (h.read ++ g.more) new.rest.now _ _
+        all_items = let g = piece_given in front_items (h.read ++ g.more) (drop new.at t) _ _
             g.given.reads
             (subst (λ u. Reads u h.renders.takes.items) g.given.split
             h.renders.takes.accepted.reads)

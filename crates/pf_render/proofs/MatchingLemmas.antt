@@ -192,7 +192,7 @@ module _ {A : Type 0} {type_of : A → ArgType} {argument_of : A → Argument} w
       length_types model found.items,
       length_items found.read found.items
           found.given.reads,
-      found.given.scanned.limit,
+      found.given.limit,
     )
 
     pub all_checked : {new : Pieces} → NextReturns before None new → signatures.TakesTypes model t h.types

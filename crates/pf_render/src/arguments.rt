@@ -39,7 +39,6 @@ impl<'a> FormatArgument for Arg<'a> {
 
     ghost argument_of = { program.argument_of };
 
-    #[inline(always)]
     fn has_type(&self, model: Model, wanted: ArgType) -> bool {
         if self.arg_type() != wanted {
             return false;
@@ -51,12 +50,10 @@ impl<'a> FormatArgument for Arg<'a> {
         }
     }
 
-    #[inline(always)]
     fn as_number(&self) -> Option<i128> {
         self.number()
     }
 
-    #[inline(always)]
     fn as_string(&self) -> Option<&[u8]> {
         match self {
             Arg::Str(string) => Some(string.bytes()),

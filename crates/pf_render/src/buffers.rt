@@ -36,7 +36,6 @@ pub fn render_into<A: FormatArgument>(
 }
 
 // Puts bytes at the front of a buffer that has room for them, and returns how many they are.
-#[inline(always)]
 fn put_if_fits(bytes: &[u8], out: &mut [u8]) -> usize
     ensures len { result ≡ length bytes.now }
     ensures put { IsPutIfFits bytes.now out.old out.new }

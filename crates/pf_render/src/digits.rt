@@ -13,7 +13,6 @@ pub(crate) const MAX_DIGITS: usize = 64;
 
 /// Writes the digits of a number as a kind of conversions prints them, none for 0, so that they end
 /// where the buffer does. Returns where they start.
-#[inline(always)]
 pub(crate) fn write_digits_of(number: u64, kind: Kind, buf: &mut [u8; MAX_DIGITS]) -> usize
     ensures within { result ≤ MAX_DIGITS }
     ensures digits { let base = number_of (base_under kind) in

@@ -55,7 +55,6 @@ pub(crate) fn write_argument<A: FormatArgument, O: Output>(
 }
 
 // The number that an argument is, if it isn't a string.
-#[inline(always)]
 fn number_of<A: FormatArgument>(argument: &A) -> i128
     requires { (bytes : Text) → A.argument_of argument.now ≢ String bytes }
     ensures { A.argument_of argument.now ≡ Number result }
@@ -67,7 +66,6 @@ fn number_of<A: FormatArgument>(argument: &A) -> i128
 }
 
 // The bytes of the string that an argument is, if it isn't a number.
-#[inline(always)]
 fn string_of<A: FormatArgument>(argument: &A) -> &[u8]
     requires { (number : ℤ) → A.argument_of argument.now ≢ Number number }
     ensures { A.argument_of argument.now ≡ String result.now }

@@ -11,7 +11,6 @@ use pf_values::{Directive, Flag, ShortWrite};
 
 /// Writes a text of three parts in the field of the directive (C11 7.21.6.1, paragraph 4), and
 /// returns how many bytes that were.
-#[inline(always)]
 pub(crate) fn write_field<'a, O: Output>(
     directive: &Directive,
     first: &'a [u8],
@@ -54,7 +53,6 @@ fn write_three<'a, O: Output>(
 }
 
 /// Writes a text of one part in the field of the directive, and returns how many bytes that were.
-#[inline(always)]
 pub(crate) fn write_text<O: Output>(
     directive: &Directive,
     text: &[u8],
@@ -107,7 +105,6 @@ fn write_two<O: Output>(first: &[u8], second: &[u8], writer: &mut O) -> Result<u
 }
 
 /// Writes bytes, and returns how many they are.
-#[inline(always)]
 pub(crate) fn write_counted<O: Output>(bytes: &[u8], writer: &mut O) -> Result<usize, ShortWrite>
     ensures { WritesCounted O.wrote O.stopped writer.old writer.new bytes.now result }
 {

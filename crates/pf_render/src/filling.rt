@@ -24,7 +24,6 @@ impl<'a> Output for Filling<'a> {
 
     ghost laws = { fills };
 
-    #[inline(always)]
     fn put(&mut self, bytes: &[u8]) -> Result<(), ShortWrite> {
         let start = self.len;
         if self.buffer.len() - start < bytes.len() {
@@ -37,7 +36,6 @@ impl<'a> Output for Filling<'a> {
 }
 
 // Puts bytes into a buffer, from an offset on.
-#[inline(always)]
 fn put_at(buffer: &mut [u8], at: usize, bytes: &[u8])
     requires { at + length bytes.now ≤ length buffer.old }
     ensures { buffer.new ≡ take at buffer.old

@@ -19,7 +19,6 @@ pub(crate) struct FormatPart<'a> {
 
 impl<'a> FormatPart<'a> {
     /// The part that a piece is.
-    #[inline(always)]
     pub(crate) fn of(piece: &Piece<'a>) -> FormatPart<'a>
         ensures { items_of_part result ≡ items_of piece.now }
     {

@@ -21,7 +21,6 @@ impl GatheredText {
     ghost use Rattle.pf_render.specs.Gathering.{gathered_bytes};
 
     /// No byte.
-    #[inline(always)]
     pub(crate) fn new() -> GatheredText
         ensures { gathered_bytes result ≡ [] }
     {
@@ -32,7 +31,6 @@ impl GatheredText {
     }
 
     /// Its bytes.
-    #[inline(always)]
     pub(crate) fn as_slice(&self) -> &[u8]
         ensures bytes { result.now ≡ gathered_bytes self.now }
         ensures few { length result.now ≤ MAX_GATHERED }
@@ -51,7 +49,6 @@ impl Output for GatheredText {
 
     ghost laws = { keeps };
 
-    #[inline(always)]
     fn put(&mut self, bytes: &[u8]) -> Result<(), ShortWrite> {
         let start = self.len;
         if MAX_GATHERED - start < bytes.len() {

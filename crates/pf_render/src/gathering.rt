@@ -16,7 +16,6 @@ use pf_values::{Directive, Model};
 /// Checks the arguments and writes what the format prints for them, in one go. False if the text is
 /// refused, if the arguments are not those that it takes, or if the writer fails; then some of it may
 /// have been written.
-#[inline(always)]
 pub(crate) fn gather<A: FormatArgument, O: Output>(
     model: Model,
     text: &[u8],
@@ -57,7 +56,6 @@ pub(crate) fn gather<A: FormatArgument, O: Output>(
 
 // Writes what a directive prints for the argument at this index, and returns whether there is one of its
 // type, and all was written.
-#[inline(always)]
 fn gather_directive<A: FormatArgument, O: Output>(
     model: Model,
     directive: &Directive,
@@ -82,7 +80,6 @@ fn gather_directive<A: FormatArgument, O: Output>(
 }
 
 // Writes literal bytes, and returns whether all were written.
-#[inline(always)]
 fn gather_bytes<O: Output>(bytes: &[u8], writer: &mut O) -> bool
     ensures { IsTrue result → O.wrote writer.old writer.new bytes.now }
 {
@@ -93,7 +90,6 @@ fn gather_bytes<O: Output>(bytes: &[u8], writer: &mut O) -> bool
 }
 
 /// Writes what a format prints for these arguments, once that was gathered.
-#[inline(always)]
 pub(crate) fn write_gathered<A: FormatArgument, O: Output>(
     bytes: &[u8],
     _args: &[A],

@@ -41,7 +41,6 @@ pub struct IntegerParts {
 }
 
 impl SignOrPrefix {
-    #[inline(always)]
     fn of(directive: &Directive, value: Value) -> SignOrPrefix
         ensures { (v : ℤ) → HasSignAndMagnitude value v
             → sign_or_prefix_text result ≡ sign_or_prefix directive.now v }
@@ -55,7 +54,6 @@ impl SignOrPrefix {
         }
     }
 
-    #[inline(always)]
     fn of_signed(directive: &Directive, value: Value) -> SignOrPrefix
         ensures { (v : ℤ) → HasSignAndMagnitude value v
             → sign_or_prefix_text result ≡ sign directive.now v }
@@ -72,7 +70,6 @@ impl SignOrPrefix {
         }
     }
 
-    #[inline(always)]
     fn of_unsigned(directive: &Directive, value: Value, base: Base, capitals: bool) -> SignOrPrefix
         ensures { (v : ℤ) → HasSignAndMagnitude value v → sign_or_prefix_text result
             ≡ prefix_under (alternative_of base) base capitals directive.now v }
@@ -88,7 +85,6 @@ impl SignOrPrefix {
     }
 
     /// Returns its bytes.
-    #[inline(always)]
     pub fn text(self) -> &'static [u8]
         ensures value { result.now ≡ sign_or_prefix_text self }
         ensures short { length result.now ≤ 2 }
@@ -103,7 +99,6 @@ impl SignOrPrefix {
     }
 
     /// Returns how many bytes it has.
-    #[inline(always)]
     pub fn len(self) -> u16
         ensures value { result ≡ length (sign_or_prefix_text self) }
         ensures short { result ≤ 2 }
@@ -119,7 +114,6 @@ impl SignOrPrefix {
 impl IntegerParts {
     /// Returns the parts of a value that has `digit_count` digits, none for 0 (C11 7.21.6.1,
     /// paragraphs 6 and 8).
-    #[inline(always)]
     pub fn of(directive: &Directive, value: Value, digit_count: u16) -> IntegerParts
         requires { digit_count ≤ MAX_DIGITS }
         ensures parts { (v : ℤ) → HasSignAndMagnitude value v
@@ -136,7 +130,6 @@ impl IntegerParts {
     }
 
     /// Returns how many bytes these parts are.
-    #[inline(always)]
     pub fn len(&self) -> usize
         ensures value { result ≡ parts_len self.now }
         ensures short { result ≤ 2 + 65535 + 65535 }
@@ -146,7 +139,6 @@ impl IntegerParts {
 }
 
 // How many zeros come before `count` digits, after a sign or prefix of `prefix_len` bytes.
-#[inline(always)]
 fn zero_count(directive: &Directive, prefix_len: u16, count: u16) -> u16
     requires { count ≤ MAX_DIGITS }
     ensures value { result ≡ zeros_for directive.now prefix_len count }
@@ -157,7 +149,6 @@ fn zero_count(directive: &Directive, prefix_len: u16, count: u16) -> u16
 }
 
 // The fewest digits that are printed of a number with `count`: `#` may put a zero before them.
-#[inline(always)]
 fn fewest_digits(directive: &Directive, count: u16) -> u16
     requires { count ≤ MAX_DIGITS }
     ensures value { result ≡ fewest_digits directive.now count }

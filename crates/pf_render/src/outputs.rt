@@ -31,7 +31,6 @@ impl<W: Write> Output for Counted<W> {
 
     ghost laws = { counted_writes W.contents };
 
-    #[inline(always)]
     fn put(&mut self, bytes: &[u8]) -> Result<(), ShortWrite> {
         match write_bytes(self, bytes) {
             Ok(()) => Ok(()),

@@ -37,7 +37,6 @@ impl Progress {
     }
 
     /// Writes what a part prints for the arguments that come next.
-    #[inline(always)]
     pub(crate) fn write<A: FormatArgument, O: Output>(
         &mut self,
         model: Model,
@@ -69,7 +68,6 @@ impl Progress {
 }
 
 // Writes what a part prints for its own arguments, and returns how many bytes that were.
-#[inline(always)]
 fn write_part<A: FormatArgument, O: Output>(
     model: Model,
     part: &FormatPart<'_>,

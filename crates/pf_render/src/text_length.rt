@@ -35,7 +35,6 @@ impl Output for TextLength {
 
     ghost laws = { measures };
 
-    #[inline(always)]
     fn put(&mut self, bytes: &[u8]) -> Result<(), ShortWrite> {
         if TOO_LONG - self.len <= bytes.len() {
             return Err(ShortWrite { written: 0 });

@@ -18,7 +18,6 @@ pub struct Value {
 impl Value {
     /// Returns the value of the number in the range that the length modifier and the conversion
     /// name.
-    #[inline(always)]
     pub fn of(model: Model, directive: &Directive, number: i128) -> Value
         requires integer { IsFalse (is_text directive.now.conv) }
         ensures { IsOfValue (is_signed directive.now.conv)
@@ -30,7 +29,6 @@ impl Value {
         }
     }
 
-    #[inline(always)]
     fn of_signed(bits: u8, number: i128) -> Value
         requires { (b : Bits) × (bits ≡ bit_count b) }
         ensures { IsOfValue true bits number result }
@@ -43,7 +41,6 @@ impl Value {
         }
     }
 
-    #[inline(always)]
     fn of_unsigned(bits: u8, number: i128) -> Value
         requires { (b : Bits) × (bits ≡ bit_count b) }
         ensures { IsOfValue false bits number result }
@@ -56,7 +53,6 @@ impl Value {
         }
     }
 
-    #[inline(always)]
     fn of_kind<V: ValueKind>(number: i128) -> Value
         ensures { IsOfValue V.is_signed (bit_count V.bits) number result }
     {

@@ -4,7 +4,7 @@ use denote.Ref.{Bor}
 use Rattle.std.specs.Prelude.{MatchOption}
 use Rattle.std.specs.List.{AllByRecursion}
 use Rattle.std.proofs.lemmas.Bool.{cases_lt}
-use Rattle.std.proofs.lemmas.List.{drop_all, drop_more, get_or-drop, length-drop, length-take, length-take-le, get_or-take, take-append-drop, take_all}
+use Rattle.std.proofs.lemmas.List.{drop_all, drop_more, get_or-drop, length-append, length-drop, length-take, length-take-le, get_or-take, take-append-drop, take_all, take_at}
 use Rattle.memchr.specs.Find.{Nowhere, Passes, is_byte2}
 use Rattle.pf_values.specs.declared.limits.TheConstants.{MAX_TEXT_LEN}
 use Rattle.pf_values.specs.meaning.Items.{HasItems, Item, Byte, Reads}
@@ -42,9 +42,13 @@ literal_piece t at n run some within e none ended =
       );
     }
 
--- what was given, and what is left
-pub given_split : (pieces : Pieces) (t read : Text) (items : List Item) → HasGiven pieces t read items → t ≡ read ++ drop pieces.at t
-given_split pieces t read items h = sym (ap (λ u. u ++ drop pieces.at t) h.read_is ∙ take-append-drop pieces.at t)
+-- what was given is the text up to the offset
+module _ (pieces : Pieces) (t read : Text) (items : List Item) (h : HasGiven pieces t read items) where
+  read_is : read ≡ take pieces.at t
+  read_is = sym (ap (take pieces.at) h.split ∙ take_at read (drop pieces.at t) pieces.at (sym h.at))
+
+  at_within : pieces.at ≤ length t
+  at_within = omega (arith, h.at, ap length h.split, length-append read (drop pieces.at t))
 
 -- where a run of literal bytes ends that was given
 module _ (t read : Text) (stop : ℕ) (long : length read ≡ stop) where
@@ -78,7 +82,7 @@ module _ (old new : Pieces) (t read : Text) (items : List Item) (h : HasGiven ol
     more_is = part_of_front t MAX_TEXT_LEN old.at stop (omega (arith, next.some)) next.within
 
     front_is : read ++ more ≡ take stop t
-    front_is = ap (λ u. u ++ more) h.read_is ∙ sym (take_between t old.at stop (omega (arith, next.some)))
+    front_is = ap (λ u. u ++ more) (read_is old t read items h) ∙ sym (take_between t old.at stop (omega (arith, next.some)))
 
     long : length (read ++ more) ≡ stop
     long = ap length front_is ∙ length-take-le stop t (omega (arith, next.within, length-take MAX_TEXT_LEN t))
@@ -105,9 +109,9 @@ module _ (old new : Pieces) (t read : Text) (items : List Item) (h : HasGiven ol
       given = record {
         going = going;
         text_is = text ∙ h.text_is;
-        within = omega (arith, at, next.within, length-take MAX_TEXT_LEN t);
-        few = omega (arith, at, next.within, length-take MAX_TEXT_LEN t);
-        read_is = front_is ∙ ap (λ k. take k t) (sym at);
+        at = at ∙ sym long;
+        split = sym (ap (λ u. u ++ drop new.at t) (front_is ∙ ap (λ k. take k t) (sym at)) ∙ take-append-drop new.at t);
+        limit = omega (arith, long, next.within, length-take MAX_TEXT_LEN t);
         reads = Reads-append read more items (items_of piece) h.reads (subst (λ u. Reads u (items_of piece)) more_is next.reads);
       };
       whole = subst (λ k. IsPieceBefore piece (read ++ more) (drop k t)) (sym at) (before piece next.piece_is);
@@ -115,12 +119,18 @@ module _ (old new : Pieces) (t read : Text) (items : List Item) (h : HasGiven ol
 
   -- where none begins
   pub ends_there : BeginsNoItem (drop old.at (take MAX_TEXT_LEN t)) → IsItemsEnd t old.at
-  ends_there none = record { within = h.within; few = h.few; items = items; reads = subst (λ u. Reads u items) h.read_is h.reads; last = none }
+  ends_there none = record {
+    within = at_within old t read items h;
+    few = omega (arith, h.at, h.limit);
+    items = items;
+    reads = subst (λ u. Reads u items) (read_is old t read items h) h.reads;
+    last = none;
+  }
 
   pub all_given : old.at ≡ length t → HasItems t items
   all_given e =
-      let whole : read ≡ t = h.read_is ∙ take_all old.at t (omega (arith, e)) in
-      record { reads = subst (λ u. Reads u items) whole h.reads; limit = omega (arith, h.few, e) }
+      let whole : read ≡ t = read_is old t read items h ∙ take_all old.at t (omega (arith, e)) in
+      record { reads = subst (λ u. Reads u items) whole h.reads; limit = omega (arith, h.at, h.limit, e) }
 
 not_both : (b : Bool) → b ≡ true → b ≡ false → ⊥
 not_both b h g = cc
@@ -144,7 +154,7 @@ module _ (old new : Pieces) (going : old.is_over ≡ false) where
         let text = h.text_is in
         let all : HasGiven old old.text.now read items = subst (λ u. HasGiven old u read items) (sym text) h in
         subst (λ u. MatchOption found (old.at ≡ length u) (NextIsRefusal u items)) text
-        (refused items (ends_there old new old.text.now read items all none) (subst (λ u. Reads u items) all.read_is all.reads))
+        (refused items (ends_there old new old.text.now read items all none) (subst (λ u. Reads u items) (read_is old old.text.now read items all) all.reads))
 
     pub gives_end : found ≡ None → NextReturns old None new
     gives_end e = record {

@@ -100,6 +100,17 @@ part_of_front text most start stop up within =
 pub moved_over : (text : Text) (walk : Walk) (at : ℕ) → IsWalkOver text walk → IsWalkOver text (record walk { at = at })
 moved_over text walk at h = record { walk_is = record { few = h.walk_is.few; runs = h.walk_is.runs }; text_is = h.text_is }
 
+-- a walk over a text that isn't too long has come to another offset
+module _ (passes : Item → Type 0) (text : Text) (few : length text ≤ MAX_TEXT_LEN) (old new : Walk) (over : IsWalkOver text old) (h : HasPassed passes old new) where
+  pub text_is : new.text.now ≡ text
+  text_is = h.text ∙ over.text_is ∙ take_all MAX_TEXT_LEN text few
+
+  pub still_over : IsWalkOver text new
+  still_over = record { walk_is = h.walk; text_is = h.text ∙ over.text_is }
+
+  pub still_within : old.at ≤ length text → new.at ≤ length text
+  still_within low = let most : new.at ≤ max old.at (length text) = subst (λ t. new.at ≤ max old.at (length t)) text_is h.within in omega (arith, low, most)
+
 -- canonical items that a walk has passed
 pub canonical_between : (text : Text) (old new : Walk) → IsWalkOver text old → old.at ≤ length text → HasPassed IsNormalInEach old new
     → IsCanonicalEnd text old.at new.at

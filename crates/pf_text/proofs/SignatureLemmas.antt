@@ -7,7 +7,6 @@ use Rattle.pf_values.specs.declared.types.ArgType.{ArgType}
 use Rattle.pf_values.specs.meaning.Items.{Item, types}
 use Rattle.pf_values.specs.meaning.Text.{Text}
 use Rattle.pf_values.proofs.ItemTypes.{types-append}
-use Rattle.pf_text.proofs.PieceLemmas.{given_split}
 use Rattle.pf_text.specs.declared.pieces.Piece.{Piece}
 use Rattle.pf_text.specs.declared.pieces.Pieces.{Pieces}
 use Rattle.pf_text.specs.declared.refusals.Refusal.{Refusal}
@@ -51,7 +50,7 @@ module _ (model : Model) (old new : Pieces) (t : Text) (found : List ArgType) (h
           front = f.read;
           rest = drop new.at t;
           items = f.items;
-          split = given_split new t f.read f.items f.given;
+          split = f.given.split;
           reads = f.given.reads;
           many = omega (arith, ap length f.types_are, length_push found type);
         }

@@ -24,9 +24,9 @@ items_of (pieces.Directive d) = Directive d ∷ []
 pub record HasGiven (pieces : Pieces) (t read : Text) (items : List Item) : Type 0 where
   pub going : pieces.is_over ≡ false
   pub text_is : pieces.text.now ≡ t
-  pub within : pieces.at ≤ length t
-  pub few : pieces.at ≤ MAX_TEXT_LEN
-  pub read_is : read ≡ take pieces.at t
+  pub at : pieces.at ≡ length read
+  pub split : t ≡ read ++ drop pieces.at t
+  pub limit : length read ≤ MAX_TEXT_LEN
   pub reads : Reads read items
 
 -- a run of literal bytes that ends with the text `read` is not empty, and no literal byte follows

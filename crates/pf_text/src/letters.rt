@@ -5,7 +5,6 @@ ghost use Rattle.pf_text.specs.Letters.{flag_of, modifier_of, conv_of, refused_l
 use pf_values::{Conv, Flag, Length, RefusalKind};
 
 /// Returns the flag that a byte spells, or `None` if it spells none.
-#[inline(always)]
 pub fn flag_of(byte: u8) -> Option<Flag>
     ensures { result ≡ flag_of byte }
 {
@@ -21,7 +20,6 @@ pub fn flag_of(byte: u8) -> Option<Flag>
 }
 
 /// Returns the length modifier of integers that a letter is or begins, or `None` if there is none.
-#[inline(always)]
 pub fn modifier_of(byte: u8) -> Option<Length>
     ensures { result ≡ modifier_of byte }
 {
@@ -36,7 +34,6 @@ pub fn modifier_of(byte: u8) -> Option<Length>
 }
 
 /// Returns the conversion of the profile that a letter is, or `None` if it isn't one.
-#[inline(always)]
 pub fn conv_of(byte: u8) -> Option<Conv>
     ensures { result ≡ conv_of byte }
 {

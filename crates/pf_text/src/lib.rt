@@ -1,13 +1,13 @@
 //! Formats of the C function `printf`: which items a text has, or where and why it is refused; how
 //! directives are spelled; the types of the arguments that a format takes.
 //!
-//! The road through a text in memory is `walk`: a loop of `Walk::find`, and `specification` for the item that
-//! it leaves. Where a text is refused or comes in blocks, `scanner` goes on byte by byte. The shortcuts, and what a
+//! The road through a text in memory is `walk`: a loop over `Walk::find`, with a step by the part readers of
+//! `specification` for the item that it stops at. Where a text is refused or comes in blocks, `scanner` goes on byte by byte. The shortcuts, and what a
 //! call costs with one and without, in instructions over 4,000 formats: `marks` finds each `%` of a short
 //! text in one step (`check`: 133 and 167), `passed` knows items that need no look at their parts (bare ones
 //! in `check`: 133 and 208; canonical ones in `canonical`: 235 and 507), `checking` and
 //! `known_argument_types` need no scanner (`check`: 133 and 204; `types`: 238 and 338),
-//! `spelled_directives` reads the common spellings (`check`: 133 and 139), and `search` looks at 64 bytes before
+//! `specification` reads one flag or none first (`check`: 133 and 139), and `search` looks at 64 bytes before
 //! `memchr2` (`check`: 133 and 141).
 #![tactic(auto)]
 
@@ -32,10 +32,9 @@ mod walk;
 
 pub use argument_types::signature;
 pub use canonical_runs::canonical_end;
-pub use checking::{check, items_end, refusal_at};
+pub use checking::{check, is_known_accepted, items_end, refusal_at};
 pub use known_argument_types::known_types;
 pub use letters::{conv_of, flag_of, modifier_of};
-pub use marks::{MAX_MARKED, MIN_MARKED, Marks};
 pub use passed::{Bare, Canonical, Nothing, Passed, Percents};
 pub use pieces::{Piece, Pieces};
 pub use refusals::{Refusal, Side, TextFault};

@@ -1,4 +1,4 @@
-//! Where the runs of literal bytes of a text end.
+//! The ends of the runs of literal bytes of a text.
 ghost use Rattle.std.specs.Prelude.{◌<◌, ◌≤◌, length, IfSome};
 ghost use Rattle.pf_values.specs.meaning.Text.{Text};
 ghost use Rattle.pf_text.specs.Walks.{AreRunsOf, IsNextEnd};
@@ -6,7 +6,7 @@ ghost use Rattle.pf_text.specs.Walks.{AreRunsOf, IsNextEnd};
 use crate::marks::{MAX_MARKED, MIN_MARKED, Marks};
 use crate::search::literal_len;
 
-/// Where the runs of literal bytes of a text end: by its marks, if it has any, or by search.
+/// The ends of the runs of literal bytes of a text: by its marks, if it has any, or by search.
 #[derive(Clone, Copy, Debug)]
 pub(crate) struct LiteralRuns {
     marks: Option<Marks>,
@@ -52,11 +52,15 @@ impl LiteralRuns {
     }
 }
 
+// Most runs that are looked for behind a directive are empty, and need no search.
 #[inline(always)]
 fn next_by_search(text: &[u8], from: usize) -> Option<usize>
     requires { from < length text.now }
     ensures { IsNextEnd text.now from result }
 {
+    if text[from] == b'%' {
+        return Some(from);
+    }
     let end = from + literal_len(&text[from..]);
     if end == text.len() {
         return None;

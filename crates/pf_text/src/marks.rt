@@ -6,10 +6,10 @@ ghost use Rattle.pf_text.specs.Marks.{AreMarksOf, HasMark, HasNoBit, HasNoMark, 
 use crate::search::ends_at;
 
 /// The fewest bytes of a text that has marks.
-pub const MIN_MARKED: usize = HALF;
+pub(crate) const MIN_MARKED: usize = HALF;
 
 /// The most bytes of a text that has marks: one for each bit.
-pub const MAX_MARKED: usize = 64;
+pub(crate) const MAX_MARKED: usize = 64;
 
 const LANES: usize = 16;
 
@@ -18,14 +18,13 @@ const HALF: usize = 8;
 
 /// Marks at the bytes `%` and 0 of a text: each is the bit of its offset.
 #[derive(Clone, Copy, Debug)]
-pub struct Marks {
+pub(crate) struct Marks {
     bits: u64,
 }
 
 impl Marks {
     /// Marks a text of 8 to 64 bytes.
-    #[inline(always)]
-    pub fn of(text: &[u8]) -> Marks
+    pub(crate) fn of(text: &[u8]) -> Marks
         requires some { MIN_MARKED ≤ length text.now }
         requires few { length text.now ≤ MAX_MARKED }
         ensures { AreMarksOf result text.now }
@@ -35,9 +34,8 @@ impl Marks {
         }
     }
 
-    /// Returns the first marked offset from `at` on, or `None` if there is none.
-    #[inline(always)]
-    pub fn next_from(self, at: usize) -> Option<usize>
+    /// The first marked offset from `at` on.
+    pub(crate) fn next_from(self, at: usize) -> Option<usize>
         requires { at < 64 }
         ensures { MatchOption result (HasNoMark self at 64)
             (λ offset. (at ≤ offset) × (offset < 128) × HasNoMark self at offset
@@ -47,7 +45,6 @@ impl Marks {
     }
 }
 
-#[inline(always)]
 fn marks_of(text: &[u8]) -> u64
     requires some { MIN_MARKED ≤ length text.now }
     requires few { length text.now ≤ MAX_MARKED }
@@ -71,7 +68,6 @@ fn marks_of(text: &[u8]) -> u64
 }
 
 // Marks the bytes that one vector holds.
-#[inline(always)]
 fn marks_at<const N: usize>(text: &[u8], at: usize) -> u64
     requires room { at + N ≤ length text.now }
     requires few { at + N ≤ 64 }
@@ -81,7 +77,6 @@ fn marks_at<const N: usize>(text: &[u8], at: usize) -> u64
     ends_at::<N>(text, at) << at as u32
 }
 
-#[inline(always)]
 fn next_marked(marks: u64, at: usize) -> Option<usize>
     requires { at < 64 }
     ensures { MatchOption result (HasNoBit marks at 64)

@@ -15,7 +15,6 @@ pub type Spelling = ArrayVec<u8, 20>;
 /// Returns the spelling of a directive: each flag once, in the order `-`, `+`, space, `#`, `0`,
 /// `'`, and numbers without zeros in front. A precision of 0 is `.0`. One of the longest is `%-+
 /// 0'4095.4095lld`.
-#[inline(always)]
 pub fn spell(directive: &Directive) -> Spelling
     ensures bytes { result.items ≡ spelling_of directive.now }
     ensures short { array_vec_len result ≤ 18 }
@@ -31,7 +30,6 @@ pub fn spell(directive: &Directive) -> Spelling
 }
 
 /// Appends the bytes that spell flags, each once and in the order of `spell`.
-#[inline(always)]
 pub fn push_flags<const N: usize>(out: &mut ArrayVec<u8, N>, flags: FlagSet)
     requires { array_vec_len out.old + 6 ≤ N }
     ensures bytes { out.new.items ≡ out.old.items ++ flags_spelled flags }
@@ -42,7 +40,6 @@ pub fn push_flags<const N: usize>(out: &mut ArrayVec<u8, N>, flags: FlagSet)
     }
 }
 
-#[inline(always)]
 fn push_flag<const N: usize>(out: &mut ArrayVec<u8, N>, flags: FlagSet, flag: Flag)
     requires { array_vec_len out.old < N }
     ensures { out.new.items ≡ out.old.items ++ flags_kept flags (flag ∷ []) }
@@ -52,7 +49,6 @@ fn push_flag<const N: usize>(out: &mut ArrayVec<u8, N>, flags: FlagSet, flag: Fl
     }
 }
 
-#[inline(always)]
 fn push_width(out: &mut Spelling, width: Option<u16>)
     requires small { is_above_limit width ≡ false }
     requires room { array_vec_len out.old + 4 ≤ 20 }
@@ -64,7 +60,6 @@ fn push_width(out: &mut Spelling, width: Option<u16>)
     }
 }
 
-#[inline(always)]
 fn push_precision(out: &mut Spelling, precision: Option<u16>)
     requires small { is_above_limit precision ≡ false }
     requires room { array_vec_len out.old + 5 ≤ 20 }
@@ -89,7 +84,6 @@ fn push_number(out: &mut Spelling, number: u16)
     out.push(b'0' + (number % 10) as u8);
 }
 
-#[inline(always)]
 fn push_letters(out: &mut Spelling, length: Length)
     requires { array_vec_len out.old + 2 ≤ 20 }
     ensures bytes { out.new.items ≡ out.old.items ++ length_letters length }

@@ -2,7 +2,7 @@
 //! reductions where they are called.
 use pf_canon::{ShortText, VerbatimFront};
 use pf_reduce::{Change, Core, Reduced, change_of, reduce};
-use pf_text::{Refusal, directive_at_front, spell};
+use pf_text::{Refusal, directive_at, spell};
 use pf_values::{Model, RefusalKind};
 
 fn is_verbatim(format: &[u8]) -> bool {
@@ -37,13 +37,13 @@ fn short_canonical_texts(rt: HostRuntime) {
 
 // What a directive is reduced to: its spaces, its zeros, and whether its core is spelled like this.
 fn reduced(directive: &[u8], wanted: &[u8]) -> Option<(u16, u16, bool, u16)> {
-    let (directive, _) = directive_at_front(directive)?;
+    let found = directive_at(directive, 0)?;
     let Reduced {
         spaces,
         zeros,
         core,
         trail,
-    } = reduce(Model::Lp64, &directive);
+    } = reduce(Model::Lp64, &found.directive);
     match core {
         Core::Normal(normal) => {
             let is_core = spell(&normal.directive()).as_slice() == wanted;
@@ -75,8 +75,8 @@ fn reductions_in_place(rt: HostRuntime) {
 // What changes in the spelling of a directive: 0 if it isn't known, 1 for the letters, 2 for the flag `0`, and for
 // spaces the width that is left.
 fn change(directive: &[u8]) -> Option<u16> {
-    let (directive, _) = directive_at_front(directive)?;
-    match change_of(Model::Lp64, &directive) {
+    let found = directive_at(directive, 0)?;
+    match change_of(Model::Lp64, &found.directive) {
         None => Some(0),
         Some(Change::Letters) => Some(1),
         Some(Change::Filled) => Some(2),

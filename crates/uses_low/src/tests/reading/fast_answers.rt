@@ -1,19 +1,10 @@
-//! What is known of a text without its reader: marks, where walks stop, whole directives, and types.
+//! Texts in memory: where a walk stops, directives and their parts at offsets, and types.
 use pf_text::{
-    Bare, Canonical, Marks, Nothing, Passed, Percents, Refusal, Scanner, Walk, canonical_end,
-    directive_at_front, is_known_accepted, known_types, literal_len, spell, spelled_at_front,
+    Bare, Canonical, Nothing, Passed, Percents, Refusal, Scanner, Walk, canonical_end, digits_at,
+    directive_at, flags_at, is_known_accepted, items_end, known_types, literal_len, modifier_at,
+    number_at, refusal_at, spell, spelled_at,
 };
-use pf_values::{ArgType, Model, RefusalKind};
-
-#[test]
-fn percent_and_nul_are_marked(rt: HostRuntime) {
-    let text = b"ab%cd\0efgh".as_slice();
-    let marks = Marks::of(text);
-    assert!(rt;
-        [marks.next_from(0), marks.next_from(3), marks.next_from(6)] == [Some(2), Some(5), None]
-            && literal_len(text) == 2
-    );
-}
+use pf_values::{ArgType, Flag, Length, Model, RefusalKind};
 
 // Where the canonical run ends that begins at an offset.
 fn run_end(text: &[u8], from: usize) -> usize {
@@ -65,47 +56,62 @@ fn a_walk_stops(rt: HostRuntime) {
     );
 }
 
-// Whether the directive at the front is spelled like this, and how many bytes it has.
-fn front(text: &[u8], wanted: &[u8]) -> Option<(bool, usize)> {
-    let (directive, len) = directive_at_front(text)?;
-    Some((spell(&directive).as_slice() == wanted, len))
+// Whether the directive at an offset is spelled like this, and where it ends.
+fn found(text: &[u8], start: usize, wanted: &[u8]) -> Option<(bool, usize)> {
+    let found = directive_at(text, start)?;
+    Some((spell(&found.directive).as_slice() == wanted, found.stop))
 }
 
 #[test]
-fn a_directive_at_the_front(rt: HostRuntime) {
+fn directives_at_offsets(rt: HostRuntime) {
     assert!(rt;
         [
-            front(b"%0000005d%", b"%05d"),
-            front(b"%-8.3ld", b"%-8.3ld"),
-            front(b"a%d", b""),
-            front(b"%%", b""),
-            front(b"%-", b""),
-            front(b"%y", b""),
-        ] == [Some((true, 9)), Some((true, 7)), None, None, None, None]
+            found(b"%0000005d%", 0, b"%05d"),
+            found(b"ab%-8.3ld", 2, b"%-8.3ld"),
+            found(b"%d%#+ 'd", 2, b""),
+            found(b"%+ 'd", 0, b"%'+d"),
+            found(b"a%d", 0, b""),
+            found(b"%%", 0, b""),
+            found(b"%-", 0, b""),
+            found(b"%y", 0, b""),
+            found(b"%5000d", 0, b""),
+            found(b"%d", 9, b""),
+        ] == [
+            Some((true, 9)),
+            Some((true, 9)),
+            None,
+            Some((true, 5)),
+            None,
+            None,
+            None,
+            None,
+            None,
+            None
+        ]
     );
 }
 
-// The offset of the length modifier, and how many bytes the directive has, if it is spelled as `spell` spells it.
-fn spelled(text: &[u8]) -> Option<(usize, usize)> {
-    let directive = spelled_at_front(text)?;
-    Some((directive.modifier_at, directive.len))
+// The offset of the length modifier, and where the directive ends, if it is spelled as `spell` spells it.
+fn spelled(text: &[u8], start: usize) -> Option<(usize, usize)> {
+    let found = spelled_at(text, start)?;
+    Some((found.modifier_at, found.stop))
 }
 
 #[test]
-fn a_spelled_directive_at_the_front(rt: HostRuntime) {
+fn spelled_directives_at_offsets(rt: HostRuntime) {
     assert!(rt;
         [
-            spelled(b"%08lx!"),
-            spelled(b"%-8.3ld"),
-            spelled(b"%zu"),
-            spelled(b"%005d"),
-            spelled(b"%.05d"),
-            spelled(b"%+d"),
-            spelled(b"%05c"),
-            spelled(b"%5"),
+            spelled(b"%08lx!", 0),
+            spelled(b"%%%-8.3ld", 2),
+            spelled(b"%zu", 0),
+            spelled(b"%005d", 0),
+            spelled(b"%.05d", 0),
+            spelled(b"%+d", 0),
+            spelled(b"%05c", 0),
+            spelled(b"%5", 0),
         ] == [
             Some((3, 5)),
-            Some((5, 7)),
+            Some((7, 9)),
             Some((1, 3)),
             None,
             None,
@@ -113,6 +119,46 @@ fn a_spelled_directive_at_the_front(rt: HostRuntime) {
             None,
             None
         ]
+    );
+}
+
+#[test]
+fn parts_at_offsets(rt: HostRuntime) {
+    let (flags, flags_stop) = flags_at(b"%#0-5d", 1);
+    assert!(rt;
+        flags.has(Flag::Alt)
+            && flags.has(Flag::Zero)
+            && flags.has(Flag::Minus)
+            && !flags.has(Flag::Plus)
+            && flags_stop == 4
+            && [
+                number_at(b"%05d", 1),
+                number_at(b"%50d", 1),
+                number_at(b"%40960", 1),
+            ] == [(None, 1), (Some(50), 3), (Some(409), 4)]
+            && [digits_at(b"007", 0, 1), digits_at(b"x", 0, 12)] == [(1007, 3), (12, 0)]
+            && [
+                modifier_at(b"%lld", 1),
+                modifier_at(b"%hd", 1),
+                modifier_at(b"%d", 1)
+            ] == [(Length::Ll, 3), (Length::H, 2), (Length::None, 1)]
+    );
+}
+
+#[test]
+fn items_end_where_a_text_is_refused(rt: HostRuntime) {
+    let refusal = Refusal {
+        kind: RefusalKind::Float,
+        at: 7,
+    };
+    assert!(rt;
+        [
+            items_end(b"%d of %5.3ld%%"),
+            items_end(b"%d of %f"),
+            items_end(b"a\0b"),
+        ] == [14, 6, 1]
+            && [refusal_at(b"%d of %f", 6), refusal_at(b"%d", 2)] == [Some(refusal), None]
+            && [literal_len(b"ab%c"), literal_len(b"abc\0")] == [2, 3]
     );
 }
 

@@ -8,7 +8,7 @@ returns-clause-after c t out h long few = (
     model_is = refl;
     after = c.after_items.ensures t h.items h.reads long few;
     made = h.made;
-    few = omega arith;
-    short = omega (arith, h.short);
+    few = omega (arith, h.few, long);
+    short = h.short;
   },
 )

@@ -1,14 +1,14 @@
-use Rattle.std.proofs.Common.{◌≡◌, arith, subst, take}
-use Rattle.std.proofs.lemmas.List.{take_all}
+use Rattle.std.proofs.Common.{arith, length, subst}
+use Rattle.std.proofs.lemmas.Bool.{eqb-true}
 use Rattle.pf_text.specs.CanonicalRuns.{IsCanonicalRun}
+use Rattle.pf_canon.proofs.ItemLemmas.{all_of_walk}
 use Rattle.pf_canon.proofs.WrittenLemmas.{verbatim_canonical}
 use Rattle.pf_canon.proofs.verbatim_front.VerbatimFront.is_all.Goals as goal
 
 pub returns : goal.returns
 returns c is =
-    let model = c.args.self.now.model in
+    let front = c.args.self.now in
     let text = c.args.text.now in
-    let len = c.args.self.now.walk.at in
-    let all : take len text ≡ text = take_all len text (omega (arith, c.if-self-text.false)) in
-    verbatim_canonical model text c.requires.items (omega (arith, c.if-text-gt-MAX_TEXT_LEN.false))
-    (subst (λ t. IsCanonicalRun model t c.requires.items) all c.requires.canonical)
+    let h = c.requires in
+    let all = all_of_walk text front.walk h.over front.walk.at h.within (omega (arith, eqb-true front.walk.at (length text) is)) in
+    verbatim_canonical front.model text h.items all.1 (subst (λ t. IsCanonicalRun front.model t h.items) all.0 h.canonical)
