@@ -17,7 +17,7 @@ use Rattle.pf_posix.specs.Directives.{HasDirectiveCount, TakesFrom, directive_be
 use Rattle.pf_posix.specs.DirectivesInText.{IsListedBehind, IsListedTo}
 use Rattle.pf_posix.specs.Items.{Byte, HasArguments, PosixItem, ReadsPosix, Specification}
 use Rattle.pf_posix.specs.Laws.{filled}
-use Rattle.pf_posix.specs.PartsInText.{BeginsNoSpecification, IsSpecificationAt, specification_of}
+use Rattle.pf_posix.specs.PartsInText.{BeginsNoSpecification, IsSpecificationAt, specification_read}
 use Rattle.pf_posix.specs.Specifications.{PosixSpecification}
 use Rattle.pf_posix.specs.Spelling.{SpellsPosix}
 use Rattle.pf_posix.specs.Types.{fetches}
@@ -124,14 +124,14 @@ module _ (model : Model) (t : Text) (all done : List DirectiveSpan) (at next : �
             let no : true ≡ false = sym second ∙ other in cc
 
       pub listed_specification : (read : Read) (stop : ℕ) → (get_or t (at + 1) 0 == 37) ≡ false → IsSpecificationAt t at (read, stop)
-          → IsListedTo model t all stop (next + length (fetches model (specification_of read)))
-          (done ++ directive_between model at stop next (specification_of read) ∷ [])
+          → IsListedTo model t all stop (next + length (fetches model (specification_read read)))
+          (done ++ directive_between model at stop next (specification_read read) ∷ [])
       listed_specification read stop other found = go h.items h.reads h.all_are where
         After : ℕ → PosixSpecification → Type 0
         After end s = IsListedTo model t all end (next + length (fetches model s)) (done ++ directive_between model at end next s ∷ [])
 
         go : (items : List PosixItem) (reads : ReadsPosix (drop at t) items) → all ≡ done ++ directives_from model at next (drop at t) items reads
-            → After stop (specification_of read)
+            → After stop (specification_read read)
         go [] reads e = absurd (no_end t at less reads)
         go (Byte x ∷ later) reads e = absurd (no_byte t at less x later reads percent other)
         go (Specification s ∷ later) reads e =
@@ -205,13 +205,13 @@ module _ (model : Model) (t : Text) where
 
       -- a specification
       pub listing_found : (read : Read) → IsListedBehind model t all walk.at fetched h.done (Some read) end
-          → (span : DirectiveSpan) → span ≡ directive_between model walk.at end fetched (specification_of read)
-          → (more : ℕ) → more ≡ length (fetches model (specification_of read)) → more ≤ 3
+          → (span : DirectiveSpan) → span ≡ directive_between model walk.at end fetched (specification_read read)
+          → (more : ℕ) → more ≡ length (fetches model (specification_read read)) → more ≤ 3
           → (put : List DirectiveSpan)
           → ((start before : List DirectiveSpan) → new ≡ filled start before → count ≡ length before → put ≡ filled start (before ++ span ∷ []))
           → IsListing model t (record walk { at = end }) (fetched + more) (count + 1) old put
       listing_found read listed span spanned more counted many put puts =
-          let spanned_there = subst (λ d. IsListedTo model t all end (fetched + length (fetches model (specification_of read))) (h.done ++ d ∷ [])) (sym spanned)
+          let spanned_there = subst (λ d. IsListedTo model t all end (fetched + length (fetches model (specification_read read))) (h.done ++ d ∷ [])) (sym spanned)
           listed in
           record {
             types = h.types;

@@ -17,7 +17,7 @@ use Rattle.pf_posix.specs.declared.opaque_directives.OpaqueAmount.TheVariants as
 use Rattle.pf_posix.specs.declared.specifications.Specification.{Specification}
 use Rattle.pf_posix.specs.OpaqueParts.{amount_at, amount_of, parts_of_opaque}
 use Rattle.pf_posix.specs.PartsInText.{BeginsNoSpecification, ConversionIs, IsSpecificationAt, ModifierIs}
-use Rattle.pf_posix.specs.PartsInText.{PositionIs, PrecisionIs, WidthIs, specification_of}
+use Rattle.pf_posix.specs.PartsInText.{PositionIs, PrecisionIs, WidthIs, specification_read}
 use Rattle.pf_posix.specs.Specifications.{Fetched, PosixSpecification, conversion_letter, modifier_letters}
 use Rattle.pf_posix.specs.Spelling.{SpellsPosition, SpellsPosix, SpellsPosixPrecision, SpellsPosixWidth}
 use Rattle.pf_posix.proofs.SpecificationsOnce.{HasAllParts, after_flags_outside, after_number_outside, after_precision_outside, after_width_outside, all_parts}
@@ -26,11 +26,11 @@ use Rattle.pf_posix.proofs.SpecificationsOnce.{specification_once, whole_with}
 use Rattle.pf_posix.proofs.PartLemmas.{flags_are, tail_at}
 
 -- the parts of an unnumbered specification
-pub unnumbered_parts : (t : Text) (read : Specification) → SpellsPosix t (specification_of read) → read.position ≡ None
-    → parts_of_opaque read.parts ≡ specification_of read
+pub unnumbered_parts : (t : Text) (read : Specification) → SpellsPosix t (specification_read read) → read.position ≡ None
+    → parts_of_opaque read.parts ≡ specification_read read
 unnumbered_parts t read h e =
-    let parts = all_parts t (specification_of read) h in
-    same_fields _ (specification_of read) (sym e) refl (width_is read.parts.width parts.width parts.width_is)
+    let parts = all_parts t (specification_read read) h in
+    same_fields _ (specification_read read) (sym e) refl (width_is read.parts.width parts.width parts.width_is)
     (precision_is read.parts.precision parts.precision parts.precision_is) refl refl where
       same : (number : Option ℕ) → is_some number ≡ is_some read.position → number ≡ None
       same number f = no_number number (f ∙ ap is_some e)
@@ -118,8 +118,8 @@ module _ (t : Text) (start : ℕ) (position : Option ℕ) (k : ℕ) (n : Positio
         record {
           some = omega (arith, opened.from, numbered.from, flagged.from, wide.from, precise.from, modified.from);
           within = whole.within;
-          spelled = subst (λ r. SpellsPosix (take (d + 1 - start) (drop start t)) (specification_of r)) (sym is)
-              (subst (λ u. SpellsPosix u (specification_of made)) (sym (bytes_between t _ start (d + 1) whole)) spelled);
+          spelled = subst (λ r. SpellsPosix (take (d + 1 - start) (drop start t)) (specification_read r)) (sym is)
+              (subst (λ u. SpellsPosix u (specification_read made)) (sym (bytes_between t _ start (d + 1) whole)) spelled);
         } where
           made : Specification
           made = record {
@@ -155,7 +155,7 @@ module _ (t : Text) (start : ℕ) (position : Option ℕ) (k : ℕ) (n : Positio
           whole = bytes_join t start d (d + 1) _ (conversion_letter conversion ∷ []) modified letter_read
 
           spelled : SpellsPosix ((((37 ∷ (number_read.0 ++ flags) ++ width_read.0) ++ precision_read.0) ++ modifier_letters modifier)
-              ++ conversion_letter conversion ∷ []) (specification_of made)
+              ++ conversion_letter conversion ∷ []) (specification_read made)
           spelled = record {
             before = (37 ∷ (number_read.0 ++ flags) ++ width_read.0) ++ precision_read.0;
             before_is = record {
@@ -176,12 +176,12 @@ module _ (t : Text) (start : ℕ) (position : Option ℕ) (k : ℕ) (n : Positio
 
 -- a specification that is spelled where one was read is this one
 pub same_there : (t : Text) (start : ℕ) (found : Specification × ℕ) → IsSpecificationAt t start found → (text rest : Text) (s : PosixSpecification)
-    → SpellsPosix text s → drop start t ≡ text ++ rest → (specification_of found.0 ≡ s) × (drop found.1 t ≡ rest)
+    → SpellsPosix text s → drop start t ≡ text ++ rest → (specification_read found.0 ≡ s) × (drop found.1 t ≡ rest)
 same_there t start found h text rest s spelled e =
     let stop = found.1 in
     let place : start + (stop - start) ≡ stop = omega (arith, h.some) in
     let split : drop start t ≡ take (stop - start) (drop start t) ++ drop stop t =
     sym (take-append-drop (stop - start) (drop start t))
     ∙ ap (λ u. take (stop - start) (drop start t) ++ u) (drop-drop (stop - start) start t ∙ ap (λ k. drop k t) place) in
-    let same = specification_once (take (stop - start) (drop start t)) text (drop stop t) rest (specification_of found.0) s h.spelled spelled (sym split ∙ e) in
+    let same = specification_once (take (stop - start) (drop start t)) text (drop stop t) rest (specification_read found.0) s h.spelled spelled (sym split ∙ e) in
     (same.0, same.1)

@@ -1,7 +1,7 @@
 -- The parts of a specification at a place of a text, one after another.
 use Rattle.std.proofs.Common.{◌≡◌, ◌≢◌, ℕ, ◌+◌, ◌-◌, ◌*◌, ◌<◌, ◌≤◌, Bool, true, false, List, [], ◌∷◌, ◌++◌, drop, get_or, length, map, refl, sym, ap, ◌∙◌}
 use Rattle.std.proofs.Common.{arith, inl, inr, subst}
-use Rattle.std.specs.Prelude.{Option, Some, None, ◌||◌, IsSomeAnd, MatchOption, is_some, nat_lt, ◌==◌}
+use Rattle.std.specs.Prelude.{Option, Some, None, ◌||◌, IsSomeAnd, MatchOption, nat_lt, ◌==◌}
 use Rattle.std.specs.Fmt.{digit_glyph}
 use Rattle.std.specs.Int.Digits.{number_from_digits_after}
 use Rattle.std.specs.List.{AllByRecursion}
@@ -37,7 +37,7 @@ use Rattle.pf_posix.specs.OpaqueParts.{amount_at}
 use Rattle.pf_posix.specs.PartsInText.{BeginsOutside, ConversionIs, FlagsAre, IsAfterPoint, ModifierGoesOn}
 use Rattle.pf_posix.specs.PartsInText.{PositionIs, StarIs, WidthIs, dollar_follows, is_flag, is_precision, is_width, second_modifier}
 use Rattle.pf_posix.specs.Specifications.{Given, Fetched, conversion_letter, modifier_letters}
-use Rattle.pf_posix.specs.Spelling.{SpellsPosition, SpellsPositive, SpellsPosixPrecision, SpellsStar}
+use Rattle.pf_posix.specs.Spelling.{SpellsPosition, SpellsPositive, SpellsPosixPrecision}
 use Rattle.pf_posix.proofs.Reaching.{letter_tests}
 use Rattle.pf_posix.proofs.Spans.{spans}
 use Rattle.pf_posix.proofs.SpecificationsOnce.{digits_inside, flags_inside, outside_dollar, position_dollar, same_digits, same_flags}
@@ -292,15 +292,6 @@ module _ (t : Text) (start : ℕ) where
 
   module _ (position : Option ℕ) where
     -- `*`
-    pub star_bytes : (number : Option ℕ) (stop : ℕ) → (byte_here == 42) ≡ true → start < length t
-        → (bytes : Text) × SpellsPosition bytes number × (is_some number ≡ is_some position) × HasBytes t (start + 1) stop bytes
-        → (bytes : Text) × SpellsStar bytes position number × HasBytes t start stop bytes
-    star_bytes number stop star less h = (
-      42 ∷ h.0,
-      record { digits = h.0; digits_are = h.1; numbering = h.2; whole = refl },
-      bytes_join t start (start + 1) stop (42 ∷ []) h.0 (bytes_one t start 42 less (sym (eqb-true byte_here 42 star))) h.3,
-    )
-
     pub width_star : (result : Option (Option ℕ × ℕ)) → (byte_here == 42) ≡ true → start < length t → StarIs t (start + 1) position result
         → WidthIs t start position (starred result)
     width_star result star less p text rest None h o e =

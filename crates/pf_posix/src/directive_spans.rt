@@ -7,7 +7,7 @@ ghost use Rattle.pf_posix.specs.Directives.{FaultForDirectives, HasDirectiveCoun
 ghost use Rattle.pf_posix.specs.DirectivesInText.{IsListedBehind, IsListedTo};
 ghost use Rattle.pf_posix.specs.Items.{IsPosixAccepted, PosixItem, ReadsPosix};
 ghost use Rattle.pf_posix.specs.OpaqueParts.{amount_at};
-ghost use Rattle.pf_posix.specs.PartsInText.{specification_of};
+ghost use Rattle.pf_posix.specs.PartsInText.{specification_read};
 ghost use Rattle.pf_posix.specs.Refusals.{IsPosixRefusedAt};
 ghost use Rattle.pf_posix.specs.Types.{fetches, star_fetches};
 
@@ -132,7 +132,7 @@ fn item_at(text: &[u8], at: usize) -> (Option<Specification>, usize)
     (Some(read), end)
 }
 
-// The specification between two offsets, if so many arguments were fetched before it.
+// The specification between two offsets, after `next` arguments were fetched.
 #[inline(always)]
 fn span_between(
     model: Model,
@@ -142,7 +142,7 @@ fn span_between(
     read: &Specification,
 ) -> DirectiveSpan
     requires { next ≤ 3 * LIMIT }
-    ensures { result ≡ directive_between model begin end next (specification_of read.now) }
+    ensures { result ≡ directive_between model begin end next (specification_read read.now) }
 {
     let parts = read.parts;
     let after_width = next + star_count(parts.width);
@@ -159,7 +159,7 @@ fn span_between(
 // How many arguments a specification fetches.
 #[inline(always)]
 fn fetch_count(read: &Specification) -> u64
-    ensures count { (model : ModelOf) → result ≡ length (fetches model (specification_of read.now)) }
+    ensures count { (model : ModelOf) → result ≡ length (fetches model (specification_read read.now)) }
     ensures few { result ≤ 3 }
 {
     1 + star_count(read.parts.width) + star_count(read.parts.precision)

@@ -1,11 +1,11 @@
 //! The reader of a text, which goes from one fetched argument to the next.
-ghost use Rattle.std.specs.Prelude.{◌≡◌, ◌+◌, ◌<◌, ◌≤◌, length, slice_index, MatchOption, ◌≢◌, ⊤, drop};
+ghost use Rattle.std.specs.Prelude.{◌≡◌, ◌+◌, ◌<◌, ◌≤◌, length, slice_index, MatchOption, ◌≢◌, drop};
 ghost use Rattle.memchr.specs.Find.{Nowhere, Passes, is_byte2};
 ghost use Rattle.pf_values.specs.declared.limits.TheConstants.{MAX_TEXT_LEN as LIMIT};
 ghost use Rattle.pf_values.specs.declared.models.Model.{Model};
 ghost use Rattle.pf_values.specs.meaning.Text.{Text, percent};
 ghost use Rattle.pf_posix.specs.declared.reader.Reader.{Reader as ReaderOf};
-ghost use Rattle.pf_posix.specs.Readings.{Fetches, trace_from, fetch_trace};
+ghost use Rattle.pf_posix.specs.Readings.{trace_from, fetch_trace};
 ghost use Rattle.pf_posix.specs.declared.partial_specification.Numbering.TheVariants.{Unnumbered};
 ghost use Rattle.pf_posix.specs.Refusals.{numbering_by};
 ghost use Rattle.pf_posix.specs.Stages.{Between, posix_state_of};
