@@ -112,7 +112,6 @@ fn put_directives(model: Model, text: &[u8], out: &mut [DirectiveSpan]) -> u64
 }
 
 // The item at an offset of an accepted format, if it is a specification and no byte; and where it ends.
-#[inline(always)]
 fn item_at(text: &[u8], at: usize) -> (Option<Specification>, usize)
     requires within { at < length text.now }
     requires reads { (items : List PosixItem) × ReadsPosix (drop at text.now) items }
@@ -133,7 +132,6 @@ fn item_at(text: &[u8], at: usize) -> (Option<Specification>, usize)
 }
 
 // The specification between two offsets, after `next` arguments were fetched.
-#[inline(always)]
 fn span_between(
     model: Model,
     begin: usize,
@@ -157,7 +155,6 @@ fn span_between(
 }
 
 // How many arguments a specification fetches.
-#[inline(always)]
 fn fetch_count(read: &Specification) -> u64
     ensures count { (model : ModelOf) → result ≡ length (fetches model (specification_read read.now)) }
     ensures few { result ≤ 3 }
@@ -166,7 +163,6 @@ fn fetch_count(read: &Specification) -> u64
 }
 
 // How many of them its width or its precision fetches.
-#[inline(always)]
 fn star_count(amount: Option<OpaqueAmount>) -> u64
     ensures count { (number : Option ℕ) → result ≡ length (star_fetches (amount_at amount number)) }
     ensures few { result ≤ 1 }
@@ -175,7 +171,6 @@ fn star_count(amount: Option<OpaqueAmount>) -> u64
 }
 
 // The argument of an amount that is a `*`, with a number or else the next one.
-#[inline(always)]
 fn star_index(amount: Option<OpaqueAmount>, number: Option<u16>, next: u64) -> Option<u64>
     ensures { result ≡ star_index (amount_at amount number) next }
 {
@@ -186,7 +181,6 @@ fn star_index(amount: Option<OpaqueAmount>, number: Option<u16>, next: u64) -> O
 }
 
 // The argument with a number, which is 1 at least, or else the next one.
-#[inline(always)]
 fn argument_index(number: Option<u16>, next: u64) -> u64
     ensures { result ≡ argument_index number next }
 {
