@@ -1,7 +1,7 @@
 -- The specifications of an accepted text, one item after another.
 use Rattle.std.proofs.Common.{◌≡◌, ◌≢◌, ℕ, ◌+◌, ◌*◌, ◌<◌, ◌≤◌, Bool, true, false, List, [], ◌∷◌, ◌++◌, length, length-append, get_or, drop, refl, sym, ap, ◌∙◌}
 use Rattle.std.proofs.Common.{arith, subst}
-use Rattle.std.specs.Prelude.{Option, Some, None, ◌==◌, MatchBool}
+use Rattle.std.specs.Prelude.{Some, ◌==◌, MatchBool}
 use Rattle.std.specs.List.{AllByRecursion}
 use Rattle.std.proofs.lemmas.Bool.Decides.{nat_tests}
 use Rattle.std.proofs.lemmas.List.{append_assoc, append-nil, drop_all, length-drop, length_push}
@@ -17,14 +17,15 @@ use Rattle.pf_posix.specs.Directives.{HasDirectiveCount, TakesFrom, directive_be
 use Rattle.pf_posix.specs.DirectivesInText.{IsListedBehind, IsListedTo}
 use Rattle.pf_posix.specs.Items.{Byte, HasArguments, PosixItem, ReadsPosix, Specification}
 use Rattle.pf_posix.specs.Laws.{filled}
-use Rattle.pf_posix.specs.PartsInText.{BeginsNoSpecification, IsSpecificationAt, specification_of}
+use Rattle.pf_posix.specs.PartsInText.{BeginsNoSpecification, IsSpecificationAt, specification_read}
 use Rattle.pf_posix.specs.Specifications.{PosixSpecification}
 use Rattle.pf_posix.specs.Spelling.{SpellsPosix}
 use Rattle.pf_posix.specs.Types.{fetches}
 use Rattle.pf_posix.proofs.DirectiveTypes.{all_typed}
 use Rattle.pf_posix.proofs.DirectivesOnce.{some_text}
+use Rattle.pf_posix.proofs.FoundLemmas.{same_there}
 use Rattle.pf_posix.proofs.OrderLemmas.{filled_none}
-use Rattle.pf_posix.proofs.PartLemmas.{head_at, same_there, tail_at}
+use Rattle.pf_posix.proofs.PartLemmas.{head_at, tail_at}
 use Rattle.pf_posix.proofs.PassedLemmas.{walked}
 use Rattle.pf_posix.proofs.SpecificationsOnce.{begins_no_percent}
 
@@ -123,14 +124,14 @@ module _ (model : Model) (t : Text) (all done : List DirectiveSpan) (at next : �
             let no : true ≡ false = sym second ∙ other in cc
 
       pub listed_specification : (read : Read) (stop : ℕ) → (get_or t (at + 1) 0 == 37) ≡ false → IsSpecificationAt t at (read, stop)
-          → IsListedTo model t all stop (next + length (fetches model (specification_of read)))
-          (done ++ directive_between model at stop next (specification_of read) ∷ [])
+          → IsListedTo model t all stop (next + length (fetches model (specification_read read)))
+          (done ++ directive_between model at stop next (specification_read read) ∷ [])
       listed_specification read stop other found = go h.items h.reads h.all_are where
         After : ℕ → PosixSpecification → Type 0
         After end s = IsListedTo model t all end (next + length (fetches model s)) (done ++ directive_between model at end next s ∷ [])
 
         go : (items : List PosixItem) (reads : ReadsPosix (drop at t) items) → all ≡ done ++ directives_from model at next (drop at t) items reads
-            → After stop (specification_of read)
+            → After stop (specification_read read)
         go [] reads e = absurd (no_end t at less reads)
         go (Byte x ∷ later) reads e = absurd (no_byte t at less x later reads percent other)
         go (Specification s ∷ later) reads e =
@@ -181,22 +182,15 @@ module _ (model : Model) (t : Text) where
     abbrev all : List DirectiveSpan
     all = directives_from model 0 0 t h.given.items h.given.reads
 
-    -- what a walk passes after an item
-    behind_item : (after : Walk) (end next : ℕ) (done : List DirectiveSpan) → HasPassed IsPercent (record walk { at = end }) after
-        → IsListedTo model t all end next done
-        → IsWalkOver t after × (after.at ≤ length t) × IsListedTo model t all after.at next done × (after.text.now ≡ t)
-    behind_item after end next done passed listed =
-        walked t (λ k. IsListedTo model t all k next done)
-        (λ k b less is other some now. listed_byte model t all done k next now less (ap (λ x. x == 37) is ∙ other_byte b other))
-        (λ k less first second now. listed_percent model t all done k next now (omega (arith, less)) first (ap (λ x. x == 37) second))
-        h.given.limit (record walk { at = end }) after (moved_over t walk end h.over) listed.within passed listed
-
-    module _ (after : Walk) (end : ℕ) (low : walk.at < end) (passed : HasPassed IsPercent (record walk { at = end }) after) where
-      pub listing_passed : (found : Option Read) → ((read : Read) → found ≡ Some read → ⊥) → IsListedBehind model t all walk.at fetched h.done found end
+    module _ (end : ℕ) (low : walk.at < end) where
+      -- an item that is a byte, and what a walk passes after it
+      pub listing_passed : (after : Walk) → HasPassed IsPercent (record walk { at = end }) after → IsListedTo model t all end fetched h.done
           → IsListing model t after fetched count old new
-      listing_passed (Some read) other listed = absurd (other read refl)
-      listing_passed None other listed =
-          let now = behind_item after end fetched h.done passed listed in
+      listing_passed after passed listed =
+          let now = walked t (λ k. IsListedTo model t all k fetched h.done)
+          (λ k b less is other some now. listed_byte model t all h.done k fetched now less (ap (λ x. x == 37) is ∙ other_byte b other))
+          (λ k less first second now. listed_percent model t all h.done k fetched now (omega (arith, less)) first (ap (λ x. x == 37) second))
+          h.given.limit (record walk { at = end }) after (moved_over t walk end h.over) listed.within passed listed in
           record {
             types = h.types;
             given = h.given;
@@ -209,27 +203,26 @@ module _ (model : Model) (t : Text) where
             few_fetched = omega (arith, h.few_fetched, low, passed.from);
           }
 
-      pub listing_found : (found : Option Read) (read : Read) → found ≡ Some read → IsListedBehind model t all walk.at fetched h.done found end
-          → (span : DirectiveSpan) → span ≡ directive_between model walk.at end fetched (specification_of read)
-          → (more : ℕ) → more ≡ length (fetches model (specification_of read)) → more ≤ 3
+      -- a specification
+      pub listing_found : (read : Read) → IsListedBehind model t all walk.at fetched h.done (Some read) end
+          → (span : DirectiveSpan) → span ≡ directive_between model walk.at end fetched (specification_read read)
+          → (more : ℕ) → more ≡ length (fetches model (specification_read read)) → more ≤ 3
           → (put : List DirectiveSpan)
           → ((start before : List DirectiveSpan) → new ≡ filled start before → count ≡ length before → put ≡ filled start (before ++ span ∷ []))
-          → IsListing model t after (fetched + more) (count + 1) old put
-      listing_found found read is listed span spanned more counted many put puts =
-          let there = subst (λ o. IsListedBehind model t all walk.at fetched h.done o end) is listed in
-          let span_there = subst (λ d. IsListedTo model t all end (fetched + length (fetches model (specification_of read))) (h.done ++ d ∷ [])) (sym spanned) there in
-          let all_there = subst (λ n. IsListedTo model t all end (fetched + n) (h.done ++ span ∷ [])) (sym counted) span_there in
-          let now = behind_item after end (fetched + more) (h.done ++ span ∷ []) passed all_there in
+          → IsListing model t (record walk { at = end }) (fetched + more) (count + 1) old put
+      listing_found read listed span spanned more counted many put puts =
+          let spanned_there = subst (λ d. IsListedTo model t all end (fetched + length (fetches model (specification_read read))) (h.done ++ d ∷ [])) (sym spanned)
+          listed in
           record {
             types = h.types;
             given = h.given;
             done = h.done ++ span ∷ [];
-            listed = now.2;
-            over = now.0;
+            listed = subst (λ n. IsListedTo model t all end (fetched + n) (h.done ++ span ∷ [])) (sym counted) spanned_there;
+            over = moved_over t walk end h.over;
             count_is = omega (arith, h.count_is, length_push h.done span);
             front = puts old h.done h.front h.count_is;
-            few = omega (arith, h.few, low, passed.from);
-            few_fetched = omega (arith, h.few_fetched, low, passed.from, many);
+            few = omega (arith, h.few, low);
+            few_fetched = omega (arith, h.few_fetched, low, many);
           }
 
     -- after the last item

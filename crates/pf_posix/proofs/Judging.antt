@@ -48,7 +48,7 @@ byte_of_flag byte flag e = grind (arith, nat_tests)
 pub byte_of_conversion : (byte : ℕ) (conversion : Conversion) → conversion_of byte ≡ Some conversion → byte ≡ conversion_letter conversion
 byte_of_conversion byte conversion e = grind (arith, nat_tests)
 
-pub byte_of_modifier : (byte : ℕ) (modifier : Modifier) → length_modifier_of byte ≡ Some modifier
+byte_of_modifier : (byte : ℕ) (modifier : Modifier) → length_modifier_of byte ≡ Some modifier
     → (byte ∷ [] ≡ modifier_letters modifier) × (modifier ≢ Integer lengths.None)
 byte_of_modifier byte LongDouble e = let same : byte ≡ 76 = grind (arith, nat_tests) in (ap (λ b. b ∷ []) same, λ other. cc)
 byte_of_modifier byte (Integer lengths.None) e = absurd (grind (arith, nat_tests))

@@ -8,7 +8,6 @@ pub mod Bounds
 pub mod TypeLists
 pub mod Telling
 pub mod WalkLemmas
-pub mod TwoByteLemmas
 pub mod OrderLemmas
 pub mod PassedLemmas
 pub mod PlainFrontLemmas
@@ -32,6 +31,7 @@ pub mod Narrowed
 pub mod UnnumberedLemmas
 pub mod UnnumberedEnds
 pub mod PartLemmas
+pub mod FoundLemmas
 pub mod StretchLemmas
 mod KindLemmas
 mod Examples

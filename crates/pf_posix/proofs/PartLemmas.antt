@@ -1,14 +1,14 @@
 -- The parts of a specification at a place of a text, one after another.
-use Rattle.std.proofs.Common.{◌≡◌, ◌≢◌, ℕ, ◌+◌, ◌-◌, ◌*◌, ◌<◌, ◌≤◌, Bool, true, false, List, [], ◌∷◌, ◌++◌, drop, get_or, length, map, take, refl, sym, ap, ◌∙◌}
-use Rattle.std.proofs.Common.{arith, drop-drop, inl, inr, subst}
-use Rattle.std.specs.Prelude.{Option, Some, None, ◌||◌, IsSomeAnd, MatchOption, if◌then◌else◌, is_some, nat_lt, ◌==◌}
+use Rattle.std.proofs.Common.{◌≡◌, ◌≢◌, ℕ, ◌+◌, ◌-◌, ◌*◌, ◌<◌, ◌≤◌, Bool, true, false, List, [], ◌∷◌, ◌++◌, drop, get_or, length, map, refl, sym, ap, ◌∙◌}
+use Rattle.std.proofs.Common.{arith, inl, inr, subst}
+use Rattle.std.specs.Prelude.{Option, Some, None, ◌||◌, IsSomeAnd, MatchOption, nat_lt, ◌==◌}
 use Rattle.std.specs.Fmt.{digit_glyph}
 use Rattle.std.specs.Int.Digits.{number_from_digits_after}
 use Rattle.std.specs.List.{AllByRecursion}
 use Rattle.std.proofs.lemmas.Bool.{cases_lt, eqb-true}
 use Rattle.std.proofs.lemmas.Bool.Decides.{nat_tests}
 use Rattle.std.proofs.lemmas.Int.Digits.{number_after_ge}
-use Rattle.std.proofs.lemmas.List.{append_assoc, drop_all, drop_more, get_or-drop, get_or_past, length-drop, take-append-drop}
+use Rattle.std.proofs.lemmas.List.{append_assoc, drop_all, drop_more, get_or-drop, get_or_past, length-drop}
 use Rattle.pf_values.specs.declared.flags.Flag.{Flag}
 use Rattle.pf_values.specs.declared.flags.FlagSet.{FlagSet}
 use Rattle.pf_values.specs.declared.lengths.Length.TheVariants as lengths
@@ -27,25 +27,20 @@ use Rattle.pf_text.proofs.NoDirectiveLemmas.{bytes_rest, same_place}
 use Rattle.pf_text.proofs.NumberDigits.{first_above_zero}
 use Rattle.pf_text.proofs.ReadBack.{width_read}
 use Rattle.pf_text.proofs.SpecificationLemmas.{bytes_join, bytes_one}
-use Rattle.pf_text.proofs.WalkLemmas.{bytes_between}
 use Rattle.pf_posix.specs.declared.conversions.Conversion.{Conversion}
 use Rattle.pf_posix.specs.declared.conversions.Modifier.{Modifier}
 use Rattle.pf_posix.specs.declared.conversions.Modifier.TheVariants.{Integer, LongDouble}
 use Rattle.pf_posix.specs.declared.opaque_directives.OpaqueAmount.{OpaqueAmount}
 use Rattle.pf_posix.specs.declared.opaque_directives.OpaqueAmount.TheVariants as amounts
-use Rattle.pf_posix.specs.declared.specifications.Specification.{Specification}
 use Rattle.pf_posix.specs.Letters.{conversion_of, is_first_digit, length_modifier_of}
-use Rattle.pf_posix.specs.OpaqueParts.{amount_at, amount_of, parts_of_opaque}
-use Rattle.pf_posix.specs.PartsInText.{BeginsNoSpecification, BeginsOutside, ConversionIs, FlagsAre, IsAfterPoint, IsSpecificationAt, ModifierGoesOn, ModifierIs}
-use Rattle.pf_posix.specs.PartsInText.{PositionIs, PrecisionIs, StarIs, WidthIs, dollar_follows, is_flag, is_precision, is_width, second_modifier, specification_of}
-use Rattle.pf_posix.specs.Specifications.{Given, Fetched, PosixSpecification, conversion_letter, modifier_letters}
-use Rattle.pf_posix.specs.Spelling.{SpellsPosition, SpellsPositive, SpellsPosix, SpellsPosixPrecision, SpellsPosixWidth, SpellsStar}
-use Rattle.pf_posix.proofs.Judging.{byte_of_conversion, byte_of_modifier}
+use Rattle.pf_posix.specs.OpaqueParts.{amount_at}
+use Rattle.pf_posix.specs.PartsInText.{BeginsOutside, ConversionIs, FlagsAre, IsAfterPoint, ModifierGoesOn}
+use Rattle.pf_posix.specs.PartsInText.{PositionIs, StarIs, WidthIs, dollar_follows, is_flag, is_precision, is_width, second_modifier}
+use Rattle.pf_posix.specs.Specifications.{Given, Fetched, conversion_letter, modifier_letters}
+use Rattle.pf_posix.specs.Spelling.{SpellsPosition, SpellsPositive, SpellsPosixPrecision}
 use Rattle.pf_posix.proofs.Reaching.{letter_tests}
 use Rattle.pf_posix.proofs.Spans.{spans}
-use Rattle.pf_posix.proofs.SpecificationsOnce.{HasAllParts, after_flags_outside, after_number_outside, after_precision_outside, after_width_outside, all_parts}
-use Rattle.pf_posix.proofs.SpecificationsOnce.{digits_inside, flags_inside, no_number, outside_dollar, position_dollar, same_digits, same_fields, same_flags}
-use Rattle.pf_posix.proofs.SpecificationsOnce.{specification_once, whole_with}
+use Rattle.pf_posix.proofs.SpecificationsOnce.{digits_inside, flags_inside, outside_dollar, position_dollar, same_digits, same_flags}
 
 -- the byte at a place, and what comes after it
 pub head_at : (t : Text) (at byte : ℕ) (rest : Text) → drop at t ≡ byte ∷ rest → get_or t at 0 ≡ byte
@@ -171,7 +166,7 @@ digit_inside t at h = elim (cases_lt at (length t)) [
 digit_no_star : (d : ℕ) → d < 10 → (digit_glyph false d == 42) ≡ false
 digit_no_star d high = grind (arith, nat_tests)
 
-bool_no : {b : Bool} → b ≡ true → b ≡ false → ⊥
+pub bool_no : {b : Bool} → b ≡ true → b ≡ false → ⊥
 bool_no h g = let no : true ≡ false = sym h ∙ g in cc
 
 -- the test of a byte where the text goes on with another one
@@ -297,15 +292,6 @@ module _ (t : Text) (start : ℕ) where
 
   module _ (position : Option ℕ) where
     -- `*`
-    pub star_bytes : (number : Option ℕ) (stop : ℕ) → (byte_here == 42) ≡ true → start < length t
-        → (bytes : Text) × SpellsPosition bytes number × (is_some number ≡ is_some position) × HasBytes t (start + 1) stop bytes
-        → (bytes : Text) × SpellsStar bytes position number × HasBytes t start stop bytes
-    star_bytes number stop star less h = (
-      42 ∷ h.0,
-      record { digits = h.0; digits_are = h.1; numbering = h.2; whole = refl },
-      bytes_join t start (start + 1) stop (42 ∷ []) h.0 (bytes_one t start 42 less (sym (eqb-true byte_here 42 star))) h.3,
-    )
-
     pub width_star : (result : Option (Option ℕ × ℕ)) → (byte_here == 42) ≡ true → start < length t → StarIs t (start + 1) position result
         → WidthIs t start position (starred result)
     width_star result star less p text rest None h o e =
@@ -458,208 +444,7 @@ module _ (t : Text) (start : ℕ) (first : Modifier) where
   first_read s letter modifier conversion rest f e =
       subst (λ o. MeansSecond t start first o modifier (conversion_letter conversion) rest) s (goes_on letter modifier conversion rest f e)
 
--- the letters of a modifier
-pub modifier_joined : (t : Text) (start stop : ℕ) (first modifier : Modifier) → start < length t → length_modifier_of (get_or t start 0) ≡ Some first
-    → (bytes : Text) × (modifier_letters modifier ≡ modifier_letters first ++ bytes) × HasBytes t (start + 1) stop bytes
-    → HasBytes t start stop (modifier_letters modifier)
-modifier_joined t start stop first modifier less e h =
-    let letter = (byte_of_modifier (get_or t start 0) first e).0 in
-    subst (HasBytes t start stop) (ap (λ u. u ++ h.0) letter ∙ sym h.1)
-    (bytes_join t start (start + 1) stop (get_or t start 0 ∷ []) h.0 (bytes_one t start (get_or t start 0) less refl) h.2)
-
-pub second_letter : (t : Text) (start : ℕ) (first modifier : Modifier) → start < length t → second_modifier first (get_or t start 0) ≡ Some modifier
-    → (bytes : Text) × (modifier_letters modifier ≡ modifier_letters first ++ bytes) × HasBytes t start (start + 1) bytes
-second_letter t start first modifier less e =
-    (get_or t start 0 ∷ [], letters first modifier (get_or t start 0) e, bytes_one t start (get_or t start 0) less refl) where
-      letters : (first modifier : Modifier) (byte : ℕ) → second_modifier first byte ≡ Some modifier → modifier_letters modifier ≡ modifier_letters first ++ byte ∷ []
-      letters (Integer lengths.H) modifier byte e = go (byte == 104) refl e where
-        go : (b : Bool) → (byte == 104) ≡ b → (if b then Some (Integer lengths.Hh) else None) ≡ Some modifier
-            → modifier_letters modifier ≡ 104 ∷ byte ∷ []
-        go true same e =
-            let is : modifier ≡ Integer lengths.Hh = cc in
-            ap modifier_letters is ∙ ap (λ b. 104 ∷ b ∷ []) (sym (eqb-true byte 104 same))
-        go false other e = cc
-      letters (Integer lengths.L) modifier byte e = go (byte == 108) refl e where
-        go : (b : Bool) → (byte == 108) ≡ b → (if b then Some (Integer lengths.Ll) else None) ≡ Some modifier
-            → modifier_letters modifier ≡ 108 ∷ byte ∷ []
-        go true same e =
-            let is : modifier ≡ Integer lengths.Ll = cc in
-            ap modifier_letters is ∙ ap (λ b. 108 ∷ b ∷ []) (sym (eqb-true byte 108 same))
-        go false other e = cc
-      letters LongDouble modifier byte e = cc
-      letters (Integer lengths.None) modifier byte e = cc
-      letters (Integer lengths.Hh) modifier byte e = cc
-      letters (Integer lengths.Ll) modifier byte e = cc
-      letters (Integer lengths.J) modifier byte e = cc
-      letters (Integer lengths.Z) modifier byte e = cc
-      letters (Integer lengths.T) modifier byte e = cc
-
 module _ (t : Text) (start : ℕ) where
   pub conversion_read : (result : Option Conversion) → result ≡ conversion_of (get_or t start 0) → ConversionIs t start result
   conversion_read result r conversion rest e = r ∙ ap conversion_of (head_at t start (conversion_letter conversion) rest e)
       ∙ (letter_tests conversion).conversion_is
-
-  pub letter_read : (conversion : Conversion) → start < length t → conversion_of (get_or t start 0) ≡ Some conversion
-      → HasBytes t start (start + 1) (conversion_letter conversion ∷ [])
-  letter_read conversion less e = bytes_one t start (conversion_letter conversion) less (sym (byte_of_conversion (get_or t start 0) conversion e))
-
--- the parts of an unnumbered specification
-pub unnumbered_parts : (t : Text) (read : Specification) → SpellsPosix t (specification_of read) → read.position ≡ None
-    → parts_of_opaque read.parts ≡ specification_of read
-unnumbered_parts t read h e =
-    let parts = all_parts t (specification_of read) h in
-    same_fields _ (specification_of read) (sym e) refl (width_is read.parts.width parts.width parts.width_is)
-    (precision_is read.parts.precision parts.precision parts.precision_is) refl refl where
-      same : (number : Option ℕ) → is_some number ≡ is_some read.position → number ≡ None
-      same number f = no_number number (f ∙ ap is_some e)
-
-      width_is : (amount : Option OpaqueAmount) (text : Text) → SpellsPosixWidth text read.position (amount_at amount read.width_position)
-          → amount_of amount ≡ amount_at amount read.width_position
-      width_is None text w = refl
-      width_is (Some (amounts.Number n)) text w = refl
-      width_is (Some amounts.Star) text w = ap (λ k. Some (Fetched k)) (sym (same read.width_position w.numbering))
-
-      precision_is : (amount : Option OpaqueAmount) (text : Text) → SpellsPosixPrecision text read.position (amount_at amount read.precision_position)
-          → amount_of amount ≡ amount_at amount read.precision_position
-      precision_is None text p = refl
-      precision_is (Some (amounts.Number n)) text p = refl
-      precision_is (Some amounts.Star) text p = ap (λ k. Some (Fetched k)) (sym (same read.precision_position p.1.numbering))
-
--- a whole specification
-module _ (t : Text) (start : ℕ) (position : Option ℕ) (k : ℕ) (n : PositionIs t (start + 1) position k) (set : FlagSet) (a : ℕ)
-    (flags_read : (flags : List Flag) × (set ≡ flag_set flags) × HasBytes t k a (map flag_byte flags)) (flags_end : EndsFlags t a) where
-  -- what each part leaves of the text
-  module _ (text rest : Text) (s : PosixSpecification) (spelled : SpellsPosix text s) (e : drop start t ≡ text ++ rest) where
-    parts : HasAllParts text s
-    parts = all_parts text s spelled
-
-    abbrev ending : Text
-    ending = modifier_letters s.modifier ++ conversion_letter s.conversion ∷ rest
-
-    abbrev behind_number : Text
-    behind_number = map flag_byte parts.flags ++ (parts.width ++ (parts.precision ++ ending))
-
-    position_there : (position ≡ s.position) × (drop k t ≡ behind_number)
-    position_there = n parts.number behind_number s.position parts.number_is (after_number_outside text s parts rest)
-        (tail_at t start 37 (parts.number ++ behind_number) (e ∙ whole_with text s rest parts))
-
-    flags_there : drop a t ≡ parts.width ++ (parts.precision ++ ending)
-    flags_there = (flags_are t k a set flags_read flags_end parts.flags (parts.width ++ (parts.precision ++ ending)) (after_flags_outside text s parts rest)
-        position_there.1).1
-
-    width_there : (result : Option (Option OpaqueAmount × Option ℕ × ℕ)) → WidthIs t a position result
-        → IsSomeAnd result (λ read. (amount_at read.0 read.1 ≡ s.width) × (drop read.2 t ≡ parts.precision ++ ending))
-    width_there result h = h parts.width (parts.precision ++ ending) s.width
-        (subst (λ p. SpellsPosixWidth parts.width p s.width) (sym position_there.0) parts.width_is) (after_width_outside text s parts rest) flags_there
-
-    module _ (width : Option OpaqueAmount) (width_position : Option ℕ) (b : ℕ) (w : WidthIs t a position (Some (width, width_position, b))) where
-      precision_there : (result : Option (Option OpaqueAmount × Option ℕ × ℕ)) → PrecisionIs t b position result
-          → IsSomeAnd result (λ read. (amount_at read.0 read.1 ≡ s.precision) × (drop read.2 t ≡ ending))
-      precision_there result h = h parts.precision ending s.precision
-          (subst (λ p. SpellsPosixPrecision parts.precision p s.precision) (sym position_there.0) parts.precision_is) (after_precision_outside s rest)
-          (width_there (Some (width, width_position, b)) w).1
-
-      module _ (precision : Option OpaqueAmount) (precision_position : Option ℕ) (c : ℕ)
-          (p : PrecisionIs t b position (Some (precision, precision_position, c))) (modifier : Modifier) (d : ℕ) (m : ModifierIs t c modifier d) where
-        conversion_there : (result : Option Conversion) → ConversionIs t d result → result ≡ Some s.conversion
-        conversion_there result h = h s.conversion rest (m s.modifier s.conversion rest (precision_there (Some (precision, precision_position, c)) p).1).1
-
-  pub no_width_there : WidthIs t a position None → BeginsNoSpecification (drop start t)
-  no_width_there w text rest s spelled e = width_there text rest s spelled e None w
-
-  module _ (width : Option OpaqueAmount) (width_position : Option ℕ) (b : ℕ) (w : WidthIs t a position (Some (width, width_position, b))) where
-    pub no_precision_there : PrecisionIs t b position None → BeginsNoSpecification (drop start t)
-    no_precision_there p text rest s spelled e = precision_there text rest s spelled e width width_position b w None p
-
-    pub no_conversion_there : (precision : Option OpaqueAmount) (precision_position : Option ℕ) (c : ℕ)
-        → PrecisionIs t b position (Some (precision, precision_position, c)) → (modifier : Modifier) (d : ℕ) → ModifierIs t c modifier d → ConversionIs t d None
-        → BeginsNoSpecification (drop start t)
-    no_conversion_there precision precision_position c p modifier d m h text rest s spelled e =
-        let no : None ≡ Some s.conversion =
-        conversion_there text rest s spelled e width width_position b w precision precision_position c p modifier d m None h in cc
-
-  -- all parts were read
-  module _ (less : start < length t) (percent : get_or t start 0 ≡ 37)
-      (number_read : (bytes : Text) × SpellsPosition bytes position × HasBytes t (start + 1) k bytes)
-      (width : Option OpaqueAmount) (width_position : Option ℕ) (b : ℕ)
-      (width_read : (bytes : Text) × SpellsPosixWidth bytes position (amount_at width width_position) × HasBytes t a b bytes)
-      (precision : Option OpaqueAmount) (precision_position : Option ℕ) (c : ℕ)
-      (precision_read : (bytes : Text) × SpellsPosixPrecision bytes position (amount_at precision precision_position) × HasBytes t b c bytes)
-      (modifier : Modifier) (d : ℕ) (modifier_read : HasBytes t c d (modifier_letters modifier)) where
-    pub specification_there : (conversion : Conversion) (read : Specification) → read ≡ record {
-      position = position;
-      parts = record { flags = set; width = width; precision = precision; modifier = modifier; conversion = conversion };
-      width_position = width_position;
-      precision_position = precision_position;
-    } → HasBytes t d (d + 1) (conversion_letter conversion ∷ []) → IsSpecificationAt t start (read, d + 1)
-    specification_there conversion read is letter_read =
-        record {
-          some = omega (arith, opened.from, numbered.from, flagged.from, wide.from, precise.from, modified.from);
-          within = whole.within;
-          spelled = subst (λ r. SpellsPosix (take (d + 1 - start) (drop start t)) (specification_of r)) (sym is)
-              (subst (λ u. SpellsPosix u (specification_of made)) (sym (bytes_between t _ start (d + 1) whole)) spelled);
-        } where
-          made : Specification
-          made = record {
-            position = position;
-            parts = record { flags = set; width = width; precision = precision; modifier = modifier; conversion = conversion };
-            width_position = width_position;
-            precision_position = precision_position;
-          }
-
-          flags : Text
-          flags = map flag_byte flags_read.0
-
-          opened : HasBytes t start (start + 1) (37 ∷ [])
-          opened = bytes_one t start 37 less (sym percent)
-
-          numbered : HasBytes t start k (37 ∷ number_read.0)
-          numbered = bytes_join t start (start + 1) k (37 ∷ []) number_read.0 opened number_read.2
-
-          flagged : HasBytes t start a (37 ∷ (number_read.0 ++ flags))
-          flagged = bytes_join t start k a (37 ∷ number_read.0) flags numbered flags_read.2
-
-          wide : HasBytes t start b (37 ∷ (number_read.0 ++ flags) ++ width_read.0)
-          wide = bytes_join t start a b (37 ∷ (number_read.0 ++ flags)) width_read.0 flagged width_read.2
-
-          precise : HasBytes t start c ((37 ∷ (number_read.0 ++ flags) ++ width_read.0) ++ precision_read.0)
-          precise = bytes_join t start b c (37 ∷ (number_read.0 ++ flags) ++ width_read.0) precision_read.0 wide precision_read.2
-
-          modified : HasBytes t start d (((37 ∷ (number_read.0 ++ flags) ++ width_read.0) ++ precision_read.0) ++ modifier_letters modifier)
-          modified = bytes_join t start c d ((37 ∷ (number_read.0 ++ flags) ++ width_read.0) ++ precision_read.0) (modifier_letters modifier) precise modifier_read
-
-          whole : HasBytes t start (d + 1) ((((37 ∷ (number_read.0 ++ flags) ++ width_read.0) ++ precision_read.0) ++ modifier_letters modifier)
-              ++ conversion_letter conversion ∷ [])
-          whole = bytes_join t start d (d + 1) _ (conversion_letter conversion ∷ []) modified letter_read
-
-          spelled : SpellsPosix ((((37 ∷ (number_read.0 ++ flags) ++ width_read.0) ++ precision_read.0) ++ modifier_letters modifier)
-              ++ conversion_letter conversion ∷ []) (specification_of made)
-          spelled = record {
-            before = (37 ∷ (number_read.0 ++ flags) ++ width_read.0) ++ precision_read.0;
-            before_is = record {
-              before = 37 ∷ (number_read.0 ++ flags) ++ width_read.0;
-              text = precision_read.0;
-              before_is = record {
-                before = 37 ∷ (number_read.0 ++ flags);
-                text = width_read.0;
-                before_is = record { number = number_read.0; flags = flags_read.0; number_is = number_read.1; set_is = flags_read.1; whole = refl };
-                width_is = width_read.1;
-                whole = refl;
-              };
-              precision_is = precision_read.1;
-              whole = refl;
-            };
-            whole = refl;
-          }
-
--- a specification that is spelled where one was read is this one
-pub same_there : (t : Text) (start : ℕ) (found : Specification × ℕ) → IsSpecificationAt t start found → (text rest : Text) (s : PosixSpecification)
-    → SpellsPosix text s → drop start t ≡ text ++ rest → (specification_of found.0 ≡ s) × (drop found.1 t ≡ rest)
-same_there t start found h text rest s spelled e =
-    let stop = found.1 in
-    let place : start + (stop - start) ≡ stop = omega (arith, h.some) in
-    let split : drop start t ≡ take (stop - start) (drop start t) ++ drop stop t =
-    sym (take-append-drop (stop - start) (drop start t))
-    ∙ ap (λ u. take (stop - start) (drop start t) ++ u) (drop-drop (stop - start) start t ∙ ap (λ k. drop k t) place) in
-    let same = specification_once (take (stop - start) (drop start t)) text (drop stop t) rest (specification_of found.0) s h.spelled spelled (sym split ∙ e) in
-    (same.0, same.1)

@@ -47,7 +47,7 @@ use Rattle.pf_posix.proofs.Following.{reads_on}
 use Rattle.pf_posix.proofs.Judging.{byte_of_conversion}
 use Rattle.pf_posix.proofs.KeptTypes.{own_unnumbered, posix_append}
 use Rattle.pf_posix.proofs.OrderLemmas.{end_in_order, filled_none, first_in_order, next_in_order}
-use Rattle.pf_posix.proofs.PartLemmas.{unnumbered_parts}
+use Rattle.pf_posix.proofs.FoundLemmas.{unnumbered_parts}
 use Rattle.pf_posix.proofs.Profile.{fetches_here, item_of, read_here, reads_here, whole_of}
 use Rattle.pf_posix.proofs.Soundness.{fetched_append}
 use Rattle.pf_posix.proofs.SpecificationsOnce.{all_parts, no_number}

@@ -26,13 +26,11 @@ use Rattle.pf_posix.specs.StretchesInText.{IsFound, push, push_all}
 use Rattle.pf_posix.specs.Unnumbered.{IsUnnumbered}
 use Rattle.pf_posix.proofs.KeptTypes.{posix_reads, unnumbered}
 use Rattle.pf_posix.proofs.Narrowed.{narrowed, reads_whole}
-use Rattle.pf_posix.proofs.PartLemmas.{head_at, same_there, unnumbered_parts}
+use Rattle.pf_posix.proofs.FoundLemmas.{same_there, unnumbered_parts}
+use Rattle.pf_posix.proofs.PartLemmas.{bool_no, head_at}
 use Rattle.pf_posix.proofs.ReadOnce.{flat, narrow, push_all-before, push_all-last, pushed_or, read_once, stretched, stretches_back}
 use Rattle.pf_posix.proofs.SpecificationsOnce.{begins_no_percent, parts_of}
 use Rattle.pf_posix.proofs.WalkLemmas.{literal}
-
-bool_no : {b : Bool} → b ≡ true → b ≡ false → ⊥
-bool_no h g = let no : true ≡ false = sym h ∙ g in cc
 
 -- the rest of a text after its first item, which is before the stretches of the rest
 record Rest (item : Item) (more : Text) (left : Stretches) : Type 0 where

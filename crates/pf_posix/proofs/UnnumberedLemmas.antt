@@ -50,7 +50,7 @@ follows_here numbering (Some k) (inl e) h = inl e
 follows_here numbering (Some k) (inr e) (inl h) = cc
 follows_here numbering (Some k) (inr e) (inr h) = inr (e ∙ h)
 
-free_items : (model : Model) (items : List PosixItem) → AreFree (fetched model items) → AllByRecursion IsUnnumbered items
+pub free_items : (model : Model) (items : List PosixItem) → AreFree (fetched model items) → AllByRecursion IsUnnumbered items
 free_items model [] h = tt
 free_items model (Byte byte ∷ items) h = (tt, free_items model items h)
 free_items model (Specification s ∷ items) h =

@@ -6,7 +6,7 @@ use Rattle.pf_posix.specs.declared.directive_spans.DirectiveSpan.{DirectiveSpan}
 use Rattle.pf_posix.specs.declared.specifications.Specification.{Specification}
 use Rattle.pf_posix.specs.Directives.{directive_between, directives_from}
 use Rattle.pf_posix.specs.Items.{PosixItem, ReadsPosix}
-use Rattle.pf_posix.specs.PartsInText.{specification_of}
+use Rattle.pf_posix.specs.PartsInText.{specification_read}
 use Rattle.pf_posix.specs.Types.{fetches}
 
 -- the text from an offset on is read as items, and all specifications are these and theirs; `next`
@@ -18,9 +18,9 @@ pub record IsListedTo (model : Model) (t : Text) (all : List DirectiveSpan) (at 
   pub within : at ≤ length t
   pub all_are : all ≡ done ++ directives_from model at next (drop at t) items reads
 
--- so it is behind the item at that offset, which may be a specification
+-- so it is after the item at that offset, which may be a specification
 abbrev pub IsListedBehind : Model → Text → List DirectiveSpan → ℕ → ℕ → List DirectiveSpan → Option Specification → ℕ → Type 0
 IsListedBehind model t all at next done None stop = IsListedTo model t all stop next done
 IsListedBehind model t all at next done (Some read) stop =
-    IsListedTo model t all stop (next + length (fetches model (specification_of read)))
-    (done ++ directive_between model at stop next (specification_of read) ∷ [])
+    IsListedTo model t all stop (next + length (fetches model (specification_read read)))
+    (done ++ directive_between model at stop next (specification_read read) ∷ [])

@@ -5,17 +5,15 @@ use Rattle.pf_posix.specs.declared.opaque_directives.OpaqueDirective.{OpaqueDire
 use Rattle.pf_posix.specs.declared.opaque_directives.OpaqueAmount.{OpaqueAmount}
 use Rattle.pf_posix.specs.declared.opaque_directives.OpaqueAmount.TheVariants as amounts
 
--- the width or precision that the code's value is
-abbrev pub amount_of : Option OpaqueAmount → Option Amount
-amount_of None = None
-amount_of (Some (amounts.Number n)) = Some (Given n)
-amount_of (Some amounts.Star) = Some (Fetched None)
-
--- so it is with the number of its argument, which only a `*` has
+-- the width or precision that the code's value is, with the number of its argument, which only a `*` has
 abbrev pub amount_at : Option OpaqueAmount → Option ℕ → Option Amount
 amount_at None number = None
 amount_at (Some (amounts.Number n)) number = Some (Given n)
 amount_at (Some amounts.Star) number = Some (Fetched number)
+
+-- without a number
+abbrev pub amount_of : Option OpaqueAmount → Option Amount
+amount_of amount = amount_at amount None
 
 -- the specification with the directive's parts
 abbrev pub parts_of_opaque : OpaqueDirective → PosixSpecification

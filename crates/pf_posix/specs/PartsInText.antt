@@ -40,8 +40,8 @@ dollar_follows [] = false
 dollar_follows (byte ∷ t) = if is_digit byte then dollar_follows t else byte == dollar
 
 -- the parts that the code has read
-abbrev pub specification_of : Specification → PosixSpecification
-specification_of read = record {
+abbrev pub specification_read : Specification → PosixSpecification
+specification_read read = record {
   position = read.position;
   flags = read.parts.flags;
   width = amount_at read.parts.width read.width_position;
@@ -116,7 +116,7 @@ ConversionIs t at result = (conversion : Conversion) (rest : Text)
 pub record IsSpecificationAt (t : Text) (start : ℕ) (found : Specification × ℕ) : Type 0 where
   pub some : start < found.1
   pub within : found.1 ≤ length t
-  pub spelled : SpellsPosix (take (found.1 - start) (drop start t)) (specification_of found.0)
+  pub spelled : SpellsPosix (take (found.1 - start) (drop start t)) (specification_read found.0)
 
 -- no specification begins a text
 abbrev pub BeginsNoSpecification : Text → Type 0

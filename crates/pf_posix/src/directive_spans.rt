@@ -7,7 +7,7 @@ ghost use Rattle.pf_posix.specs.Directives.{FaultForDirectives, HasDirectiveCoun
 ghost use Rattle.pf_posix.specs.DirectivesInText.{IsListedBehind, IsListedTo};
 ghost use Rattle.pf_posix.specs.Items.{IsPosixAccepted, PosixItem, ReadsPosix};
 ghost use Rattle.pf_posix.specs.OpaqueParts.{amount_at};
-ghost use Rattle.pf_posix.specs.PartsInText.{specification_of};
+ghost use Rattle.pf_posix.specs.PartsInText.{specification_read};
 ghost use Rattle.pf_posix.specs.Refusals.{IsPosixRefusedAt};
 ghost use Rattle.pf_posix.specs.Types.{fetches, star_fetches};
 
@@ -91,21 +91,27 @@ fn put_directives(model: Model, text: &[u8], out: &mut [DirectiveSpan]) -> u64
     let mut count: usize = 0;
     let mut fetched: u64 = 0;
     while walk.at < text.len() {
-        let begin = walk.at;
-        let (read, end) = item_at(text, begin);
-        walk.at = end;
-        walk.find::<Percents>();
-        if let Some(read) = read {
-            put(out, count, span_between(model, begin, end, fetched, &read));
-            count += 1;
-            fetched += fetch_count(&read);
+        match item_at(text, walk.at) {
+            (None, end) => {
+                walk.at = end;
+                walk.find::<Percents>();
+            }
+            (Some(read), end) => {
+                put(
+                    out,
+                    count,
+                    span_between(model, walk.at, end, fetched, &read),
+                );
+                walk.at = end;
+                count += 1;
+                fetched += fetch_count(&read);
+            }
         }
     }
     count as u64
 }
 
 // The item at an offset of an accepted format, if it is a specification and no byte; and where it ends.
-#[inline(always)]
 fn item_at(text: &[u8], at: usize) -> (Option<Specification>, usize)
     requires within { at < length text.now }
     requires reads { (items : List PosixItem) × ReadsPosix (drop at text.now) items }
@@ -125,8 +131,7 @@ fn item_at(text: &[u8], at: usize) -> (Option<Specification>, usize)
     (Some(read), end)
 }
 
-// The specification between two offsets, if so many arguments were fetched before it.
-#[inline(always)]
+// The specification between two offsets, after `next` arguments were fetched.
 fn span_between(
     model: Model,
     begin: usize,
@@ -135,7 +140,7 @@ fn span_between(
     read: &Specification,
 ) -> DirectiveSpan
     requires { next ≤ 3 * LIMIT }
-    ensures { result ≡ directive_between model begin end next (specification_of read.now) }
+    ensures { result ≡ directive_between model begin end next (specification_read read.now) }
 {
     let parts = read.parts;
     let after_width = next + star_count(parts.width);
@@ -150,16 +155,14 @@ fn span_between(
 }
 
 // How many arguments a specification fetches.
-#[inline(always)]
 fn fetch_count(read: &Specification) -> u64
-    ensures count { (model : ModelOf) → result ≡ length (fetches model (specification_of read.now)) }
+    ensures count { (model : ModelOf) → result ≡ length (fetches model (specification_read read.now)) }
     ensures few { result ≤ 3 }
 {
     1 + star_count(read.parts.width) + star_count(read.parts.precision)
 }
 
 // How many of them its width or its precision fetches.
-#[inline(always)]
 fn star_count(amount: Option<OpaqueAmount>) -> u64
     ensures count { (number : Option ℕ) → result ≡ length (star_fetches (amount_at amount number)) }
     ensures few { result ≤ 1 }
@@ -168,7 +171,6 @@ fn star_count(amount: Option<OpaqueAmount>) -> u64
 }
 
 // The argument of an amount that is a `*`, with a number or else the next one.
-#[inline(always)]
 fn star_index(amount: Option<OpaqueAmount>, number: Option<u16>, next: u64) -> Option<u64>
     ensures { result ≡ star_index (amount_at amount number) next }
 {
@@ -179,7 +181,6 @@ fn star_index(amount: Option<OpaqueAmount>, number: Option<u16>, next: u64) -> O
 }
 
 // The argument with a number, which is 1 at least, or else the next one.
-#[inline(always)]
 fn argument_index(number: Option<u16>, next: u64) -> u64
     ensures { result ≡ argument_index number next }
 {

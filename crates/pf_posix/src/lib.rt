@@ -2,10 +2,10 @@
 //! of C23: with numbered arguments, `*`, floating and wide conversions, `p` and `n`. Formats without
 //! numbered arguments, split at the directives that the profile lacks.
 //!
-//! The road is `automaton`, over which `reader` walks; where a format is accepted, `specifications` reads it
-//! part by part. The shortcuts, and what a call costs with one and without, in instructions over 4,000 formats: `plain_reader` reads formats without numbers and `*`
-//! (`arguments`: 213 and 530), in them `profile_reader` the conversions of the profile (213 and 238), and
-//! `comparison` sees that two formats are equal (`fits`: 241 and 875).
+//! The road is `specifications`, which reads a specification part by part. Where a format may be refused,
+//! `automaton` reads on byte by byte, over which `reader` walks: it finds out why. The shortcuts, and what a call
+//! costs with one and without, in instructions over 4,000 formats: `plain_reader` reads formats without numbers
+//! (`arguments`: 213 and 530), and `comparison` sees that two formats are equal (`fits`: 241 and 875).
 #![tactic(auto)]
 
 mod argument_types;

@@ -1,25 +1,22 @@
 //! The reader of a text, which goes from one fetched argument to the next.
-ghost use Rattle.std.specs.Prelude.{◌≡◌, ◌+◌, ◌<◌, ◌≤◌, length, slice_index, MatchOption, ◌≢◌, ⊤, drop};
+ghost use Rattle.std.specs.Prelude.{◌≡◌, ◌+◌, ◌<◌, ◌≤◌, length, slice_index, MatchOption, ◌≢◌, drop};
 ghost use Rattle.memchr.specs.Find.{Nowhere, Passes, is_byte2};
 ghost use Rattle.pf_values.specs.declared.limits.TheConstants.{MAX_TEXT_LEN as LIMIT};
 ghost use Rattle.pf_values.specs.declared.models.Model.{Model};
 ghost use Rattle.pf_values.specs.meaning.Text.{Text, percent};
 ghost use Rattle.pf_posix.specs.declared.reader.Reader.{Reader as ReaderOf};
-ghost use Rattle.pf_posix.specs.Endings.{unnumbered_trace};
-ghost use Rattle.pf_posix.specs.Readings.{Fetches, trace_from, fetch_trace};
+ghost use Rattle.pf_posix.specs.Readings.{trace_from, fetch_trace};
 ghost use Rattle.pf_posix.specs.declared.partial_specification.Numbering.TheVariants.{Unnumbered};
 ghost use Rattle.pf_posix.specs.Refusals.{numbering_by};
 ghost use Rattle.pf_posix.specs.Stages.{Between, posix_state_of};
 ghost use Rattle.pf_posix.specs.Walks.{AdvancesReader, IsNextFetch, trace_left};
 
 use crate::automaton::{Automaton, Move};
-use crate::conversions::Modifier;
-use crate::fetches::{Fetch, conversion_type};
-use crate::letters::conversion_of;
+use crate::fetches::Fetch;
 use crate::partial_specification::Numbering;
 use pf_text::{Refusal, literal_len};
 use pf_values::limits::MAX_TEXT_LEN;
-use pf_values::{Length, Model, RefusalKind};
+use pf_values::{Model, RefusalKind};
 
 /// What comes next in a text.
 #[derive(Clone, Copy, Debug)]
@@ -52,15 +49,6 @@ impl Reader {
             numbering: Numbering::Undecided,
             at: 0,
         }
-    }
-
-    /// A reader before the first byte, as if after a specification that isn't numbered.
-    #[inline(always)]
-    pub(crate) fn unnumbered() -> Reader
-        ensures start { result.at ≡ 0 }
-        ensures left { (model : Model) (t : Text) → trace_left model t result ≡ unnumbered_trace model t }
-    {
-        Reader::unnumbered_at(0)
     }
 
     /// A reader between two items at an offset, after specifications that aren't numbered.
@@ -118,11 +106,6 @@ impl Reader {
             if text[self.at] != b'%' {
                 return self.skip_literal(text);
             }
-            if let Some(fetch) = self.two_byte_fetch(model, text) {
-                self.at += 2;
-                self.numbering = Numbering::Unnumbered;
-                return Some(NextFetch::Fetched(fetch));
-            }
         }
         self.take_byte(model, text)
     }
@@ -147,38 +130,6 @@ impl Reader {
         }
         self.at += run;
         None
-    }
-
-    // The argument that is fetched where a specification of two bytes begins here, as `%d`, and no
-    // earlier one was numbered.
-    #[inline(always)]
-    fn two_byte_fetch(&self, model: Model, text: &[u8]) -> Option<Fetch>
-        requires within { self.now.at < length text.now }
-        requires short { self.now.at < LIMIT }
-        requires between { posix_state_of self.now.automaton ≡ Between }
-        requires first { slice_index text.now self.now.at ≡ percent }
-        ensures { MatchOption result ⊤ (λ f. (self.now.at + 2 ≤ length text.now)
-            × (trace_left model text.now self.now ≡ Fetches f (self.now.at + 1)
-            (trace_from model Unnumbered Between (self.now.at + 2)
-            (drop (self.now.at + 2) text.now)))) }
-    {
-        let next = self.at + 1;
-        if next >= text.len() {
-            return None;
-        }
-        if next as u64 >= MAX_TEXT_LEN {
-            return None;
-        }
-        match self.numbering {
-            Numbering::Numbered => None,
-            Numbering::Undecided | Numbering::Unnumbered => match conversion_of(text[next]) {
-                None => None,
-                Some(conversion) => Some(Fetch {
-                    number: None,
-                    wanted: conversion_type(model, Modifier::Integer(Length::None), conversion),
-                }),
-            },
-        }
     }
 
     // Takes one more byte.

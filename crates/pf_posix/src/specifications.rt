@@ -76,7 +76,7 @@ fn position_at(text: &[u8], start: usize) -> (Option<u16>, usize)
 
 // The number of the argument of a `*` that ends at an offset, and where it ends. It has one exactly if the
 // specification has (POSIX fprintf on `*m$`); None if it should have one or shouldn't.
-#[inline(always)]
+#[inline(never)]
 fn star_number_at(text: &[u8], start: usize, position: Option<u16>) -> Option<(Option<u16>, usize)>
     requires { start ≤ length text.now }
     ensures bytes { IfSome result (λ read. (bytes : Text) × SpellsPosition bytes read.0

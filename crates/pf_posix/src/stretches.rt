@@ -32,8 +32,8 @@ enum Found {
 /// Returns the first stretch of a text from the offset `from` on, and the opaque directive after it
 /// (C11 7.21.6.1, paragraphs 3 and 4). The text has to be one that `check_unnumbered` accepts, and
 /// `from` is 0 or where one of its opaque directives ends. For other texts the result may be `None`,
-/// and nothing is said of it except that its offsets lie in the text. Each byte up to the end of the
-/// directive is read once, and nothing is allocated.
+/// and nothing is said of it except that its offsets lie in the text. It reads nothing after the
+/// directive, and allocates nothing.
 pub fn next_stretch(text: &[u8], from: usize) -> Option<Stretch>
     requires { from ≤ length text.now }
     ensures head { (left : Stretches) → ReadsWhole (drop from text.now) left

@@ -4,6 +4,7 @@ ghost use Rattle.pf_posix.specs.Stretches.{IsWholeAccepted};
 ghost use Rattle.pf_posix.specs.Unnumbered.{IsWholeRefusedAt};
 ghost use Rattle.pf_posix.specs.Endings.{numbered_instead};
 
+use crate::plain_reader::plain_front;
 use crate::reader::{NextFetch, Reader};
 use pf_text::Refusal;
 use pf_values::{Model, RefusalKind};
@@ -16,7 +17,8 @@ pub fn check_unnumbered(model: Model, text: &[u8]) -> Result<(), Refusal>
     ensures { MatchResult result (λ _. IsWholeAccepted text.now)
         (λ refusal. IsWholeRefusedAt model text.now refusal.kind refusal.at) }
 {
-    let mut reader = Reader::unnumbered();
+    let front = plain_front(model, text, &mut []);
+    let mut reader = Reader::unnumbered_at(front.at);
     loop {
         match reader.next_fetch(model, text) {
             NextFetch::Fetched(_) => {}

@@ -1,5 +1,5 @@
 use Rattle.std.proofs.Common.{refl}
-use Rattle.pf_posix.proofs.PartLemmas.{no_conversion_there, no_precision_there, no_width_there, specification_there}
+use Rattle.pf_posix.proofs.FoundLemmas.{no_conversion_there, no_precision_there, no_width_there, specification_there}
 use Rattle.pf_posix.proofs.specifications.specification_at.Goals as goal
 
 pub returns-in_err-width : goal.returns-in_err-width

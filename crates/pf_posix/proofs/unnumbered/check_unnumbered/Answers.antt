@@ -1,13 +1,16 @@
 use Rattle.std.proofs.Common.{◌∙◌, ap, arith, sym}
 use Rattle.pf_posix.specs.Endings.{ending}
-use Rattle.pf_posix.proofs.UnnumberedEnds.{ends_refused, ends_whole}
+use Rattle.pf_posix.proofs.UnnumberedEnds.{front_passed, ends_refused, ends_whole}
 use Rattle.pf_posix.proofs.unnumbered.check_unnumbered.Goals as goal
 
 pub loop-refusal-init : goal.loop-refusal-init
-loop-refusal-init c = record {
-  within = omega (arith, c.unnumbered-reader.ensures.start);
-  left = ap ending (sym (c.unnumbered-reader.ensures.left c.args.model c.args.text.now));
-}
+loop-refusal-init c =
+    let front = c.plain_front-front in
+    record {
+      within = omega (arith, c.unnumbered_at-reader.ensures.start, front.ensures.within);
+      left = front_passed c.args.model c.args.text.now front.result.at _ _ _ front.ensures.front front.ensures.within front.ensures.limit
+          ∙ ap ending (sym (c.unnumbered_at-reader.ensures.left c.args.model c.args.text.now));
+    }
 
 pub loop-refusal-preserved : goal.loop-refusal-preserved
 loop-refusal-preserved c = record {
