@@ -26,7 +26,6 @@ impl<'a> FormatArgument for CArgument<'a> {
 
     ghost argument_of = { value_in_c };
 
-    #[inline(always)]
     fn has_type(&self, model: Model, wanted: ArgType) -> bool {
         match type_with_number(self.kind) {
             None => false,
@@ -39,7 +38,6 @@ impl<'a> FormatArgument for CArgument<'a> {
         }
     }
 
-    #[inline(always)]
     fn as_number(&self) -> Option<i128> {
         match type_with_number(self.kind) {
             None => None,
@@ -47,7 +45,6 @@ impl<'a> FormatArgument for CArgument<'a> {
         }
     }
 
-    #[inline(always)]
     fn as_string(&self) -> Option<&[u8]> {
         match type_with_number(self.kind) {
             None => Some(self.string),
@@ -57,7 +54,6 @@ impl<'a> FormatArgument for CArgument<'a> {
 }
 
 // The type with a number of the header.
-#[inline(always)]
 fn type_with_number(number: u32) -> Option<ArgType>
     ensures { result ≡ type_with_number number }
 {
@@ -74,7 +70,6 @@ fn type_with_number(number: u32) -> Option<ArgType>
 }
 
 // The number of an integer type that these bits are; `None` for a string.
-#[inline(always)]
 fn number_from(own: ArgType, bits: u64) -> Option<i128>
     ensures { (bytes : Text) → MatchOption result (value_from own bits bytes ≡ String bytes)
         (λ n. value_from own bits bytes ≡ Number n) }
@@ -87,7 +82,6 @@ fn number_from(own: ArgType, bits: u64) -> Option<i128>
 }
 
 // The bytes of a string; `None` for a number.
-#[inline(always)]
 fn string_from(own: ArgType, bytes: &[u8]) -> Option<&[u8]>
     ensures { (bits : _) → MatchOption result ((n : ℤ) × (value_from own bits bytes.now ≡ Number n))
         (λ string. value_from own bits bytes.now ≡ String string.now) }
@@ -104,7 +98,6 @@ fn string_from(own: ArgType, bytes: &[u8]) -> Option<&[u8]>
 }
 
 // Whether the number that these bits are is in the range of the type, or the string has no NUL.
-#[inline(always)]
 fn is_of(model: Model, own: ArgType, bits: u64, bytes: &[u8]) -> bool
     ensures { IsTrue result ↔ HasType model (value_from own bits bytes.now) own }
 {

@@ -53,7 +53,6 @@ fn put_printed(
 
 // Puts what a format prints and a zero after it into a buffer that has room for both, and returns how
 // many bytes are printed.
-#[inline(always)]
 fn render_ended(
     model: Model,
     text: &[u8],
