@@ -1,9 +1,9 @@
 -- A block of a text is taken, one part after another.
-use Rattle.std.proofs.Common.{◌≡◌, ℕ, ◌+◌, ◌-◌, ◌^◌, ◌<◌, ◌≤◌, List, [], ◌∷◌, ◌++◌, drop, get_or, length, take, refl, sym, ap, ◌∙◌, subst, arith, Ok, Err}
+use Rattle.std.proofs.Common.{◌≡◌, ℕ, ◌+◌, ◌^◌, ◌<◌, List, [], ◌∷◌, ◌++◌, drop, get_or, length, take, sym, ap, ◌∙◌, subst, arith, Err}
 use Rattle.std.proofs.Math.Seq.{take-add}
-use Rattle.std.proofs.lemmas.List.{append_assoc, append-nil, drop_more, take_all, take-append-drop, take_more}
+use Rattle.std.proofs.lemmas.List.{append_assoc, append-nil, drop_more, take-append-drop, take_more}
 use Rattle.pf_values.specs.declared.models.Model.{Model}
-use Rattle.pf_values.specs.meaning.Items.{Item, Reads}
+use Rattle.pf_values.specs.meaning.Items.{Item}
 use Rattle.pf_values.specs.meaning.Text.{Text}
 use Rattle.pf_text.specs.declared.refusals.Refusal.{Refusal}
 use Rattle.pf_canon.specs.Sink.{IsSink}
@@ -45,7 +45,7 @@ module _ {S : Type 0} {given : S → S → Text → Type 0} (laws : IsSink given
   more_taken old mid new r q p text at n h g = subst (PutsBytes given old new r p) (sym (take-add at n text))
       (both_taken old mid new r q p (take at text) (take n (drop at text)) h g)
 
-  -- a part is refused behind others
+  -- a part is refused after others
   pub refused_behind : (model : Model) (t out more later : Text) (text : Text) (at : ℕ) (refusal : Refusal)
       → RefusesBlock model (t ++ take at text) ((out ++ more) ++ later) (drop at text) refusal → RefusesBlock model t (out ++ (more ++ later)) text refusal
   refused_behind model t out more later text at refusal h = record {

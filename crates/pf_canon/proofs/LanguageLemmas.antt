@@ -1,4 +1,4 @@
--- Texts of a language that has items beside those of the profile.
+-- Texts of a language that has more items than the profile.
 use Rattle.std.proofs.Common.{◌≡◌, inl, inr, ℕ, ◌*◌, ◌-◌, ◌<◌, ◌≤◌, [], ◌++◌, drop, length, take, refl, sym, ap, ◌∙◌, subst, arith}
 use Rattle.std.specs.Prelude.{MatchResult, Result, Ok, Err}
 use Rattle.std.proofs.lemmas.List.{append-nil, length-append, length-take, take_all}

@@ -16,15 +16,13 @@ use Rattle.pf_text.proofs.CanonicalRunLemmas.{Reads-append, Reads-canonical}
 use Rattle.pf_text.proofs.Texts.{Reads-unique}
 use Rattle.pf_canon.specs.Answers.{IsCanonicalFor, most_len}
 use Rattle.pf_values.specs.meaning.Canonical.{item_spelling}
-use Rattle.pf_values.specs.meaning.Printing.{PrintAlike}
 use Rattle.pf_text.specs.History.{IsAfter}
 use Rattle.pf_canon.specs.Making.{IsMaking, IsWritten}
 use Rattle.pf_canon.specs.Transducer.{IsThrough}
 use Rattle.pf_canon.specs.declared.transducer.Transducer.{Transducer}
-use Rattle.pf_canon.proofs.CanonicalItems.{canonical-append, canonical-back, ends_append, item_spelling-append}
 use Rattle.pf_canon.specs.declared.limits.TheConstants.{MAX_DIRECTIVE_LEN}
-use Rattle.pf_values.proofs.Alike.{alike_after, alike_refl, alike-printed, printed-alike}
-use Rattle.pf_canon.proofs.MakingLemmas.{changed, made_byte, made_more, made_run}
+use Rattle.pf_values.proofs.Alike.{alike_refl, alike-printed}
+use Rattle.pf_canon.proofs.MakingLemmas.{made_byte, made_more, made_run}
 use Rattle.pf_canon.proofs.OutputLemmas.{length-silents}
 use Rattle.pf_canon.proofs.TextLemmas.{most_len-append}
 use Rattle.pf_canon.proofs.TransducerLemmas.{ended, run_is_short}

@@ -1,5 +1,5 @@
 -- What a copy has taken and written. This project's own.
-use Rattle.std.specs.Prelude.{◌≡◌, ℕ, ◌<◌, Bool, true, false, length, MatchResult, Result, Ok, Err, ◌≢◌, ◌≤◌, List, ◌∷◌, ◌++◌, take, ◌⊎◌}
+use Rattle.std.specs.Prelude.{◌≡◌, ℕ, ◌<◌, Bool, true, false, length, Result, Ok, Err, ◌≢◌, ◌≤◌, List, ◌∷◌, ◌++◌, take, ◌⊎◌}
 use Rattle.std.specs.Io.KnownBytes.{Appends, Consumes, IsAtEnd}
 use Rattle.pf_values.specs.Counting.{Known, WritesAll, WritesFirst, HasFailed, failures_of}
 use Rattle.pf_values.specs.meaning.Text.{Text}

@@ -1,4 +1,4 @@
--- Texts of a language that has items beside those of the profile. This project's own.
+-- Texts of a language that has more items than the profile. This project's own.
 use Rattle.std.specs.Prelude.{◌≡◌, ◌≢◌, ◌⊎◌, ◌↔◌, ℕ, Bool, ◌<◌, ◌≤◌, ◌^◌, [], ◌++◌, length, IsTrue}
 use Rattle.pf_values.specs.declared.models.Model.{Model}
 use Rattle.pf_values.specs.declared.refusals.RefusalKind.{RefusalKind}

@@ -21,8 +21,8 @@ use pf_values::padding::MAX_RUN;
 use pf_values::{Directive, Flag, Model, padding};
 use std::slice;
 
-/// Puts the canonical text of a stretch, that is, of the items of the profile from an offset on, of which
-/// those up to the offset of a walk are verbatim. Returns where it ends: mostly at the end, and earlier
+/// Puts the canonical text of a stretch, that is, of the items of the profile from an offset on. Those up
+/// to the offset of a walk are verbatim. Returns where it ends: mostly at the end, and earlier
 /// where the text is refused or has an item that the profile lacks.
 #[inline(always)]
 pub(crate) fn put_stretch<S: Sink>(model: Model, walk: Walk<'_>, from: usize, sink: &mut S) -> usize
@@ -89,7 +89,7 @@ pub(crate) fn put_items<S: Sink>(
 }
 
 // Puts the canonical text of the directive at an offset; and of the items after it while a silent one is
-// held, up to one behind which none is. Literal bytes and `%%` come before those that are held. Returns
+// held, up to one after which none is. Literal bytes and `%%` come before those that are held. Returns
 // where the items end, and how many are held. Never inlined, since few directives come here.
 #[inline(never)]
 fn put_reduced<S: Sink>(model: Model, walk: Walk<'_>, from: usize, sink: &mut S) -> (usize, u64)

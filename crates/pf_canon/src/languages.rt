@@ -1,4 +1,4 @@
-//! The languages of formats: what each has beside the items of the profile.
+//! The languages of formats: what each has that the profile lacks.
 ghost use Rattle.std.specs.Prelude.{◌≡◌, ◌<◌, ◌≤◌, ◌++◌, [], ℕ, drop, length, take, IfSome, MatchOption, MatchResult};
 ghost use Rattle.arrayvec.specs.ArrayVec.{array_vec_len};
 ghost use Rattle.pf_values.specs.declared.limits.TheConstants.{MAX_TEXT_LEN};
@@ -26,7 +26,7 @@ pub struct OtherItem {
     pub stop: usize,
 }
 
-/// A language of formats: the profile, and items of its own beside it.
+/// A language of formats: the profile, and items of its own.
 pub trait Language {
     // the first bytes of an accepted text, up to an offset at which a stretch begins, have this canonical
     // text

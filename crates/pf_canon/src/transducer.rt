@@ -39,7 +39,7 @@ impl Transducer {
         }
     }
 
-    /// Takes a block of a text, and puts what it settles: its whole items at once, and byte by byte an item that
+    /// Takes a block of a text, and puts what it settles: whole items in one go, and byte by byte an item that
     /// begins before it, ends after it, or is refused. `Err` if a byte is refused: then what comes
     /// before it was put.
     pub(crate) fn put<S: Sink>(&mut self, block: &[u8], sink: &mut S) -> Result<(), Refusal>
@@ -73,7 +73,7 @@ impl Transducer {
         len
     }
 
-    // Puts what the items settle at the front of a walk's text: behind a silent directive that waits, literal
+    // Puts what the items settle at the front of a walk's text: after a silent directive that waits, literal
     // bytes and `%%` alone. Returns where they end.
     #[inline(always)]
     fn put_items<S: Sink>(&mut self, walk: Walk<'_>, sink: &mut S) -> usize
@@ -90,9 +90,9 @@ impl Transducer {
             sink.put(&walk.text()[..len]);
             return len;
         }
-        let mut behind = walk;
-        behind.at = run_end::<Canonical>(walk, 0);
-        let (len, held) = put_items(self.model, behind, 0, sink);
+        let mut rest = walk;
+        rest.at = run_end::<Canonical>(walk, 0);
+        let (len, held) = put_items(self.model, rest, 0, sink);
         self.silents = held;
         len
     }

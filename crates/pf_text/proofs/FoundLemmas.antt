@@ -14,7 +14,7 @@ use Rattle.pf_values.specs.meaning.Lengths.{length_letters}
 use Rattle.pf_values.specs.meaning.Specification.{Specification}
 use Rattle.pf_values.specs.meaning.Spelling.{Spells, SpellsPrecision, SpellsWidth, flags_spelled, precision_spelled, width_spelled}
 use Rattle.pf_values.specs.meaning.Text.{Text, percent}
-use Rattle.pf_text.specs.FoundDirectives.{ArePartsAt, BeginsNoDirective, EndsParts, IsEnding, IsFoundAt, IsSpelledAt}
+use Rattle.pf_text.specs.FoundDirectives.{ArePartsAt, BeginsNoDirective, EndsParts, EndsDirective, IsFoundAt, IsSpelledAt}
 use Rattle.pf_text.specs.Fronts.{IsFront}
 use Rattle.pf_text.specs.Offsets.{EndsFlags, EndsPrecision, EndsWidth, HasBytes}
 use Rattle.pf_text.specs.Walks.{HasPercent}
@@ -134,7 +134,7 @@ module _ (t : Text) (start a b c : ℕ) (flags : FlagSet) (width precision : Opt
     last e = same_place t b c (subst (HasBytes t b c) (subst (SpellsPrecision bytes) e spelled) p)
 
   -- and what ends the directive
-  module _ (found : FoundDirective) (ending : IsEnding t c flags width precision found) where
+  module _ (found : FoundDirective) (ending : EndsDirective t c flags width precision found) where
     found_there : IsFoundAt t start found
     unfolding parts_there
     found_there =
@@ -162,7 +162,7 @@ module _ (t : Text) (start a b c : ℕ) (flags : FlagSet) (width precision : Opt
 
   pub found_or_none : (found : Option FoundDirective) → EndsWidth width t b → EndsPrecision precision t c
       → MatchOption found ((start : ℕ) → ArePartsAt t start flags width precision c → EndsParts t c width precision → BeginsNoDirective (drop start t))
-      (IsEnding t c flags width precision)
+      (EndsDirective t c flags width precision)
       → MatchOption found (EndsFlags t a → BeginsNoDirective (drop start t)) (IsFoundAt t start)
   found_or_none None ends_width ends_precision none = λ ends_flags. none start parts_there (parts_end ends_flags ends_width ends_precision)
   found_or_none (Some found) ends_width ends_precision ending = found_there found ending
@@ -185,7 +185,7 @@ with_more t start at (Some found) none there = there
 pub spelled_there : (t : Text) (start a b c : ℕ) (flags : FlagSet) (width precision : Option ℕ) (found : Option FoundDirective) → HasPercent t start
     → HasBytes t (start + 1) a (flags_spelled flags) → HasBytes t a b (width_spelled width) → width ≢ Some 0 → HasBytes t b c (precision_spelled precision)
     → MatchOption found ((start : ℕ) → ArePartsAt t start flags width precision c → EndsParts t c width precision → BeginsNoDirective (drop start t))
-    (IsEnding t c flags width precision)
+    (EndsDirective t c flags width precision)
     → IfSome found (IsSpelledAt t start)
 spelled_there t start a b c flags width precision None percent_is f w some p none = tt
 spelled_there t start a b c flags width precision (Some found) percent_is f w some p h =

@@ -72,7 +72,7 @@ none_from state later u t leads none read rest s split e = go (cuts u t read res
       let no = no_items x Between later (Directive s ∷ []) after in
       cc
 
--- `%%` is no directive
+-- `%%` isn't a directive
 percent_first : (s : Specification) (p : Progress) → prefixed (Byte percent ∷ []) p ≡ On (Directive s ∷ []) Between → ⊥
 percent_first s (Ok p) e = let no : Byte percent ∷ p.1 ≡ Directive s ∷ [] = ap items_in e in cc
 percent_first s (Err kind) e = let no : [] ≡ Directive s ∷ [] = ap items_in e in cc
@@ -247,7 +247,7 @@ module _ (t : Text) (start at stop : ℕ) (flags : FlagSet) (width precision : O
       ∙ ap (λ p. run p (length_letters modifier)) (run-front [] h.0 flags width precision lengths.None h.1)
       ∙ run-length [] h.1.flags width precision h.1.precision_text h.1.precision_is modifier
 
-  -- and none ends behind them
+  -- and none ends after them
   none_behind : EndsNone later (drop stop t) → BeginsNoDirective (drop start t)
   none_behind none =
       let whole = bytes_join t start at stop h.0 (length_letters modifier) h.2 letters in

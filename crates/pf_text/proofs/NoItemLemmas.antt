@@ -23,7 +23,7 @@ byte_first t read rest byte first false e split h =
     let same : first ≡ byte = cc in
     inr ((λ z. h.0 (sym same ∙ z)), same, λ p. (let no : (percent == percent) ≡ false = subst (λ b. (b == percent) ≡ false) p e in cc))
 
--- what no directive begins begins no item, if it is no literal byte and no `%%`
+-- what no directive begins begins no item, if it is neither a literal byte nor `%%`
 pub none_of : (t : Text) (byte : ℕ) → BeginsNoDirective (byte ∷ t) → (byte ≡ percent) ⊎ (byte ≡ 0) → ((rest : Text) → byte ≡ percent → t ≢ percent ∷ rest)
     → BeginsNoItem (byte ∷ t)
 none_of t byte none end other read rest (Directive s) split h = none read rest s split h

@@ -57,7 +57,7 @@ pub record EndsParts (t : Text) (at : ℕ) (width precision : Option ℕ) : Type
   pub precision_ends : EndsPrecision precision t at
 
 -- a length modifier and a conversion come there, and end a directive with these parts
-pub record IsEnding (t : Text) (at : ℕ) (flags : FlagSet) (width precision : Option ℕ) (found : FoundDirective) : Type 0 where
+pub record EndsDirective (t : Text) (at : ℕ) (flags : FlagSet) (width precision : Option ℕ) (found : FoundDirective) : Type 0 where
   pub length : Length
   pub conv : Conv
   pub between : ℕ

@@ -28,7 +28,7 @@ pub record ContinuesNumber (number : ℕ) (bytes : Text) (longer : ℕ) : Type 0
 abbrev pub EndsFlags : Text → ℕ → Type 0
 EndsFlags t at = at < length t → flag_of (get_or t at 0) ≡ None
 
--- no digit comes with which a number would stay within the limit
+-- a digit that comes would take a number past the limit
 abbrev pub EndsNumber : ℕ → Text → ℕ → Type 0
 EndsNumber n t at = at < length t → is_digit (get_or t at 0) ≡ true
     → MAX_NUMBER < 10 * n + (get_or t at 0 - zero_digit)

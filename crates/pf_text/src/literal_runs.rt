@@ -52,7 +52,7 @@ impl LiteralRuns {
     }
 }
 
-// Most runs that are looked for behind a directive are empty, and need no search.
+// Most runs after a directive are empty, and need no search.
 #[inline(always)]
 fn next_by_search(text: &[u8], from: usize) -> Option<usize>
     requires { from < length text.now }

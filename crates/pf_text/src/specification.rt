@@ -11,7 +11,7 @@ ghost use Rattle.pf_values.specs.meaning.Flags.{flag_byte, flag_set, has};
 ghost use Rattle.pf_values.specs.meaning.Lengths.{is_absent, length_letters};
 ghost use Rattle.pf_values.specs.meaning.Spelling.{SpellsPrecision, flags_spelled, precision_spelled, width_spelled};
 ghost use Rattle.pf_values.specs.meaning.Text.{Text};
-ghost use Rattle.pf_text.specs.FoundDirectives.{ArePartsAt, BeginsNoDirective, EndsParts, IsEnding, IsFoundAt, IsSpelledAt};
+ghost use Rattle.pf_text.specs.FoundDirectives.{ArePartsAt, BeginsNoDirective, EndsParts, EndsDirective, IsFoundAt, IsSpelledAt};
 ghost use Rattle.pf_text.specs.Letters.{conv_of, modifier_of};
 ghost use Rattle.pf_text.specs.Offsets.{ContinuesNumber, EndsFlags, EndsModifier, EndsNumber, EndsPrecision, EndsWidth, HasBytes};
 ghost use Rattle.pf_text.specs.Walks.{HasPercent};
@@ -143,7 +143,7 @@ fn any_directive_at(text: &[u8], start: usize) -> Option<FoundDirective>
     directive_with(text, flags, at)
 }
 
-// The directive with these flags, of which the rest is at an offset.
+// The directive with these flags, whose rest is at an offset.
 #[inline(always)]
 fn directive_with(text: &[u8], flags: FlagSet, at: usize) -> Option<FoundDirective>
     requires { at ≤ length text.now }
@@ -156,7 +156,7 @@ fn directive_with(text: &[u8], flags: FlagSet, at: usize) -> Option<FoundDirecti
     ending_at(text, flags, width, precision, at)
 }
 
-// The directive with these parts, of which the length modifier and the conversion are at an offset.
+// The directive with these parts, whose length modifier and conversion are at an offset.
 #[inline(always)]
 fn ending_at(
     text: &[u8],
@@ -172,7 +172,7 @@ fn ending_at(
     ensures { MatchOption result
         ((start : ℕ) → ArePartsAt text.now start flags width precision at → EndsParts text.now at width precision
         → BeginsNoDirective (drop start text.now))
-        (IsEnding text.now at flags width precision) }
+        (EndsDirective text.now at flags width precision) }
 {
     let (length, stop) = modifier_at(text, at);
     let conv = conv_at(text, stop)?;

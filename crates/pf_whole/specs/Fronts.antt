@@ -5,7 +5,7 @@ use Rattle.pf_values.specs.meaning.Text.{Text}
 use Rattle.pf_posix.specs.Stretches.{Stretches, ReadsWhole, IsWholeAccepted}
 use Rattle.pf_whole.specs.meaning.WholeCanonical.{IsPutTogether}
 
--- the bytes up to an offset end with an opaque directive, or are none: `out`, followed by the canonical text
+-- the bytes up to an offset, if there are some, end with an opaque directive: `out`, followed by the canonical text
 -- of what is left, is the canonical text of the whole
 pub record IsWholeFront (model : Model) (t : Text) (at : ℕ) (out : Text) : Type 0 where
   pub accepted : IsWholeAccepted t

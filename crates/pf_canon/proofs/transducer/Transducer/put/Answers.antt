@@ -1,6 +1,6 @@
-use Rattle.std.proofs.Common.{◌≤◌, ◌+◌, ◌++◌, arith, drop, length, subst, take}
-use Rattle.std.proofs.lemmas.List.{append_assoc, drop-drop, length-drop, take_all, take_rest}
-use Rattle.pf_canon.specs.Transducer.{PutsBytes, RefusesBlock}
+use Rattle.std.proofs.Common.{◌≤◌, ◌+◌, ◌++◌, arith, drop, length, subst}
+use Rattle.std.proofs.lemmas.List.{length-drop, take_all, take_rest}
+use Rattle.pf_canon.specs.Transducer.{PutsBytes}
 use Rattle.pf_canon.proofs.BlockLemmas.{item_taken, more_taken, none_taken, refused_behind}
 use Rattle.pf_canon.proofs.transducer.Transducer.put.Goals as goal
 

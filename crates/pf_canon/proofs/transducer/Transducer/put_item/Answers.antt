@@ -1,8 +1,7 @@
-use Rattle.std.proofs.Common.{◌≡◌, ◌∷◌, ◌++◌, ◌+◌, ◌-◌, ◌∙◌, [], ap, arith, drop, get_or, length, subst, sym, take}
+use Rattle.std.proofs.Common.{◌≡◌, ◌∷◌, ◌++◌, ◌+◌, ◌-◌, [], ap, arith, drop, get_or, subst, sym, take}
 use Rattle.std.proofs.lemmas.List.{append-nil, drop_more}
 use Rattle.pf_canon.specs.Output.{output_text}
-use Rattle.pf_canon.specs.Transducer.{IsThrough, RefusesBlock, TakesByte, byte_output_text}
-use Rattle.pf_canon.specs.declared.output.StepOutput.TheVariants as outputs
+use Rattle.pf_canon.specs.Transducer.{IsThrough, byte_output_text}
 use Rattle.pf_canon.proofs.BlockLemmas.{byte_inside, byte_taken, refused_byte}
 use Rattle.pf_canon.proofs.transducer.Transducer.put_item.Goals as goal
 

@@ -1,7 +1,6 @@
-use Rattle.std.proofs.Common.{◌≡◌, ◌-◌, ◌++◌, [], ap, arith, drop, subst, sym, take}
-use Rattle.std.proofs.lemmas.List.{append-nil, take_rest}
-use Rattle.pf_values.specs.meaning.Items.{Item, Reads}
-use Rattle.pf_text.specs.Walks.{IsPassedRun, IsPercent}
+use Rattle.std.proofs.Common.{◌≡◌, [], arith, subst, sym}
+use Rattle.pf_values.specs.meaning.Items.{Reads}
+use Rattle.pf_text.specs.Walks.{IsPercent}
 use Rattle.pf_text.proofs.WalkLemmas.{run_is_canonical, run_is_read}
 use Rattle.pf_canon.specs.ChangedDirectives.{between}
 use Rattle.pf_canon.specs.Making.{PutsItems}
