@@ -5,7 +5,8 @@ ghost use Rattle.pf_values.specs.meaning.Canonical.{IsCanonicalText};
 ghost use Rattle.pf_values.specs.meaning.Items.{IsAccepted};
 
 use crate::changed_directives::known_at;
-use pf_text::{Walk, canonical_end, items_end};
+use crate::items::run_end;
+use pf_text::{Canonical, Walk, items_end};
 use pf_values::Model;
 use pf_values::limits::MAX_TEXT_LEN;
 
@@ -19,13 +20,13 @@ pub(crate) fn known_canonical(model: Model, text: &[u8]) -> Option<bool>
         return None;
     }
     let walk = Walk::new(text);
-    let mut at = canonical_end(walk, 0);
+    let mut at = run_end::<Canonical>(walk, 0);
     while at < text.len() {
         let (is_kept, stop) = known_at(model, text, at)?;
         if !is_kept {
             return known_other(&text[stop..]);
         }
-        at = canonical_end(walk, stop);
+        at = run_end::<Canonical>(walk, stop);
     }
     Some(true)
 }
