@@ -187,20 +187,6 @@ directive_made model new t out text verbatim_len at len output h =
           (subst (λ u. IsThrough model new u h.items (o ++ output_text output)) (taken_on t text at len) h.through);
     }
 
--- a directive and verbatim bytes that were taken one after another
-pub items_taken : (model : Model) (mid new : Transducer) (t text out settled : Text) (at len run : ℕ)
-    → GrowsByDirective model (t ++ take at text) out (drop at text) len settled mid
-    → ((t out : Text) (items : List Item) → IsThrough model mid t items out → TakesVerbatim model t out (drop (at + len) text) run new)
-    → (now : List Item) × IsThrough model new (t ++ take (at + len + run) text) now (out ++ (settled ++ take run (drop (at + len) text)))
-items_taken model mid new t text out settled at len run d v =
-    let bytes = take run (drop (at + len) text) in
-    let mid_through = subst (λ u. IsThrough model mid u d.items (out ++ settled)) (taken_on t text at len) d.through in
-    let h = v (t ++ take (at + len) text) (out ++ settled) d.items mid_through in (
-      h.items,
-      subst (IsThrough model new (t ++ take (at + len + run) text) h.items) (append_assoc out settled bytes)
-          (subst (λ u. IsThrough model new u h.items ((out ++ settled) ++ bytes)) (taken_on t text (at + len) run) h.through),
-    )
-
 most_silents : (count : ℕ) → most_len (silents count) ≡ 4120 * count
 most_silents zero = omega arith
 most_silents (suc count) = omega (arith, most_silents count)

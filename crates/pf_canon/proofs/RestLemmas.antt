@@ -1,41 +1,24 @@
--- What the rest of a text settles, also where no code goes through it.
-use Rattle.std.proofs.Common.{◌≡◌, ◌≢◌, ℕ, ◌+◌, ◌<◌, ◌≤◌, List, [], ◌∷◌, ◌++◌, length, replicate, Ok, Err, refl, sym, ap, ◌∙◌, inl, inr, subst, arith}
+-- What items settle, also where no code goes through them.
+use Rattle.std.proofs.Common.{◌≡◌, ◌≢◌, ℕ, ◌+◌, List, [], ◌∷◌, ◌++◌, replicate, refl, sym, ap, ◌∙◌, subst}
 use Rattle.std.specs.Prelude.{flat_map}
-use Rattle.std.proofs.lemmas.Bool.{cases_lt}
-use Rattle.std.proofs.lemmas.List.{append-nil, append_assoc, length-append}
-use Rattle.pf_values.specs.declared.limits.TheConstants.{MAX_TEXT_LEN}
+use Rattle.std.proofs.lemmas.List.{append-nil, append_assoc}
 use Rattle.pf_values.specs.declared.models.Model.{Model}
-use Rattle.pf_values.specs.declared.refusals.RefusalKind.{RefusalKind}
-use Rattle.pf_values.specs.declared.refusals.RefusalKind.TheVariants.{TooLong}
 use Rattle.pf_values.specs.meaning.Canonical.{item_spelling}
 use Rattle.pf_values.specs.meaning.Defined.{IsDefined}
 use Rattle.pf_values.specs.meaning.Items.{Item, Byte, Directive}
-use Rattle.pf_values.specs.meaning.Refusals.{IsRefusedAt, IsSplit}
-use Rattle.pf_values.specs.Settled.{IsSettled}
 use Rattle.pf_values.specs.meaning.Specification.{Specification}
 use Rattle.pf_values.specs.meaning.Spelling.{spelling_of}
 use Rattle.pf_values.specs.meaning.Text.{Text, space, zero_digit}
 use Rattle.pf_values.proofs.Alike.{AreAlike, alike_after, alike_before, alike_refl, alike_trans, alike-printed, printed-alike}
-use Rattle.pf_text.specs.declared.scanner.Step.{Step}
-use Rattle.pf_text.specs.declared.scanner.Step.TheVariants as steps
 use Rattle.pf_text.specs.CanonicalRuns.{silents}
-use Rattle.pf_text.specs.Fronts.{IsAt}
-use Rattle.pf_text.specs.History.{with_step}
-use Rattle.pf_text.specs.Stages.{State, state_of}
-use Rattle.pf_text.specs.States.{Next, next}
-use Rattle.pf_text.proofs.Refusing.{refused_at, too_long_at}
-use Rattle.pf_text.proofs.Sound.{Judges, LeadsTo, judge}
-use Rattle.pf_text.proofs.Texts.{IsStepped, begun, stepped}
 use Rattle.pf_reduce.specs.declared.results.Core.{Core}
 use Rattle.pf_reduce.specs.declared.results.Core.TheVariants as cores
 use Rattle.pf_reduce.specs.declared.results.Reduced.{Reduced}
 use Rattle.pf_reduce.specs.Reducing.{IsReducedTo}
 use Rattle.pf_reduce.proofs.Reductions.{reduction}
-use Rattle.pf_canon.specs.declared.transducer.Transducer.{Transducer}
 use Rattle.pf_canon.specs.Making.{IsMaking, TakesCore}
-use Rattle.pf_canon.specs.Transducer.{IsThrough, SettlesTo, SettlesWhole}
 use Rattle.pf_canon.proofs.DirectiveLemmas.{reduction_made}
-use Rattle.pf_canon.proofs.MakingLemmas.{made_byte, made_more, made_settled}
+use Rattle.pf_canon.proofs.MakingLemmas.{made_byte, made_more}
 use Rattle.pf_canon.proofs.Printing.{reduced_alike, reduced_items}
 
 -- Items are made that print as these do.
@@ -124,64 +107,3 @@ module _ (model : Model) (out : Text) (held : ℕ) where
                   [] is refl refl takes refl start.making);
             };
           }
-
-  -- what a step of the scanner settles
-  step_settled : (items : List Item) (part : Text) (byte : ℕ) (state : State) (step : Step) → LeadsTo part byte state step → IsSettling model out held items []
-      → Settles model out (with_step items step)
-  step_settled items part byte state steps.More leads h = record {
-    more = [];
-    held = held;
-    made = subst (λ t. IsSettling model t held items [])
-        (sym (append-nil out)) h;
-  }
-  step_settled items part byte state (steps.Byte b) leads h = byte_settled items b (λ zero. leads.2.1.1 (sym leads.2.0 ∙ zero)) h
-  step_settled items part byte state steps.Percent leads h = byte_settled items 37 (λ e. cc) h
-  step_settled items part byte state (steps.Directive s) leads h = directive_settled items s leads.1.1 h
-
--- what a text settles goes on with what its rest does
-abbrev SettlesMore : Model → Text → Text → Type 0
-SettlesMore model t out = (more : Text) × SettlesWhole model t (out ++ more)
-
-module _ (model : Model) (t part out : Text) (held : ℕ) (items : List Item) (state : State) (h : IsSplit t items part) (at : IsAt state part)
-    (made : IsSettling model out held items []) where
-  settles : SettlesTo model t (out ++ [])
-  settles = record {
-    items = items;
-    part = part;
-    good = record { splits = h; begun = begun state part at };
-    settled = subst (IsSettled model h.whole) (sym (append-nil out)) (made_settled model out held made.others made.making h.whole items h.reads made.alike);
-  }
-
-  at_end : SettlesMore model (t ++ []) out
-  at_end = ([], record { front = t; rest = []; split = refl; settles = settles; longest = inl refl })
-
-  stops_at : (byte : ℕ) (text : Text) (kind : RefusalKind) → IsRefusedAt (t ++ byte ∷ text) kind (length t) → SettlesMore model (t ++ byte ∷ text) out
-  stops_at byte text kind refused = ([], record { front = t; rest = byte ∷ text; split = refl; settles = settles; longest = inr (λ e. cc, kind, refused) })
-
-  -- one byte more
-  goes_on : (byte : ℕ) (text : Text) (n : Next) → next state byte ≡ n → length t < MAX_TEXT_LEN
-      → ((q : State) (step : Step) → IsStepped (t ++ byte ∷ []) (with_step items step) q → Settles model out (with_step items step)
-      → SettlesMore model ((t ++ byte ∷ []) ++ text) out)
-      → SettlesMore model (t ++ byte ∷ text) out
-  goes_on byte text (Err kind) e room further = stops_at byte text kind (refused_at t part items state h at byte kind e text room)
-  goes_on byte text (Ok p) e room further =
-      let leads : LeadsTo part byte p.0 p.1 = subst (Judges part byte) e (judge state part byte at) in
-      subst (λ u. SettlesMore model u out) (append_assoc t (byte ∷ []) text)
-      (further p.0 p.1 (stepped t part items byte h p.0 p.1 leads) (step_settled model out held items part byte p.0 p.1 leads made))
-
-rest_settles : (model : Model) (text t part out : Text) (held : ℕ) (items : List Item) (state : State) → IsSplit t items part → IsAt state part
-    → length t ≤ MAX_TEXT_LEN → IsSettling model out held items [] → SettlesMore model (t ++ text) out
-rest_settles model [] t part out held items state h at few made = at_end model t part out held items state h at made
-rest_settles model (byte ∷ text) t part out held items state h at few made = elim (cases_lt (length t) MAX_TEXT_LEN) [
-  | inl room ↦ goes_on model t part out held items state h at made byte text (next state byte) refl room (λ q step now here.
-      let rest = rest_settles model text (t ++ byte ∷ []) now.part (out ++ here.more) here.held (with_step items step) q now.splits now.at
-      (omega (arith, room, length-append t (byte ∷ []))) here.made in
-      (here.more ++ rest.0, subst (SettlesWhole model ((t ++ byte ∷ []) ++ text)) (append_assoc out here.more rest.0) rest.1))
-  | inr full ↦ stops_at model t part out held items state h at made byte text TooLong (too_long_at t part items state h at byte text (omega (arith, few, full)))
-]
-
--- a text that a transducer has begun
-pub through_rest : (model : Model) (r : Transducer) (t out text : Text) (items : List Item) → IsThrough model r t items out → SettlesMore model (t ++ text) out
-through_rest model r t out text items h =
-    rest_settles model text t h.after.part out r.silents items (state_of r.scanner.automaton) h.after.good.splits h.after.state h.after.limit
-    (record { others = items; alike = alike_refl model items; making = h.made })

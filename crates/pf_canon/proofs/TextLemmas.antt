@@ -58,10 +58,6 @@ pub built_more : (model : Model) (t out now : Text) (at : ℕ) (chunk : Chunk) (
     → now ≡ out ++ chunk_output_text chunk (drop at t) → (items : List Item) × IsThrough model new (take (at + chunk.len) t) items now
 built_more model t out now at chunk new g e = (g.items, rw (e, take-add at chunk.len t) g.through)
 
--- the data model is the transducer's own
-pub in_its_own : (model : Model) (r : Transducer) (t out : Text) (items : List Item) → IsThrough model r t items out → IsThrough r.model r t items out
-in_its_own model r t out items h = subst (λ m. IsThrough m r t items out) (sym h.model_is) h
-
 -- more of a text, after what came before it
 pub taken_on : (t text : Text) (at len : ℕ) → (t ++ take at text) ++ take len (drop at text) ≡ t ++ take (at + len) text
 taken_on t text at len = append_assoc t (take at text) (take len (drop at text)) ∙ ap (λ u. t ++ u) (sym (take-add at len text))

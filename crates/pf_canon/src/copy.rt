@@ -1,6 +1,6 @@
 //! The canonical text of a reader's bytes, written to a writer.
-ghost use Rattle.std.specs.Prelude.{◌≡◌, ◌≢◌, ℕ, List, ◌++◌, length, MatchResult};
-ghost use Rattle.std.specs.Io.KnownBytes.{Appends, Consumes, IsAtEnd};
+ghost use Rattle.std.specs.Prelude.{◌≢◌, ℕ, List, ◌++◌, MatchResult};
+ghost use Rattle.std.specs.Io.KnownBytes.{Consumes, IsAtEnd};
 ghost use Rattle.pf_values.specs.Counting.{Known, device_of};
 ghost use Rattle.pf_values.specs.declared.models.Model.{Model};
 ghost use Rattle.pf_values.specs.meaning.Items.{Item};

@@ -1,7 +1,7 @@
 -- Directives at an offset of a text, and their parts.
-use Rattle.std.proofs.Common.{◌≡◌, ◌≢◌, ℕ, zero, suc, ◌+◌, ◌-◌, ◌<◌, ◌≤◌, false, Option, Some, None, List, [], ◌∷◌, ◌++◌, drop, get_or, length, map, take, refl, sym, ap, ◌∙◌, arith, subst, inl, inr}
+use Rattle.std.proofs.Common.{◌≡◌, ◌≢◌, ℕ, zero, suc, ◌+◌, ◌-◌, ◌≤◌, false, Option, Some, None, List, [], ◌∷◌, ◌++◌, drop, length, map, take, refl, sym, ap, ◌∙◌, arith, subst, inl, inr}
 use Rattle.std.specs.Prelude.{IfSome, MatchOption, ◌⊎◌, decimal, filter}
-use Rattle.std.proofs.lemmas.List.{append-nil, drop_more, length-append, length-drop, length_push}
+use Rattle.std.proofs.lemmas.List.{append-nil, length-append, length-drop, length_push}
 use Rattle.pf_values.specs.declared.flags.Flag.{Flag}
 use Rattle.pf_values.specs.declared.flags.FlagSet.{FlagSet}
 use Rattle.pf_values.specs.declared.lengths.Length.TheVariants as lengths
@@ -20,7 +20,7 @@ use Rattle.pf_text.specs.Offsets.{EndsFlags, EndsPrecision, EndsWidth, HasBytes}
 use Rattle.pf_text.specs.Walks.{HasPercent}
 use Rattle.pf_text.specs.declared.specification.FoundDirective.{FoundDirective}
 use Rattle.pf_values.proofs.Printed.{IsNumeral-unique}
-use Rattle.pf_text.proofs.NoDirectiveLemmas.{other_begins, same_place}
+use Rattle.pf_text.proofs.NoDirectiveLemmas.{same_place}
 use Rattle.pf_text.proofs.ReadBack.{set_kept, spelled_read, width_read}
 use Rattle.pf_text.proofs.SpecificationLemmas.{bytes_join, bytes_one}
 use Rattle.pf_text.proofs.WalkLemmas.{bytes_between}
@@ -63,9 +63,6 @@ short_begins t short read rest s split h =
 
 pub none_at_end : (t : Text) (at : ℕ) → length t ≤ at + 1 → BeginsNoDirective (drop at t)
 none_at_end t at over = short_begins (drop at t) (omega (arith, over, length-drop at t))
-
-pub none_at_other : (t : Text) (at : ℕ) → at < length t → get_or t at 0 ≢ percent → BeginsNoDirective (drop at t)
-none_at_other t at some other = subst BeginsNoDirective (sym (drop_more t at 0 some)) (other_begins (get_or t at 0) (drop (at + 1) t) other)
 
 -- flags after a `%` are parts of a specification
 flags_front : (flags : List Flag) → IsFront (percent ∷ map flag_byte flags) (flag_set flags) None None lengths.None

@@ -1,7 +1,7 @@
 -- Runs of literal bytes.
 use Rattle.std.proofs.Common.{◌≡◌, ℕ, zero, suc, ◌+◌, ◌-◌, ◌%◌, ◌^◌, ◌<◌, ◌≤◌, min, false, true, List, [], ◌∷◌, ◌++◌, length, get_or, map, take, drop}
-use Rattle.std.proofs.Common.{refl, sym, ◌∙◌, subst, arith, inl, inr, drop-cons}
-use Rattle.std.specs.Prelude.{None, ◌⊎◌, ◌==◌}
+use Rattle.std.proofs.Common.{refl, sym, subst, arith, inl, inr, drop-cons}
+use Rattle.std.specs.Prelude.{◌⊎◌, ◌==◌}
 use Rattle.std.specs.List.{AllByRecursion}
 use Rattle.std.proofs.Math.ListN.{drop_of_length-le}
 use Rattle.std.proofs.lemmas.Bool.{cases_lt}
@@ -80,22 +80,6 @@ run_ends t text run room h full =
 -- a text that is read has no part of an item after its items
 pub no_part : (scanner : Scanner) (t : Text) (items : List Item) (h : IsAfter scanner t items) → Reads t items → h.part ≡ []
 no_part scanner t items h reads = same_whole items h.good.splits.whole t h.part h.good.splits.reads reads h.good.splits.split
-
--- so the state counts for nothing
-pub after_restart : (scanner new : Scanner) (t : Text) (items : List Item) → state_of new.automaton ≡ Between → new.offset ≡ scanner.offset
-    → new.refused ≡ None → IsAfter scanner t items → Reads t items → IsAfter new t items
-after_restart scanner new t items between offset none h reads =
-    record {
-      part = [];
-      good = record {
-        splits = record { whole = t; reads = reads; split = sym (append-nil t) };
-        begun = begun Between [] refl;
-      };
-      state = rw between refl;
-      offset = offset ∙ h.offset;
-      limit = h.limit;
-      no_refusal = none;
-    }
 
 -- such a text was taken with the items after it
 pub after_read : (scanner : Scanner) (t run : Text) (items more : List Item) → IsAfter scanner t items → Reads t items

@@ -1,9 +1,8 @@
 //! The parts of a conversion specification, each read at its offset, and the directive that they are.
-ghost use Rattle.std.specs.Prelude.{◌≡◌, ◌≢◌, ◌+◌, ◌<◌, ◌≤◌, ◌&&◌, ◌||◌, ◌⊎◌, List, [], ◌∷◌, ◌++◌, drop, false, get_or, length, map, not, ℕ, None, Some, IfSome, IsFalse, IsTrue, MatchBool, MatchOption};
+ghost use Rattle.std.specs.Prelude.{◌≡◌, ◌≢◌, ◌+◌, ◌<◌, ◌≤◌, ◌&&◌, ◌||◌, ◌⊎◌, List, [], ◌∷◌, ◌++◌, drop, false, get_or, length, map, not, ℕ, None, Some, IfSome, IsFalse, MatchBool, MatchOption};
 ghost use Rattle.pf_values.specs.Directives.{specification_of};
 ghost use Rattle.pf_values.specs.declared.flags.Flag.{Flag};
 ghost use Rattle.pf_values.specs.declared.flags.Flag.TheVariants.{Alt, Group, Zero};
-ghost use Rattle.pf_values.specs.declared.lengths.Length.TheVariants as lengths;
 ghost use Rattle.pf_values.specs.declared.limits.TheConstants.{MAX_NUMBER};
 ghost use Rattle.pf_values.specs.meaning.Conversions.{conv_letter};
 ghost use Rattle.pf_values.specs.meaning.Defined.{first_broken, is_above_limit, undefined_kinds};
