@@ -24,7 +24,7 @@ pub record ContinuesNumber (number : ℕ) (bytes : Text) (longer : ℕ) : Type 0
   pub spelled : bytes ≡ map (digit_glyph false) digits
   pub value : longer ≡ number_from_digits_after 10 number digits
 
--- no flag comes at an offset
+-- at an offset comes no flag
 abbrev pub EndsFlags : Text → ℕ → Type 0
 EndsFlags t at = at < length t → flag_of (get_or t at 0) ≡ None
 
