@@ -69,7 +69,7 @@ fn directives_at_offsets(rt: HostRuntime) {
             found(b"%0000005d%", 0, b"%05d"),
             found(b"ab%-8.3ld", 2, b"%-8.3ld"),
             found(b"%d%#+ 'd", 2, b""),
-            found(b"%+ 'd", 0, b"%'+d"),
+            found(b"%'+ d", 0, b"%+ 'd"),
             found(b"a%d", 0, b""),
             found(b"%%", 0, b""),
             found(b"%-", 0, b""),
