@@ -1,7 +1,7 @@
 //! Canonical texts: the one spelling to which each printf format is brought.
 //!
-//! The road through a text in memory is `items`, which puts its canonical text into a `sink`, and asks `languages`
-//! what else the text has; that of streams is `transducer`, which takes any format in any blocks. The shortcuts, and what a call costs with
+//! The road through a text in memory is `items`, which puts its canonical text into a `sink`; that of streams
+//! is `transducer`, over `chunk`, which takes any format in any blocks. The shortcuts, and what a call costs with
 //! one and without, in instructions over 4,000 formats: `verbatim_front` sees bytes that need no change
 //! (`canonical`: 235 and 331), `changed_directives` knows directives that change little (235 and 276),
 //! `short_texts` needs no vector (235 and 273), `plain_canonical` decides most texts (`is_canonical`: 187 and

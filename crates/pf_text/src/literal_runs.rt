@@ -52,11 +52,15 @@ impl LiteralRuns {
     }
 }
 
+// Most runs after a directive are empty, and need no search.
 #[inline(always)]
 fn next_by_search(text: &[u8], from: usize) -> Option<usize>
     requires { from < length text.now }
     ensures { IsNextEnd text.now from result }
 {
+    if text[from] == b'%' {
+        return Some(from);
+    }
     let end = from + literal_len(&text[from..]);
     if end == text.len() {
         return None;
