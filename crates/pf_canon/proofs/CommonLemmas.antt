@@ -1,16 +1,17 @@
 -- Bytes that two texts have in common.
-use Rattle.std.proofs.Common.{◌≡◌, ◌≢◌, ℕ, suc, ◌+◌, ◌%◌, ◌^◌, ◌≤◌, Bool, true, false, cond, not, List, [], ◌∷◌, length, map, take, drop, refl, sym, ap, ◌∙◌, subst, arith}
+use Rattle.std.proofs.Common.{◌≡◌, ◌≢◌, ℕ, suc, ◌+◌, ◌%◌, ◌^◌, ◌<◌, ◌≤◌, Bool, true, false, cond, not, List, [], ◌∷◌, get_or, length, map, take, drop, ◌⊎◌, inl, inr, refl, sym, ap, ◌∙◌, subst, arith}
 use Rattle.std.specs.Prelude.{◌==◌}
 use Rattle.std.specs.List.{prefix_len}
+use Rattle.std.proofs.lemmas.Bool.{cases_lt, true≢false}
 use Rattle.std.proofs.lemmas.Bool.Decides.{nat_tests}
 use Rattle.std.proofs.lemmas.List.{length-take-le, length-drop, map-id, take-append-drop, take-append-le}
-use Rattle.std.proofs.lemmas.List.Sums.{prefix_len-le-length}
-use Rattle.std.proofs.lemmas.Simd.{leading_from_mask_l, length-chunk, length-zip2, mask_l-mod, tops_compared, trailing_mask_l}
+use Rattle.std.proofs.lemmas.List.Sums.{prefix_len-le-length, prefix_len_stops}
+use Rattle.std.proofs.lemmas.Simd.{get_or-chunk, get_or-zip2, leading_from_mask_l, length-chunk, length-zip2, mask_l-mod, tops_compared, trailing_mask_l}
 use lib.Count.{count_trailing_zeros}
 use lib.Lanes.{chunk, mask_l, top, zip2}
 use mir.Syntax.{w8}
 use Rattle.pf_values.specs.meaning.Text.{Text}
-use Rattle.pf_canon.specs.Comparison.{AreCommon}
+use Rattle.pf_canon.specs.Comparison.{AreCommon, EndsCommon}
 
 shorter : (r n : ℕ) (t : Text) → r ≤ n → n ≤ length t → take r (take n t) ≡ take r t
 shorter r n t less within = sym (take-append-le r (take n t) (drop n t) (omega (arith, less, length-take-le n t within))) ∙ ap (take r) (take-append-drop n t)
@@ -22,6 +23,19 @@ common_fewer t u count fewer h less = record {
   second = omega (arith, less, h.second);
   same = sym (shorter fewer count t less h.first) ∙ ap (take fewer) h.same ∙ shorter fewer count u less h.second;
 }
+
+ends_at : (t u : Text) (most at n run : ℕ) → at + n ≡ most → run ≤ n → EndsCommon t u most
+    → (run < n → get_or t (at + run) 0 ≢ get_or u (at + run) 0) → (run < n) ⊎ (n ≤ run) → EndsCommon t u (at + run)
+ends_at t u most at n run whole few end other (inl less) = λ first second. other less
+ends_at t u most at n run whole few end other (inr all) =
+    let place : most ≡ at + run = omega (arith, whole, few, all) in
+    subst (EndsCommon t u) place end
+
+-- where a run of equal bytes ends, before the end of one text or at it
+pub ends_within : (t u : Text) (most at n run : ℕ) → at + n ≡ most → run ≤ n → EndsCommon t u most
+    → (run < n → get_or t (at + run) 0 ≢ get_or u (at + run) 0) → EndsCommon t u (at + run)
+ends_within t u most at n run whole few end other =
+    ends_at t u most at n run whole few end other (cases_lt run n)
 
 abbrev unlike : ℕ → ℕ → Bool
 unlike a b = not (a == b)
@@ -39,6 +53,10 @@ same_front [] [] = refl
 same_front [] (b ∷ u) = refl
 same_front (a ∷ t) [] = refl
 same_front (a ∷ t) (b ∷ u) = same_step a b t u (a == b) (prefix_len not (zip2 unlike t u)) refl (same_front t u)
+
+apart : (a b : ℕ) (same : Bool) → (a == b) ≡ same → not (not same) ≡ false → a ≢ b
+apart a b true e stops same = absurd (true≢false stops)
+apart a b false e stops same = grind (arith, nat_tests, e, same)
 
 -- what the mask of two vectors says of their bytes
 module _ (t u : Text) (at n : ℕ) (first : at + n ≤ length t) (second : at + n ≤ length u) (lanes : n ≤ 64) where
@@ -64,9 +82,28 @@ module _ (t u : Text) (at n : ℕ) (first : at + n ≤ length t) (second : at + 
             ∙ shorter r n (drop at u) few (omega (arith, second, length-drop at u)),
       )
 
+  -- where the run ends inside of the vectors, their next bytes differ
+  other_run : (r : ℕ) → r ≡ prefix_len not differences → r < n → get_or t (at + r) 0 ≢ get_or u (at + r) 0
+  other_run r counted inside =
+      let a = get_or t (at + r) 0 in
+      let b = get_or u (at + r) 0 in
+      let place : get_or differences r false ≡ unlike a b =
+          get_or-zip2 unlike (chunk at n t) (chunk at n u) r 0 0 false (omega (arith, inside, length-chunk at n t first)) (omega (arith, inside, length-chunk at n u second))
+          ∙ ap (λ x. unlike x (get_or (chunk at n u) r 0)) (get_or-chunk at n t r 0 inside) ∙ ap (unlike a) (get_or-chunk at n u r 0 inside) in
+      let stops : not (get_or differences r false) ≡ false = subst (λ k. not (get_or differences k false) ≡ false) (sym counted)
+          (prefix_len_stops not differences false (omega (arith, counted, long, inside))) in
+      apart a b (a == b) refl (ap not (sym place) ∙ stops)
+
   pub all_same : mask ≡ 0 → take n (drop at t) ≡ take n (drop at u)
   all_same none = (same_run n (sym (leading_from_mask_l (λ b. b) differences (sym mask_is ∙ none) ∙ long))).1
 
+  counted_run : mask ≢ 0 → count_trailing_zeros 64 mask ≡ prefix_len not differences
+  counted_run some = ap (count_trailing_zeros 64) mask_is
+      ∙ trailing_mask_l (λ b. b) 64 differences (omega (arith, lanes, long)) (omega (arith, some, mask_is))
+
   pub first_same : mask ≢ 0 → (count_trailing_zeros 64 mask ≤ n) × (take (count_trailing_zeros 64 mask) (drop at t) ≡ take (count_trailing_zeros 64 mask) (drop at u))
-  first_same some = same_run (count_trailing_zeros 64 mask) (ap (count_trailing_zeros 64) mask_is
-      ∙ trailing_mask_l (λ b. b) 64 differences (omega (arith, lanes, long)) (omega (arith, some, mask_is)))
+  first_same some = same_run (count_trailing_zeros 64 mask) (counted_run some)
+
+  pub first_other : mask ≢ 0 → count_trailing_zeros 64 mask < n
+      → get_or t (at + count_trailing_zeros 64 mask) 0 ≢ get_or u (at + count_trailing_zeros 64 mask) 0
+  first_other some = other_run (count_trailing_zeros 64 mask) (counted_run some)

@@ -1,5 +1,5 @@
 -- What two texts that are compared have come to. This project's own.
-use Rattle.std.specs.Prelude.{◌≡◌, ◌≢◌, ℕ, [], ◌++◌, length, take, Option, Some, None, ◌⊎◌, ◌≤◌, ◌<◌, Bool, ◌∷◌, Result, Ok, Err, ◌↔◌, IsTrue}
+use Rattle.std.specs.Prelude.{◌≡◌, ◌≢◌, ℕ, [], ◌++◌, get_or, length, take, Option, Some, None, ◌⊎◌, ◌≤◌, ◌<◌, Bool, ◌∷◌, Result, Ok, Err, ◌↔◌, IsTrue}
 use Rattle.std.specs.Io.KnownBytes.{Consumes, IsAtEnd}
 use Rattle.pf_values.specs.meaning.Text.{Text, percent}
 use Rattle.pf_values.specs.declared.models.Model.{Model}
@@ -24,6 +24,10 @@ pub record AreCommon (t u : Text) (count : ℕ) : Type 0 where
   pub first : count ≤ length t
   pub second : count ≤ length u
   pub same : take count t ≡ take count u
+
+-- behind this many bytes one of two texts ends, or they go on with different ones
+abbrev pub EndsCommon : Text → Text → ℕ → Type 0
+EndsCommon t u count = count < length t → count < length u → get_or t count 0 ≢ get_or u count 0
 
 -- Two texts begin with this many equal bytes, some unless both are empty. Or they begin with
 -- unequal ones, or just one of them is empty.

@@ -9,7 +9,7 @@ ghost use Rattle.pf_canon.specs.CanonicalSlices.{AreApart, GoInStep, SlicesHaveG
 
 use crate::canonical_bytes::{ByteSource, ByteTransducer};
 use crate::canonical_slices::CanonicalSlices;
-use crate::common_bytes::common_bytes;
+use crate::common_prefix::common_prefix_len;
 use crate::early_difference::{differ_after, take_other_types};
 use crate::early_refusal::{item_start, refusal_of_item};
 use crate::faults::{SideFault, StreamFault};
@@ -44,7 +44,7 @@ pub fn same_stream<R: Read, S: Read>(
 pub fn same_text(model: Model, first: &[u8], second: &[u8]) -> Result<bool, (Side, Refusal)>
     ensures { MatchResult result (AreTextsSame model first.now second.now) (TextStops first.now second.now) }
 {
-    let common = common_bytes(first, second);
+    let common = common_prefix_len(first, second);
     if are_all(first, second, common) {
         return same_itself(first);
     }

@@ -9,10 +9,10 @@ ghost use Rattle.pf_canon.specs.Comparison.{AreCommon, TextStops};
 use crate::early_difference::{are_items, is_format, is_short};
 use pf_text::{Refusal, Scanner, Step};
 
-/// The offset of the directive that has an offset inside it, or that offset if none seems to have it.
+/// Returns the offset of the directive that has an offset inside it, or that offset if none seems to have it.
 /// This is a guess from the bytes before it, so the caller verifies it.
 #[inline(always)]
-pub(crate) fn item_start(text: &[u8], at: usize) -> usize
+pub fn item_start(text: &[u8], at: usize) -> usize
     requires { at ≤ length text.now }
     ensures { result ≤ at }
 {

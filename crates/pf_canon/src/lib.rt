@@ -15,7 +15,7 @@ mod canonical_slices;
 mod canonical_texts;
 mod changed_directives;
 mod chunk;
-mod common_bytes;
+mod common_prefix;
 mod comparison;
 mod copy;
 mod early_difference;
@@ -37,8 +37,10 @@ pub use canonical_texts::{
     canonical, canonical_in, canonical_len, canonical_len_in, canonical_with_room, is_canonical,
     is_canonical_in,
 };
+pub use common_prefix::common_prefix_len;
 pub use comparison::{same_stream, same_text};
 pub use copy::{canonical_stream, copy_canonical};
+pub use early_refusal::item_start;
 pub use faults::{CopyFault, SideFault, StreamFault};
 pub use languages::{Language, OtherItem, Profile};
 pub use pf_text::{Side, TextFault as CanonFault};

@@ -13,6 +13,7 @@ ghost use Rattle.pf_compare.specs.Lone.{DifferInItems, DifferInOneAtMost, HasFol
 ghost use Rattle.pf_compare.specs.Spaces.{with_space};
 ghost use Rattle.pf_compare.specs.TypeLists.{HasGivenTypes};
 
+use pf_canon::{common_prefix_len, item_start};
 use pf_text::{Piece, Pieces};
 use pf_values::{ArgType, Conv, Directive, Flag, FlagSet, Length, Model};
 
@@ -72,11 +73,14 @@ fn item_difference_of(found: Option<LoneDifference>) -> ItemDifference
     }
 }
 
-// Whether the first bytes in which two texts differ are inside of what looks like a directive.
+// Whether the first bytes in which two texts differ are inside of what looks like a directive, after its `%`.
 // Otherwise the texts differ in literal bytes, and needn't be read.
 fn diverge_in_directive(first: &[u8], second: &[u8]) -> bool {
-    have_similar_ends(first.last(), second.last())
-        && ends_in_directive(&first[..common_prefix_len(first, second)])
+    if !have_similar_ends(first.last(), second.last()) {
+        return false;
+    }
+    let common = common_prefix_len(first, second);
+    item_start(first, common) < common
 }
 
 // Whether two texts with these last bytes end in the same byte, or each in a letter.
@@ -85,32 +89,6 @@ fn have_similar_ends(first: Option<&u8>, second: Option<&u8>) -> bool {
     if let Some(first) = first {
         if let Some(second) = second {
             return first == second || (first.is_ascii_alphabetic() && second.is_ascii_alphabetic());
-        }
-    }
-    false
-}
-
-// How many bytes two texts begin with in common.
-fn common_prefix_len(first: &[u8], second: &[u8]) -> usize
-    ensures { result ≤ length first.now }
-{
-    let most = first.len().min(second.len());
-    for at in 0..most {
-        if first[at] != second[at] {
-            return at;
-        }
-    }
-    most
-}
-
-// Whether only parts of a directive come after the last `%`.
-fn ends_in_directive(text: &[u8]) -> bool {
-    for back in 0..text.len() {
-        match text[text.len() - 1 - back] {
-            b'%' => return true,
-            b'0'..=b'9' | b'.' | b'-' | b'+' | b' ' | b'#' | b'\'' => {}
-            b'h' | b'l' | b'j' | b'z' | b't' => {}
-            _ => return false,
         }
     }
     false

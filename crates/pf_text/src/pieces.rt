@@ -121,6 +121,9 @@ impl<'a> Iterator for Pieces<'a> {
             return Some(Ok(piece));
         }
         self.is_over = true;
+        if self.at == self.text.len() {
+            return None;
+        }
         match refusal_at(self.text, self.at) {
             Some(refusal) => Some(Err(refusal)),
             None => None,

@@ -1,6 +1,6 @@
 //! How many bytes two texts begin with in common.
-ghost use Rattle.std.specs.Prelude.{◌≡◌, ◌+◌, ◌-◌, ◌<◌, ◌≤◌, drop, length, take};
-ghost use Rattle.pf_canon.specs.Comparison.{AreCommon};
+ghost use Rattle.std.specs.Prelude.{◌≡◌, ◌≢◌, ◌+◌, ◌-◌, ◌<◌, ◌≤◌, drop, get_or, length, take};
+ghost use Rattle.pf_canon.specs.Comparison.{AreCommon, EndsCommon};
 
 use std::simd::prelude::*;
 
@@ -9,10 +9,11 @@ const LANES: usize = 16;
 // The lanes of the vector for shorter texts.
 const HALF: usize = 8;
 
-/// How many bytes two texts begin with in common.
+/// Returns how many bytes two texts begin with in common.
 #[inline(always)]
-pub(crate) fn common_bytes(x: &[u8], y: &[u8]) -> usize
-    ensures { AreCommon x.now y.now result }
+pub fn common_prefix_len(x: &[u8], y: &[u8]) -> usize
+    ensures common { AreCommon x.now y.now result }
+    ensures ends { EndsCommon x.now y.now result }
 {
     let most = x.len().min(y.len());
     if most < LANES {
@@ -29,13 +30,15 @@ pub(crate) fn common_bytes(x: &[u8], y: &[u8]) -> usize
     common_to_end::<LANES>(x, y, most, at)
 }
 
-// `common_bytes` of texts, one of them shorter than a vector.
+// `common_prefix_len` of texts, one of them shorter than a vector.
 #[inline(always)]
 fn common_of_few(x: &[u8], y: &[u8], most: usize) -> usize
     requires few { most < LANES }
     requires first { most ≤ length x.now }
     requires second { most ≤ length y.now }
-    ensures { AreCommon x.now y.now result }
+    requires end { EndsCommon x.now y.now most }
+    ensures common { AreCommon x.now y.now result }
+    ensures ends { EndsCommon x.now y.now result }
 {
     if most < HALF {
         return common_by_one(x, y);
@@ -49,7 +52,8 @@ fn common_of_few(x: &[u8], y: &[u8], most: usize) -> usize
 
 #[inline(never)]
 fn common_by_one(x: &[u8], y: &[u8]) -> usize
-    ensures { AreCommon x.now y.now result }
+    ensures common { AreCommon x.now y.now result }
+    ensures ends { EndsCommon x.now y.now result }
 {
     let most = x.len().min(y.len());
     let mut at = 0;
@@ -70,9 +74,11 @@ fn common_to_end<const N: usize>(x: &[u8], y: &[u8], most: usize, known: usize) 
     requires room { N ≤ most }
     requires first { most ≤ length x.now }
     requires second { most ≤ length y.now }
+    requires end { EndsCommon x.now y.now most }
     requires common { AreCommon x.now y.now known }
     requires few { most - N ≤ known }
-    ensures { AreCommon x.now y.now result }
+    ensures common { AreCommon x.now y.now result }
+    ensures ends { EndsCommon x.now y.now result }
 {
     let at = most - N;
     at + equal_at::<N>(x, y, at)
@@ -86,6 +92,7 @@ fn equal_at<const N: usize>(x: &[u8], y: &[u8], at: usize) -> usize
     requires second { at + N ≤ length y.now }
     ensures few { result ≤ N }
     ensures same { take result (drop at x.now) ≡ take result (drop at y.now) }
+    ensures other { result < N → get_or x.now (at + result) 0 ≢ get_or y.now (at + result) 0 }
 {
     let one = Simd::<u8, N>::from_slice(&x[at..]);
     let other = Simd::<u8, N>::from_slice(&y[at..]);

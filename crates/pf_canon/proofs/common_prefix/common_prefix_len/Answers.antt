@@ -1,9 +1,9 @@
 use Rattle.std.proofs.Common.{◌≡◌, arith, drop, subst, take}
 use Rattle.pf_canon.proofs.ComparisonLemmas.{common_more}
-use Rattle.pf_canon.proofs.common_bytes.common_bytes.Goals as goal
+use Rattle.pf_canon.proofs.common_prefix.common_prefix_len.Goals as goal
 
-pub returns-then-run-lt-LANES : goal.returns-then-run-lt-LANES
-returns-then-run-lt-LANES c =
+pub returns-then-run-lt-LANES-clause-common : goal.returns-then-run-lt-LANES-clause-common
+returns-then-run-lt-LANES-clause-common c =
     let i = c.loop-at.invariant in
     let run = c.equal_at-run.ensures in
     let most = c.min-most.ensures in

@@ -1,6 +1,6 @@
 use Rattle.std.proofs.Common.{◌≤◌, ◌-◌}
 use Rattle.pf_canon.specs.Comparison.{AreCommon}
-use Rattle.pf_canon.proofs.common_bytes.common_bytes.Given as goal
+use Rattle.pf_canon.proofs.common_prefix.common_prefix_len.Given as goal
 
 abbrev pub invariant-loop-at : goal.invariant-loop-at
 invariant-loop-at l = record {
