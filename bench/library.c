@@ -13,6 +13,7 @@ enum { MOST = 1 << 20 };
 
 static char texts[4 * MOST], other[MOST], out[MOST];
 static int types[MOST];
+static fmtcanon_directive found[MOST];
 /* The lengths of the formats without their last directives, and the number of the format of this call. */
 static size_t fronts[MOST], now;
 static fmtcanon_error error;
@@ -72,9 +73,32 @@ static int64_t fits_front(const char *text, size_t len)
 
 static int64_t bounds(const char *text, size_t len)
 {
-    struct fmtcanon_bounds found;
-    return fmtcanon_bounds(FMTCANON_LP64, text, len, &found, &error) + (int64_t)found.least;
+    struct fmtcanon_bounds most;
+    return fmtcanon_bounds(FMTCANON_LP64, text, len, &most, &error) + (int64_t)most.least;
 }
+
+static int64_t directives(const char *text, size_t len)
+{
+    return fmtcanon_directives(FMTCANON_LP64, text, len, found, sizeof found / sizeof *found, &error);
+}
+
+static int64_t whole_canonical(const char *text, size_t len)
+{
+    return fmtcanon_whole_canonical(FMTCANON_LP64, text, len, out, sizeof out, &error);
+}
+
+static int64_t whole_length(const char *text, size_t len)
+{
+    return fmtcanon_whole_canonical_length(FMTCANON_LP64, text, len, &error);
+}
+
+static int64_t whole_same(const char *text, size_t len, size_t other_len)
+{
+    return fmtcanon_whole_same(FMTCANON_LP64, text, len, other, other_len, &error);
+}
+
+static int64_t whole_itself(const char *text, size_t len) { return whole_same(text, len, len); }
+static int64_t whole_appended(const char *text, size_t len) { return other[len] = 'x', whole_same(text, len, len + 1); }
 
 static int64_t same_itself(const char *text, size_t len) { return same(text, len, len); }
 static int64_t first_changed(const char *text, size_t len) { return other[0] = another(other[0]), same(text, len, len); }
@@ -106,6 +130,11 @@ static const struct {
     {"same, first byte changed", first_changed},
     {"same, last byte changed", last_changed},
     {"same, a byte appended", appended},
+    {"directives", directives},
+    {"whole_canonical", whole_canonical},
+    {"whole_canonical_length", whole_length},
+    {"whole_same, itself", whole_itself},
+    {"whole_same, a byte appended", whole_appended},
 };
 
 int main(int count, char **words)

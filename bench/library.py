@@ -4,8 +4,9 @@
     bench/library.py FOLDER
 
 FOLDER has libfmtcanon.a, as `make library` leaves it. The formats are those of shapes.nul, and those of them alone that
-have a directive with a flag, a width, a precision, `i`, or a length modifier other than `h`, `hh`, `l` and `ll`.
-It needs gcc and valgrind, and prints the tables of docs/PERFORMANCE.md. The last one is of `printing.c`.
+have a directive with a flag, a width, a precision, `i`, or a length modifier other than `h`, `hh`, `l` and `ll`. The calls
+of the whole language are counted over formats that each have a directive that the profile lacks. It needs gcc and
+valgrind, and prints the tables of docs/PERFORMANCE.md. The last one is of `printing.c`.
 """
 import re
 import subprocess
@@ -16,12 +17,14 @@ from pathlib import Path
 
 sys.dont_write_bytecode = True
 
-from formats import records, shapes
+from formats import records, shapes, whole_shapes
 
 BENCH = Path(__file__).resolve().parent
 HEADERS = BENCH.parent / "include"
 ONE = ["check", "types", "bounds", "arguments", "is_canonical", "canonical", "canonical_length"]
 TWO = ["fits, itself", "fits_fewer, itself", "fits_fewer, the last directive left out", "same, itself", "same, first byte changed", "same, a byte appended", "same, last byte changed"]
+WHOLE = ["arguments", "directives", "whole_canonical", "whole_canonical_length"]
+WHOLE_TWO = ["fits, itself", "whole_same, itself", "whole_same, a byte appended"]
 # The formats of printing.c, in its order.
 PRINTED = ["%d %s", r"Total: %5d of %-8s.\n", "%300d %s"]
 PLAIN = re.compile(rb"(?:[^%]|%(?:%|#?(?:hh?|ll?)?[duoxXbcs]))*")
@@ -81,6 +84,16 @@ def calls_table(driver, file, texts):
         yield f"| {named(call)} | {' | '.join(cells)} |"
 
 
+def whole_table(driver, file, texts):
+    """The lines that compare calls with the one of the C library, over formats that the profile lacks."""
+    formats = whole_shapes()
+    cost = costs(driver, file, formats, ["parse_printf_format", *WHOLE, *WHOLE_TWO])
+    yield f"\n| Call | {len(formats):,} formats of the whole language | Ratio |\n|---|---|---|"
+    for call in [*WHOLE, *WHOLE_TWO, "parse_printf_format"]:
+        known = cost["parse_printf_format"] * (2 if call in WHOLE_TWO else 1)
+        yield f"| {named(call)} | {cost[call]:,.0f} | {cost[call] / known:.2f} |"
+
+
 def bounds_table(driver, file, texts):
     """The lines that compare `bounds` with `types`, over the formats of bare directives and over the others."""
     yield "\n| Formats | `types` | `bounds` | Ratio |\n|---|---|---|---|"
@@ -98,7 +111,7 @@ def main(words):
     with tempfile.TemporaryDirectory() as work:
         work = Path(work)
         driver, printing = (build(Path(words[0]), work, name) for name in ("library", "printing"))
-        for table in (calls_table, bounds_table):
+        for table in (calls_table, whole_table, bounds_table):
             print(*table(driver, work / "formats.nul", texts), sep="\n")
         print(*printing_table(printing), sep="\n")
 

@@ -80,7 +80,7 @@ IsBehind Width t parts own = (width : Option Amount) × SpellsUpToWidth t parts.
     × (parts.precision ≡ false) × (own ≡ star_fetches width)
 IsBehind Precision t parts own = HasNumbers t parts own
 
-behind_digits : (slot : WidthOrPrecision) (before digits : Text) (parts : PartialSpecification) (own : List Fetch) (n : ℕ) → IsBefore slot before parts own
+pub behind_digits : (slot : WidthOrPrecision) (before digits : Text) (parts : PartialSpecification) (own : List Fetch) (n : ℕ) → IsBefore slot before parts own
     → SpellsDigits slot digits n → IsBehind slot (before ++ digits) parts own
 behind_digits Width before digits parts own n h d = (
   Some (Given n),
@@ -105,7 +105,7 @@ behind_digits Precision before digits parts own n h d =
       own_is = h.6 ∙ sym (append-nil _);
     }
 
-behind_star : (slot : WidthOrPrecision) (before text : Text) (parts : PartialSpecification) (own : List Fetch) (number : Option ℕ)
+pub behind_star : (slot : WidthOrPrecision) (before text : Text) (parts : PartialSpecification) (own : List Fetch) (number : Option ℕ)
     → IsBefore slot before parts own → SpellsStar text parts.position number
     → IsBehind slot (before ++ text) parts (own ++ fetch number int_type ∷ [])
 behind_star Width before text parts own number h s = (
@@ -132,7 +132,7 @@ behind_star Precision before text parts own number h s =
     }
 
 -- a point and no digits
-behind_point : (t : Text) (parts : PartialSpecification) (own : List Fetch) → IsBefore Precision t parts own → HasNumbers t parts own
+pub behind_point : (t : Text) (parts : PartialSpecification) (own : List Fetch) → IsBefore Precision t parts own → HasNumbers t parts own
 behind_point t parts own h =
     record {
       width = h.1;
@@ -150,7 +150,7 @@ behind_point t parts own h =
     }
 
 -- no precision
-behind_none : (t : Text) (parts : PartialSpecification) (own : List Fetch) → IsBehind Width t parts own → HasNumbers t parts own
+pub behind_none : (t : Text) (parts : PartialSpecification) (own : List Fetch) → IsBehind Width t parts own → HasNumbers t parts own
 behind_none t parts own h =
     record {
       width = h.0;

@@ -16,6 +16,8 @@ pub mod Running
 pub mod Reaching
 pub mod Following
 pub mod Unique
+pub mod BeginningStates
+pub mod RefusalWords
 mod ListLemmas
 pub mod StepLemmas
 pub mod DifferenceLemmas

@@ -8,6 +8,8 @@ pub mod Letters
 pub mod States
 pub mod Moves
 pub mod Fronts
+pub mod Beginnings
+pub mod GrammarRefusals
 pub mod Refusals
 pub mod TypeNumbers
 pub mod Readings
