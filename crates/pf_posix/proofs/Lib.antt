@@ -32,6 +32,7 @@ pub mod UnnumberedLemmas
 pub mod UnnumberedEnds
 pub mod PartLemmas
 pub mod FoundLemmas
+pub mod PlainLemmas
 pub mod StretchLemmas
 mod KindLemmas
 mod Examples

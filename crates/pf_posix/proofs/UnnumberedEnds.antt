@@ -76,7 +76,7 @@ module _ (model : Model) (rest : Text) where
 
 module _ (model : Model) where
   -- items without numbers are passed over
-  end_after_items : (items : List PosixItem) (t rest : Text) (at : ℕ) → ReadsPosix t items → AllByRecursion IsUnnumbered items → at + length t ≤ MAX_TEXT_LEN
+  pub end_after_items : (items : List PosixItem) (t rest : Text) (at : ℕ) → ReadsPosix t items → AllByRecursion IsUnnumbered items → at + length t ≤ MAX_TEXT_LEN
       → ending (trace_from model Unnumbered Between at (t ++ rest)) ≡ ending (trace_from model Unnumbered Between (at + length t) rest)
   end_after_items [] t rest at h u few =
       let here : at ≡ at + length t = omega (arith, ap length h) in

@@ -7,10 +7,12 @@ use Rattle.pf_values.specs.declared.models.Model.{Model}
 use Rattle.pf_values.specs.meaning.Text.{Text}
 use Rattle.pf_posix.specs.declared.fetches.Fetch.{Fetch}
 use Rattle.pf_posix.specs.declared.partial_specification.Numbering.TheVariants.{Unnumbered}
+use Rattle.pf_posix.specs.declared.opaque_directives.OpaqueDirective.{OpaqueDirective}
 use Rattle.pf_posix.specs.declared.plain_reader.PlainFront.{PlainFront}
 use Rattle.pf_posix.specs.declared.types.ArgumentType.{ArgumentType}
 use Rattle.pf_posix.specs.Items.{PosixItem, ReadsPosix, Specification, SpellsPosixItem, fetched}
 use Rattle.pf_posix.specs.Laws.{filled}
+use Rattle.pf_posix.specs.OpaqueParts.{parts_of_opaque}
 use Rattle.pf_posix.specs.Readings.{FetchTrace, verdict, verdict_after, wanted_types}
 use Rattle.pf_posix.specs.Specifications.{PosixSpecification}
 use Rattle.pf_posix.specs.Types.{fetch, fetches}
@@ -22,6 +24,15 @@ pub record IsPlain (t : Text) (start stop : ℕ) (s : PosixSpecification) : Type
   pub within : stop ≤ length t
   pub item : SpellsPosixItem (take (stop - start) (drop start t)) (Specification s)
   pub unnumbered : s.position ≡ None
+
+-- these parts are such a specification, which ends within the limit
+pub record IsPlainAt (t : Text) (start : ℕ) (found : OpaqueDirective × ℕ) : Type 0 where
+  pub limit : found.1 ≤ MAX_TEXT_LEN
+  pub plain : IsPlain t start found.1 (parts_of_opaque found.0)
+
+-- none begins at an offset that ends within the limit
+abbrev pub BeginsNoPlain : Text → ℕ → Type 0
+BeginsNoPlain t start = (stop : ℕ) (s : PosixSpecification) → stop ≤ MAX_TEXT_LEN → IsPlain t start stop s → ⊥
 
 -- it fetches one argument, of this type
 pub record HasTypeAt (model : Model) (t : Text) (start : ℕ) (found : ArgumentType × ℕ) : Type 0 where

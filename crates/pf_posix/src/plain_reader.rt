@@ -7,20 +7,17 @@ ghost use Rattle.pf_posix.specs.declared.types.ArgumentType.{ArgumentType as Arg
 ghost use Rattle.pf_posix.specs.Laws.{filled};
 ghost use Rattle.pf_posix.specs.OpaqueParts.{amount_of, parts_of_opaque};
 ghost use Rattle.pf_posix.specs.Plain.{HasTypeAt, IsFrontRead, IsPut};
-ghost use Rattle.pf_posix.specs.Defined.{undefined_of};
 ghost use Rattle.pf_posix.specs.Readings.{wanted_types};
 ghost use Rattle.pf_posix.specs.Types.{fetches, star_fetches};
 
 use crate::fetches::{bare_type, conversion_type};
 use crate::opaque_directives::{OpaqueAmount, OpaqueDirective, is_star};
-use crate::partial_specification::PartialSpecification;
-use crate::specifications::specification_at;
+use crate::plain_specifications::plain_at;
 use crate::tables::put;
 use crate::types::ArgumentType;
-use crate::undefined_combinations::undefined_as;
 use pf_text::{Percents, Walk, directive_at};
 use pf_values::limits::MAX_TEXT_LEN;
-use pf_values::{ArgType, Model, RefusalKind};
+use pf_values::{ArgType, Model};
 
 /// The front of a format, up to an offset between two items.
 #[derive(Clone, Copy, Debug)]
@@ -115,28 +112,8 @@ fn put_any(
     requires few { count ≤ at }
     ensures { IsPut model text.now at out.old out.new count result }
 {
-    let (read, stop) = specification_at(text, at)?;
-    if read.position.is_some() {
-        return None;
-    }
-    match undefined_parts(&read.parts) {
-        Some(_) => None,
-        None => Some((stop, put_types(model, &read.parts, out, count))),
-    }
-}
-
-// Why a specification of these parts is undefined, if it is.
-#[inline(always)]
-fn undefined_parts(parts: &OpaqueDirective) -> Option<RefusalKind>
-    ensures { result ≡ undefined_of (parts_of_opaque parts.now) }
-{
-    let front = PartialSpecification {
-        position: None,
-        flags: parts.flags,
-        width: parts.width.is_some(),
-        precision: parts.precision.is_some(),
-    };
-    undefined_as(front, parts.modifier, parts.conversion)
+    let (parts, stop) = plain_at(text, at)?;
+    Some((stop, put_types(model, &parts, out, count)))
 }
 
 // Puts the types of the arguments of a specification of these parts after `count` others, and returns how many
