@@ -17,7 +17,7 @@ pub mod Reaching
 pub mod Following
 pub mod Unique
 mod ListLemmas
-pub mod StepLemmas
+pub mod OrderedTypes
 pub mod DifferenceLemmas
 pub mod BeginningLemmas
 pub mod Profile

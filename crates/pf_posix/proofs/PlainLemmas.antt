@@ -1,15 +1,25 @@
 -- Specifications without numbers at an offset of a text, and what is there if none begins.
-use Rattle.std.proofs.Common.{◌≡◌, ◌≢◌, ℕ, ◌+◌, ◌-◌, ◌<◌, ◌≤◌, Bool, true, false, List, [], ◌∷◌, ◌++◌, drop, get_or, length, length-append, take, refl, sym, ap, ◌∙◌, arith, subst}
+use Rattle.pf_posix.proofs.Profile.{item_of, reads_here}
+use Rattle.pf_posix.proofs.Bounds.{all_append}
+use Rattle.pf_posix.specs.Unnumbered.{IsUnnumbered}
+use Rattle.pf_text.proofs.WalkLemmas.{run_is_read}
+use Rattle.pf_text.proofs.ReadingLemmas.{moved_over, part_of_front}
+use Rattle.pf_text.proofs.NoItemLemmas.{none_at_percent}
+use Rattle.pf_text.specs.declared.walk.Walk.{Walk}
+use Rattle.pf_text.specs.declared.specification.FoundDirective.{FoundDirective}
+use Rattle.pf_text.specs.Walks.{Finds, HasPassed, HasPercent, IsWalkOver}
+use Rattle.std.specs.List.{AllByRecursion}
+use Rattle.std.proofs.Common.{◌≡◌, ◌≢◌, ℕ, ◌+◌, ◌-◌, ◌<◌, ◌≤◌, Bool, true, false, List, [], ◌∷◌, ◌++◌, drop, get_or, length, length-append, take, refl, sym, ap, ◌∙◌, arith, subst, map, take-add}
 use Rattle.std.proofs.Common.{Ok, Err}
 use Rattle.std.proofs.Math.Seq.{take-append-add, take-append_seam}
-use Rattle.std.specs.Prelude.{Some, None, is_some}
-use Rattle.std.proofs.lemmas.List.{append_assoc, drop-drop, drop-take, length-drop, length-take-le, take-append-drop}
+use Rattle.std.specs.Prelude.{Some, None, is_some, IsTrue, IsFalse}
+use Rattle.std.proofs.lemmas.List.{append_assoc, drop-drop, drop-take, length-drop, length-take-le, take-append-drop, append-nil, length-take, take_all}
 use Rattle.pf_values.specs.declared.limits.TheConstants.{MAX_TEXT_LEN}
 use Rattle.pf_values.specs.declared.models.Model.{Model}
 use Rattle.pf_values.specs.declared.refusals.RefusalKind.{RefusalKind}
-use Rattle.pf_values.specs.meaning.Items.{Directive, IsReadAs, Item}
-use Rattle.pf_values.specs.meaning.Text.{Text}
-use Rattle.pf_text.specs.FoundDirectives.{BeginsNoItem}
+use Rattle.pf_values.specs.meaning.Items.{Directive, IsReadAs, Item, Reads}
+use Rattle.pf_values.specs.meaning.Text.{Text, percent}
+use Rattle.pf_text.specs.FoundDirectives.{BeginsNoItem, BeginsNoDirective, IsFoundAt}
 use Rattle.pf_posix.specs.declared.opaque_directives.OpaqueDirective.{OpaqueDirective}
 use Rattle.pf_posix.specs.declared.partial_specification.Numbering.{Numbering}
 use Rattle.pf_posix.specs.declared.partial_specification.Numbering.TheVariants.{Unnumbered}
@@ -17,7 +27,7 @@ use Rattle.pf_posix.specs.declared.specifications.Specification.{Specification a
 use Rattle.pf_posix.specs.Defined.{undefined_of}
 use Rattle.pf_posix.specs.Endings.{ending, unnumbered_trace}
 use Rattle.pf_posix.specs.Heads.{IsOpaqueAt}
-use Rattle.pf_posix.specs.Items.{Specification, SpellsPosixItem}
+use Rattle.pf_posix.specs.Items.{Specification, SpellsPosixItem, PosixItem, ReadsPosix}
 use Rattle.pf_posix.specs.Opaque.{SpellsOpaque, is_opaque}
 use Rattle.pf_posix.specs.OpaqueParts.{parts_of_opaque}
 use Rattle.pf_posix.specs.PartsInText.{BeginsNoSpecification, IsSpecificationAt, specification_read}
@@ -29,8 +39,8 @@ use Rattle.pf_posix.specs.Stages.{PosixState, Between, Opened, First, Flags, Dig
 use Rattle.pf_posix.specs.States.{PosixStep, posix_step}
 use Rattle.pf_posix.specs.Stretches.{Stretches, Last, Before, IsWholeAccepted, ReadsWhole}
 use Rattle.pf_posix.proofs.FoundLemmas.{same_there, unnumbered_parts}
-use Rattle.pf_posix.proofs.KeptTypes.{accepted_there}
-use Rattle.pf_posix.proofs.Narrowed.{narrowed}
+use Rattle.pf_posix.proofs.KeptTypes.{accepted_there, posix_append, items_unnumbered}
+use Rattle.pf_posix.proofs.Narrowed.{narrowed, accepted_here}
 use Rattle.pf_posix.proofs.PartLemmas.{head_at}
 use Rattle.pf_posix.proofs.ReadOnce.{narrow}
 use Rattle.pf_posix.proofs.SpecificationsOnce.{no_number, parts_of}
@@ -201,3 +211,95 @@ module _ (model : Model) (t : Text) (at : ℕ) (within : at ≤ length t) (front
         let left = whole_lower model rest Unnumbered Between at 0 (omega arith) (omega (arith, few, length-drop at t, within)) (sym front_left ∙ e) in
         let read = ends_whole model rest left in
         not_read read.stretches few read.reads
+
+-- what is read behind an accepted front
+module _ (t : Text) (at stop : ℕ) (front : IsWholeAccepted (take at t)) (up : at ≤ stop) (few : stop ≤ MAX_TEXT_LEN) where
+  accepted_more : (items : List PosixItem) → ReadsPosix (take (stop - at) (drop at t)) items → AllByRecursion IsUnnumbered items → IsWholeAccepted (take stop t)
+  accepted_more items reads unnumbered =
+      let before = accepted_there (take at t) front in
+      let place : at + (stop - at) ≡ stop = omega (arith, up) in
+      let whole : take at t ++ take (stop - at) (drop at t) ≡ take stop t = sym (take-add at (stop - at) t) ∙ ap (λ k. take k t) place in
+      accepted_here (take stop t) (record {
+        items = before.items ++ items;
+        reads = subst (λ u. ReadsPosix u (before.items ++ items)) whole (posix_append (take at t) (take (stop - at) (drop at t)) before.items items before.reads reads);
+        unnumbered = all_append IsUnnumbered before.items items before.unnumbered unnumbered;
+        limit = omega (arith, length-take stop t, few);
+      })
+
+  pub accepted_opaque : (s : PosixSpecification) → SpellsOpaque (take (stop - at) (drop at t)) s → IsWholeAccepted (take stop t)
+  accepted_opaque s h =
+      let text = take (stop - at) (drop at t) in
+      accepted_more (Specification s ∷ []) (text, [], (h.spelled, h.defined), refl, sym (append-nil text)) (h.unnumbered, tt)
+
+  -- items of the profile, in the front of the text up to the limit
+  accepted_items : (u : Text) (items : List Item) → u ≡ take MAX_TEXT_LEN t → stop ≤ length u → Reads (take (stop - at) (drop at u)) items
+      → IsWholeAccepted (take stop t)
+  accepted_items u items e within reads =
+      let same : take (stop - at) (drop at u) ≡ take (stop - at) (drop at t) =
+      ap (λ v. take (stop - at) (drop at v)) e ∙ part_of_front t MAX_TEXT_LEN at stop up (subst (λ v. stop ≤ length v) e within) in
+      accepted_more (map item_of items) (reads_here _ items (subst (λ v. Reads v items) same reads)) (items_unnumbered items)
+
+-- a walk over a text up to whose offset it is accepted
+pub record HasAccepted (t : Text) (walk : Walk) : Type 0 where
+  pub over : IsWalkOver t walk
+  pub within : walk.at ≤ length walk.text.now
+  pub front : IsWholeAccepted (take walk.at t)
+
+pub accepted_none : (t : Text) (walk : Walk) → IsWalkOver t walk → walk.at ≡ 0 → HasAccepted t walk
+accepted_none t walk over at = record {
+  over = over;
+  within = omega (arith, at);
+  front = subst (λ k. IsWholeAccepted (take k t)) (sym at) (record { stretches = Last []; reads = refl; limit = omega arith });
+}
+
+module _ (t : Text) (walk : Walk) (h : HasAccepted t walk) where
+  cut_long : (length walk.text.now ≤ length t) × (length walk.text.now ≤ MAX_TEXT_LEN)
+  cut_long = let same = ap length h.over.text_is ∙ length-take MAX_TEXT_LEN t in (omega (arith, same), omega (arith, same))
+
+  pub accepted_within : walk.at ≤ length t
+  accepted_within = omega (arith, h.within, cut_long.0)
+
+  pub accepted_found : (found : FoundDirective) → IsFoundAt walk.text.now walk.at found → HasAccepted t (record walk { at = found.stop })
+  accepted_found found g =
+      let text = take (found.stop - walk.at) (drop walk.at walk.text.now) in
+      record {
+        over = moved_over t walk found.stop h.over;
+        within = g.within;
+        front = accepted_items t walk.at found.stop h.front (omega (arith, g.some)) (omega (arith, g.within, cut_long.1)) walk.text.now
+            (Directive found.directive ∷ []) h.over.text_is g.within (text, [], g.read, refl, sym (append-nil text));
+      }
+
+  pub accepted_other : (found : OpaqueDirective × ℕ) → IsOpaqueAt t walk.at found → HasAccepted t (record walk { at = found.1 })
+  accepted_other found g = record {
+    over = moved_over t walk found.1 h.over;
+    within = omega (arith, g.within, g.limit, ap length h.over.text_is, length-take MAX_TEXT_LEN t);
+    front = accepted_opaque t walk.at found.1 h.front (omega (arith, g.some)) g.limit (parts_of_opaque found.0) g.spelled;
+  }
+
+  pub accepted_whole : walk.at ≡ length t → IsWholeAccepted t
+  accepted_whole e = subst IsWholeAccepted (take_all walk.at t (omega (arith, e))) h.front
+
+  module _ (passes : Item → Type 0) (new : Walk) where
+    pub accepted_passed : HasPassed passes walk new → HasAccepted t new
+    accepted_passed g =
+        let same : new.text.now ≡ take MAX_TEXT_LEN t = g.text ∙ h.over.text_is in
+        let low : walk.at ≤ length new.text.now = subst (λ u. walk.at ≤ length u) (sym g.text) h.within in
+        let most : new.at ≤ length new.text.now = omega (arith, g.within, low) in
+        record {
+          over = record { walk_is = g.walk; text_is = same };
+          within = most;
+          front = accepted_items t walk.at new.at h.front g.from (omega (arith, most, ap length same, length-take MAX_TEXT_LEN t)) new.text.now g.items same most
+              (run_is_read passes _ g.items g.run);
+        }
+
+    -- and where it stops, if there is no directive
+    pub none_there : (leaves : ℕ → Type 0) (found : Bool) → Finds passes leaves walk new found → ((byte : ℕ) → leaves byte → byte ≢ percent)
+        → BeginsNoDirective (drop new.at new.text.now) → BeginsNoItem (drop new.at (take MAX_TEXT_LEN t))
+    none_there leaves found g other none =
+        subst (λ u. BeginsNoItem (drop new.at u)) (g.passed.text ∙ h.over.text_is) (go found g.stopped g.ended) where
+          go : (b : Bool) → (IsTrue b → HasPercent new.text.now new.at × leaves (get_or new.text.now (new.at + 1) 0)) → (IsFalse b → BeginsNoItem (drop new.at new.text.now))
+              → BeginsNoItem (drop new.at new.text.now)
+          go true stopped ended =
+              let s = stopped refl in
+              none_at_percent new.text.now new.at s.0 (other (get_or new.text.now (new.at + 1) 0) s.1) none
+          go false stopped ended = ended refl

@@ -4,7 +4,7 @@ ghost use Rattle.pf_values.specs.declared.limits.TheConstants.{MAX_TEXT_LEN as L
 ghost use Rattle.pf_values.specs.declared.models.Model.{Model as ModelOf};
 ghost use Rattle.pf_posix.specs.declared.directive_spans.DirectiveSpan.{DirectiveSpan as DirectiveSpanOf};
 ghost use Rattle.pf_posix.specs.Directives.{FaultForDirectives, HasDirectiveCount, HasDirectives, argument_index, directive_between, star_index};
-ghost use Rattle.pf_posix.specs.DirectivesInText.{IsListedBehind, IsListedTo};
+ghost use Rattle.pf_posix.specs.DirectivesInText.{IsBehindItem, IsListedBehind, IsListedTo};
 ghost use Rattle.pf_posix.specs.Items.{IsPosixAccepted, PosixItem, ReadsPosix};
 ghost use Rattle.pf_posix.specs.OpaqueParts.{amount_at};
 ghost use Rattle.pf_posix.specs.PartsInText.{specification_read};
@@ -111,11 +111,13 @@ fn put_directives(model: Model, text: &[u8], out: &mut [DirectiveSpan]) -> u64
     count as u64
 }
 
-// The item at an offset of an accepted format, if it is a specification and no byte; and where it ends.
-fn item_at(text: &[u8], at: usize) -> (Option<Specification>, usize)
+/// The item at an offset of an accepted format, if it is a specification and no byte; and where it ends.
+pub(crate) fn item_at(text: &[u8], at: usize) -> (Option<Specification>, usize)
     requires within { at < length text.now }
     requires reads { (items : List PosixItem) × ReadsPosix (drop at text.now) items }
     ensures further { at < result.1 }
+    ensures item { (items : List PosixItem) → ReadsPosix (drop at text.now) items
+        → IsBehindItem text.now items result.0 result.1 }
     ensures listed { (model : ModelOf) (all done : List DirectiveSpanOf) (next : ℕ) → IsListedTo model text.now all at next done
         → IsListedBehind model text.now all at next done result.0 result.1 }
 {
@@ -154,8 +156,8 @@ fn span_between(
     }
 }
 
-// How many arguments a specification fetches.
-fn fetch_count(read: &Specification) -> u64
+/// How many arguments a specification fetches.
+pub(crate) fn fetch_count(read: &Specification) -> u64
     ensures count { (model : ModelOf) → result ≡ length (fetches model (specification_read read.now)) }
     ensures few { result ≤ 3 }
 {

@@ -17,7 +17,6 @@ mod fetches;
 pub mod laws;
 mod letters;
 mod opaque_directives;
-mod pairs;
 mod partial_specification;
 mod plain_reader;
 mod plain_specifications;
@@ -26,6 +25,7 @@ mod specifications;
 mod stretches;
 mod tables;
 mod types;
+mod types_in_order;
 mod undefined_combinations;
 mod unnumbered;
 

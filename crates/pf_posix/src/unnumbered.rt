@@ -9,10 +9,9 @@ ghost use Rattle.pf_posix.specs.Unnumbered.{IsWholeRefusedAt};
 ghost use Rattle.pf_posix.specs.Endings.{numbered_instead};
 
 use crate::opaque_directives::OpaqueDirective;
-use crate::plain_reader::plain_front;
 use crate::plain_specifications::plain_at;
 use crate::reader::{NextFetch, Reader};
-use pf_text::Refusal;
+use pf_text::{Bare, Refusal, Walk, directive_at};
 use pf_values::{Model, RefusalKind};
 
 /// Checks whether a format of the whole language is accepted in a data model if no argument may have a
@@ -23,16 +22,15 @@ pub fn check_unnumbered(model: Model, text: &[u8]) -> Result<(), Refusal>
     ensures { MatchResult result (λ _. IsWholeAccepted text.now)
         (λ refusal. IsWholeRefusedAt model text.now refusal.kind refusal.at) }
 {
-    let front = plain_front(model, text, &mut []);
-    let mut reader = Reader::unnumbered_at(front.at);
+    let mut walk = Walk::new(text);
     loop {
-        match reader.next_fetch(model, text) {
-            NextFetch::Fetched(_) => {}
-            NextFetch::End => return Ok(()),
-            NextFetch::Refused(refusal) => return Err(Refusal {
-                kind: numbered_instead(text, refusal),
-                at: refusal.at,
-            }),
+        walk.find::<Bare>();
+        match directive_at(walk.text(), walk.at) {
+            Some(found) => walk.at = found.stop,
+            None => match opaque_at(model, text, walk.at)? {
+                Some((_, stop)) => walk.at = stop,
+                None => return Ok(()),
+            },
         }
     }
 }
