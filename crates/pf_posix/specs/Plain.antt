@@ -1,6 +1,6 @@
 -- A format's front in which no argument has a number, as the code reads it at offsets of the text. No
 -- public contract names these.
-use Rattle.std.specs.Prelude.{◌≡◌, ℕ, ◌+◌, ◌-◌, ◌<◌, ◌≤◌, List, [], ◌∷◌, ◌++◌, Option, drop, length, take, Some, None}
+use Rattle.std.specs.Prelude.{◌≡◌, ℕ, ◌+◌, ◌-◌, ◌<◌, ◌≤◌, List, [], ◌∷◌, ◌++◌, ◌⊎◌, drop, length, take, None}
 use Rattle.std.specs.List.{AllByRecursion}
 use Rattle.pf_values.specs.declared.limits.TheConstants.{MAX_TEXT_LEN}
 use Rattle.pf_values.specs.declared.models.Model.{Model}
@@ -42,18 +42,18 @@ pub record HasTypeAt (model : Model) (t : Text) (start : ℕ) (found : ArgumentT
 
 -- the types of the arguments of a specification are put after others
 pub record IsPutAt (model : Model) (t : Text) (start : ℕ) (old new : List ArgumentType) (count : ℕ)
-    (found : ℕ × ℕ) : Type 0 where
+    (read : PlainFront) : Type 0 where
   pub s : PosixSpecification
-  pub plain : IsPlain t start found.0 s
-  pub more : found.1 ≡ count + length (fetches model s)
+  pub plain : IsPlain t start read.at s
+  pub more : read.count ≡ count + length (fetches model s)
   pub put : (first before : List ArgumentType) → old ≡ filled first before → count ≡ length before
       → new ≡ filled first (before ++ wanted_types (fetches model s))
   pub same_length : length new ≡ length old
 
 -- so they are, or nothing is put
-abbrev pub IsPut : Model → Text → ℕ → List ArgumentType → List ArgumentType → ℕ → Option (ℕ × ℕ) → Type 0
-IsPut model t start old new count None = new ≡ old
-IsPut model t start old new count (Some found) = IsPutAt model t start old new count found
+abbrev pub IsPut : Model → Text → ℕ → List ArgumentType → List ArgumentType → ℕ → PlainFront → Type 0
+IsPut model t start old new count read =
+    ((read.at ≡ start) × (read.count ≡ count) × (new ≡ old)) ⊎ IsPutAt model t start old new count read
 
 -- what was fetched has no numbers, and what is left is read so
 pub record IsInOrder (model : Model) (t : Text) (seen : List Fetch) (left : FetchTrace) : Type 0 where

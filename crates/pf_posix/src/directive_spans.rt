@@ -57,7 +57,7 @@ pub fn directives(model: Model, text: &[u8], out: &mut [DirectiveSpan]) -> Resul
 }
 
 /// Lists the conversion specifications of a format of the whole language in a data model, as
-/// `directives` does. It reads the format twice, and allocates once, for exactly their number. If there
+/// `directives` does. It checks the format once, and allocates once, for exactly their number. If there
 /// are no specifications, it allocates nothing. `Err` if the format or memory is refused.
 pub fn directives_vec(
     alloc: Global,
@@ -75,10 +75,8 @@ pub fn directives_vec(
         Ok(listed) => listed,
         Err(AllocError) => return Err(TextFault::Memory),
     };
-    match directives(model, text, &mut listed) {
-        Ok(_) => Ok(listed),
-        Err(refusal) => Err(TextFault::Refused(refusal)),
-    }
+    put_directives(model, text, &mut listed);
+    Ok(listed)
 }
 
 // Puts the specifications of an accepted format at the front of a slice.

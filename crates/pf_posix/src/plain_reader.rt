@@ -40,19 +40,18 @@ pub(crate) fn plain_front(model: Model, text: &[u8], out: &mut [ArgumentType]) -
     }
     let mut walk = Walk::new(text);
     while walk.find::<Percents>() {
-        match put_specification(model, text, walk.at, out, count) {
-            Some((stop, more)) => {
-                walk.at = stop;
-                count = more;
-            }
-            None => return PlainFront { at: walk.at, count },
+        let read = put_specification(model, text, walk.at, out, count);
+        if read.at == walk.at {
+            return read;
         }
+        walk.at = read.at;
+        count = read.count;
     }
     PlainFront { at: walk.at, count }
 }
 
-// Puts the types of the arguments of the specification at an offset after `count` others, and returns where
-// it ends, and how many types there are now. None if its arguments have numbers, or if it isn't accepted.
+// Puts the types of the arguments of the specification at an offset after `count` others, and returns the front up
+// to its end; or up to the offset if its arguments have numbers, or if it isn't accepted.
 #[inline(always)]
 fn put_specification(
     model: Model,
@@ -60,7 +59,7 @@ fn put_specification(
     at: usize,
     out: &mut [ArgumentType],
     count: usize,
-) -> Option<(usize, usize)>
+) -> PlainFront
     requires percent { HasPercent text.now at }
     requires short { length text.now ≤ LIMIT }
     requires few { count ≤ at }
@@ -69,7 +68,10 @@ fn put_specification(
     match type_at(model, text, at) {
         Some((wanted, stop)) => {
             put(out, count, wanted);
-            Some((stop, count + 1))
+            PlainFront {
+                at: stop,
+                count: count + 1,
+            }
         }
         None => put_any(model, text, at, out, count),
     }
@@ -106,14 +108,19 @@ fn put_any(
     at: usize,
     out: &mut [ArgumentType],
     count: usize,
-) -> Option<(usize, usize)>
+) -> PlainFront
     requires percent { HasPercent text.now at }
     requires short { length text.now ≤ LIMIT }
     requires few { count ≤ at }
     ensures { IsPut model text.now at out.old out.new count result }
 {
-    let (parts, stop) = plain_at(text, at)?;
-    Some((stop, put_types(model, &parts, out, count)))
+    match plain_at(text, at) {
+        Some((parts, stop)) => PlainFront {
+            at: stop,
+            count: put_types(model, &parts, out, count),
+        },
+        None => PlainFront { at, count },
+    }
 }
 
 // Puts the types of the arguments of a specification of these parts after `count` others, and returns how many
