@@ -19,7 +19,7 @@ pub mod Unique
 pub mod BeginningStates
 pub mod RefusalWords
 mod ListLemmas
-pub mod StepLemmas
+pub mod OrderedTypes
 pub mod DifferenceLemmas
 pub mod BeginningLemmas
 pub mod Profile
@@ -34,6 +34,7 @@ pub mod UnnumberedLemmas
 pub mod UnnumberedEnds
 pub mod PartLemmas
 pub mod FoundLemmas
+pub mod PlainLemmas
 pub mod StretchLemmas
 mod KindLemmas
 mod Examples
