@@ -18,9 +18,11 @@ use Rattle.pf_posix.specs.declared.fetches.Fetch.{Fetch}
 use Rattle.pf_posix.specs.declared.partial_specification.PartialSpecification.{PartialSpecification}
 use Rattle.pf_posix.specs.declared.partial_specification.WidthOrPrecision.{WidthOrPrecision}
 use Rattle.pf_posix.specs.declared.partial_specification.WidthOrPrecision.TheVariants.{Width, Precision}
-use Rattle.pf_posix.specs.Beginnings.{EndsInFirst, EndsInPart, EndsInStar, EndsInStarDigits, IsBegunAs, IsUndecided, TakesAmount}
-use Rattle.pf_posix.specs.Fronts.{HasNumbers, IsBefore, IsStateAfter, SpellsDigits, at_star}
-use Rattle.pf_posix.specs.Refusals.{numbering_by, numbering_in, too_large}
+use Rattle.pf_posix.specs.Beginnings.{EndsInPart, EndsInStar, EndsInStarDigits, IsBegunAs, IsUndecided, TakesAmount}
+use Rattle.pf_posix.specs.Fronts.{HasNumbers, IsBefore, IsStateAfter, at_star}
+use Rattle.pf_posix.specs.Refusals.{numbering_by}
+use Rattle.pf_posix.specs.States.{too_large}
+use Rattle.pf_posix.proofs.StateRefusals.{numbering_in}
 use Rattle.pf_posix.specs.Specifications.{Amount, Given, Fetched, modifier_letters}
 use Rattle.pf_posix.specs.Spelling.{SpellsPosition, SpellsPositive, SpellsPosixPrecision, SpellsPosixWidth, SpellsStar, SpellsUpToFlags, SpellsUpToPrecision, SpellsUpToWidth}
 use Rattle.pf_posix.specs.Stages.{PosixState, Between, Opened, First, Flags, Digits, Star, StarDigits, Placed, Point, Modified}

@@ -18,7 +18,8 @@ use Rattle.pf_posix.specs.Types.{int_type}
 use Rattle.pf_posix.specs.Fronts.{IsStateAfter, IsBefore, at_star}
 use Rattle.pf_posix.specs.Items.{Byte, ReadsPosix, Specification, PosixItem, fetched}
 use Rattle.pf_posix.specs.Readings.{Fault, moved, trace_from, fetch_trace}
-use Rattle.pf_posix.specs.Refusals.{Follows, numbering_by, numbering_in}
+use Rattle.pf_posix.specs.Refusals.{Follows, numbering_by}
+use Rattle.pf_posix.proofs.StateRefusals.{numbering_in}
 use Rattle.pf_posix.specs.Specifications.{Amount, Given, Fetched, PosixSpecification}
 use Rattle.pf_posix.specs.Spelling.{SpellsUpToPrecision, SpellsPosixPrecision, SpellsPositive, SpellsPosition, SpellsPosix, SpellsPosixWidth}
 use Rattle.pf_posix.specs.Stages.{PosixState, Between, Opened, First, Flags, Digits, Star, StarDigits, Placed, Point, Modified}

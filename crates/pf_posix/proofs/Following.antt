@@ -15,8 +15,8 @@ use Rattle.pf_posix.specs.declared.partial_specification.Numbering.{Numbering}
 use Rattle.pf_posix.specs.declared.partial_specification.Numbering.TheVariants.{Undecided}
 use Rattle.pf_posix.specs.Items.{Byte, SpellsPosixItem, ReadsPosix, Specification, PosixItem, fetched}
 use Rattle.pf_posix.specs.Readings.{Refused, Takes, conflicts, trace_at_end, moved, trace_from, verdict_after, verdict}
-use Rattle.pf_posix.specs.Refusals.{AreAgreed, Follows, IsPosixRefusalCause, HasGap, IsOneType, IsPosixRefusedAt, IsPosixRefusedByte, numbering_by}
-use Rattle.pf_posix.specs.Refusals.{numbering_in, numbering_of}
+use Rattle.pf_posix.specs.Refusals.{AreAgreed, Follows, HasGap, IsOneType, IsPosixRefusedAt, numbering_by, numbering_of}
+use Rattle.pf_posix.proofs.StateRefusals.{IsRefusedInState, IsByteRefusedIn, IsCauseIn, numbering_in}
 use Rattle.pf_posix.specs.Specifications.{PosixSpecification}
 use Rattle.pf_posix.specs.Stages.{PosixState, Between, Opened, First, Flags, Digits, Star, StarDigits, Placed, Point, Modified}
 use Rattle.pf_posix.specs.States.{PosixStep, posix_step}
@@ -25,6 +25,7 @@ use Rattle.pf_posix.proofs.Agreeing.{agreed_clear, agreed_follows, agreed_front,
 use Rattle.pf_posix.proofs.Reaching.{Came, came, spelled_run}
 use Rattle.pf_posix.proofs.Running.{Stand, run, stand, went}
 use Rattle.pf_posix.proofs.Wording.{IsTurnedDown, words_refuse}
+use Rattle.pf_posix.proofs.RefusalWords.{by_state}
 
 within_limit : (n : ℕ) → n < MAX_TEXT_LEN → nat_le MAX_TEXT_LEN n ≡ false
 within_limit n h = grind (arith, nat_tests)
@@ -176,7 +177,7 @@ module _ (model : Model) where
   IsSaid t kind at = (verdict model t ≡ Refused kind at) ⊎ ((kind ≡ MissingArgument) × (at ≡ length t) × (fs : List Fetch) × (verdict model t ≡ Takes fs)
       × HasGap fs)
 
-  module _ (t : Text) (kind : RefusalKind) (at : ℕ) (h : IsPosixRefusedAt model t kind at) where
+  module _ (t : Text) (kind : RefusalKind) (at : ℕ) (h : IsRefusedInState model t kind at) where
     abbrev base : List Fetch
     base = fetched model h.good.items
 
@@ -255,15 +256,15 @@ module _ (model : Model) where
         cases true e = refl
         cases false e = absurd (none (conflicts_no fs f e))
 
-  pub said : (t : Text) (kind : RefusalKind) (at : ℕ) → IsPosixRefusedAt model t kind at → IsSaid t kind at
-  said t kind at h = go h.rest refl h.cause where
-    turned_down : (byte : ℕ) (b : Bool) → MatchBool b (kind ≡ TooLong) (IsPosixRefusedByte model h.fetches h.good.part h.state byte kind)
+  said_in_state : (t : Text) (kind : RefusalKind) (at : ℕ) → IsRefusedInState model t kind at → IsSaid t kind at
+  said_in_state t kind at h = go h.rest refl h.cause where
+    turned_down : (byte : ℕ) (b : Bool) → MatchBool b (kind ≡ TooLong) (IsByteRefusedIn model h.fetches h.good.part h.state byte kind)
         → MatchBool b (kind ≡ TooLong) (IsTurnedDown model h.fetches h.state byte kind)
     turned_down byte true long = long
     turned_down byte false c = words_refuse model h.fetches h.good.part h.good.own h.state h.good.at byte h.good.numbering _ (came_here t kind at h)
         (followed t kind at h) kind c
 
-    go : (rest : Text) → h.rest ≡ rest → IsPosixRefusalCause model h.fetches h.good.part h.state at rest kind → IsSaid t kind at
+    go : (rest : Text) → h.rest ≡ rest → IsCauseIn model h.fetches h.good.part h.state at rest kind → IsSaid t kind at
     go [] e (inl c) = inl (at_front t kind at h ∙ ap (λ r. verdict_after h.fetches (trace_from model (numbering_of h.fetches) h.state at r)) e
         ∙ ended_open h.fetches h.state at c.1 ∙ ap (λ k. Refused k at) (sym c.0))
     go [] e (inr c) =
@@ -278,3 +279,6 @@ module _ (model : Model) where
         )
     go (byte ∷ rest) e c = inl (at_front t kind at h ∙ ap (λ r. verdict_after h.fetches (trace_from model (numbering_of h.fetches) h.state at r)) e
         ∙ byte_refused h.fetches h.state at byte rest kind h.limit (turned_down byte (at == MAX_TEXT_LEN) c))
+
+  pub said : (t : Text) (kind : RefusalKind) (at : ℕ) → IsPosixRefusedAt model t kind at → IsSaid t kind at
+  said t kind at h = said_in_state t kind at (by_state model t kind at h)

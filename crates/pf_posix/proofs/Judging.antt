@@ -32,7 +32,9 @@ use Rattle.pf_posix.specs.Defined.{IsPosixDefined, undefined_as, undefined_of}
 use Rattle.pf_posix.specs.Fronts.{HasNumbers, IsStateAfter, IsBefore, SpellsDigits, at_star}
 use Rattle.pf_posix.specs.Items.{Byte, SpellsPosixItem}
 use Rattle.pf_posix.specs.Letters.{conversion_of, is_first_digit, length_modifier_of}
-use Rattle.pf_posix.specs.Refusals.{CompletesUndefined, Follows, numbering_by, numbering_in, too_large}
+use Rattle.pf_posix.specs.Refusals.{CompletesUndefined, Follows, numbering_by}
+use Rattle.pf_posix.specs.States.{too_large}
+use Rattle.pf_posix.proofs.StateRefusals.{numbering_in}
 use Rattle.pf_posix.specs.Specifications.{Amount, Given, Fetched, PosixSpecification, conversion_letter, modifier_letters}
 use Rattle.pf_posix.specs.Spelling.{SpellsUpToFlags, SpellsUpToWidth, SpellsPositive, SpellsStar, SpellsPosix}
 use Rattle.pf_posix.specs.Stages.{PosixState, Between, Opened, First, Flags, Digits, Star, StarDigits, Placed, Point, Modified}

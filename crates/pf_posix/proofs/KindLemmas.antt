@@ -18,9 +18,12 @@ use Rattle.pf_posix.specs.declared.fetches.Fetch.{Fetch}
 use Rattle.pf_posix.specs.declared.partial_specification.WidthOrPrecision.{WidthOrPrecision}
 use Rattle.pf_posix.specs.declared.partial_specification.WidthOrPrecision.TheVariants.{Width, Precision}
 use Rattle.pf_posix.specs.Defined.{is_undefined_as}
-use Rattle.pf_posix.specs.Refusals.{IsNumberTooLarge, IsPastPercent, IsPosixRefusalCause, IsPosixRefusedAt, IsPosixRefusedByte, IsWrong, too_large}
+use Rattle.pf_posix.specs.Refusals.{IsPosixRefusedAt}
+use Rattle.pf_posix.specs.States.{too_large}
+use Rattle.pf_posix.proofs.StateRefusals.{IsByteRefusedIn, IsCauseIn, IsPastPercent, IsTooLargeIn, IsWrongIn}
 use Rattle.pf_posix.specs.Stages.{PosixState, Between, Opened, First, Flags, Digits, Star as Starred, StarDigits, Placed, Point, Modified}
 use Rattle.pf_posix.specs.Unnumbered.{IsWholeRefusedAt}
+use Rattle.pf_posix.proofs.RefusalWords.{by_state}
 
 -- a kind that the profile doesn't have alone, and that isn't of numbers where there may be none
 abbrev IsNumberedKind : RefusalKind → Type 0
@@ -44,7 +47,7 @@ too_large_kind : (slot : WidthOrPrecision) → IsNumberedKind (too_large slot)
 too_large_kind Width = (refl, λ e. cc)
 too_large_kind Precision = (refl, λ e. cc)
 
-number_kind : (state : PosixState) (byte : ℕ) (kind : RefusalKind) → IsNumberTooLarge state byte kind → IsNumberedKind kind
+number_kind : (state : PosixState) (byte : ℕ) (kind : RefusalKind) → IsTooLargeIn state byte kind → IsNumberedKind kind
 number_kind (First n) byte kind h = by_kind kind WidthTooLarge h.1 (refl, λ e. cc)
 number_kind (Digits slot parts n) byte kind h = by_kind kind (too_large slot) h.1 (too_large_kind slot)
 number_kind (StarDigits slot parts n) byte kind h = by_kind kind (too_large slot) h.1 (too_large_kind slot)
@@ -57,7 +60,7 @@ number_kind (Point parts) byte kind h = absurd h
 number_kind (Modified parts modifier) byte kind h = absurd h
 
 module _ (model : Model) (fetches : List Fetch) (part : Text) (state : PosixState) where
-  wrong_kind : (byte : ℕ) (kind : RefusalKind) → IsWrong model fetches part state byte kind → IsNumberedKind kind
+  wrong_kind : (byte : ℕ) (kind : RefusalKind) → IsWrongIn model fetches part state byte kind → IsNumberedKind kind
   wrong_kind byte kind (inl h) = by_kind kind Mixed h.0 (refl, λ e. cc)
   wrong_kind byte kind (inr (inl h)) = number_kind state byte kind h
   wrong_kind byte kind (inr (inr (inl h))) =
@@ -69,28 +72,28 @@ module _ (model : Model) (fetches : List Fetch) (part : Text) (state : PosixStat
   wrong_kind byte kind (inr (inr (inr (inr h)))) = by_kind kind Unexpected h.0 (refl, λ e. cc)
 
   not_nul : (byte : ℕ) (kind : RefusalKind) (is_percent : Bool)
-      → MatchBool is_percent ((kind ≡ BadPercent) × IsPastPercent state) (IsWrong model fetches part state byte kind) → IsNumberedKind kind
+      → MatchBool is_percent ((kind ≡ BadPercent) × IsPastPercent state) (IsWrongIn model fetches part state byte kind) → IsNumberedKind kind
   not_nul byte kind true h = by_kind kind BadPercent h.0 (refl, λ e. cc)
   not_nul byte kind false h = wrong_kind byte kind h
 
   byte_kind : (byte : ℕ) (kind : RefusalKind) (is_nul : Bool)
-      → MatchBool is_nul (kind ≡ NulByte) (MatchBool (byte == percent) ((kind ≡ BadPercent) × IsPastPercent state) (IsWrong model fetches part state byte kind))
+      → MatchBool is_nul (kind ≡ NulByte) (MatchBool (byte == percent) ((kind ≡ BadPercent) × IsPastPercent state) (IsWrongIn model fetches part state byte kind))
       → IsNumberedKind kind
   byte_kind byte kind true h = by_kind kind NulByte h (refl, λ e. cc)
   byte_kind byte kind false h = not_nul byte kind (byte == percent) h
 
   within : (byte : ℕ) (kind : RefusalKind) (is_past : Bool)
-      → MatchBool is_past (kind ≡ TooLong) (IsPosixRefusedByte model fetches part state byte kind) → IsNumberedKind kind
+      → MatchBool is_past (kind ≡ TooLong) (IsByteRefusedIn model fetches part state byte kind) → IsNumberedKind kind
   within byte kind true h = by_kind kind TooLong h (refl, λ e. cc)
   within byte kind false h = byte_kind byte kind (byte == 0) h
 
-  cause_kind : (at : ℕ) (rest : Text) (kind : RefusalKind) → IsPosixRefusalCause model fetches part state at rest kind → IsNumberedKind kind
+  cause_kind : (at : ℕ) (rest : Text) (kind : RefusalKind) → IsCauseIn model fetches part state at rest kind → IsNumberedKind kind
   cause_kind at [] kind (inl h) = by_kind kind Truncated h.0 (refl, λ e. cc)
   cause_kind at [] kind (inr h) = by_kind kind MissingArgument h.0 (refl, λ e. cc)
   cause_kind at (byte ∷ rest) kind h = within byte kind (at == MAX_TEXT_LEN) h
 
 pub numbered_kind : (model : Model) (t : Text) (kind : RefusalKind) (at : ℕ) → IsPosixRefusedAt model t kind at → IsNumberedKind kind
-numbered_kind model t kind at h = cause_kind model h.fetches h.good.part h.state at h.rest kind h.cause
+numbered_kind model t kind at h = let s = by_state model t kind at h in cause_kind model s.fetches s.good.part s.state at s.rest kind s.cause
 
 pub unnumbered_kind : (model : Model) (t : Text) (kind : RefusalKind) (at : ℕ) → IsWholeRefusedAt model t kind at → is_profile_alone kind ≡ false
 unnumbered_kind model t Numbered at h = refl

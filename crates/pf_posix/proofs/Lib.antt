@@ -1,4 +1,5 @@
 pub mod Digits
+pub mod StateRefusals
 pub mod Judging
 pub mod Agreeing
 pub mod Reasons

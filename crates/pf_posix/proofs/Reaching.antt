@@ -21,7 +21,8 @@ use Rattle.pf_posix.specs.declared.partial_specification.Numbering.TheVariants.{
 use Rattle.pf_posix.specs.Defined.{IsPosixDefined, undefined_of}
 use Rattle.pf_posix.specs.Fronts.{IsStateAfter, IsBefore, at_star}
 use Rattle.pf_posix.specs.Letters.{conversion_of, length_modifier_of}
-use Rattle.pf_posix.specs.Refusals.{Follows, numbering_by, numbering_in}
+use Rattle.pf_posix.specs.Refusals.{Follows, numbering_by}
+use Rattle.pf_posix.proofs.StateRefusals.{numbering_in}
 use Rattle.pf_posix.specs.Specifications.{PosixSpecification, conversion_letter, modifier_letters}
 use Rattle.pf_posix.specs.Spelling.{SpellsPosix}
 use Rattle.pf_posix.specs.Stages.{PosixState, Between, Opened, First, Flags, Digits, Star, StarDigits, Placed, Point, Modified}

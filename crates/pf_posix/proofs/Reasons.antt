@@ -24,7 +24,9 @@ use Rattle.pf_posix.specs.declared.partial_specification.Numbering.{Numbering}
 use Rattle.pf_posix.specs.declared.partial_specification.Numbering.TheVariants.{Undecided, Unnumbered, Numbered}
 use Rattle.pf_posix.specs.Defined.{is_undefined_as, undefined_as}
 use Rattle.pf_posix.specs.Letters.{conversion_of, is_first_digit, length_modifier_of}
-use Rattle.pf_posix.specs.Refusals.{FetchesStar, IsInSpecification, IsPastPercent, IsMixed, IsNumberTooLarge, MixesStar, too_large}
+use Rattle.pf_posix.specs.Refusals.{MixesStar}
+use Rattle.pf_posix.specs.States.{too_large}
+use Rattle.pf_posix.proofs.StateRefusals.{FetchesStarIn, IsInSpecification, IsMixedIn, IsPastPercent, IsTooLargeIn}
 use Rattle.pf_posix.specs.Stages.{PosixState, Between, Opened, First, Flags, Digits, Star, StarDigits, Placed, Point, Modified}
 use Rattle.pf_posix.specs.States.{PosixStep, after_amount, after_first, among_flags, after_modifier_letter, after_numbers, after_percent, after_star}
 use Rattle.pf_posix.specs.States.{dollar_after, conversion_at, conversion_by, flag_or_width, judgement, modifier_or_conversion, posix_step, parts_at, star_at}
@@ -67,11 +69,11 @@ unequal byte k e = grind (arith, nat_tests)
 module _ (model : Model) (numbering : Numbering) (state : PosixState) (byte : ℕ) where
   -- why a byte is refused that is neither NUL nor `%`, apart from where it is allowed
   abbrev pub Reason : RefusalKind → Type 0
-  Reason kind = ((kind ≡ Mixed) × IsMixed state numbering byte) ⊎ IsNumberTooLarge state byte kind ⊎ (is_undefined_kind kind ≡ true) ⊎ (kind ≡ Unexpected)
+  Reason kind = ((kind ≡ Mixed) × IsMixedIn state numbering byte) ⊎ IsTooLargeIn state byte kind ⊎ (is_undefined_kind kind ≡ true) ⊎ (kind ≡ Unexpected)
 
   -- by what an argument is fetched
   abbrev pub Fetching : PosixState → Fetch → Type 0
-  Fetching to f = IsOther byte × ((f.number ≡ None) ⊎ FetchesStar state byte f ⊎ (to ≡ Between))
+  Fetching to f = IsOther byte × ((f.number ≡ None) ⊎ FetchesStarIn state byte f ⊎ (to ≡ Between))
 
   abbrev pub Went : PosixState → Option Fetch → Type 0
   Went Between None = IsInSpecification state → (byte == 37) ≡ true
@@ -97,7 +99,7 @@ module _ (model : Model) (numbering : Numbering) (state : PosixState) (byte : �
     go false e false f = rw (e, f) r
 
   why_digit : (slot : WidthOrPrecision) (st : ℕ → PosixState) (n : ℕ) → is_digit byte ≡ true
-      → (MAX_NUMBER < 10 * n + (byte - 48) → IsNumberTooLarge state byte (too_large slot)) → Went (st (10 * n + (byte - 48))) None
+      → (MAX_NUMBER < 10 * n + (byte - 48) → IsTooLargeIn state byte (too_large slot)) → Went (st (10 * n + (byte - 48))) None
       → Why (with_digit slot st n (byte - 48))
   why_digit slot st n d large small = choose (nat_lt MAX_NUMBER (10 * n + (byte - 48))) _ _
       (λ e. why_kind (too_large slot) (other_digit byte d) (inr (inl (large (grind (arith, nat_tests)))))) (λ _. small)

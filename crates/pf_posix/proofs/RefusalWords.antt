@@ -1,26 +1,26 @@
 -- A text is refused by the parts of a specification just as it is by the states of the automaton.
-use Rattle.std.proofs.Common.{◌≡◌, ◌≢◌, ℕ, ◌*◌, ◌+◌, ◌-◌, ◌<◌, ◌≤◌, Bool, true, false, List, [], ◌∷◌, ◌++◌, drop, length, map, refl, sym, ap, ◌∙◌, arith, subst, inl, inr, Ok, Err}
+use Rattle.std.proofs.Common.{◌≡◌, ◌≢◌, ℕ, Bool, true, false, List, [], ◌∷◌, ◌++◌, drop, length, map, refl, sym, ap, ◌∙◌, arith, subst, inl, inr, Ok, Err}
 use Rattle.std.specs.Prelude.{Option, Some, None, ◌⊎◌, ◌==◌, MatchBool}
 use Rattle.std.specs.Fmt.{digit_glyph}
 use Rattle.std.proofs.lemmas.Bool.Decides.{nat_tests}
 use Rattle.std.proofs.lemmas.List.{length_push}
-use Rattle.pf_values.specs.declared.limits.TheConstants.{MAX_NUMBER, MAX_TEXT_LEN}
+use Rattle.pf_values.specs.declared.limits.TheConstants.{MAX_TEXT_LEN}
 use Rattle.pf_values.specs.declared.models.Model.{Model}
 use Rattle.pf_values.specs.declared.refusals.RefusalKind.{RefusalKind}
 use Rattle.pf_values.specs.declared.refusals.RefusalKind.TheVariants.{WidthTooLarge, PrecisionTooLarge}
 use Rattle.pf_values.specs.meaning.Digits.{AreDigits}
 use Rattle.pf_values.specs.meaning.Flags.{no_flags}
 use Rattle.pf_values.specs.meaning.Text.{Text}
-use Rattle.pf_text.specs.States.{is_digit}
 use Rattle.pf_posix.specs.declared.fetches.Fetch.{Fetch}
 use Rattle.pf_posix.specs.declared.partial_specification.WidthOrPrecision.{WidthOrPrecision}
 use Rattle.pf_posix.specs.declared.partial_specification.WidthOrPrecision.TheVariants.{Width, Precision}
 use Rattle.pf_posix.specs.declared.partial_specification.Numbering.{Numbering}
 use Rattle.pf_posix.specs.declared.partial_specification.Numbering.TheVariants.{Undecided}
-use Rattle.pf_posix.specs.Beginnings.{EndsInDigits, EndsInStarDigits, IsBegunAs, IsUndecided, SpellsAmount}
+use Rattle.pf_posix.specs.Beginnings.{EndsInDigits, EndsInStarDigits, IsUndecided, SpellsAmount}
 use Rattle.pf_posix.specs.Fronts.{IsStateAfter, SpellsDigits}
-use Rattle.pf_posix.specs.GrammarRefusals.{FetchesByStar, HasGoodFront, HasReasonIn, IsByteRefused, IsCauseIn, IsNotAllowed, IsRefusedInWhole, IsTooLarge, MayFollow, MixesNumberings}
-use Rattle.pf_posix.specs.Refusals.{FetchesStar, Follows, IsGoodPosixFront, IsInSpecification, IsMixed, IsNumberTooLarge, IsPastPercent, IsPosixRefusalCause, IsPosixRefusedAt, IsPosixRefusedByte, IsUnexpected, IsWrong, MixesStar, PassesLimit, numbering_by, numbering_in, numbering_of, too_large}
+use Rattle.pf_posix.specs.Refusals.{FetchesStar, Follows, IsMixed, IsNumberTooLarge, IsPosixRefusalCause, IsPosixRefusedAt, IsPosixRefusedByte, IsUnexpected, IsWrong, MayFollow, MixesStar, PassesLimit, numbering_by, numbering_of}
+use Rattle.pf_posix.specs.States.{too_large}
+use Rattle.pf_posix.proofs.StateRefusals.{FetchesStarIn, IsByteRefusedIn, IsCauseIn, IsInSpecification, IsMixedIn, IsPastPercent, IsRefusedInState, IsTooLargeIn, IsUnexpectedIn, IsWrongIn, numbering_in}
 use Rattle.pf_posix.specs.Stages.{PosixState, Between, Opened, First, Flags, Digits, Star, StarDigits, Placed, Point, Modified}
 use Rattle.pf_posix.proofs.BeginningStates.{IsMore, IsShown, StateOf, before_of, more_than, opening, parts_of, slotted, star_digits_state, state_of}
 use Rattle.pf_posix.proofs.Reaching.{came}
@@ -63,7 +63,7 @@ star_digits slot parts n part own at =
     }
 
 module _ (model : Model) (part : Text) (own : List Fetch) (byte : ℕ) where
-  mixed_there : (numbering : Numbering) (state : PosixState) → IsStateAfter state part own → IsMixed state numbering byte → MixesNumberings part numbering byte
+  mixed_there : (numbering : Numbering) (state : PosixState) → IsStateAfter state part own → IsMixedIn state numbering byte → IsMixed part numbering byte
   mixed_there numbering Opened at m = inl (at.0, m.0, m.1)
   mixed_there numbering (First n) at m = inr (inl (n, (at.0, at.1, at.2), m))
   mixed_there numbering (Star slot parts) at m = inr (inr (inl (
@@ -81,8 +81,8 @@ module _ (model : Model) (part : Text) (own : List Fetch) (byte : ℕ) where
   mixed_there numbering (Point parts) at m = absurd m
   mixed_there numbering (Modified parts modifier) at m = absurd m
 
-  large_there : (kind : RefusalKind) (state : PosixState) → IsStateAfter state part own → IsNumberTooLarge state byte kind → IsTooLarge part byte kind
-  large_there kind (First n) at m = subst (IsTooLarge part byte) (sym m.1) (
+  large_there : (kind : RefusalKind) (state : PosixState) → IsStateAfter state part own → IsTooLargeIn state byte kind → IsNumberTooLarge part byte kind
+  large_there kind (First n) at m = subst (IsNumberTooLarge part byte) (sym m.1) (
     n,
     m.0,
     inl (record {
@@ -95,7 +95,7 @@ module _ (model : Model) (part : Text) (own : List Fetch) (byte : ℕ) where
       whole = at.2;
     }),
   )
-  large_there kind (Digits slot parts n) at m = subst (IsTooLarge part byte) (sym m.1) (
+  large_there kind (Digits slot parts n) at m = subst (IsNumberTooLarge part byte) (sym m.1) (
     n,
     m.0,
     inl (record {
@@ -109,7 +109,7 @@ module _ (model : Model) (part : Text) (own : List Fetch) (byte : ℕ) where
     }),
   )
   large_there kind (StarDigits slot parts n) at m =
-      subst (IsTooLarge part byte) (sym m.1) (n, m.0, inr (parts.position, own, star_digits slot parts n part own at))
+      subst (IsNumberTooLarge part byte) (sym m.1) (n, m.0, inr (parts.position, own, star_digits slot parts n part own at))
   large_there kind Between at m = absurd m
   large_there kind Opened at m = absurd m
   large_there kind (Flags parts) at m = absurd m
@@ -118,7 +118,7 @@ module _ (model : Model) (part : Text) (own : List Fetch) (byte : ℕ) where
   large_there kind (Point parts) at m = absurd m
   large_there kind (Modified parts modifier) at m = absurd m
 
-  star_there : (f : Fetch) (state : PosixState) → IsStateAfter state part own → FetchesStar state byte f → FetchesByStar part byte f
+  star_there : (f : Fetch) (state : PosixState) → IsStateAfter state part own → FetchesStarIn state byte f → FetchesStar part byte f
   star_there f (StarDigits slot parts n) at m = (too_large slot, n, parts.position, own, star_digits slot parts n part own at, m.0, m.1)
   star_there f Between at m = absurd m
   star_there f Opened at m = absurd m
@@ -135,51 +135,51 @@ module _ (model : Model) (part : Text) (own : List Fetch) (byte : ℕ) where
     same_state : (other : PosixState) (others : List Fetch) → IsStateAfter other part others → other ≡ state
     same_state other others h = one_state model other state part others own h at
 
-    mixed_here : (numbering : Numbering) → MixesNumberings part numbering byte → IsMixed state numbering byte
-    mixed_here numbering (inl m) = subst (λ s. IsMixed s numbering byte) (same_state Opened [] (m.0, refl)) (m.1, m.2)
+    mixed_here : (numbering : Numbering) → IsMixed part numbering byte → IsMixedIn state numbering byte
+    mixed_here numbering (inl m) = subst (λ s. IsMixedIn s numbering byte) (same_state Opened [] (m.0, refl)) (m.1, m.2)
     mixed_here numbering (inr (inl m)) =
-        subst (λ s. IsMixed s numbering byte) (same_state (First m.0) [] (m.1.0, m.1.1, m.1.2, refl)) m.2
+        subst (λ s. IsMixedIn s numbering byte) (same_state (First m.0) [] (m.1.0, m.1.1, m.1.2, refl)) m.2
     mixed_here numbering (inr (inr (inl m))) =
         let h = m.2 in
         let s = slotted h.kind h.before m.0 m.1 h.before_is in
-        subst (λ q. IsMixed q numbering byte) (same_state (Star s.slot s.parts) _ (h.before, m.1, s.before_is, h.whole, refl))
+        subst (λ q. IsMixedIn q numbering byte) (same_state (Star s.slot s.parts) _ (h.before, m.1, s.before_is, h.whole, refl))
         (subst (λ o. MixesStar o byte) (sym s.position_is) m.3)
     mixed_here numbering (inr (inr (inr m))) =
         let s = slotted m.0 m.4.before m.2 m.3 m.4.before_is in
-        subst (λ q. IsMixed q numbering byte) (same_state (StarDigits s.slot s.parts m.1) m.3 (star_digits_state part m.0 m.1 m.2 m.3 m.4 s)) (m.5, m.6)
+        subst (λ q. IsMixedIn q numbering byte) (same_state (StarDigits s.slot s.parts m.1) m.3 (star_digits_state part m.0 m.1 m.2 m.3 m.4 s)) (m.5, m.6)
 
     no_large : (n : ℕ) → n ≡ 0 → PassesLimit n byte → ⊥
     no_large n e h = grind (arith, nat_tests, h.0, h.1, e)
 
-    large_digits : (kind : RefusalKind) (n : ℕ) → PassesLimit n byte → EndsInDigits part kind n → IsNumberTooLarge state byte kind
+    large_digits : (kind : RefusalKind) (n : ℕ) → PassesLimit n byte → EndsInDigits part kind n → IsTooLargeIn state byte kind
     large_digits WidthTooLarge n passes d = go (more_than d.before d.position d.before_is.0 d.before_is.1) where
-      go : IsMore d.before d.position d.before_is.0 → IsNumberTooLarge state byte WidthTooLarge
-      go (inl more) = subst (λ s. IsNumberTooLarge s byte WidthTooLarge)
+      go : IsMore d.before d.position d.before_is.0 → IsTooLargeIn state byte WidthTooLarge
+      go (inl more) = subst (λ s. IsTooLargeIn s byte WidthTooLarge)
           (same_state (Digits Width (record { position = d.position; flags = d.before_is.0; width = true; precision = false }) n) []
           (d.before, d.digits, (d.before_is.1, refl, refl, refl), d.digits_are, more, d.whole)) (passes, refl)
-      go (inr one) = subst (λ s. IsNumberTooLarge s byte WidthTooLarge)
+      go (inr one) = subst (λ s. IsTooLargeIn s byte WidthTooLarge)
           (same_state (First n) [] (d.digits, d.digits_are, d.whole ∙ ap (λ u. u ++ d.digits) one.0, refl)) (passes, refl)
     large_digits PrecisionTooLarge n passes d = go d.digits_are.0.0 d.digits_are.0.1 d.digits_are.0.2 where
-      go : (ds : List ℕ) → AreDigits 10 n ds → 46 ∷ d.digits ≡ 46 ∷ map (digit_glyph false) ds → IsNumberTooLarge state byte PrecisionTooLarge
+      go : (ds : List ℕ) → AreDigits 10 n ds → 46 ∷ d.digits ≡ 46 ∷ map (digit_glyph false) ds → IsTooLargeIn state byte PrecisionTooLarge
       go [] a e = absurd (no_large n (sym a.sum) passes)
       go (k ∷ ds) a e =
           let s = slotted PrecisionTooLarge d.before d.position d.own d.before_is in
-          subst (λ q. IsNumberTooLarge q byte PrecisionTooLarge)
+          subst (λ q. IsTooLargeIn q byte PrecisionTooLarge)
           (same_state (Digits Precision s.parts n) d.own (d.before, d.digits, s.before_is, (k ∷ ds, a, (λ f. cc), d.digits_are.1, ap (drop 1) e), tt, d.whole)) (passes, refl)
     large_digits _ n passes d = absurd d.digits_are
 
-    large_here : (kind : RefusalKind) → IsTooLarge part byte kind → IsNumberTooLarge state byte kind
+    large_here : (kind : RefusalKind) → IsNumberTooLarge part byte kind → IsTooLargeIn state byte kind
     large_here kind (n, passes, inl d) = large_digits kind n passes d
     large_here kind (n, passes, inr h) =
         let s = slotted kind h.2.before h.0 h.1 h.2.before_is in
-        subst (λ q. IsNumberTooLarge q byte kind) (same_state (StarDigits s.slot s.parts n) h.1 (star_digits_state part kind n h.0 h.1 h.2 s)) (passes, s.kind_is)
+        subst (λ q. IsTooLargeIn q byte kind) (same_state (StarDigits s.slot s.parts n) h.1 (star_digits_state part kind n h.0 h.1 h.2 s)) (passes, s.kind_is)
 
-    star_here : (f : Fetch) → FetchesByStar part byte f → FetchesStar state byte f
+    star_here : (f : Fetch) → FetchesStar part byte f → FetchesStarIn state byte f
     star_here f m =
         let s = slotted m.0 m.4.before m.2 m.3 m.4.before_is in
-        subst (λ q. FetchesStar q byte f) (same_state (StarDigits s.slot s.parts m.1) m.3 (star_digits_state part m.0 m.1 m.2 m.3 m.4 s)) (m.5, m.6)
+        subst (λ q. FetchesStarIn q byte f) (same_state (StarDigits s.slot s.parts m.1) m.3 (star_digits_state part m.0 m.1 m.2 m.3 m.4 s)) (m.5, m.6)
 
-    unexpected_there : (numbering : Numbering) → IsUnexpected numbering part state byte → IsNotAllowed numbering part byte
+    unexpected_there : (numbering : Numbering) → IsUnexpectedIn numbering part state byte → IsUnexpected numbering part byte
     unexpected_there numbering u =
         record {
           begun = λ none. subst IsInSpecification (sym (same_state Between [] (none, refl))) u.begun;
@@ -189,7 +189,7 @@ module _ (model : Model) (part : Text) (own : List Fetch) (byte : ℕ) where
           no_part = λ position others b. let s = state_of (part ++ byte ∷ []) position others b in u.nowhere.no_part s.state others s.after;
         }
 
-    unexpected_here : (numbering : Numbering) → IsNotAllowed numbering part byte → IsUnexpected numbering part state byte
+    unexpected_here : (numbering : Numbering) → IsUnexpected numbering part byte → IsUnexpectedIn numbering part state byte
     unexpected_here numbering u =
         record {
           begun = begun state at;
@@ -230,7 +230,7 @@ module _ (model : Model) (part : Text) (own : List Fetch) (byte : ℕ) where
       go _ at = tt
 
     module _ (fetches : List Fetch) (kind : RefusalKind) where
-      wrong_there : IsWrong model fetches part state byte kind → HasReasonIn model fetches part byte kind
+      wrong_there : IsWrongIn model fetches part state byte kind → IsWrong model fetches part byte kind
       wrong_there (inl m) = inl (m.0, mixed_there (numbering_of fetches) state at m.1)
       wrong_there (inr (inl h)) = inr (inl (large_there kind state at h))
       wrong_there (inr (inr (inl h))) = inr (inr (inl h))
@@ -238,7 +238,7 @@ module _ (model : Model) (part : Text) (own : List Fetch) (byte : ℕ) where
       wrong_there (inr (inr (inr (inl (k, f, inr last, conflict))))) = inr (inr (inr (inl (k, f, inr last, conflict))))
       wrong_there (inr (inr (inr (inr (k, u))))) = inr (inr (inr (inr (k, unexpected_there (numbering_of fetches) u))))
 
-      wrong_here : HasReasonIn model fetches part byte kind → IsWrong model fetches part state byte kind
+      wrong_here : IsWrong model fetches part byte kind → IsWrongIn model fetches part state byte kind
       wrong_here (inl m) = inl (m.0, mixed_here (numbering_of fetches) m.1)
       wrong_here (inr (inl h)) = inr (inl (large_here kind h))
       wrong_here (inr (inr (inl h))) = inr (inr (inl h))
@@ -246,20 +246,20 @@ module _ (model : Model) (part : Text) (own : List Fetch) (byte : ℕ) where
       wrong_here (inr (inr (inr (inl (k, f, inr last, conflict))))) = inr (inr (inr (inl (k, f, inr last, conflict))))
       wrong_here (inr (inr (inr (inr (k, u))))) = inr (inr (inr (inr (k, unexpected_here (numbering_of fetches) u))))
 
-      byte_there : IsPosixRefusedByte model fetches part state byte kind → IsByteRefused model fetches part byte kind
+      byte_there : IsByteRefusedIn model fetches part state byte kind → IsPosixRefusedByte model fetches part byte kind
       byte_there h = match_both (byte == 0) (λ e. e) (λ other. match_both (byte == 37) (λ m. let p = past_there m.1 in (m.0, p.0, p.1)) wrong_there other) h
 
-      byte_here : IsByteRefused model fetches part byte kind → IsPosixRefusedByte model fetches part state byte kind
+      byte_here : IsPosixRefusedByte model fetches part byte kind → IsByteRefusedIn model fetches part state byte kind
       byte_here h = match_both (byte == 0) (λ e. e) (λ other. match_both (byte == 37) (λ m. (m.0, past_here (m.1, m.2))) wrong_here other) h
 
 module _ (model : Model) (part : Text) (own : List Fetch) (state : PosixState) (at : IsStateAfter state part own) (fetches : List Fetch) (kind : RefusalKind)
     (place : ℕ) where
-  cause_there : (rest : Text) → IsPosixRefusalCause model fetches part state place rest kind → IsCauseIn model fetches part place rest kind
+  cause_there : (rest : Text) → IsCauseIn model fetches part state place rest kind → IsPosixRefusalCause model fetches part place rest kind
   cause_there [] (inl (k, some)) = inl (k, λ none. some (sym (one_state model Between state part [] own (none, refl) at)))
   cause_there [] (inr (k, between, gap)) = inr (k, (subst (λ s. IsStateAfter s part own) between at).0, gap)
   cause_there (byte ∷ rest) h = match_both (place == MAX_TEXT_LEN) (λ e. e) (byte_there model part own byte state at fetches kind) h
 
-  cause_here : (rest : Text) → IsCauseIn model fetches part place rest kind → IsPosixRefusalCause model fetches part state place rest kind
+  cause_here : (rest : Text) → IsPosixRefusalCause model fetches part place rest kind → IsCauseIn model fetches part state place rest kind
   cause_here [] (inl (k, some)) = inl (k, λ between. some (subst (λ s. IsStateAfter s part own) between at).0)
   cause_here [] (inr (k, none, gap)) = inr (k, sym (one_state model Between state part [] own (none, refl) at), gap)
   cause_here (byte ∷ rest) h = match_both (place == MAX_TEXT_LEN) (λ e. e) (byte_here model part own byte state at fetches kind) h
@@ -306,7 +306,7 @@ module _ (model : Model) where
       by (inr some) (inl f) = subst (Follows numbering) (sym (undecided f)) tt
       by (inr some) (inr f) = subst (Follows numbering) (sym some) f
 
-  pub by_parts : (t : Text) (kind : RefusalKind) (at : ℕ) → IsPosixRefusedAt model t kind at → IsRefusedInWhole model t kind at
+  pub by_parts : (t : Text) (kind : RefusalKind) (at : ℕ) → IsRefusedInState model t kind at → IsPosixRefusedAt model t kind at
   by_parts t kind at h =
       let g = h.good in
       record {
@@ -330,7 +330,7 @@ module _ (model : Model) where
         cause = cause_there model g.part g.own h.state g.at h.fetches kind at h.rest h.cause;
       }
 
-  pub by_state : (t : Text) (kind : RefusalKind) (at : ℕ) → IsRefusedInWhole model t kind at → IsPosixRefusedAt model t kind at
+  pub by_state : (t : Text) (kind : RefusalKind) (at : ℕ) → IsPosixRefusedAt model t kind at → IsRefusedInState model t kind at
   by_state t kind at h =
       let g = h.good in
       let c = begun_here (numbering_of h.fetches) h.part g.own g.begun in

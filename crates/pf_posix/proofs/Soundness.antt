@@ -14,14 +14,15 @@ use Rattle.pf_posix.specs.declared.partial_specification.Numbering.{Numbering}
 use Rattle.pf_posix.specs.Fronts.{IsStateAfter}
 use Rattle.pf_posix.specs.Items.{Byte, SpellsPosixItem, ReadsPosix, Specification, PosixItem, fetched}
 use Rattle.pf_posix.specs.Readings.{FetchTrace, Takes, Refused, Verdict, conflicts, trace_at_end, moved, trace_from, verdict_after, verdict}
-use Rattle.pf_posix.specs.Refusals.{AreAgreed, Follows, IsPosixRefusalCause, IsGoodPosixFront, IsOneType, IsPosixRefusedAt, numbering_by, numbering_in}
-use Rattle.pf_posix.specs.Refusals.{numbering_of}
+use Rattle.pf_posix.specs.Refusals.{AreAgreed, Follows, IsOneType, IsPosixRefusedAt, numbering_by, numbering_of}
+use Rattle.pf_posix.proofs.StateRefusals.{IsCauseIn, IsFrontIn, numbering_in}
 use Rattle.pf_posix.specs.Stages.{PosixState, Between, Opened, First, Flags, Digits, Star, StarDigits, Placed, Point, Modified}
 use Rattle.pf_posix.specs.States.{PosixStep, posix_step}
 use Rattle.pf_posix.specs.Types.{fetches}
 use Rattle.pf_posix.proofs.Agreeing.{agreed_none, agreed_push, conflicts_not, numbering_push}
 use Rattle.pf_posix.proofs.Judging.{Arrives, Brings, Judges, judge}
 use Rattle.pf_posix.proofs.Wording.{conflict_in_words, refused_in_words}
+use Rattle.pf_posix.proofs.RefusalWords.{by_parts}
 
 -- a text is read as items that fetch this
 pub record Taken (model : Model) (t : Text) (seen : List Fetch) : Type 0 where
@@ -60,12 +61,12 @@ fetched_append model (Specification s ∷ items) more = ap (λ r. fetches model 
 
 module _ (model : Model) where
   -- a front that is good, and one more byte
-  module _ (front : Text) (seen : List Fetch) (state : PosixState) (g : IsGoodPosixFront model front seen state) (byte : ℕ) where
+  module _ (front : Text) (seen : List Fetch) (state : PosixState) (g : IsFrontIn model front seen state) (byte : ℕ) where
     item_split : (front ++ byte ∷ []) ≡ (g.whole ++ (g.part ++ byte ∷ []))
     item_split = ap (λ f. f ++ byte ∷ []) g.split ∙ append_assoc g.whole g.part (byte ∷ [])
 
     on_part : (to : PosixState) → IsStateAfter to (g.part ++ byte ∷ []) g.own → Follows (numbering_of seen) (numbering_in to)
-        → IsGoodPosixFront model (front ++ byte ∷ []) seen to
+        → IsFrontIn model (front ++ byte ∷ []) seen to
     on_part to at follows =
         record {
           items = g.items;
@@ -80,7 +81,7 @@ module _ (model : Model) where
           numbering = follows;
         }
 
-    pub on_arrived : (to : PosixState) → Arrives model (numbering_of seen) g.part g.own byte to → IsGoodPosixFront model (front ++ byte ∷ []) seen to
+    pub on_arrived : (to : PosixState) → Arrives model (numbering_of seen) g.part g.own byte to → IsFrontIn model (front ++ byte ∷ []) seen to
     on_arrived Between h =
         record {
           items = g.items ++ Byte h.0 ∷ [];
@@ -107,7 +108,7 @@ module _ (model : Model) where
     module _ (f : Fetch) (clear : conflicts seen f ≡ false) where
       on_fetch : (to : PosixState) → IsStateAfter to (g.part ++ byte ∷ []) (g.own ++ f ∷ []) → Follows (numbering_of seen) (Some (numbering_by f.number))
           → numbering_in to ≡ Some (numbering_by f.number)
-          → IsGoodPosixFront model (front ++ byte ∷ []) (seen ++ f ∷ []) to
+          → IsFrontIn model (front ++ byte ∷ []) (seen ++ f ∷ []) to
       on_fetch to at follows known =
           record {
             items = g.items;
@@ -123,7 +124,7 @@ module _ (model : Model) where
           }
 
       pub on_brought : (to : PosixState) → Brings model (numbering_of seen) g.part g.own byte f to
-          → IsGoodPosixFront model (front ++ byte ∷ []) (seen ++ f ∷ []) to
+          → IsFrontIn model (front ++ byte ∷ []) (seen ++ f ∷ []) to
       on_brought Between h =
           record {
             items = g.items ++ Specification h.0 ∷ [];
@@ -150,9 +151,9 @@ module _ (model : Model) where
       on_brought (Modified parts modifier) h = on_fetch (Modified parts modifier) h.0 h.1 h.2
 
   -- the text ends in a state
-  at_end : (front : Text) (seen : List Fetch) (state : PosixState) → IsGoodPosixFront model front seen state → length front ≤ MAX_TEXT_LEN
+  at_end : (front : Text) (seen : List Fetch) (state : PosixState) → IsFrontIn model front seen state → length front ≤ MAX_TEXT_LEN
       → (state ≢ Between → IsPosixRefusedAt model (front ++ []) Truncated (length front))
-  at_end front seen state g few open_ = record {
+  at_end front seen state g few open_ = by_parts model (front ++ []) Truncated (length front) (record {
     front = front;
     rest = [];
     fetches = seen;
@@ -162,9 +163,9 @@ module _ (model : Model) where
     limit = few;
     good = g;
     cause = inl (refl, open_);
-  }
+  })
 
-  pub sound_end : (front : Text) (seen : List Fetch) (state : PosixState) → IsGoodPosixFront model front seen state → length front ≤ MAX_TEXT_LEN
+  pub sound_end : (front : Text) (seen : List Fetch) (state : PosixState) → IsFrontIn model front seen state → length front ≤ MAX_TEXT_LEN
       → Tells model (front ++ []) (verdict_after seen (trace_at_end state (length front)))
   sound_end front seen Between g few =
       record {
@@ -184,11 +185,11 @@ module _ (model : Model) where
   sound_end front seen (Point parts) g few = at_end front seen (Point parts) g few (λ e. cc)
   sound_end front seen (Modified parts modifier) g few = at_end front seen (Modified parts modifier) g few (λ e. cc)
 
-  module _ (front rest : Text) (seen : List Fetch) (state : PosixState) (g : IsGoodPosixFront model front seen state) (few : length front ≤ MAX_TEXT_LEN)
+  module _ (front rest : Text) (seen : List Fetch) (state : PosixState) (g : IsFrontIn model front seen state) (few : length front ≤ MAX_TEXT_LEN)
       (byte : ℕ) where
-    pub at_byte : (kind : RefusalKind) → IsPosixRefusalCause model seen g.part state (length front) (byte ∷ rest) kind
+    pub at_byte : (kind : RefusalKind) → IsCauseIn model seen g.part state (length front) (byte ∷ rest) kind
         → IsPosixRefusedAt model (front ++ (byte ∷ rest)) kind (length front)
-    at_byte kind cause = record {
+    at_byte kind cause = by_parts model (front ++ (byte ∷ rest)) kind (length front) (record {
       front = front;
       rest = byte ∷ rest;
       fetches = seen;
@@ -198,16 +199,16 @@ module _ (model : Model) where
       limit = few;
       good = g;
       cause = cause;
-    }
+    })
 
     no_conflict : (f : Fetch) → conflicts seen f ≡ true → ¬ AllByRecursion (IsOneType f) seen
     no_conflict f e all = let none = conflicts_not seen f all in cc
 
-    module _ (behind : (others : List Fetch) (to : PosixState) → IsGoodPosixFront model (front ++ byte ∷ []) others to
+    module _ (behind : (others : List Fetch) (to : PosixState) → IsFrontIn model (front ++ byte ∷ []) others to
         → length (front ++ byte ∷ []) ≤ MAX_TEXT_LEN
         → Tells model (front ++ byte ∷ [] ++ rest) (verdict_after others (trace_from model (numbering_of others) to (length (front ++ byte ∷ [])) rest))) where
       later : (others : List Fetch) (to : PosixState) (numbering : Numbering) → length front < MAX_TEXT_LEN → numbering ≡ numbering_of others
-          → IsGoodPosixFront model (front ++ byte ∷ []) others to
+          → IsFrontIn model (front ++ byte ∷ []) others to
           → Tells model (front ++ (byte ∷ rest)) (verdict_after others (trace_from model numbering to (length front + 1) rest))
       later others to numbering less e good =
           subst (λ t. Tells model t (verdict_after others (trace_from model numbering to (length front + 1) rest))) (append_assoc front (byte ∷ []) rest)
@@ -260,14 +261,14 @@ module _ (model : Model) where
             not_yet n e = grind (arith, nat_tests)
 
   -- what is read from a good front on
-  sound : (rest front : Text) (seen : List Fetch) (state : PosixState) → IsGoodPosixFront model front seen state → length front ≤ MAX_TEXT_LEN
+  sound : (rest front : Text) (seen : List Fetch) (state : PosixState) → IsFrontIn model front seen state → length front ≤ MAX_TEXT_LEN
       → Tells model (front ++ rest) (verdict_after seen (trace_from model (numbering_of seen) state (length front) rest))
   sound [] front seen state g few = sound_end front seen state g few
   sound (byte ∷ rest) front seen state g few =
       by_limit front rest seen state g few byte (λ others to good more. sound rest (front ++ byte ∷ []) others to good more)
       (nat_le MAX_TEXT_LEN (length front)) refl
 
-  pub at_start : IsGoodPosixFront model [] [] Between
+  pub at_start : IsFrontIn model [] [] Between
   at_start = record {
     items = [];
     whole = [];

@@ -11,7 +11,6 @@ use Rattle.pf_posix.specs.Items.{HasArguments}
 use Rattle.pf_posix.specs.Laws.{IsAcceptedOrRefused}
 use Rattle.pf_posix.specs.Readings.{Refused, Takes, Verdict, verdict}
 use Rattle.pf_posix.specs.Refusals.{HasGap, IsPosixRefusedAt}
-use Rattle.pf_posix.specs.Stages.{Between}
 use Rattle.pf_posix.specs.Types.{HaveTypes}
 use Rattle.pf_posix.proofs.Bounds.{items_within}
 use Rattle.pf_posix.proofs.Soundness.{Taken, Tells, told}
@@ -27,22 +26,20 @@ module _ (model : Model) (t : Text) (fs : List Fetch) (h : Taken model t fs) whe
       record {
         front = t;
         rest = [];
+        part = [];
         fetches = fs;
-        state = Between;
         split = sym (append-nil t);
         offset = refl;
         limit = h.limit;
         good = record {
           items = h.items;
           whole = t;
-          part = [];
           own = [];
           reads = h.reads;
-          at = (refl, refl);
           split = sym (append-nil t);
           fetches_are = subst (λ f. fs ≡ f) (sym (append-nil _)) h.seen_are;
           agreed = h.agreed;
-          numbering = tt;
+          begun = inl (refl, refl);
         };
         cause = inr (refl, refl, gap);
       }

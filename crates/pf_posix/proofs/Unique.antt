@@ -133,14 +133,14 @@ one_refusal model t kind other p q h k = go (said model t kind p h) (said model 
 pub refused_longer : (model : Model) (t more : Text) (kind : RefusalKind) (at : ℕ) → IsPosixRefusedAt model t kind at → at < length t
     → IsPosixRefusedAt model (t ++ more) kind at
 refused_longer model t more kind at h less = go h.rest h.split h.cause where
-  go : (rest : Text) → t ≡ h.front ++ rest → IsPosixRefusalCause model h.fetches h.good.part h.state at rest kind → IsPosixRefusedAt model (t ++ more) kind at
+  go : (rest : Text) → t ≡ h.front ++ rest → IsPosixRefusalCause model h.fetches h.part at rest kind → IsPosixRefusedAt model (t ++ more) kind at
   go [] e c = absurd (omega (arith, less, h.offset, ap length e, length-append h.front []))
   go (byte ∷ rest) e c =
       record {
         front = h.front;
         rest = byte ∷ rest ++ more;
+        part = h.part;
         fetches = h.fetches;
-        state = h.state;
         split = ap (λ u. u ++ more) e ∙ append_assoc h.front (byte ∷ rest) more;
         offset = h.offset;
         limit = h.limit;

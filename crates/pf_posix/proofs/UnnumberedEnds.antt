@@ -23,8 +23,9 @@ use Rattle.pf_values.specs.declared.refusals.RefusalKind.TheVariants.{BadPercent
 use Rattle.pf_posix.specs.Endings.{ending, numbered_instead, unnumbered_trace}
 use Rattle.pf_posix.specs.Items.{Byte, HasArguments, PosixItem, ReadsPosix, Specification}
 use Rattle.pf_posix.specs.Readings.{Fault, Fetches, FetchTrace, Whole, moved, trace_from}
-use Rattle.pf_posix.specs.Refusals.{IsNumberTooLarge, IsPosixRefusalCause, IsPastPercent, IsPosixRefusedAt, IsPosixRefusedByte, IsWrong, numbering_by}
-use Rattle.pf_posix.specs.Refusals.{too_large}
+use Rattle.pf_posix.specs.Refusals.{IsPosixRefusalCause, IsPosixRefusedAt, numbering_by}
+use Rattle.pf_posix.specs.States.{too_large}
+use Rattle.pf_posix.proofs.StateRefusals.{IsRefusedInState, IsByteRefusedIn, IsCauseIn, IsPastPercent, IsTooLargeIn, IsWrongIn}
 use Rattle.pf_posix.specs.Specifications.{Given, PosixSpecification}
 use Rattle.pf_posix.specs.Spelling.{SpellsPosix, SpellsPositive}
 use Rattle.pf_posix.specs.Stages.{PosixState, Between, First, Digits, StarDigits}
@@ -43,6 +44,7 @@ use Rattle.pf_posix.proofs.Soundness.{reads_push}
 use Rattle.pf_posix.proofs.Unique.{never_both, one_refusal}
 use Rattle.pf_posix.proofs.UnnumberedLemmas.{Concludes, concludes, concludes_end}
 use Rattle.pf_posix.proofs.WalkLemmas.{within_limit}
+use Rattle.pf_posix.proofs.RefusalWords.{by_state}
 
 module _ (model : Model) (rest : Text) where
   -- what is run through changes nothing of the end
@@ -141,13 +143,13 @@ refused_by_front model base b c kind at h less =
     record {
       front = h.front;
       rest = parts.0 ∷ (parts.1 ++ c);
+      part = h.part;
       fetches = h.fetches;
-      state = h.state;
       split = ap (λ u. u ++ c) parts.2 ∙ append_assoc h.front (parts.0 ∷ parts.1) c;
       offset = h.offset;
       limit = h.limit;
       good = h.good;
-      cause = subst (λ r. IsPosixRefusalCause model h.fetches h.good.part h.state at r kind) parts.3 h.cause;
+      cause = subst (λ r. IsPosixRefusalCause model h.fetches h.part at r kind) parts.3 h.cause;
     }
 
 -- `%`, a width, `d`
@@ -195,9 +197,9 @@ module _ (model : Model) where
       never_both model (base ++ 100 ∷ []) (whole_types model other.stretches) kind place (accepted_types (base ++ 100 ∷ []) other) there
 
   -- no reading has the kind Numbered
-  never_numbered : (t : Text) (at : ℕ) → IsPosixRefusedAt model t Numbered at → ⊥
-  never_numbered t at h = go h.rest h.cause where
-    large : (state : PosixState) (byte : ℕ) → IsNumberTooLarge state byte Numbered → ⊥
+  never_numbered_in : (t : Text) (at : ℕ) → IsRefusedInState model t Numbered at → ⊥
+  never_numbered_in t at h = go h.rest h.cause where
+    large : (state : PosixState) (byte : ℕ) → IsTooLargeIn state byte Numbered → ⊥
     large (First n) byte l = let no : Numbered ≡ too_large Width = l.1 in cc
     large (Digits slot parts n) byte l = by_slot slot l.1 where
       by_slot : (slot : WidthOrPrecision) → Numbered ≡ too_large slot → ⊥
@@ -209,7 +211,7 @@ module _ (model : Model) where
       by_slot Precision e = cc
     large _ byte l = l
 
-    wrong : (byte : ℕ) → IsWrong model h.fetches h.good.part h.state byte Numbered → ⊥
+    wrong : (byte : ℕ) → IsWrongIn model h.fetches h.good.part h.state byte Numbered → ⊥
     wrong byte (inl w) = let no = w.0 in cc
     wrong byte (inr (inl w)) = large h.state byte w
     wrong byte (inr (inr (inl w))) =
@@ -220,19 +222,22 @@ module _ (model : Model) where
 
     by_byte : (byte : ℕ) (z p : Bool)
         → MatchBool z (Numbered ≡ NulByte)
-        (MatchBool p ((Numbered ≡ BadPercent) × IsPastPercent h.state) (IsWrong model h.fetches h.good.part h.state byte Numbered)) → ⊥
+        (MatchBool p ((Numbered ≡ BadPercent) × IsPastPercent h.state) (IsWrongIn model h.fetches h.good.part h.state byte Numbered)) → ⊥
     by_byte byte true p e = cc
     by_byte byte false true e = let no = e.0 in cc
     by_byte byte false false e = wrong byte e
 
-    by_limit : (byte : ℕ) (b : Bool) → MatchBool b (Numbered ≡ TooLong) (IsPosixRefusedByte model h.fetches h.good.part h.state byte Numbered) → ⊥
+    by_limit : (byte : ℕ) (b : Bool) → MatchBool b (Numbered ≡ TooLong) (IsByteRefusedIn model h.fetches h.good.part h.state byte Numbered) → ⊥
     by_limit byte true e = cc
     by_limit byte false e = by_byte byte (byte == 0) (byte == 37) e
 
-    go : (rest : Text) → IsPosixRefusalCause model h.fetches h.good.part h.state at rest Numbered → ⊥
+    go : (rest : Text) → IsCauseIn model h.fetches h.good.part h.state at rest Numbered → ⊥
     go [] (inl e) = let no = e.0 in cc
     go [] (inr e) = let no = e.0 in cc
     go (byte ∷ rest) e = by_limit byte (at == MAX_TEXT_LEN) e
+
+  never_numbered : (t : Text) (at : ℕ) → IsPosixRefusedAt model t Numbered at → ⊥
+  never_numbered t at h = never_numbered_in t at (by_state model t Numbered at h)
 
   -- a refusal here that is one there, too
   as_there : (t : Text) (kind : RefusalKind) (at : ℕ) → IsPosixRefusedAt model t kind at → ((place : ℕ) → IsNumberedAt t place → at < place)

@@ -25,7 +25,8 @@ use Rattle.pf_posix.specs.declared.partial_specification.PartialSpecification.{P
 use Rattle.pf_posix.specs.Endings.{ending, unnumbered_trace}
 use Rattle.pf_posix.specs.Items.{Byte, PosixItem, Specification, fetched}
 use Rattle.pf_posix.specs.Readings.{Fault, Fetches, FetchTrace, Whole, moved, trace_at_end, trace_from}
-use Rattle.pf_posix.specs.Refusals.{Follows, IsGoodPosixFront, IsPosixRefusedAt, numbering_by, numbering_in, numbering_of}
+use Rattle.pf_posix.specs.Refusals.{Follows, IsPosixRefusedAt, numbering_by, numbering_of}
+use Rattle.pf_posix.proofs.StateRefusals.{IsFrontIn, numbering_in}
 use Rattle.pf_posix.specs.Stages.{PosixState, Between, Opened, First, Flags, Digits, Star, StarDigits, Placed, Point, Modified}
 use Rattle.pf_posix.specs.States.{PosixStep, after_amount, after_star, posix_step}
 use Rattle.pf_posix.specs.Types.{conversion_type, fetch, fetches, star_fetches}
@@ -119,7 +120,7 @@ Concludes model t (Fault kind at) =
 Concludes model t (Fetches f at rest) = Concludes model t rest
 
 record PlainFront (model : Model) (front : Text) (seen : List Fetch) (state : PosixState) : Type 0 where
-  good : IsGoodPosixFront model front seen state
+  good : IsFrontIn model front seen state
   free : AreFree seen
   plain : Follows Unnumbered (numbering_in state)
 

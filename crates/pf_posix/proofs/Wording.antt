@@ -25,9 +25,9 @@ use Rattle.pf_posix.specs.declared.partial_specification.Numbering.TheVariants.{
 use Rattle.pf_posix.specs.Defined.{undefined_of}
 use Rattle.pf_posix.specs.Fronts.{IsStateAfter}
 use Rattle.pf_posix.specs.Letters.{conversion_of, is_first_digit, length_modifier_of}
-use Rattle.pf_posix.specs.Refusals.{CannotStand, CompletesSpecification, CompletesUndefined, FetchesLast, FetchesStar, Follows, IsInSpecification}
-use Rattle.pf_posix.specs.Refusals.{IsPastPercent, IsMixed, IsOneType, IsPosixRefusedByte, IsNumberTooLarge, IsUnexpected, IsWrong, MixesStar, numbering_by}
-use Rattle.pf_posix.specs.Refusals.{numbering_in, numbering_of, too_large}
+use Rattle.pf_posix.specs.Refusals.{CompletesSpecification, CompletesUndefined, FetchesLast, Follows, IsOneType, MixesStar, numbering_by, numbering_of}
+use Rattle.pf_posix.specs.States.{too_large}
+use Rattle.pf_posix.proofs.StateRefusals.{CannotStandIn, FetchesStarIn, IsByteRefusedIn, IsInSpecification, IsMixedIn, IsPastPercent, IsTooLargeIn, IsUnexpectedIn, IsWrongIn, numbering_in}
 use Rattle.pf_posix.specs.Specifications.{PosixSpecification}
 use Rattle.pf_posix.specs.Spelling.{SpellsPosix}
 use Rattle.pf_posix.specs.Stages.{PosixState, Between, Opened, First, Flags, Digits, Star, StarDigits, Placed, Point, Modified}
@@ -139,7 +139,7 @@ module _ (model : Model) (numbering : Numbering) (byte : ℕ) (other : IsOther b
   not_byte : (k : ℕ) → byte ≢ k → (byte == k) ≡ false
   not_byte k some = grind (arith, nat_tests)
 
-  pub mixed_refused : (state : PosixState) → IsMixed state numbering byte → posix_step model numbering state byte ≡ Err Mixed
+  pub mixed_refused : (state : PosixState) → IsMixedIn state numbering byte → posix_step model numbering state byte ≡ Err Mixed
   mixed_refused Opened h = let percent = other.1 in rw percent (go numbering h.0) where
     go : (known : Numbering) → known ≡ Numbered → after_percent model known byte ≡ Err Mixed
     go Numbered e = let first = h.1 in rw first (ap Err (stray_other Mixed))
@@ -162,13 +162,13 @@ module _ (model : Model) (numbering : Numbering) (byte : ℕ) (other : IsOther b
   mixed_refused (StarDigits slot parts n) h = let digit = h.0 in let dollar = not_byte 36 h.1 in rw (digit, dollar) (ap Err (stray_other Mixed))
   mixed_refused _ none = absurd none
 
-large_refused : (model : Model) (numbering : Numbering) (byte : ℕ) (kind : RefusalKind) (state : PosixState) → IsNumberTooLarge state byte kind
+large_refused : (model : Model) (numbering : Numbering) (byte : ℕ) (kind : RefusalKind) (state : PosixState) → IsTooLargeIn state byte kind
     → posix_step model numbering state byte ≡ Err kind
 large_refused model numbering byte kind state = go state where
   passed : (n : ℕ) → MAX_NUMBER < n → nat_lt MAX_NUMBER n ≡ true
   passed n h = grind (arith, nat_tests)
 
-  go : (state : PosixState) → IsNumberTooLarge state byte kind → posix_step model numbering state byte ≡ Err kind
+  go : (state : PosixState) → IsTooLargeIn state byte kind → posix_step model numbering state byte ≡ Err kind
   go (First n) h = let digit = h.0.0 in let large = passed (10 * n + (byte - 48)) h.0.1 in rw (digit, large) (ap Err (sym h.1))
   go (Digits slot parts n) h = let digit = h.0.0 in let large = passed (10 * n + (byte - 48)) h.0.1 in rw (digit, large) (ap Err (sym h.1))
   go (StarDigits slot parts n) h = let digit = h.0.0 in let large = passed (10 * n + (byte - 48)) h.0.1 in rw (digit, large) (ap Err (sym h.1))
@@ -263,7 +263,7 @@ any_follows (Some s) = inl refl
 -- what is refused as unexpected comes of nothing that is spelled
 module _ (model : Model) (numbering : Numbering) (part : Text) (own : List Fetch) (byte : ℕ) (state : PosixState) (at : IsStateAfter state part own)
     (e : posix_step model numbering state byte ≡ Err Unexpected) where
-  cannot_stand : CannotStand part byte
+  cannot_stand : CannotStandIn part byte
   cannot_stand = record { no_whole = no_whole; no_part = no_part } where
     c : Came model Undecided state part own
     c = came model Undecided state part own at (any_follows (numbering_in state))
@@ -339,13 +339,13 @@ module _ (model : Model) (fetches : List Fetch) (part : Text) (own : List Fetch)
         (zero, percent) refl in let both = sym goes ∙ e in cc
     go _ e = tt
 
-  large_kind : (state : PosixState) (kind : RefusalKind) → IsNumberTooLarge state byte kind → kind ≢ Unexpected
+  large_kind : (state : PosixState) (kind : RefusalKind) → IsTooLargeIn state byte kind → kind ≢ Unexpected
   large_kind (First n) kind h e = let both : WidthTooLarge ≡ Unexpected = sym h.1 ∙ e in cc
   large_kind (Digits slot parts n) kind h e = by_slot slot (sym h.1 ∙ e)
   large_kind (StarDigits slot parts n) kind h e = by_slot slot (sym h.1 ∙ e)
   large_kind _ kind none e = absurd none
 
-  unexpected : IsOther byte → posix_step model numbering state byte ≡ Err Unexpected → IsUnexpected numbering part state byte
+  unexpected : IsOther byte → posix_step model numbering state byte ≡ Err Unexpected → IsUnexpectedIn numbering part state byte
   unexpected other e =
       record {
         begun = began other e;
@@ -361,9 +361,9 @@ module _ (model : Model) (fetches : List Fetch) (part : Text) (own : List Fetch)
     reasoned : (n : PosixStep) → posix_step model numbering state byte ≡ n → Why model numbering state byte n
     reasoned n e = subst (Why model numbering state byte) e (why model numbering byte state)
 
-    pub refused_in_words : (kind : RefusalKind) → posix_step model numbering state byte ≡ Err kind → IsPosixRefusedByte model fetches part state byte kind
+    pub refused_in_words : (kind : RefusalKind) → posix_step model numbering state byte ≡ Err kind → IsByteRefusedIn model fetches part state byte kind
     refused_in_words kind e = go (byte == 0) refl (byte == 37) refl (reasoned (Err kind) e) where
-      by_reason : IsOther byte → Reason model numbering state byte kind → IsWrong model fetches part state byte kind
+      by_reason : IsOther byte → Reason model numbering state byte kind → IsWrongIn model fetches part state byte kind
       by_reason other (inl mixed) = inl mixed
       by_reason other (inr (inl large)) = inr (inl large)
       by_reason other (inr (inr (inl undefined))) = elim (judged (Err kind) e)
@@ -372,13 +372,13 @@ module _ (model : Model) (fetches : List Fetch) (part : Text) (own : List Fetch)
 
       go : (z : Bool) → (byte == 0) ≡ z → (p : Bool) → (byte == 37) ≡ p
           → MatchBool z (kind ≡ NulByte) (MatchBool p ((kind ≡ BadPercent) × IsPastPercent state) (Reason model numbering state byte kind))
-          → IsPosixRefusedByte model fetches part state byte kind
+          → IsByteRefusedIn model fetches part state byte kind
       go true z p f w = rw z w
       go false z true f w = rw (z, f) w
       go false z false f w = rw (z, f) (by_reason (z, f) w)
 
     pub conflict_in_words : (to : PosixState) (f : Fetch) → posix_step model numbering state byte ≡ Ok (to, Some f) → ¬ AllByRecursion (IsOneType f) fetches
-        → IsPosixRefusedByte model fetches part state byte TwoTypes
+        → IsByteRefusedIn model fetches part state byte TwoTypes
     conflict_in_words to f e conflict = go (reasoned (Ok (to, Some f)) e) where
       by_last : (to : PosixState) → posix_step model numbering state byte ≡ Ok (to, Some f) → to ≡ Between → FetchesLast model numbering part byte f
       by_last to e between =
@@ -387,9 +387,9 @@ module _ (model : Model) (fetches : List Fetch) (part : Text) (own : List Fetch)
           (star_fetches j.0.width ++ star_fetches j.0.precision) f _ j.3 in
           (record { s = j.0; spelled = j.1; follows = subst (λ g. Follows numbering (Some (numbering_by g.number))) same j.4 }, j.2, same)
 
-      go : Went model numbering state byte to (Some f) → IsPosixRefusedByte model fetches part state byte TwoTypes
+      go : Went model numbering state byte to (Some f) → IsByteRefusedIn model fetches part state byte TwoTypes
       go w = let zero = w.0.0 in let percent = w.0.1 in rw (zero, percent) (inr (inr (inr (inl (refl, f, by w.1, conflict))))) where
-        by : (f.number ≡ None) ⊎ FetchesStar state byte f ⊎ (to ≡ Between) → FetchesStar state byte f ⊎ FetchesLast model numbering part byte f
+        by : (f.number ≡ None) ⊎ FetchesStarIn state byte f ⊎ (to ≡ Between) → FetchesStarIn state byte f ⊎ FetchesLast model numbering part byte f
         by (inl none) = absurd (conflict (unnumbered_one f fetches none))
         by (inr (inl star)) = inl star
         by (inr (inr between)) = inr (by_last to e between)
@@ -434,9 +434,9 @@ module _ (model : Model) (fetches : List Fetch) (part : Text) (own : List Fetch)
             let all : own ++ g ∷ [] ≡ stars h.0.s ++ last h.0.s ∷ [] = ap own_then same in
             ap (λ s. Ok (s, Some g)) between ∙ ap (λ k. Ok (Between, Some k)) (same_last own (stars h.0.s) g (last h.0.s) all ∙ sym h.2)
 
-      star_fetched : (f : Fetch) → FetchesStar state byte f → (to : PosixState) × (posix_step model numbering state byte ≡ Ok (to, Some f))
+      star_fetched : (f : Fetch) → FetchesStarIn state byte f → (to : PosixState) × (posix_step model numbering state byte ≡ Ok (to, Some f))
       star_fetched f h = go state h where
-        go : (state : PosixState) → FetchesStar state byte f → (to : PosixState) × (posix_step model numbering state byte ≡ Ok (to, Some f))
+        go : (state : PosixState) → FetchesStarIn state byte f → (to : PosixState) × (posix_step model numbering state byte ≡ Ok (to, Some f))
         go (StarDigits slot parts n) h = (
           Placed slot parts,
           ap (posix_step model numbering (StarDigits slot parts n)) h.0
@@ -444,7 +444,7 @@ module _ (model : Model) (fetches : List Fetch) (part : Text) (own : List Fetch)
         )
         go _ none = absurd none
 
-      unexpected_refused : IsOther byte → IsUnexpected numbering part state byte → posix_step model numbering state byte ≡ Err Unexpected
+      unexpected_refused : IsOther byte → IsUnexpectedIn numbering part state byte → posix_step model numbering state byte ≡ Err Unexpected
       unexpected_refused other u = go (posix_step model numbering state byte) refl where
         refused : (kind : RefusalKind) → posix_step model numbering state byte ≡ Err kind → Reason model numbering state byte kind → kind ≡ Unexpected
         refused kind e (inl mixed) = absurd (u.one_kind mixed.1)
@@ -470,7 +470,7 @@ module _ (model : Model) (fetches : List Fetch) (part : Text) (own : List Fetch)
           brought Between h = u.nowhere.no_whole h.0 h.1
           brought to h = u.nowhere.no_part to _ h.0
 
-      wrong_refused : (kind : RefusalKind) → IsOther byte → IsWrong model fetches part state byte kind → IsTurnedDown model fetches state byte kind
+      wrong_refused : (kind : RefusalKind) → IsOther byte → IsWrongIn model fetches part state byte kind → IsTurnedDown model fetches state byte kind
       wrong_refused kind other (inl h) = inl (mixed_refused model numbering byte other state h.1 ∙ ap Err (sym h.0))
       wrong_refused kind other (inr (inl h)) = inl (large_refused model numbering byte kind state h)
       wrong_refused kind other (inr (inr (inl h))) = inl (undefined_refused kind h)
@@ -478,10 +478,10 @@ module _ (model : Model) (fetches : List Fetch) (part : Text) (own : List Fetch)
       wrong_refused kind other (inr (inr (inr (inl (k, f, inr last, conflict))))) = inr (k, Between, f, last_fetched f last, conflict)
       wrong_refused kind other (inr (inr (inr (inr h)))) = inl (unexpected_refused other h.1 ∙ ap Err (sym h.0))
 
-      pub words_refuse : (kind : RefusalKind) → IsPosixRefusedByte model fetches part state byte kind → IsTurnedDown model fetches state byte kind
+      pub words_refuse : (kind : RefusalKind) → IsByteRefusedIn model fetches part state byte kind → IsTurnedDown model fetches state byte kind
       words_refuse kind h = go (byte == 0) refl (byte == 37) refl h where
         go : (z : Bool) → (byte == 0) ≡ z → (p : Bool) → (byte == 37) ≡ p
-            → MatchBool z (kind ≡ NulByte) (MatchBool p ((kind ≡ BadPercent) × IsPastPercent state) (IsWrong model fetches part state byte kind))
+            → MatchBool z (kind ≡ NulByte) (MatchBool p ((kind ≡ BadPercent) × IsPastPercent state) (IsWrongIn model fetches part state byte kind))
             → IsTurnedDown model fetches state byte kind
         go true z p f h = inl (ap (posix_step model numbering state) (eqb-true byte 0 z) ∙ zero_refused model numbering state ∙ ap Err (sym h))
         go false z true p h = inl (ap (posix_step model numbering state) (eqb-true byte 37 p)

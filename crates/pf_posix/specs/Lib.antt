@@ -9,7 +9,6 @@ pub mod States
 pub mod Moves
 pub mod Fronts
 pub mod Beginnings
-pub mod GrammarRefusals
 pub mod Refusals
 pub mod TypeNumbers
 pub mod Readings

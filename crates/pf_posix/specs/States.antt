@@ -15,7 +15,7 @@ use Rattle.pf_posix.specs.declared.conversions.Modifier.{Modifier}
 use Rattle.pf_posix.specs.declared.conversions.Modifier.TheVariants.{Integer}
 use Rattle.pf_posix.specs.declared.fetches.Fetch.{Fetch}
 use Rattle.pf_values.specs.declared.refusals.RefusalKind.{RefusalKind}
-use Rattle.pf_values.specs.declared.refusals.RefusalKind.TheVariants.{NulByte, Unexpected, BadPercent, Mixed}
+use Rattle.pf_values.specs.declared.refusals.RefusalKind.TheVariants.{NulByte, Unexpected, BadPercent, WidthTooLarge, PrecisionTooLarge, Mixed}
 use Rattle.pf_posix.specs.declared.partial_specification.PartialSpecification.{PartialSpecification}
 use Rattle.pf_posix.specs.declared.partial_specification.WidthOrPrecision.{WidthOrPrecision}
 use Rattle.pf_posix.specs.declared.partial_specification.WidthOrPrecision.TheVariants.{Width, Precision}
@@ -24,9 +24,13 @@ use Rattle.pf_posix.specs.declared.partial_specification.Numbering.TheVariants.{
 use Rattle.pf_posix.specs.Types.{int_type}
 use Rattle.pf_posix.specs.Defined.{undefined_as}
 use Rattle.pf_posix.specs.Letters.{conversion_of, is_first_digit, length_modifier_of}
-use Rattle.pf_posix.specs.Refusals.{too_large}
 use Rattle.pf_posix.specs.Stages.{PosixState, Between, Opened, First, Flags, Digits, Star, StarDigits, Placed, Point, Modified}
 use Rattle.pf_posix.specs.Types.{fetch, conversion_type}
+
+-- the kind of a number above the limit
+abbrev pub too_large : WidthOrPrecision → RefusalKind
+too_large Width = WidthTooLarge
+too_large Precision = PrecisionTooLarge
 
 -- the state after the byte and what it fetches, or why it is refused
 abbrev pub PosixStep : Type 0

@@ -3,9 +3,8 @@ ghost use Rattle.std.specs.Prelude.{◌≡◌, ◌<◌, ◌↔◌, false, IsTrue
 ghost use Rattle.pf_posix.specs.Types.{int_type};
 ghost use Rattle.pf_posix.specs.Letters.{is_first_digit};
 ghost use Rattle.pf_posix.specs.Moves.{posix_step_by, numbered};
-ghost use Rattle.pf_posix.specs.Refusals.{too_large};
 ghost use Rattle.pf_posix.specs.Stages.{Between, Placed, posix_state_in_phase, posix_state_of};
-ghost use Rattle.pf_posix.specs.States.{after_amount, after_first, among_flags, after_modifier_letter, after_numbers, after_percent, after_star, dollar_after, conversion_at, flag_or_width, move_to, posix_step, star_at, stray, with_digit};
+ghost use Rattle.pf_posix.specs.States.{after_amount, after_first, among_flags, after_modifier_letter, after_numbers, after_percent, after_star, dollar_after, conversion_at, flag_or_width, move_to, posix_step, star_at, stray, too_large, with_digit};
 ghost use Rattle.pf_posix.specs.Types.{fetch};
 
 use crate::conversions::Modifier;

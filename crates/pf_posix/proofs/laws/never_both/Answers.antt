@@ -1,5 +1,3 @@
-use Rattle.pf_posix.proofs.RefusalWords.{by_parts, by_state}
-use Rattle.pf_posix.specs.GrammarRefusals.{IsRefusedInWhole}
 use Rattle.pf_posix.proofs.Unique.{never_both}
 use Rattle.pf_posix.proofs.laws.never_both.Goals as goal
 
