@@ -10,8 +10,8 @@ lines the folder has, and which types and constants of the code and words of the
 It does the same for the headline of the whole language, with WHOLE_STARTS and WHOLE_FOLDER. That headline also depends
 on definitions of FOLDER, and on those of other crates that docs/DEFINITIONS.md lists.
 
-A refusal in the whole language depends on the states of an automaton. What REFUSALS reach, and neither ACCEPTED nor
-FOLDER has, must be what a table of docs/DEFINITIONS.md lists.
+What REFUSALS, those in the whole language, reach, and neither ACCEPTED nor FOLDER has, must be what a table of
+docs/DEFINITIONS.md lists.
 
 Its last line is 'N passed, M failed', and it exits with 1 where M isn't 0.
 """
@@ -278,12 +278,6 @@ def table_after(text, heading):
     return [name for cell in cells for name in re.findall(rf"`({NAME})[^`]*`", re.sub(r"\([^)]*\)", "", cell))]
 
 
-def states_in(text):
-    """The states in the table of docs/DEFINITIONS.md, in its order."""
-    rows = re.search(r"^\| State \|.*\n\|---.*\n((?:\|.*\n)+)", text, flags=re.MULTILINE)
-    return re.findall(rf"^\| `({NAME})", rows[1], flags=re.MULTILINE) if rows else []
-
-
 def try_refusals(trials):
     """docs/DEFINITIONS.md lists what a refusal in the whole language depends on, besides what acceptance does."""
     text = (TOP / "docs/DEFINITIONS.md").read_text(encoding="utf-8")
@@ -296,12 +290,10 @@ def try_refusals(trials):
         sorted(table_after(text, "Words of a refusal")),
         sorted(name for _, name in own),
     )
-    states = [name for name, data in module_of(f"{LOWER}.Stages").types.items() if data == "PosixState" != name]
-    trials.expect("states in docs/DEFINITIONS.md", states_in(text), states)
     types, constants = of_code(others - known)
     trials.expect(
         "types of the code in a refusal",
-        listed(text, "Of the code these definitions use the types "),
+        listed(text, "Of the code these definitions use the type "),
         types - of_code(known)[0],
     )
     trials.expect("constants of the code in a refusal that acceptance doesn't use", constants, set())
