@@ -4,14 +4,13 @@ use Rattle.pf_values.specs.declared.flags.FlagSet.{FlagSet}
 use Rattle.pf_values.specs.declared.models.Model.{Model}
 use Rattle.pf_values.specs.meaning.Arguments.{Argument, HasType}
 use Rattle.pf_values.specs.meaning.DataModel.{arg_type}
-use Rattle.pf_values.specs.meaning.Normal.{IsNormal}
 use Rattle.pf_values.specs.meaning.Printing.{Prints}
 use Rattle.pf_values.specs.meaning.Specification.{Specification}
 use Rattle.pf_values.specs.meaning.Text.{Text}
 use Rattle.pf_values.proofs.PrintsOnce.{Prints-unique, printed_text, printed-is}
 use Rattle.pf_reduce.specs.declared.padding.Padding.{Padding}
 use Rattle.pf_reduce.specs.declared.results.Reduced.{Reduced}
-use Rattle.pf_reduce.specs.Cores.{core_of_parts, padded_core}
+use Rattle.pf_reduce.specs.Cores.{IsReducedAs, padded_core}
 use Rattle.pf_reduce.specs.Reducing.{IsReducedTo, PrintsReduced, around, core_of}
 
 -- one direction is enough, since each prints one text
@@ -33,11 +32,6 @@ prints_reduced model s r e h argument out typed =
 -- what a directive is reduced to
 abbrev pub Reduction : Model → Specification → Type 0
 Reduction model s = (r : Reduced) × IsReducedTo model s r
-
--- these parts are those of a normal core, to which the directive is reduced
-pub record IsReducedAs (model : Model) (s : Specification) (p : Padding) (flags : FlagSet) (precision : Option ℕ) : Type 0 where
-  pub normal : IsNormal model (core_of_parts model s p flags precision)
-  pub reduced : IsReducedTo model s (padded_core model s p flags precision)
 
 pub made : (model : Model) (s : Specification) (p : Padding) (flags : FlagSet) (precision : Option ℕ) → IsReducedAs model s p flags precision
     → Reduction model s

@@ -13,14 +13,13 @@ use Rattle.pf_values.specs.meaning.Normal.{IsNormal, digits_at_most}
 use Rattle.pf_values.specs.meaning.Specification.{Specification, width_of}
 use Rattle.pf_values.specs.Directives.{effective_precision}
 use Rattle.pf_reduce.specs.declared.padding.Padding.{Padding}
-use Rattle.pf_reduce.specs.Cores.{kept_precision}
+use Rattle.pf_reduce.specs.Cores.{IsReducedAs, kept_precision}
 use Rattle.pf_reduce.specs.Padded.{HasNoIdleWidth, padding_of}
-use Rattle.pf_reduce.proofs.Carried.{IsReducedAs}
 use Rattle.pf_reduce.proofs.OwnCores.{unprefixed_form}
 use Rattle.pf_reduce.proofs.UnsignedReductions.{unprefixed_by}
 
 -- each number has a digit
-pub some_digit : (conv : Conv) (b : Bits) → is_text conv ≡ false → 1 ≤ most_digits conv b
+some_digit : (conv : Conv) (b : Bits) → is_text conv ≡ false → 1 ≤ most_digits conv b
 some_digit C b e = cc
 some_digit S b e = cc
 some_digit D B8 e = omega arith

@@ -8,7 +8,7 @@ use Rattle.pf_values.specs.declared.conversions.Conv.{Conv}
 use Rattle.pf_values.specs.declared.conversions.Conv.TheVariants.{D, I, U, O, X, UpperX, B, C, S}
 use Rattle.pf_values.specs.declared.conversions.Kind.{Kind}
 use Rattle.pf_values.specs.declared.conversions.Kind.TheVariants as kinds
-use Rattle.pf_values.specs.declared.flags.Flag.TheVariants.{Minus, Zero}
+use Rattle.pf_values.specs.declared.flags.Flag.TheVariants.{Zero}
 use Rattle.pf_values.specs.declared.flags.FlagSet.{FlagSet}
 use Rattle.pf_values.specs.declared.lengths.Length.{Length}
 use Rattle.pf_values.specs.declared.lengths.Length.TheVariants as lengths
@@ -17,8 +17,8 @@ use Rattle.pf_values.specs.meaning.Bases.{alternative_of}
 use Rattle.pf_values.specs.meaning.Conversions.{is_signed, is_text, kept_conv, kind_of}
 use Rattle.pf_values.specs.meaning.DataModel.{bits_under, kept_length, most_digits, most_digits_of}
 use Rattle.pf_values.specs.meaning.Defined.{refused_as}
-use Rattle.pf_values.specs.meaning.Flags.{has, no_flags, with_flag}
-use Rattle.pf_values.specs.meaning.Normal.{HasNormalForm, HasPrefixedForm, HasSignedForm, HasUnsignedForm, IsNormal, digits_at_most, precision_of, sign_len, silent}
+use Rattle.pf_values.specs.meaning.Flags.{no_flags, with_flag}
+use Rattle.pf_values.specs.meaning.Normal.{HasNormalForm, HasPrefixedForm, HasUnsignedForm, IsNormal, digits_at_most, precision_of, sign_len, silent}
 use Rattle.pf_values.specs.meaning.Normal.{IsNormalFilled, IsNormalOctal, IsNormalPrefixed, IsNormalSigned, IsNormalString, IsNormalUnprefixed}
 use Rattle.pf_values.specs.meaning.Printing.{Prints, field, is_zero_filled, sign_or_prefix}
 use Rattle.pf_values.specs.meaning.Specification.{Specification, width_of}
@@ -32,9 +32,8 @@ use Rattle.pf_reduce.specs.Padded.{padding_of}
 use Rattle.pf_reduce.specs.Reducing.{IsReducedTo, IsReduction, itself}
 use Rattle.pf_reduce.proofs.Carried.{Carries, prints_reduced}
 use Rattle.pf_reduce.proofs.CarriedIntegers.{carries, kept_bits, kept_kind, kept_sign, kept_text, kept_type}
-use Rattle.pf_reduce.proofs.FilledNumbers.{filled_not_normal, filled_reduced, some_digit}
+use Rattle.pf_reduce.proofs.FilledNumbers.{filled_not_normal, filled_reduced}
 use Rattle.pf_reduce.proofs.Narrowing.{no_width}
-use Rattle.pf_reduce.proofs.NormalForms.{has_unprefixed}
 
 -- a byte or a string has no length modifier
 no_length-char : (s : Specification) → refused_as s ≡ None → s.conv ≡ C → s.length ≡ lengths.None
@@ -165,42 +164,6 @@ module _ (model : Model) (s : Specification) where
   form_kept kinds.Char h = h
   form_kept kinds.String h = string_kept h
 
-  -- a number with nothing but a modifier has the form of a normal one
-  module _ (flags : s.flags ≡ no_flags) (width : s.width ≡ None) (precision : s.precision ≡ None) where
-    no_field_width : width_of s ≡ 0
-    no_field_width = rw width refl
-
-    bare_signed : IsNormalSigned model s
-    bare_signed = record {
-      one_sign = λ e. rw flags refl;
-      least = λ some. absurd (omega (arith, some, no_field_width));
-      most = omega (arith, no_field_width);
-      right_space = λ r is. λ e. absurd (omega (arith, e, no_field_width));
-      right_bare = λ r none few. λ e. absurd (omega (arith, e, no_field_width));
-      left = λ l. absurd (let right : has s.flags Minus ≡ false = rw flags refl in cc);
-    }
-
-    unfilled_form : HasSignedForm model s
-    unfilled_form =
-        let unfilled : has s.flags Zero ≡ false = rw flags refl in
-        subst (λ z. MatchBool z (IsNormalFilled s × (sign_len s ≡ 0)) (IsNormalSigned model s)) (sym unfilled) bare_signed
-
-    bare_unprefixed : is_text s.conv ≡ false → IsNormalUnprefixed model s
-    bare_unprefixed text = record {
-      not_filled = rw flags refl;
-      precision = rw precision (some_digit s.conv (bits_under model s.length) text);
-      least = λ some. absurd (omega (arith, some, no_field_width));
-      most = omega (arith, no_field_width);
-      left = λ l. absurd (let right : has s.flags Minus ≡ false = rw flags refl in cc);
-    }
-
-    bare_form : (conv : Conv) → s.conv ≡ conv → is_text s.conv ≡ false → HasNormalForm model (kind_of conv) s
-    bare_form D is text = unfilled_form
-    bare_form I is text = unfilled_form
-    bare_form C is text = absurd (let no = text in cc)
-    bare_form S is text = absurd (let no = text in cc)
-    bare_form conv is text = has_unprefixed model conv s (record { text = refl; sign = refl }) (rw flags refl) (bare_unprefixed text)
-
   module _ (parts : HasPlainParts s) where
     letters_normal : HasNormalForm model (kind_of s.conv) s → IsNormal model kept
     letters_normal form =
@@ -242,9 +205,6 @@ module _ (model : Model) (s : Specification) where
       kept = λ h. rw (h.length, h.conv) refl;
       silent = λ is. absurd (not_silent form is);
     }
-
-    pub bare_change : is_text s.conv ≡ false → s.flags ≡ no_flags → s.width ≡ None → s.precision ≡ None → IsReduction model s (itself model kept)
-    bare_change text flags width precision = letters_change (bare_form flags width precision s.conv refl text)
 
     abbrev no_field : Padding
     no_field = record (padding_of s) { width = 0 }

@@ -96,7 +96,7 @@ prefixed_form : (model : Model) (s : Specification) (alt zero : Bool) → has s.
     → HasUnsignedForm model Prefixed s
 prefixed_form model s alt zero e f h = subst (λ a. HasPrefixedForm model a (has s.flags Zero) s) (sym e) (subst (λ z. HasPrefixedForm model alt z s) (sym f) h)
 
-pub has_unprefixed : (model : Model) (conv : Conv) (s : Specification) → IsUnsigned conv → has s.flags Alt ≡ false → IsNormalUnprefixed model s
+has_unprefixed : (model : Model) (conv : Conv) (s : Specification) → IsUnsigned conv → has s.flags Alt ≡ false → IsNormalUnprefixed model s
     → HasNormalForm model (kind_of conv) s
 has_unprefixed model U s is alt h = h
 has_unprefixed model O s is alt h = raised_form model s false alt h

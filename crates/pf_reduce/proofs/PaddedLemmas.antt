@@ -15,10 +15,9 @@ use Rattle.pf_values.specs.Directives.{effective_precision, width_given}
 use Rattle.pf_reduce.specs.declared.padding.Padding.{Padding}
 use Rattle.pf_reduce.specs.declared.signs.Sign.TheVariants as signs
 use Rattle.pf_reduce.specs.Changes.{HasPlainParts, IsMostPrinted, within_spaces}
-use Rattle.pf_reduce.specs.Cores.{padded_core, with_side}
+use Rattle.pf_reduce.specs.Cores.{IsReducedAs, padded_core, with_side}
 use Rattle.pf_reduce.specs.Padded.{HasNoIdleWidth, IsNarrowedTo, IsRightIfUnseen, padding_of}
 use Rattle.pf_reduce.specs.Reducing.{IsReduction}
-use Rattle.pf_reduce.proofs.Carried.{IsReducedAs}
 use Rattle.pf_reduce.proofs.Narrowing.{cut_on_the_left, cut_on_the_right}
 use Rattle.pf_reduce.proofs.OwnCores.{bare, signed_form, unprefixed_form}
 use Rattle.pf_reduce.proofs.SignedReductions.{signed_by}

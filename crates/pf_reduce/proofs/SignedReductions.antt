@@ -22,10 +22,10 @@ use Rattle.pf_values.proofs.DefinedLemmas.{effective_limit, width_limit}
 use Rattle.pf_reduce.specs.declared.padding.Padding.{Padding}
 use Rattle.pf_reduce.specs.declared.signs.Sign.{Sign}
 use Rattle.pf_reduce.specs.declared.signs.Sign.TheVariants as signs
-use Rattle.pf_reduce.specs.Cores.{core_of_parts, kept_precision}
+use Rattle.pf_reduce.specs.Cores.{IsReducedAs, core_of_parts, kept_precision}
 use Rattle.pf_reduce.specs.Padded.{HasNoIdleWidth, IsNarrowedTo, IsRightIfUnseen, padding_of, with_padding}
 use Rattle.pf_reduce.specs.Signs.{sign_flags, sign_length, sign_of, sign_text}
-use Rattle.pf_reduce.proofs.Carried.{IsReducedAs, Reduction, made}
+use Rattle.pf_reduce.proofs.Carried.{Reduction, made}
 use Rattle.pf_reduce.proofs.CarriedIntegers.{width_is}
 use Rattle.pf_reduce.proofs.Narrowing.{narrowed, not_wider, right_justify_if_unseen, without_idle}
 use Rattle.pf_reduce.proofs.NormalCores.{kept_signed, normal_signed, some_width, width_within}

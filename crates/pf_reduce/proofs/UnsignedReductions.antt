@@ -30,10 +30,10 @@ use Rattle.pf_values.proofs.DefinedLemmas.{effective_limit, none_broken, width_l
 use Rattle.pf_values.proofs.Printed.{count_of}
 use Rattle.pf_values.proofs.PrintsOnce.{value_text}
 use Rattle.pf_reduce.specs.declared.padding.Padding.{Padding}
-use Rattle.pf_reduce.specs.Cores.{core_of_parts, kept_precision}
+use Rattle.pf_reduce.specs.Cores.{IsReducedAs, core_of_parts, kept_precision}
 use Rattle.pf_reduce.specs.Padded.{HasNoIdleWidth, IsNarrowedTo, HasHoistedZeros, IsRightIfUnseen, constants, padding_of, with_padding}
 use Rattle.pf_reduce.specs.Prefixes.{is_prefixed, puts_prefix}
-use Rattle.pf_reduce.proofs.Carried.{IsReducedAs, Reduction, made}
+use Rattle.pf_reduce.proofs.Carried.{Reduction, made}
 use Rattle.pf_reduce.proofs.Narrowing.{narrowed, not_wider, hoist_zeros, right_justify_if_unseen, without_idle}
 use Rattle.pf_reduce.proofs.NormalForms.{normal_filled, normal_octal, normal_prefixed, normal_unprefixed}
 use Rattle.pf_reduce.proofs.PrefixedNumbers.{prefixed_filled, prefixed_reduced, unseen_side}

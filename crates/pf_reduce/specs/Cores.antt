@@ -6,11 +6,13 @@ use Rattle.pf_values.specs.declared.models.Model.{Model}
 use Rattle.pf_values.specs.meaning.Conversions.{kept_conv}
 use Rattle.pf_values.specs.meaning.DataModel.{kept_length}
 use Rattle.pf_values.specs.meaning.Flags.{with_flag}
+use Rattle.pf_values.specs.meaning.Normal.{IsNormal}
 use Rattle.pf_values.specs.meaning.Specification.{Specification}
 use Rattle.pf_values.specs.Directives.{specification_of}
 use Rattle.pf_reduce.specs.declared.padding.Padding.{Padding}
 use Rattle.pf_reduce.specs.declared.results.Core.TheVariants.{Normal}
 use Rattle.pf_reduce.specs.declared.results.Reduced.{Reduced}
+use Rattle.pf_reduce.specs.Reducing.{IsReducedTo}
 
 -- a precision of 1 counts as no precision (C11 7.21.6.1 p8)
 abbrev pub kept_precision : ℕ → Option ℕ
@@ -39,3 +41,8 @@ padded_core model s p flags precision = record {
   });
   trail = p.trail;
 }
+
+-- such a directive is normal, and the other is reduced to it
+pub record IsReducedAs (model : Model) (s : Specification) (p : Padding) (flags : FlagSet) (precision : Option ℕ) : Type 0 where
+  pub normal : IsNormal model (core_of_parts model s p flags precision)
+  pub reduced : IsReducedTo model s (padded_core model s p flags precision)

@@ -8,7 +8,7 @@ ghost use Rattle.pf_values.specs.meaning.Specification.{width_of};
 ghost use Rattle.pf_reduce.specs.Changes.{HasPlainParts, IsChange, IsMostPrinted};
 ghost use Rattle.pf_reduce.specs.declared.changes.Change.TheVariants.{Filled};
 
-use crate::normality::{has_signed_form, is_bare, is_normal_string, is_normal_unprefixed};
+use crate::normality::{has_signed_form, is_normal_string, is_normal_unprefixed};
 use crate::numbers::{max_digits, width};
 use pf_values::{Conv, Directive, Flag, FlagSet, Kind, Model};
 
@@ -32,9 +32,6 @@ pub fn change_of(model: Model, directive: &Directive) -> Option<Change>
     if !has_plain_parts(directive) {
         return None;
     }
-    if is_bare_number(directive) {
-        return Some(Change::Letters);
-    }
     if has_plain_form(model, directive) {
         return Some(Change::Letters);
     }
@@ -42,18 +39,6 @@ pub fn change_of(model: Model, directive: &Directive) -> Option<Change>
         return Some(Change::Filled);
     }
     padded_change(model, directive)
-}
-
-// Whether it is a number with nothing but a length modifier, whose digits need no count.
-#[inline(always)]
-fn is_bare_number(directive: &Directive) -> bool
-    ensures { IsTrue result → (is_text directive.now.conv ≡ false) × (directive.now.flags ≡ no_flags)
-        × (directive.now.width ≡ None) × (directive.now.precision ≡ None) }
-{
-    if directive.conv().kind().is_text() {
-        return false;
-    }
-    is_bare(directive)
 }
 
 // Whether the form is that of a normal directive without `#`.

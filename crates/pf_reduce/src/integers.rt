@@ -20,7 +20,7 @@ ghost use Rattle.pf_reduce.specs.Padded.{with_padding};
 ghost use Rattle.pf_reduce.specs.Reducing.{IsReducedTo, itself};
 ghost use Rattle.pf_reduce.specs.Signs.{sign_length, sign_text};
 
-use crate::normal_directives::{kept_precision, padded_core};
+use crate::normal_directives::{kept_precision, reduced_core};
 use crate::numbers::{max_digits, width};
 use crate::padding::Padding;
 use crate::results::Reduced;
@@ -66,7 +66,7 @@ fn reduce_unprefixed(model: Model, directive: &Directive) -> Reduced
         .hoist_zeros(zeros)
         .right_justify_if_unseen(1);
     let kept = kept_precision(precision - zeros);
-    padded_core(model, padding, directive, FlagSet::empty(), kept)
+    reduced_core(model, padding, directive, FlagSet::empty(), kept)
 }
 
 // `o` with `#`: digits that begin with 0.
@@ -84,12 +84,12 @@ fn reduce_octal(model: Model, directive: &Directive) -> Reduced
     if padding.has_spaces_before() {
         // These come before the first 0, which the core has to print.
         let alt = FlagSet::empty().with(Flag::Alt);
-        return padded_core(model, padding, directive, alt, kept_precision(precision));
+        return reduced_core(model, padding, directive, alt, kept_precision(precision));
     }
     let zeros = 1 + (precision - 1).saturating_sub(digits);
     let padding = padding.hoist_zeros(zeros).right_justify_if_unseen(1);
     let kept = kept_precision(precision - zeros);
-    padded_core(model, padding, directive, FlagSet::empty(), kept)
+    reduced_core(model, padding, directive, FlagSet::empty(), kept)
 }
 
 // `x X b` with `#`: digits after a prefix of two letters.
@@ -101,7 +101,7 @@ fn reduce_prefixed(model: Model, directive: &Directive) -> Reduced
 {
     if keeps_zeros(directive, 0) {
         let flags = FlagSet::empty().with(Flag::Alt).with(Flag::Zero);
-        return padded_core(model, Padding::of(directive), directive, flags, None);
+        return reduced_core(model, Padding::of(directive), directive, flags, None);
     }
     let precision = directive.effective_precision(0);
     let padding = Padding::of(directive)
@@ -109,7 +109,7 @@ fn reduce_prefixed(model: Model, directive: &Directive) -> Reduced
         .without_idle_width(precision)
         .right_justify_if_unseen(unseen_width(precision, 3));
     let alt = FlagSet::empty().with(Flag::Alt);
-    padded_core(model, padding, directive, alt, kept_precision(precision))
+    reduced_core(model, padding, directive, alt, kept_precision(precision))
 }
 
 /// `d i`: digits after a sign.
@@ -121,7 +121,7 @@ pub(crate) fn reduce_signed(model: Model, directive: &Directive) -> Reduced
     let sign = Sign::of(directive.flags());
     if keeps_zeros(directive, sign.len()) {
         let flags = FlagSet::empty().with(Flag::Zero);
-        return padded_core(model, Padding::of(directive), directive, flags, None);
+        return reduced_core(model, Padding::of(directive), directive, flags, None);
     }
     let digits = max_digits(model, directive);
     let precision = directive.effective_precision(sign.len());
@@ -132,7 +132,7 @@ pub(crate) fn reduce_signed(model: Model, directive: &Directive) -> Reduced
     let padding = padding
         .without_idle_width(sign.len() + precision)
         .right_justify_if_unseen(unseen_signed_width(precision, sign));
-    padded_core(
+    reduced_core(
         model,
         padding,
         directive,

@@ -1,8 +1,8 @@
 //! Normal directives made of their parts.
 ghost use Rattle.std.specs.Prelude.{◌≡◌};
 ghost use Rattle.pf_values.specs.meaning.Normal.{IsNormal};
-ghost use Rattle.pf_reduce.specs.Cores.{padded_core, core_of_parts, kept_precision};
-ghost use Rattle.pf_reduce.specs.Reducing.{IsNormalCore};
+ghost use Rattle.pf_reduce.specs.Cores.{IsReducedAs, padded_core, core_of_parts, kept_precision};
+ghost use Rattle.pf_reduce.specs.Reducing.{IsNormalCore, IsReducedTo};
 
 use crate::padding::Padding;
 use crate::results::{Core, Normal, Reduced};
@@ -34,6 +34,21 @@ pub(crate) fn padded_core(
         core: Core::Normal(Normal::new(model, core)),
         trail: padding.trail,
     }
+}
+
+/// The same, where a directive is reduced to it.
+pub(crate) fn reduced_core(
+    model: Model,
+    padding: Padding,
+    directive: &Directive,
+    flags: FlagSet,
+    precision: Option<u16>,
+) -> Reduced
+    requires { IsReducedAs model directive.now padding flags precision }
+    ensures value { result ≡ padded_core model directive.now padding flags precision }
+    ensures same { IsReducedTo model directive.now result }
+{
+    padded_core(model, padding, directive, flags, precision)
 }
 
 /// Returns the precision, or `None` for 1, which is the default.

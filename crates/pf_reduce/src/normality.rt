@@ -1,5 +1,5 @@
 //! Which directives are normal.
-ghost use Rattle.std.specs.Prelude.{◌≡◌, ◌↔◌, IsTrue};
+ghost use Rattle.std.specs.Prelude.{◌≡◌, ◌≤◌, ◌↔◌, IsTrue, false};
 ghost use Rattle.pf_values.specs.meaning.Defined.{IsDefined};
 ghost use Rattle.pf_values.specs.meaning.Normal.{
   IsNormal,
@@ -12,9 +12,10 @@ ghost use Rattle.pf_values.specs.meaning.Normal.{
   HasNormalForm,
   HasSignedForm,
   HasUnsignedForm,
+  digits_at_most,
 };
 ghost use Rattle.pf_reduce.specs.NormalParts.{HasNormalParts};
-ghost use Rattle.pf_values.specs.meaning.Conversions.{kind_of};
+ghost use Rattle.pf_values.specs.meaning.Conversions.{is_text, kind_of};
 ghost use Rattle.pf_values.specs.meaning.Flags.{no_flags};
 
 use crate::numbers::{longest, max_digits, precision, sign_len, width};
@@ -71,6 +72,7 @@ pub(crate) fn has_signed_form(model: Model, directive: &Directive) -> bool
 }
 
 fn has_unsigned_form(model: Model, directive: &Directive, alternative: Alternative) -> bool
+    requires { is_text directive.now.conv ≡ false }
     ensures { IsTrue result ↔ HasUnsignedForm model alternative directive.now }
 {
     let alt = directive.flags().has(Flag::Alt);
@@ -86,7 +88,7 @@ fn has_unsigned_form(model: Model, directive: &Directive, alternative: Alternati
 }
 
 #[inline(always)]
-pub(crate) fn is_bare(directive: &Directive) -> bool
+fn is_bare(directive: &Directive) -> bool
     ensures { IsTrue result ↔ (
         (directive.now.flags ≡ no_flags) × (directive.now.width ≡ None)
         × (directive.now.precision ≡ None)) }
@@ -114,33 +116,42 @@ pub(crate) fn is_normal_string(directive: &Directive) -> bool
 /// Whether they are those of a normal `u`, or of `o`, `x`, `X` and `b` without `#`.
 #[inline(always)]
 pub(crate) fn is_normal_unprefixed(model: Model, directive: &Directive) -> bool
+    requires { is_text directive.now.conv ≡ false }
     ensures { IsTrue result ↔ IsNormalUnprefixed model directive.now }
 {
     let width = width(directive);
     let precision = precision(directive);
-    let digits = max_digits(model, directive);
-    if directive.flags().has(Flag::Zero) || precision > digits {
+    let left = directive.flags().has(Flag::Minus);
+    if directive.flags().has(Flag::Zero) {
         return false;
     }
     if width == 0 {
-        return !directive.flags().has(Flag::Minus);
+        return !left && has_digits(model, directive, precision);
     }
-    if width <= precision || width > digits {
+    if width <= precision || left && precision == 0 && width == 1 {
         return false;
     }
-    !directive.flags().has(Flag::Minus) || precision != 0 || width != 1
+    has_digits(model, directive, width)
+}
+
+// Whether the number may have so many digits. All may have one.
+#[inline(always)]
+fn has_digits(model: Model, directive: &Directive, count: u16) -> bool
+    requires { is_text directive.now.conv ≡ false }
+    ensures { IsTrue result ↔ (count ≤ digits_at_most model directive.now) }
+{
+    count <= 1 || count <= max_digits(model, directive)
 }
 
 fn is_normal_octal(model: Model, directive: &Directive) -> bool
     ensures { IsTrue result ↔ IsNormalOctal model directive.now }
 {
-    let width = width(directive);
-    let precision = precision(directive);
-    let digits = max_digits(model, directive);
     if directive.flags().has(Flag::Minus) || directive.flags().has(Flag::Zero) {
         return false;
     }
-    1 <= precision && precision <= digits && precision < width && width <= digits + 1
+    let width = width(directive);
+    let precision = precision(directive);
+    1 <= precision && precision < width && width <= max_digits(model, directive) + 1
 }
 
 #[inline(always)]
@@ -174,14 +185,17 @@ fn is_normal_signed(model: Model, directive: &Directive) -> bool
     let width = width(directive);
     let precision = precision(directive);
     let sign = sign_len(directive);
-    let full = 1 + longest(model, directive);
     if plus && space {
         return false;
     }
     if width == 0 {
         return !left;
     }
-    if width <= sign + precision || width > full {
+    if width <= sign + precision {
+        return false;
+    }
+    let full = 1 + longest(model, directive);
+    if width > full {
         return false;
     }
     if left {

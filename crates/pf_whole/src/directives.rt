@@ -1,9 +1,9 @@
 //! The parts of the normal spelling of an opaque directive.
 ghost use Rattle.std.specs.Prelude.{◌≡◌, ◌&&◌, if◌then◌else◌, Some};
+ghost use Rattle.pf_values.specs.declared.flags.Flag.TheVariants.{Zero};
 ghost use Rattle.pf_posix.specs.Specifications.{Given};
-ghost use Rattle.pf_values.specs.meaning.Flags.{with_flag};
-ghost use Rattle.pf_whole.specs.meaning.NormalSpellings.{floating_modifier, given_precision, integer_modifier, is_amount, is_general, is_given, is_integer, keeps_sign, kept_conversion, kept_flags, kept_modifier, normal_precision, meant_precision, normal_parts};
-ghost use Rattle.pf_whole.specs.Parts.{made_set};
+ghost use Rattle.pf_values.specs.meaning.Flags.{has, with_flag};
+ghost use Rattle.pf_whole.specs.meaning.NormalSpellings.{floating_modifier, given_precision, integer_modifier, is_amount, is_general, is_given, is_integer, keeps_sign, keeps_zero, kept_conversion, kept_flags, kept_modifier, normal_precision, meant_precision, normal_parts};
 ghost use Rattle.pf_posix.specs.OpaqueParts.{amount_of, parts_of_opaque};
 
 use pf_posix::{Conversion, Floating, Modifier, OpaqueAmount, OpaqueDirective};
@@ -132,16 +132,6 @@ fn is_meant(conversion: Conversion, n: u16) -> bool
     }
 }
 
-// Adds the flag if it is asked for.
-fn with_if(flags: FlagSet, flag: Flag, wanted: bool) -> FlagSet
-    ensures { result ≡ (if wanted then with_flag flags flag else flags) }
-{
-    if wanted {
-        return flags.with(flag);
-    }
-    flags
-}
-
 fn is_given(precision: Option<OpaqueAmount>) -> bool
     ensures { result ≡ is_given (amount_of precision) }
 {
@@ -154,41 +144,43 @@ fn is_given(precision: Option<OpaqueAmount>) -> bool
 fn kept_flags(directive: OpaqueDirective) -> FlagSet
     ensures { result ≡ kept_flags (parts_of_opaque directive) }
 {
-    let flags = directive.flags;
-    let field = directive.width.is_some();
-    let sign = keeps_sign(directive.conversion);
-    let minus = both(flags.has(Flag::Minus), field);
-    let plus = both(flags.has(Flag::Plus), sign);
-    let space = both(both(flags.has(Flag::Space), !flags.has(Flag::Plus)), sign);
-    let fixed = both(
-        is_integer(directive.conversion),
-        is_given(directive.precision),
-    );
-    let zero = both(
-        both(both(flags.has(Flag::Zero), field), !flags.has(Flag::Minus)),
-        !fixed,
-    );
-    set_of(minus, plus, space, flags.has(Flag::Alt), zero)
+    let kept = with_kept(FlagSet::empty(), directive, Flag::Minus);
+    let kept = with_kept(kept, directive, Flag::Plus);
+    let kept = with_kept(kept, directive, Flag::Space);
+    let kept = with_kept(kept, directive, Flag::Alt);
+    with_kept(kept, directive, Flag::Zero)
 }
 
-// The set of these flags, without `'`.
-fn set_of(minus: bool, plus: bool, space: bool, alt: bool, zero: bool) -> FlagSet
-    ensures { result ≡ made_set minus plus space alt zero }
+// Adds the flag if the directive has it and keeps it.
+fn with_kept(kept: FlagSet, directive: OpaqueDirective, flag: Flag) -> FlagSet
+    ensures { result ≡ (if has (kept_flags (parts_of_opaque directive)) flag then with_flag kept flag else kept) }
 {
-    let none = FlagSet::empty();
-    let one = with_if(none, Flag::Minus, minus);
-    let two = with_if(one, Flag::Plus, plus);
-    let three = with_if(two, Flag::Space, space);
-    let four = with_if(three, Flag::Alt, alt);
-    with_if(four, Flag::Zero, zero)
-}
-
-// `a && b`, as a call: its result is one step in a proof.
-fn both(a: bool, b: bool) -> bool
-    ensures { result ≡ (a && b) }
-{
-    if a {
-        return b;
+    if directive.flags.has(flag) && keeps(directive, flag) {
+        return kept.with(flag);
     }
-    false
+    kept
+}
+
+// Whether a flag of the directive is kept.
+fn keeps(directive: OpaqueDirective, flag: Flag) -> bool
+    ensures { (has directive.flags flag && result) ≡ has (kept_flags (parts_of_opaque directive)) flag }
+{
+    match flag {
+        Flag::Minus => directive.width.is_some(),
+        Flag::Plus => keeps_sign(directive.conversion),
+        Flag::Space => !directive.flags.has(Flag::Plus) && keeps_sign(directive.conversion),
+        Flag::Alt => true,
+        Flag::Zero => keeps_zero(directive),
+        Flag::Group => false,
+    }
+}
+
+// Whether the flag `0` pads to the width.
+fn keeps_zero(directive: OpaqueDirective) -> bool
+    ensures { (has directive.flags Zero && result) ≡ keeps_zero (parts_of_opaque directive) }
+{
+    if directive.width.is_none() || directive.flags.has(Flag::Minus) {
+        return false;
+    }
+    !(is_integer(directive.conversion) && is_given(directive.precision))
 }

@@ -9,40 +9,22 @@ use Rattle.pf_reduce.proofs.UnprefixedNumbers.{octal}
 use Rattle.pf_reduce.proofs.UnsignedReductions.{octal_after_spaces, octal_after_hoisted}
 use Rattle.pf_reduce.proofs.integers.reduce_octal.Goals as goal
 
-pub padded_core-requires : goal.padded_core-requires
-padded_core-requires c =
+pub reduced_core-requires : goal.reduced_core-requires
+reduced_core-requires c =
     let flags : c.with-alt.result ≡ with_flag no_flags Alt = c.with-alt.ensures ∙ ap (λ f. with_flag f Alt) c.empty.ensures in
     rw (flags, c.kept_precision.ensures) (octal_after_spaces c.args.model c.args.directive.now c.of.ensures.defined c.requires.octal c.requires.alt
     c.max-precision.result c.max_digits-digits.result _ c.without_idle_width-padding.result
     (c.max-precision.ensures ∙ ap (λ k. max k 1) c.effective_precision.ensures.value) c.max_digits-digits.ensures.value
     (rw (c.of.ensures.value, c.max.ensures) at c.with_width_at_most.ensures) c.without_idle_width-padding.ensures
-    (c.has_spaces_before.ensures.yes c.if-has_spaces_before.true).0 (c.has_spaces_before.ensures.yes c.if-has_spaces_before.true).1).normal
+    (c.has_spaces_before.ensures.yes c.if-has_spaces_before.true).0 (c.has_spaces_before.ensures.yes c.if-has_spaces_before.true).1)
 
-pub returns-then-has_spaces_before-clause-same : goal.returns-then-has_spaces_before-clause-same
-returns-then-has_spaces_before-clause-same c =
-    let flags : c.with-alt.result ≡ with_flag no_flags Alt = c.with-alt.ensures ∙ ap (λ f. with_flag f Alt) c.empty.ensures in
-    rw (c.padded_core.ensures.value, flags, c.kept_precision.ensures) (octal_after_spaces c.args.model c.args.directive.now c.of.ensures.defined
-    c.requires.octal c.requires.alt c.max-precision.result c.max_digits-digits.result _ c.without_idle_width-padding.result
-    (c.max-precision.ensures ∙ ap (λ k. max k 1) c.effective_precision.ensures.value) c.max_digits-digits.ensures.value
-    (rw (c.of.ensures.value, c.max.ensures) at c.with_width_at_most.ensures) c.without_idle_width-padding.ensures
-    (c.has_spaces_before.ensures.yes c.if-has_spaces_before.true).0 (c.has_spaces_before.ensures.yes c.if-has_spaces_before.true).1).reduced
-
-pub padded_core-requires-2 : goal.padded_core-requires-2
-padded_core-requires-2 c = rw (c.empty-2.ensures, c.kept_precision-kept.ensures) (octal_after_hoisted c.args.model c.args.directive.now c.of.ensures.defined
+pub reduced_core-requires-2 : goal.reduced_core-requires-2
+reduced_core-requires-2 c = rw (c.empty-2.ensures, c.kept_precision-kept.ensures) (octal_after_hoisted c.args.model c.args.directive.now c.of.ensures.defined
     c.requires.octal c.requires.alt c.max-precision.result c.max_digits-digits.result _ c.without_idle_width-padding.result
     (c.max-precision.ensures ∙ ap (λ k. max k 1) c.effective_precision.ensures.value) c.max_digits-digits.ensures.value
     (rw (c.of.ensures.value, c.max.ensures) at c.with_width_at_most.ensures) c.without_idle_width-padding.ensures
     (1 + c.saturating_sub-zeros.result) _ c.right_justify_if_unseen-padding.result (ap (λ k. 1 + k) c.saturating_sub-zeros.ensures) c.hoist_zeros.ensures
-    c.right_justify_if_unseen-padding.ensures).normal
-
-pub returns-clause-same : goal.returns-clause-same
-returns-clause-same c = rw (c.padded_core-2.ensures.value, c.empty-2.ensures, c.kept_precision-kept.ensures)
-    (octal_after_hoisted c.args.model c.args.directive.now c.of.ensures.defined c.requires.octal c.requires.alt c.max-precision.result
-    c.max_digits-digits.result _
-    c.without_idle_width-padding.result (c.max-precision.ensures ∙ ap (λ k. max k 1) c.effective_precision.ensures.value) c.max_digits-digits.ensures.value
-    (rw (c.of.ensures.value, c.max.ensures) at c.with_width_at_most.ensures) c.without_idle_width-padding.ensures
-    (1 + c.saturating_sub-zeros.result) _ c.right_justify_if_unseen-padding.result (ap (λ k. 1 + k) c.saturating_sub-zeros.ensures) c.hoist_zeros.ensures
-    c.right_justify_if_unseen-padding.ensures).reduced
+    c.right_justify_if_unseen-padding.ensures)
 
 pub returns-then-has_spaces_before-clause-kept : goal.returns-then-has_spaces_before-clause-kept
 returns-then-has_spaces_before-clause-kept c = λ h.
@@ -62,7 +44,7 @@ returns-then-has_spaces_before-clause-kept c = λ h.
     let field : c.without_idle_width-padding.result.width ≡ w = own_field w c.max.result p _ _ at_most most least c.without_idle_width-padding.ensures.idle
     c.without_idle_width-padding.ensures.kept in
     let flags : c.with-alt.result ≡ with_flag no_flags Alt = c.with-alt.ensures ∙ ap (λ f. with_flag f Alt) c.empty.ensures in
-    rw (c.padded_core.ensures.value, c.kept_precision.ensures, flags) (own_number c.args.model s c.without_idle_width-padding.result
+    rw (c.reduced_core.ensures.value, c.kept_precision.ensures, flags) (own_number c.args.model s c.without_idle_width-padding.result
     (with_flag no_flags Alt) p h (ap prints_text e) (alt_flags c.args.model s h (ap prints_signed e) c.requires.alt form.not_filled) p_is
     (omega (arith, c.with_width_at_most.ensures.constant, c.without_idle_width-padding.ensures.constant, given, most))
     field

@@ -20,37 +20,21 @@ use Rattle.pf_reduce.proofs.OwnCores.{
 use Rattle.pf_reduce.proofs.UnsignedReductions.{prefixed_by, prefixed_filled_by}
 use Rattle.pf_reduce.proofs.integers.reduce_prefixed.Goals as goal
 
-pub padded_core-requires : goal.padded_core-requires
-padded_core-requires c =
+pub reduced_core-requires : goal.reduced_core-requires
+reduced_core-requires c =
     let flags : c.with-flags.result ≡ with_flag (with_flag no_flags Alt) Zero = c.with-flags.ensures
     ∙ ap (λ f. with_flag f Zero) (c.with.ensures ∙ ap (λ f. with_flag f Alt) c.empty.ensures) in
     rw (c.of.ensures.value, flags) (prefixed_filled_by c.args.model c.args.directive.now c.of.ensures.defined c.requires.prefixed c.requires.alt
-    (c.keeps_zeros.ensures.kept c.if-keeps_zeros.true).0 (c.keeps_zeros.ensures.kept c.if-keeps_zeros.true).2).normal
+    (c.keeps_zeros.ensures.kept c.if-keeps_zeros.true).0 (c.keeps_zeros.ensures.kept c.if-keeps_zeros.true).2)
 
-pub returns-then-keeps_zeros-clause-same : goal.returns-then-keeps_zeros-clause-same
-returns-then-keeps_zeros-clause-same c =
-    let flags : c.with-flags.result ≡ with_flag (with_flag no_flags Alt) Zero = c.with-flags.ensures
-    ∙ ap (λ f. with_flag f Zero) (c.with.ensures ∙ ap (λ f. with_flag f Alt) c.empty.ensures) in
-    rw (c.padded_core.ensures.value, c.of.ensures.value, flags) (prefixed_filled_by c.args.model c.args.directive.now c.of.ensures.defined c.requires.prefixed
-    c.requires.alt (c.keeps_zeros.ensures.kept c.if-keeps_zeros.true).0 (c.keeps_zeros.ensures.kept c.if-keeps_zeros.true).2).reduced
-
-pub padded_core-requires-2 : goal.padded_core-requires-2
-padded_core-requires-2 c =
+pub reduced_core-requires-2 : goal.reduced_core-requires-2
+reduced_core-requires-2 c =
     let flags : c.with-alt.result ≡ with_flag no_flags Alt = c.with-alt.ensures ∙ ap (λ f. with_flag f Alt) c.empty-2.ensures in
     rw (flags, c.kept_precision.ensures) (prefixed_by c.args.model c.args.directive.now c.of-2.ensures.defined c.requires.prefixed c.requires.alt
     c.effective_precision-precision.result c.max_digits.result c.unseen_width.result _ _ c.right_justify_if_unseen-padding.result
     (c.keeps_zeros.ensures.idle c.if-keeps_zeros.false) c.effective_precision-precision.ensures.value c.max_digits.ensures.value c.unseen_width.ensures.none
     c.unseen_width.ensures.some
-    (rw (c.of-2.ensures.value, c.max.ensures) at c.with_width_at_most.ensures) c.without_idle_width.ensures c.right_justify_if_unseen-padding.ensures).normal
-
-pub returns-clause-same : goal.returns-clause-same
-returns-clause-same c =
-    let flags : c.with-alt.result ≡ with_flag no_flags Alt = c.with-alt.ensures ∙ ap (λ f. with_flag f Alt) c.empty-2.ensures in
-    rw (c.padded_core-2.ensures.value, flags, c.kept_precision.ensures) (prefixed_by c.args.model c.args.directive.now c.of-2.ensures.defined
-    c.requires.prefixed c.requires.alt c.effective_precision-precision.result c.max_digits.result c.unseen_width.result _ _
-    c.right_justify_if_unseen-padding.result (c.keeps_zeros.ensures.idle c.if-keeps_zeros.false) c.effective_precision-precision.ensures.value
-    c.max_digits.ensures.value c.unseen_width.ensures.none c.unseen_width.ensures.some
-    (rw (c.of-2.ensures.value, c.max.ensures) at c.with_width_at_most.ensures) c.without_idle_width.ensures c.right_justify_if_unseen-padding.ensures).reduced
+    (rw (c.of-2.ensures.value, c.max.ensures) at c.with_width_at_most.ensures) c.without_idle_width.ensures c.right_justify_if_unseen-padding.ensures)
 
 pub returns-then-keeps_zeros-clause-kept : goal.returns-then-keeps_zeros-clause-kept
 returns-then-keeps_zeros-clause-kept c = λ h.
@@ -58,7 +42,7 @@ returns-then-keeps_zeros-clause-kept c = λ h.
     let flags : c.with-flags.result ≡ with_flag (with_flag no_flags Alt) Zero = c.with-flags.ensures
     ∙ ap (λ f. with_flag f Zero) (c.with.ensures ∙ ap (λ f. with_flag f Alt) c.empty.ensures) in
     let kept = c.keeps_zeros.ensures.kept c.if-keeps_zeros.true in
-    rw (c.padded_core.ensures.value, c.of.ensures.value, flags) (own_filled_prefixed c.args.model s h c.requires.prefixed c.requires.alt kept.0)
+    rw (c.reduced_core.ensures.value, c.of.ensures.value, flags) (own_filled_prefixed c.args.model s h c.requires.prefixed c.requires.alt kept.0)
 
 pub returns-clause-kept : goal.returns-clause-kept
 returns-clause-kept c = λ h.
@@ -82,7 +66,7 @@ returns-clause-kept c = λ h.
     (let l = form.left (sym left ∙ e) in (l.0, λ none. l.1 (sym p_is ∙ none))) c.unseen_width.ensures.none c.unseen_width.ensures.some in
     omega (arith, field, b) in
     let flags : c.with-alt.result ≡ with_flag no_flags Alt = c.with-alt.ensures ∙ ap (λ f. with_flag f Alt) c.empty-2.ensures in
-    rw (c.padded_core-2.ensures.value, flags, c.kept_precision.ensures) (own_number c.args.model s c.right_justify_if_unseen-padding.result _ p h
+    rw (c.reduced_core-2.ensures.value, flags, c.kept_precision.ensures) (own_number c.args.model s c.right_justify_if_unseen-padding.result _ p h
     (prefixed_number s.conv c.requires.prefixed) (alt_flags c.args.model s h (prefixed_unsigned s.conv c.requires.prefixed) c.requires.alt forms.1) p_is
     (omega (
       arith,

@@ -26,24 +26,16 @@ use Rattle.pf_reduce.specs.Signs.{sign_length, sign_of}
 use Rattle.pf_reduce.proofs.SignedReductions.{signed_by, signed_filled_by}
 use Rattle.pf_reduce.proofs.integers.reduce_signed.Goals as goal
 
-pub padded_core-requires : goal.padded_core-requires
-padded_core-requires c =
+pub reduced_core-requires : goal.reduced_core-requires
+reduced_core-requires c =
     let sign : c.of-sign.result ≡ sign_of c.args.directive.now.flags = c.of-sign.ensures ∙ ap sign_of c.flags.ensures.value in
     let flags : c.with-flags.result ≡ with_flag no_flags Zero = c.with-flags.ensures ∙ ap (λ f. with_flag f Zero) c.empty.ensures in
     let kept = c.keeps_zeros.ensures.kept c.if-keeps_zeros.true in
     rw (c.of.ensures.value, flags) (signed_filled_by c.args.model c.args.directive.now c.of.ensures.defined c.requires kept.0
-    (ap sign_length (sym sign) ∙ sym c.len.ensures ∙ kept.1) kept.2).normal
+    (ap sign_length (sym sign) ∙ sym c.len.ensures ∙ kept.1) kept.2)
 
-pub returns-then-keeps_zeros-clause-same : goal.returns-then-keeps_zeros-clause-same
-returns-then-keeps_zeros-clause-same c =
-    let sign : c.of-sign.result ≡ sign_of c.args.directive.now.flags = c.of-sign.ensures ∙ ap sign_of c.flags.ensures.value in
-    let flags : c.with-flags.result ≡ with_flag no_flags Zero = c.with-flags.ensures ∙ ap (λ f. with_flag f Zero) c.empty.ensures in
-    let kept = c.keeps_zeros.ensures.kept c.if-keeps_zeros.true in
-    rw (c.padded_core.ensures.value, c.of.ensures.value, flags) (signed_filled_by c.args.model c.args.directive.now c.of.ensures.defined c.requires kept.0
-    (ap sign_length (sym sign) ∙ sym c.len.ensures ∙ kept.1) kept.2).reduced
-
-pub padded_core-requires-2 : goal.padded_core-requires-2
-padded_core-requires-2 c =
+pub reduced_core-requires-2 : goal.reduced_core-requires-2
+reduced_core-requires-2 c =
     let sign : c.of-sign.result ≡ sign_of c.args.directive.now.flags = c.of-sign.ensures ∙ ap sign_of c.flags.ensures.value in
     rw (c.flags-2.ensures, c.kept_precision.ensures) (signed_by c.args.model c.args.directive.now c.of-2.ensures.defined c.requires c.of-sign.result
     c.sign_in_field-sign.result c.effective_precision-precision.result c.max_digits-digits.result c.unseen_signed_width.result _
@@ -53,20 +45,7 @@ padded_core-requires-2 c =
     (rw (c.of-2.ensures.value, c.max.ensures) at c.with_width_at_most.ensures) (rw c.len-3.ensures at c.without_idle_width-padding.ensures)
     (record { same = c.sign_in_field-sign.ensures.same; space = c.sign_in_field-sign.ensures.space; none = c.sign_in_field-sign.ensures.none })
     (rw c.len-4.ensures at c.without_idle_width.ensures) c.unseen_signed_width.ensures.plus c.unseen_signed_width.ensures.none
-    c.unseen_signed_width.ensures.some c.right_justify_if_unseen-padding.ensures).normal
-
-pub returns-clause-same : goal.returns-clause-same
-returns-clause-same c =
-    let sign : c.of-sign.result ≡ sign_of c.args.directive.now.flags = c.of-sign.ensures ∙ ap sign_of c.flags.ensures.value in
-    rw (c.padded_core-2.ensures.value, c.flags-2.ensures, c.kept_precision.ensures) (signed_by c.args.model c.args.directive.now c.of-2.ensures.defined
-    c.requires c.of-sign.result c.sign_in_field-sign.result c.effective_precision-precision.result c.max_digits-digits.result c.unseen_signed_width.result _
-    c.without_idle_width-padding.result _ c.right_justify_if_unseen-padding.result sign
-    (rw c.len.ensures at c.keeps_zeros.ensures.idle c.if-keeps_zeros.false) (c.effective_precision-precision.ensures.value
-    ∙ ap (effective_precision c.args.directive.now) c.len-2.ensures) c.max_digits-digits.ensures.value
-    (rw (c.of-2.ensures.value, c.max.ensures) at c.with_width_at_most.ensures) (rw c.len-3.ensures at c.without_idle_width-padding.ensures)
-    (record { same = c.sign_in_field-sign.ensures.same; space = c.sign_in_field-sign.ensures.space; none = c.sign_in_field-sign.ensures.none })
-    (rw c.len-4.ensures at c.without_idle_width.ensures) c.unseen_signed_width.ensures.plus c.unseen_signed_width.ensures.none
-    c.unseen_signed_width.ensures.some c.right_justify_if_unseen-padding.ensures).reduced
+    c.unseen_signed_width.ensures.some c.right_justify_if_unseen-padding.ensures)
 
 pub returns-then-keeps_zeros-clause-kept : goal.returns-then-keeps_zeros-clause-kept
 returns-then-keeps_zeros-clause-kept c = λ h.
@@ -74,7 +53,7 @@ returns-then-keeps_zeros-clause-kept c = λ h.
     let sign : c.of-sign.result ≡ sign_of s.flags = c.of-sign.ensures ∙ ap sign_of c.flags.ensures.value in
     let flags : c.with-flags.result ≡ with_flag no_flags Zero = c.with-flags.ensures ∙ ap (λ f. with_flag f Zero) c.empty.ensures in
     let kept = c.keeps_zeros.ensures.kept c.if-keeps_zeros.true in
-    rw (c.padded_core.ensures.value, c.of.ensures.value, flags) (own_filled_signed c.args.model s h c.requires
+    rw (c.reduced_core.ensures.value, c.of.ensures.value, flags) (own_filled_signed c.args.model s h c.requires
     (ap sign_length (sym sign) ∙ sym c.len.ensures ∙ kept.1) kept.0)
 
 pub returns-clause-kept : goal.returns-clause-kept
@@ -118,7 +97,7 @@ returns-clause-kept c = λ h.
     ) (λ is. unseen.ensures.plus (kept ∙ is)) (λ other none. unseen.ensures.none (λ is. other (sym kept ∙ is)) none
     ∙ ap (λ u. sign_length u + 1) kept) unseen.ensures.some in
     omega (arith, again, b) in
-    rw (c.padded_core-2.ensures.value, c.flags-2.ensures, c.kept_precision.ensures) (own_number c.args.model s c.right_justify_if_unseen-padding.result
+    rw (c.reduced_core-2.ensures.value, c.flags-2.ensures, c.kept_precision.ensures) (own_number c.args.model s c.right_justify_if_unseen-padding.result
     (sign_flags c.sign_in_field-sign.result) p h (signed_number s.conv c.requires) (ap (λ u. with_side (has s.flags Minus) (sign_flags u)) (kept ∙ sign)
     ∙ signed_flags c.args.model s h c.requires form.one_sign forms.1) p_is
     (omega (

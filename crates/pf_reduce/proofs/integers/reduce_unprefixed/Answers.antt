@@ -8,20 +8,12 @@ use Rattle.pf_reduce.proofs.OwnCores.{bare_flags, beyond, own_field, own_number,
 use Rattle.pf_reduce.proofs.UnsignedReductions.{unprefixed_by}
 use Rattle.pf_reduce.proofs.integers.reduce_unprefixed.Goals as goal
 
-pub padded_core-requires : goal.padded_core-requires
-padded_core-requires c = rw (c.empty.ensures, c.kept_precision-kept.ensures) (unprefixed_by c.args.model c.args.directive.now c.of.ensures.defined
+pub reduced_core-requires : goal.reduced_core-requires
+reduced_core-requires c = rw (c.empty.ensures, c.kept_precision-kept.ensures) (unprefixed_by c.args.model c.args.directive.now c.of.ensures.defined
     c.requires.text c.requires.sign c.requires.alt c.effective_precision-precision.result c.max_digits-digits.result c.saturating_sub-zeros.result _ _ _
     c.right_justify_if_unseen-padding.result c.effective_precision-precision.ensures.value c.max_digits-digits.ensures.value c.saturating_sub-zeros.ensures
     (rw (c.of.ensures.value, c.max.ensures) at c.with_width_at_most.ensures) c.without_idle_width.ensures c.hoist_zeros.ensures
-    c.right_justify_if_unseen-padding.ensures).normal
-
-pub returns-clause-same : goal.returns-clause-same
-returns-clause-same c = rw (c.padded_core.ensures.value, c.empty.ensures, c.kept_precision-kept.ensures)
-    (unprefixed_by c.args.model c.args.directive.now c.of.ensures.defined c.requires.text c.requires.sign c.requires.alt c.effective_precision-precision.result
-    c.max_digits-digits.result c.saturating_sub-zeros.result _ _ _ c.right_justify_if_unseen-padding.result c.effective_precision-precision.ensures.value
-    c.max_digits-digits.ensures.value c.saturating_sub-zeros.ensures
-    (rw (c.of.ensures.value, c.max.ensures) at c.with_width_at_most.ensures) c.without_idle_width.ensures c.hoist_zeros.ensures
-    c.right_justify_if_unseen-padding.ensures).reduced
+    c.right_justify_if_unseen-padding.ensures)
 
 pub returns-clause-kept : goal.returns-clause-kept
 returns-clause-kept c = λ h.
@@ -45,7 +37,7 @@ returns-clause-kept c = λ h.
     ∙ c.with_width_at_most.ensures.left ∙ ap (λ q. q.left) c.of.ensures.value in
     let seen : c.hoist_zeros.result.left ≡ true → 1 < c.hoist_zeros.result.width = λ e. let b = beyond (precision_of s) w
     (form.left (sym left ∙ e)) form.least in omega (arith, past, b) in
-    rw (c.padded_core.ensures.value, c.empty.ensures, c.kept_precision-kept.ensures) (own_number c.args.model s c.right_justify_if_unseen-padding.result _
+    rw (c.reduced_core.ensures.value, c.empty.ensures, c.kept_precision-kept.ensures) (own_number c.args.model s c.right_justify_if_unseen-padding.result _
     (p - c.saturating_sub-zeros.result) h c.requires.text (ap (with_side (has s.flags Minus)) refl
     ∙ bare_flags c.args.model s h c.requires.sign c.requires.alt form.not_filled) (omega (arith, none, p_is))
     (omega (
