@@ -336,8 +336,8 @@ int64_t fmtcanon_whole_compare(int model, const char *first, size_t first_len, c
 
 /* Returns the number of conversion specifications of a format of the whole language, without `%%`, and
  * writes a record of each, in the order of the text, into `out`, which has room for `cap` records. The type
- * in a record is the one that fmtcanon_arguments() writes at that index. Allocates in proportion to their
- * number. */
+ * in a record is the one that fmtcanon_arguments() writes at that index. Allocates only for more than 16, in
+ * proportion to their number. */
 int64_t fmtcanon_directives(int model, const char *text, size_t len, fmtcanon_directive *out,
                             size_t cap, fmtcanon_error *error);
 

@@ -462,14 +462,14 @@ static int64_t growing(int call, char *out, size_t cap, fmtcanon_comparison *fou
                        fmtcanon_error *e)
 {
     static const char many[] = "%d%d%d%d%d%d%d%d%d%d%4095d%4095d";
-    /* 33 arguments: one more than wait on the stack. */
+    /* 33 arguments: one more than wait on the stack, as do 16 records of directives. */
     static const char more[] = "%d%d%d%d%d%d%d%d%d%d%d%d%d%d%d%d%d%d%d%d%d%d%d%d%d%d%d%d%d%d%d%d%d";
     if (call == 0) return fmtcanon_canonical(LP64, many, sizeof many - 1, out, cap, e);
     if (call == 1) return fmtcanon_types(LP64, more, sizeof more - 1, (unsigned char *)out, cap, e);
     if (call == 2) return fmtcanon_decode_literal("\"a\\n\"", 5, out, cap, e);
     if (call == 3) return fmtcanon_encode_literal("a\n", 2, out, cap);
     if (call == 4) return fmtcanon_arguments(LP64, more, sizeof more - 1, (unsigned char *)out, cap, e);
-    if (call == 6) return fmtcanon_directives(LP64, "%*.*f", 5, (void *)out, cap / sizeof(fmtcanon_directive), e);
+    if (call == 6) return fmtcanon_directives(LP64, more, sizeof more - 1, (void *)out, cap / sizeof(fmtcanon_directive), e);
     return fmtcanon_compare(LP64, "%d%s", 4, "%d%.4095s", 9, out, cap, found, e);
 }
 
@@ -550,7 +550,8 @@ static void without_memory(void)
     fmtcanon_fits(LP64, "%2$s%1$d", 8, "%d%s", 4, &e);
     fmtcanon_fits(LP64, "%d%s", 4, "%d%f", 4, &e);
     fmtcanon_fits_models("%2$s%1$d", 8, "%d%s", 4, &e);
-    fmtcanon_directives(LP64, "100%%", 5, NULL, 0, &e);
+    fmtcanon_directives(LP64, "%*.*f", 5, NULL, 0, &e);
+    fmtcanon_directives(LP64, "%d%d%d%d%d%d%d%d%d%d%d%d%d%d%d%d", 32, NULL, 0, &e);
     WANT(growths == 0);
 }
 

@@ -16,6 +16,8 @@ use Rattle.pf_whole.specs.Faults.{AreWholeSame, FaultForWholeSame}
 use Rattle.fmtcanon_c.specs.Relations.{AcceptsRelated, AreRelated, Fit, FitFewer, Relates, is_nowhere}
 use Rattle.fmtcanon_c.specs.declared.relations.Relation.{Relation}
 use Rattle.fmtcanon_c.specs.declared.relations.Relation.TheVariants.{Fits, FitsFewer, Same, WholeSame}
+use Rattle.pf_posix.specs.declared.directive_spans.DirectiveSpan.{DirectiveSpan}
+use Rattle.pf_posix.specs.Directives.{HasDirectiveCount}
 
 module _ (model : Model) (f g : Text) where
   they_differ : (index : ℕ) → ComparesArgumentTypes model f g (Some index) → ¬ Fit model f g
@@ -80,7 +82,15 @@ taken_front [] (x ∷ more) few = absurd (omega (arith, few))
 taken_front (o ∷ old) [] few = refl
 taken_front (o ∷ old) (x ∷ more) few = ap (λ l. x ∷ l) (taken_front old more (omega (arith, few)))
 
--- the types that a call has put there
+-- the elements that a call has put there
+taken : {X : Type 0} (old new found : List X) (count : ℕ) → count ≡ length found → new ≡ filled old found → length found ≤ length old
+    → take count new ≡ found
+taken old new found count count_is front few = ap (λ n. take n new) count_is ∙ ap (take (length found)) front ∙ taken_front old found few
+
 pub taken_types : (model : Model) (t : Text) (old new : List ArgumentType) (count : ℕ) (h : HasCount model t old new count) → length h.types ≤ length old
     → take count new ≡ h.types
-taken_types model t old new count h few = ap (λ n. take n new) h.count_is ∙ ap (take (length h.types)) h.front ∙ taken_front old h.types few
+taken_types model t old new count h few = taken old new h.types count h.count_is h.front few
+
+pub taken_directives : (model : Model) (t : Text) (old new : List DirectiveSpan) (count : ℕ) (h : HasDirectiveCount model t old new count)
+    → length h.directives ≤ length old → take count new ≡ h.directives
+taken_directives model t old new count h few = taken old new h.directives count h.count_is h.front few

@@ -5,10 +5,13 @@ ghost use Rattle.fmtcanon_c.specs.Calls.{PutsDirectives};
 ghost use Rattle.fmtcanon_c.specs.Directives.{record_of};
 
 use crate::interface::{CError, Coded, NO_MEMORY, NO_MODEL, model_of, put_codes, put_refusal};
-use pf_posix::{DirectiveSpan, directives_vec};
+use pf_posix::{DirectiveSpan, directives, directives_vec};
 use pf_text::{Side, TextFault};
 use pf_values::Model;
 use std::alloc::Global;
+
+// How many records are made with no allocation.
+const ROOM: usize = 16;
 
 /// `FMTCANON_NO_ARGUMENT`
 pub(crate) const NO_ARGUMENT: u64 = u64::MAX;
@@ -48,6 +51,29 @@ pub extern "C" fn fmtcanon_directives(
     let Some(model) = model_of(model) else {
         return NO_MODEL;
     };
+    let mut listed = [DirectiveSpan::default(); ROOM];
+    match directives(model, text, &mut listed) {
+        Ok(count) => {
+            if count > ROOM as u64 {
+                return put_many_directives(alloc, model, text, out, error);
+            }
+            put_codes(out, &listed[..count as usize])
+        }
+        Err(refusal) => put_refusal(error, Side::First, refusal),
+    }
+}
+
+// Puts a record for each of any number of specifications.
+#[inline(never)]
+fn put_many_directives(
+    alloc: Global,
+    model: Model,
+    text: &[u8],
+    out: &mut [CDirective],
+    error: &mut CError,
+) -> i64
+    ensures { PutsDirectives model text.now out.old error.old result out.new error.new }
+{
     match directives_vec(alloc, model, text) {
         Ok(directives) => put_codes(out, directives.as_slice()),
         Err(TextFault::Refused(refusal)) => put_refusal(error, Side::First, refusal),
