@@ -13,7 +13,7 @@ use Rattle.pf_posix.specs.Items.{HasArguments}
 use Rattle.pf_posix.specs.Types.{int_type}
 use Rattle.pf_posix.specs.TypeNumbers.{number_of_type}
 use Rattle.pf_posix.specs.Laws.{ComparesArgumentTypes, HasCount, IsFirstDifference, filled}
-use Rattle.pf_posix.specs.Steps.{AreFew, IsListComparison}
+use Rattle.pf_posix.specs.ListComparisons.{AreCounted, AreFew, IsListComparison}
 use Rattle.pf_posix.proofs.Agreeing.{same_type}
 use Rattle.pf_posix.proofs.OrderLemmas.{length_filled}
 use Rattle.pf_posix.proofs.Unique.{one_list}
@@ -127,19 +127,39 @@ module _ (model : Model) (first second : Text) (old new old2 new2 : List Argumen
         | inr short ↦ inl short
       ]
 
--- the number of the second text's types is known
-pub counted : (model : Model) (first second : Text) (found : Comparison) → ComparesArgumentTypes model first second found.difference
-    → ((others : List ArgumentType) → HasArguments model second others → found.second_count ≡ length others) → IsListComparison model first second found
-counted model first second found h count =
+-- one of two numbers of types is small
+pub few_of_counts : (model : Model) (first second : Text) (count second_count : ℕ) → AreCounted model first second count second_count → min count second_count ≤ ROOM
+    → AreFew model first second
+few_of_counts model first second count second_count h few types others a b = elim (cases_lt ROOM (length types)) [
+  | inl long ↦
+      let one = h.count_is ∙ ap length (one_list model first h.types types h.first_accepted a) in
+      let other = h.second_count_is ∙ ap length (one_list model second h.others others h.second_accepted b) in
+      inr (omega (arith, long, one, other, few))
+  | inr short ↦ inl short
+]
+
+pub counted : (model : Model) (first second : Text) (found : Comparison) (count : ℕ) → AreCounted model first second count found.second_count
+    → ((types others : List ArgumentType) → HasArguments model first types → HasArguments model second others → IsFirstDifference types others found.difference)
+    → IsListComparison model first second found
+counted model first second found count h differ =
     record {
       types = h.types;
       others = h.others;
       first_accepted = h.first_accepted;
       second_accepted = h.second_accepted;
-      difference = h.difference;
-      count_is = count h.others h.second_accepted;
+      difference = differ h.types h.others h.first_accepted h.second_accepted;
+      count_is = h.second_count_is;
     }
 
-pub count_of_each : (model : Model) (t : Text) (old new : List ArgumentType) (count : ℕ) → HasCount model t old new count
-    → (others : List ArgumentType) → HasArguments model t others → count ≡ length others
-count_of_each model t old new count h others accepted = h.count_is ∙ ap length (one_list model t h.types others h.accepted accepted)
+-- or this is known already
+pub counted_too : (model : Model) (first second : Text) (found : Comparison) (count : ℕ) → AreCounted model first second count found.second_count
+    → ComparesArgumentTypes model first second found.difference → IsListComparison model first second found
+counted_too model first second found count h k =
+    record {
+      types = k.types;
+      others = k.others;
+      first_accepted = k.first_accepted;
+      second_accepted = k.second_accepted;
+      difference = k.difference;
+      count_is = h.second_count_is ∙ ap length (one_list model second h.others k.others h.second_accepted k.second_accepted);
+    }

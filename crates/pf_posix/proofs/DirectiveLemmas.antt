@@ -1,7 +1,7 @@
 -- The specifications of an accepted text, one item after another.
 use Rattle.std.proofs.Common.{◌≡◌, ◌≢◌, ℕ, ◌+◌, ◌*◌, ◌<◌, ◌≤◌, Bool, true, false, List, [], ◌∷◌, ◌++◌, length, length-append, get_or, drop, refl, sym, ap, ◌∙◌}
 use Rattle.std.proofs.Common.{arith, subst}
-use Rattle.std.specs.Prelude.{Some, ◌==◌, MatchBool}
+use Rattle.std.specs.Prelude.{Some, None, ◌==◌, MatchBool}
 use Rattle.std.specs.List.{AllByRecursion}
 use Rattle.std.proofs.lemmas.Bool.Decides.{nat_tests}
 use Rattle.std.proofs.lemmas.List.{append_assoc, append-nil, drop_all, length-drop, length_push}
@@ -14,7 +14,7 @@ use Rattle.pf_text.specs.Walks.{HasPassed, IsPercent, IsWalkOver}
 use Rattle.pf_text.specs.declared.walk.Walk.{Walk}
 use Rattle.pf_text.proofs.ReadingLemmas.{moved_over}
 use Rattle.pf_posix.specs.Directives.{HasDirectiveCount, TakesFrom, directive_between, directives_from}
-use Rattle.pf_posix.specs.DirectivesInText.{IsListedBehind, IsListedTo}
+use Rattle.pf_posix.specs.DirectivesInText.{IsBehindItem, IsListedBehind, IsListedTo}
 use Rattle.pf_posix.specs.Items.{Byte, HasArguments, PosixItem, ReadsPosix, Specification}
 use Rattle.pf_posix.specs.Laws.{filled}
 use Rattle.pf_posix.specs.PartsInText.{BeginsNoSpecification, IsSpecificationAt, specification_read}
@@ -81,6 +81,36 @@ module _ (t : Text) (at : ℕ) (less : at < length t) where
   some_specification [] reads percent other none = no_end reads
   some_specification (Byte x ∷ later) reads percent other none = no_byte x later reads percent other
   some_specification (Specification s ∷ later) reads percent other none = none reads.0 reads.1 s reads.2.0 reads.4
+
+-- so it is behind that item
+module _ (t : Text) (at : ℕ) (less : at < length t) where
+  pub item_byte : (get_or t at 0 == 37) ≡ false → (items : List PosixItem) → ReadsPosix (drop at t) items → IsBehindItem t items None (at + 1)
+  item_byte other [] reads = absurd (no_end t at less reads)
+  item_byte other (Byte x ∷ later) reads =
+      let end = ap (λ n. drop (at + n) t) (sym (one_byte t at less x later reads other)) ∙ behind t at reads.0 reads.1 reads.4 in
+      (x, later, refl, subst (λ u. ReadsPosix u later) (sym end) reads.3, omega (arith, less))
+  item_byte other (Specification s ∷ later) reads =
+      let first = (starts t at less reads.0 reads.1 s reads.2.0 reads.4).0 in
+      let no : true ≡ false = ap (λ b. b == 37) (sym first) ∙ other in cc
+
+  module _ (percent : get_or t at 0 ≡ 37) where
+    pub item_percent : (get_or t (at + 1) 0 == 37) ≡ true → at + 1 < length t → (items : List PosixItem) → ReadsPosix (drop at t) items
+        → IsBehindItem t items None (at + 2)
+    item_percent second more [] reads = absurd (no_end t at less reads)
+    item_percent second more (Byte x ∷ later) reads =
+        let end = ap (λ n. drop (at + n) t) (sym (two_bytes t at less x later reads percent).0) ∙ behind t at reads.0 reads.1 reads.4 in
+        (x, later, refl, subst (λ u. ReadsPosix u later) (sym end) reads.3, omega (arith, more))
+    item_percent second more (Specification s ∷ later) reads =
+        let other = (starts t at less reads.0 reads.1 s reads.2.0 reads.4).1 in
+        let no : true ≡ false = sym second ∙ other in cc
+
+    pub item_specification : (read : Read) (stop : ℕ) → (get_or t (at + 1) 0 == 37) ≡ false → IsSpecificationAt t at (read, stop) → (items : List PosixItem)
+        → ReadsPosix (drop at t) items → IsBehindItem t items (Some read) stop
+    item_specification read stop other found [] reads = absurd (no_end t at less reads)
+    item_specification read stop other found (Byte x ∷ later) reads = absurd (no_byte t at less x later reads percent other)
+    item_specification read stop other found (Specification s ∷ later) reads =
+        let there = same_there t at (read, stop) found reads.0 reads.1 s reads.2.0 reads.4 in
+        (later, ap (λ p. Specification p ∷ later) (sym there.0), subst (λ u. ReadsPosix u later) (sym there.1) reads.3, found.within)
 
 module _ (model : Model) (t : Text) (all done : List DirectiveSpan) (at next : ℕ) (h : IsListedTo model t all at next done) where
   -- after an item

@@ -28,7 +28,7 @@ posix_reads t (Before items s rest) h =
     rw (h.6, append_assoc h.0 h.1 h.2) (posix_append h.0 (h.1 ++ h.2) (map item_of items) (Specification s ∷ flat rest) (reads_here h.0 items h.3)
     (h.1, h.2, (h.4.spelled, h.4.defined), posix_reads h.2 rest h.5, refl))
 
-items_unnumbered : (items : List Item) → AllByRecursion IsUnnumbered (map item_of items)
+pub items_unnumbered : (items : List Item) → AllByRecursion IsUnnumbered (map item_of items)
 items_unnumbered [] = tt
 items_unnumbered (Byte byte ∷ items) = (tt, items_unnumbered items)
 items_unnumbered (Directive s ∷ items) = (refl, items_unnumbered items)

@@ -17,7 +17,7 @@ pub mod Reaching
 pub mod Following
 pub mod Unique
 mod ListLemmas
-pub mod StepLemmas
+pub mod OrderedTypes
 pub mod DifferenceLemmas
 pub mod BeginningLemmas
 pub mod Profile
@@ -32,6 +32,7 @@ pub mod UnnumberedLemmas
 pub mod UnnumberedEnds
 pub mod PartLemmas
 pub mod FoundLemmas
+pub mod PlainLemmas
 pub mod StretchLemmas
 mod KindLemmas
 mod Examples

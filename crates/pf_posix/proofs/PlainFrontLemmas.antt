@@ -1,5 +1,5 @@
 -- The front of a format in which no argument has a number.
-use Rattle.std.proofs.Common.{◌≡◌, ◌≢◌, ℕ, ◌+◌, ◌-◌, ◌≤◌, max, List, [], ◌∷◌, ◌++◌, length, length-append, drop, get_or, map, take, refl, sym, ap, ◌∙◌, arith, false, inl}
+use Rattle.std.proofs.Common.{◌≡◌, ◌≢◌, ℕ, ◌+◌, ◌-◌, ◌≤◌, max, List, [], ◌∷◌, ◌++◌, length, length-append, drop, get_or, map, take, refl, sym, ap, ◌∙◌, arith, false, inl, inr}
 use Rattle.std.proofs.Common.{subst, take-add}
 use Rattle.std.specs.Prelude.{Option, Some, None, is_some, option_map}
 use Rattle.std.specs.List.{AllByRecursion}
@@ -26,6 +26,7 @@ use Rattle.pf_posix.specs.declared.conversions.Floating.TheVariants as floats
 use Rattle.pf_posix.specs.declared.conversions.Modifier.TheVariants.{Integer}
 use Rattle.pf_posix.specs.declared.fetches.Fetch.{Fetch}
 use Rattle.pf_posix.specs.declared.partial_specification.Numbering.TheVariants.{Undecided, Unnumbered}
+use Rattle.pf_posix.specs.declared.plain_reader.PlainFront.{PlainFront}
 use Rattle.pf_posix.specs.declared.specifications.Specification.{Specification as Read}
 use Rattle.pf_posix.specs.declared.types.ArgumentType.{ArgumentType}
 use Rattle.pf_posix.specs.declared.types.ArgumentType.TheVariants.{Profile}
@@ -35,7 +36,7 @@ use Rattle.pf_posix.specs.Laws.{HasCount, filled}
 use Rattle.pf_posix.specs.Letters.{conversion_of}
 use Rattle.pf_posix.specs.OpaqueParts.{parts_of_opaque}
 use Rattle.pf_posix.specs.PartsInText.{IsSpecificationAt}
-use Rattle.pf_posix.specs.Plain.{HasTypeAt, IsOrderedFront, IsPlain, IsPlainFront, IsPutAt}
+use Rattle.pf_posix.specs.Plain.{HasTypeAt, IsOrderedFront, IsPlain, IsPlainFront, IsPut, IsPutAt}
 use Rattle.pf_posix.specs.Readings.{Fetches, FetchTrace, Whole, fetch_trace, trace_from, verdict_after, wanted_types}
 use Rattle.pf_posix.specs.Refusals.{numbering_of}
 use Rattle.pf_posix.specs.Specifications.{Amount, Given, Fetched, PosixSpecification, conversion_letter, modifier_letters}
@@ -120,7 +121,7 @@ typed_bare model t at wanted h e = go (conversion_of (get_or t (at + 1) 0)) refl
 -- its type is put
 pub typed_put : (model : Model) (t : Text) (at : ℕ) (wanted : ArgumentType) (stop : ℕ) (old new : List ArgumentType) (count : ℕ) → HasTypeAt model t at (wanted, stop)
     → ((first before : List ArgumentType) → old ≡ filled first before → count ≡ length before → new ≡ filled first (before ++ wanted ∷ []))
-    → length new ≡ length old → IsPutAt model t at old new count (stop, count + 1)
+    → length new ≡ length old → IsPutAt model t at old new count (record { at = stop; count = count + 1 })
 typed_put model t at wanted stop old new count h puts long =
     record {
       s = h.s;
@@ -169,7 +170,17 @@ fetches_few model t s h =
       length-append (star_fetches s.width) (star_fetches s.precision),
     )
 
-pub put_few : (model : Model) (t : Text) (at : ℕ) (old new : List ArgumentType) (count stop after : ℕ) → IsPutAt model t at old new count (stop, after)
+-- types were put exactly if a specification was read
+module _ (model : Model) (t : Text) (at : ℕ) (old new : List ArgumentType) (count : ℕ) (read : PlainFront) where
+  pub was_put : IsPut model t at old new count read → read.at ≢ at → IsPutAt model t at old new count read
+  was_put (inl h) other = absurd (other h.0)
+  was_put (inr h) other = h
+
+  pub none_put : IsPut model t at old new count read → read.at ≡ at → (read.count ≡ count) × (new ≡ old)
+  none_put (inl h) same = (h.1, h.2)
+  none_put (inr h) same = absurd (omega (arith, h.plain.some, same))
+
+pub put_few : (model : Model) (t : Text) (at : ℕ) (old new : List ArgumentType) (count stop after : ℕ) → IsPutAt model t at old new count (record { at = stop; count = after })
     → count ≤ at → after ≤ stop
 put_few model t at old new count stop after h few =
     let text = take (stop - at) (drop at t) in
@@ -191,7 +202,7 @@ module _ (model : Model) (t : Text) (at : ℕ) (old new : List ArgumentType) (co
   joined n items reads = subst (λ u. ReadsPosix u (h.items ++ items)) (sym (take-add at n t)) (posix_append (take at t) (take n (drop at t)) h.items items h.reads reads)
 
   -- a specification
-  pub front_put : (more : List ArgumentType) (stop after : ℕ) → IsPutAt model t at new more count (stop, after) → IsPlainFront model t stop old more after
+  pub front_put : (more : List ArgumentType) (stop after : ℕ) → IsPutAt model t at new more count (record { at = stop; count = after }) → IsPlainFront model t stop old more after
   front_put more stop after p =
       let s = p.s in
       let own = fetches model s in

@@ -1,11 +1,11 @@
 -- Where such a reading ends: at the `$` that numbers an argument, or at the end of a text without one.
 -- So a text is accepted or refused in one way.
 use Rattle.std.proofs.Common.{◌≡◌, ◌≢◌, ℕ, suc, ◌+◌, ◌<◌, ◌≤◌, Bool, true, false, List, [], ◌∷◌, ◌++◌, length, length-append, get_or, refl, sym, ap, ◌∙◌, arith}
-use Rattle.std.proofs.Common.{drop, subst, take, inl, inr, Ok, Err}
+use Rattle.std.proofs.Common.{subst, inl, inr, Ok, Err}
 use Rattle.std.specs.Prelude.{Some, None, ◌==◌, ◌⊎◌, MatchBool}
 use Rattle.std.specs.List.{AllByRecursion}
 use Rattle.std.proofs.lemmas.Bool.Decides.{nat_tests}
-use Rattle.std.proofs.lemmas.List.{append_assoc, append-nil, length-take-le, length_push, take-append-drop}
+use Rattle.std.proofs.lemmas.List.{append_assoc, append-nil, length_push}
 use Rattle.std.proofs.Math.Seq.{get_or-append_seam}
 use Rattle.pf_values.specs.declared.conversions.Conv.TheVariants.{D}
 use Rattle.pf_values.specs.declared.lengths.Length.TheVariants as lengths
@@ -20,10 +20,8 @@ use Rattle.pf_posix.specs.declared.partial_specification.WidthOrPrecision.{Width
 use Rattle.pf_posix.specs.declared.partial_specification.WidthOrPrecision.TheVariants.{Width, Precision}
 use Rattle.pf_values.specs.declared.refusals.RefusalKind.{RefusalKind}
 use Rattle.pf_values.specs.declared.refusals.RefusalKind.TheVariants.{BadPercent, Mixed, NulByte, Numbered, TooLong}
-use Rattle.pf_posix.specs.declared.types.ArgumentType.{ArgumentType}
 use Rattle.pf_posix.specs.Endings.{ending, numbered_instead, unnumbered_trace}
 use Rattle.pf_posix.specs.Items.{Byte, HasArguments, PosixItem, ReadsPosix, Specification}
-use Rattle.pf_posix.specs.Plain.{IsPlainFront}
 use Rattle.pf_posix.specs.Readings.{Fault, Fetches, FetchTrace, Whole, moved, trace_from}
 use Rattle.pf_posix.specs.Refusals.{IsNumberTooLarge, IsPosixRefusalCause, IsPastPercent, IsPosixRefusedAt, IsPosixRefusedByte, IsWrong, numbering_by}
 use Rattle.pf_posix.specs.Refusals.{too_large}
@@ -43,7 +41,7 @@ use Rattle.pf_posix.proofs.Reasons.{undefined_kind}
 use Rattle.pf_posix.proofs.Running.{Stand, first_run, run, stand, went}
 use Rattle.pf_posix.proofs.Soundness.{reads_push}
 use Rattle.pf_posix.proofs.Unique.{never_both, one_refusal}
-use Rattle.pf_posix.proofs.UnnumberedLemmas.{Concludes, concludes, concludes_end, free_items}
+use Rattle.pf_posix.proofs.UnnumberedLemmas.{Concludes, concludes, concludes_end}
 use Rattle.pf_posix.proofs.WalkLemmas.{within_limit}
 
 module _ (model : Model) (rest : Text) where
@@ -76,7 +74,7 @@ module _ (model : Model) (rest : Text) where
 
 module _ (model : Model) where
   -- items without numbers are passed over
-  end_after_items : (items : List PosixItem) (t rest : Text) (at : ℕ) → ReadsPosix t items → AllByRecursion IsUnnumbered items → at + length t ≤ MAX_TEXT_LEN
+  pub end_after_items : (items : List PosixItem) (t rest : Text) (at : ℕ) → ReadsPosix t items → AllByRecursion IsUnnumbered items → at + length t ≤ MAX_TEXT_LEN
       → ending (trace_from model Unnumbered Between at (t ++ rest)) ≡ ending (trace_from model Unnumbered Between (at + length t) rest)
   end_after_items [] t rest at h u few =
       let here : at ≡ at + length t = omega (arith, ap length h) in
@@ -98,16 +96,6 @@ module _ (model : Model) where
       ∙ end_after model (h.1 ++ rest) h.0 at (stand Unnumbered Between []) (stand Unnumbered Between (fetches model s)) run_is (omega (arith, few, long))
       ∙ end_after_items items h.1 rest (at + length h.0) h.3 u.1 (omega (arith, few, long))
       ∙ ap (λ n. ending (trace_from model Unnumbered Between n rest)) there
-
-  -- and so is a front without numbers
-  pub front_passed : (t : Text) (at : ℕ) (old new : List ArgumentType) (count : ℕ) → IsPlainFront model t at old new count → at ≤ length t → at ≤ MAX_TEXT_LEN
-      → ending (unnumbered_trace model t) ≡ ending (trace_from model Unnumbered Between at (drop at t))
-  front_passed t at old new count h within few =
-      let long = length-take-le at t within in
-      let place : 0 + length (take at t) ≡ at = omega (arith, long) in
-      ap (λ s. ending (unnumbered_trace model s)) (sym (take-append-drop at t))
-      ∙ end_after_items h.items (take at t) (drop at t) 0 h.reads (free_items model h.items h.unnumbered) (omega (arith, long, few))
-      ∙ ap (λ k. ending (trace_from model Unnumbered Between k (drop at t))) place
 
   -- an accepted text ends whole
   accepted_ends : (t : Text) → IsAcceptedUnnumbered t → ending (unnumbered_trace model t) ≡ Whole

@@ -5,9 +5,16 @@ use Rattle.pf_values.specs.meaning.Text.{Text}
 use Rattle.pf_posix.specs.declared.directive_spans.DirectiveSpan.{DirectiveSpan}
 use Rattle.pf_posix.specs.declared.specifications.Specification.{Specification}
 use Rattle.pf_posix.specs.Directives.{directive_between, directives_from}
-use Rattle.pf_posix.specs.Items.{PosixItem, ReadsPosix}
+use Rattle.pf_posix.specs.Items.{Byte, PosixItem, ReadsPosix, Specification as PosixDirective}
 use Rattle.pf_posix.specs.PartsInText.{specification_read}
 use Rattle.pf_posix.specs.Types.{fetches}
+
+-- an item, which may be a specification, ends at an offset, and these items begin with it
+abbrev pub IsBehindItem : Text → List PosixItem → Option Specification → ℕ → Type 0
+IsBehindItem t items None stop = (byte : ℕ) × (later : List PosixItem) × (items ≡ Byte byte ∷ later)
+    × ReadsPosix (drop stop t) later × (stop ≤ length t)
+IsBehindItem t items (Some read) stop = (later : List PosixItem)
+    × (items ≡ PosixDirective (specification_read read) ∷ later) × ReadsPosix (drop stop t) later × (stop ≤ length t)
 
 -- the text from an offset on is read as items, and all specifications are these and theirs; `next`
 -- arguments were fetched by then

@@ -1,7 +1,9 @@
 -- The first stretch of a text from an offset on, and the opaque directive after it.
 use Rattle.std.specs.Prelude.{◌≡◌, ℕ, ◌-◌, ◌<◌, ◌≤◌, drop, take, length, None, IsSome, IsSomeAnd}
+use Rattle.pf_values.specs.declared.limits.TheConstants.{MAX_TEXT_LEN}
 use Rattle.pf_values.specs.meaning.Items.{Reads}
 use Rattle.pf_values.specs.meaning.Text.{Text}
+use Rattle.pf_posix.specs.declared.opaque_directives.OpaqueDirective.{OpaqueDirective}
 use Rattle.pf_posix.specs.declared.stretches.Stretch.{Stretch}
 use Rattle.pf_posix.specs.Opaque.{SpellsOpaque}
 use Rattle.pf_posix.specs.OpaqueParts.{parts_of_opaque}
@@ -17,6 +19,13 @@ IsHead t from (Before items s rest) stretch =
     × Reads (take (stretch.end - from) (drop from t)) items
     × SpellsOpaque (take (stretch.after - stretch.end) (drop stretch.end t)) s
     × ReadsWhole (drop stretch.after t) rest
+
+-- an opaque directive is the bytes from an offset up to where it ends, within the limit
+pub record IsOpaqueAt (t : Text) (at : ℕ) (found : OpaqueDirective × ℕ) : Type 0 where
+  pub some : at < found.1
+  pub within : found.1 ≤ length t
+  pub limit : found.1 ≤ MAX_TEXT_LEN
+  pub spelled : SpellsOpaque (take (found.1 - at) (drop at t)) (parts_of_opaque found.0)
 
 -- the offsets of a stretch are in the text, and a directive has some bytes
 pub record IsPlaced (t : Text) (from : ℕ) (stretch : Stretch) : Type 0 where

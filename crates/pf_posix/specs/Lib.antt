@@ -22,7 +22,7 @@ pub mod Endings
 pub mod Heads
 pub mod PartsInText
 pub mod StretchesInText
-pub mod Steps
+pub mod ListComparisons
 pub mod Directives
 pub mod DirectivesInText
 pub mod Within

@@ -1,16 +1,18 @@
 -- A format's front in which no argument has a number, as the code reads it at offsets of the text. No
 -- public contract names these.
-use Rattle.std.specs.Prelude.{◌≡◌, ℕ, ◌+◌, ◌-◌, ◌<◌, ◌≤◌, List, [], ◌∷◌, ◌++◌, Option, drop, length, take, Some, None}
+use Rattle.std.specs.Prelude.{◌≡◌, ℕ, ◌+◌, ◌-◌, ◌<◌, ◌≤◌, List, [], ◌∷◌, ◌++◌, ◌⊎◌, drop, length, take, None}
 use Rattle.std.specs.List.{AllByRecursion}
 use Rattle.pf_values.specs.declared.limits.TheConstants.{MAX_TEXT_LEN}
 use Rattle.pf_values.specs.declared.models.Model.{Model}
 use Rattle.pf_values.specs.meaning.Text.{Text}
 use Rattle.pf_posix.specs.declared.fetches.Fetch.{Fetch}
 use Rattle.pf_posix.specs.declared.partial_specification.Numbering.TheVariants.{Unnumbered}
+use Rattle.pf_posix.specs.declared.opaque_directives.OpaqueDirective.{OpaqueDirective}
 use Rattle.pf_posix.specs.declared.plain_reader.PlainFront.{PlainFront}
 use Rattle.pf_posix.specs.declared.types.ArgumentType.{ArgumentType}
 use Rattle.pf_posix.specs.Items.{PosixItem, ReadsPosix, Specification, SpellsPosixItem, fetched}
 use Rattle.pf_posix.specs.Laws.{filled}
+use Rattle.pf_posix.specs.OpaqueParts.{parts_of_opaque}
 use Rattle.pf_posix.specs.Readings.{FetchTrace, verdict, verdict_after, wanted_types}
 use Rattle.pf_posix.specs.Specifications.{PosixSpecification}
 use Rattle.pf_posix.specs.Types.{fetch, fetches}
@@ -23,6 +25,15 @@ pub record IsPlain (t : Text) (start stop : ℕ) (s : PosixSpecification) : Type
   pub item : SpellsPosixItem (take (stop - start) (drop start t)) (Specification s)
   pub unnumbered : s.position ≡ None
 
+-- these parts are such a specification, which ends within the limit
+pub record IsPlainAt (t : Text) (start : ℕ) (found : OpaqueDirective × ℕ) : Type 0 where
+  pub limit : found.1 ≤ MAX_TEXT_LEN
+  pub plain : IsPlain t start found.1 (parts_of_opaque found.0)
+
+-- none begins at an offset that ends within the limit
+abbrev pub BeginsNoPlain : Text → ℕ → Type 0
+BeginsNoPlain t start = (stop : ℕ) (s : PosixSpecification) → stop ≤ MAX_TEXT_LEN → IsPlain t start stop s → ⊥
+
 -- it fetches one argument, of this type
 pub record HasTypeAt (model : Model) (t : Text) (start : ℕ) (found : ArgumentType × ℕ) : Type 0 where
   pub s : PosixSpecification
@@ -31,18 +42,18 @@ pub record HasTypeAt (model : Model) (t : Text) (start : ℕ) (found : ArgumentT
 
 -- the types of the arguments of a specification are put after others
 pub record IsPutAt (model : Model) (t : Text) (start : ℕ) (old new : List ArgumentType) (count : ℕ)
-    (found : ℕ × ℕ) : Type 0 where
+    (read : PlainFront) : Type 0 where
   pub s : PosixSpecification
-  pub plain : IsPlain t start found.0 s
-  pub more : found.1 ≡ count + length (fetches model s)
+  pub plain : IsPlain t start read.at s
+  pub more : read.count ≡ count + length (fetches model s)
   pub put : (first before : List ArgumentType) → old ≡ filled first before → count ≡ length before
       → new ≡ filled first (before ++ wanted_types (fetches model s))
   pub same_length : length new ≡ length old
 
 -- so they are, or nothing is put
-abbrev pub IsPut : Model → Text → ℕ → List ArgumentType → List ArgumentType → ℕ → Option (ℕ × ℕ) → Type 0
-IsPut model t start old new count None = new ≡ old
-IsPut model t start old new count (Some found) = IsPutAt model t start old new count found
+abbrev pub IsPut : Model → Text → ℕ → List ArgumentType → List ArgumentType → ℕ → PlainFront → Type 0
+IsPut model t start old new count read =
+    ((read.at ≡ start) × (read.count ≡ count) × (new ≡ old)) ⊎ IsPutAt model t start old new count read
 
 -- what was fetched has no numbers, and what is left is read so
 pub record IsInOrder (model : Model) (t : Text) (seen : List Fetch) (left : FetchTrace) : Type 0 where

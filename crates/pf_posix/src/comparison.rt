@@ -1,14 +1,15 @@
 //! Whether two formats take the same arguments.
-ghost use Rattle.std.specs.Prelude.{◌≡◌, ◌≤◌, List, length, ◌⊎◌, MatchResult};
+ghost use Rattle.std.specs.Prelude.{◌≡◌, ◌<◌, ◌≤◌, List, length, ◌⊎◌, MatchResult};
+ghost use Rattle.pf_posix.specs.declared.tables.TheConstants.{ROOM as MOST};
 ghost use Rattle.pf_posix.specs.declared.types.ArgumentType.{ArgumentType as ArgumentTypeOf};
 ghost use Rattle.pf_posix.specs.Laws.{ComparesArgumentTypes, ComparesBeginning, FaultForFits, IsFirstDifference, IsFirstExcess, filled};
 ghost use Rattle.pf_posix.specs.Items.{HasArguments};
-ghost use Rattle.pf_posix.specs.Steps.{AreFew, DifferAt, IsListComparison};
+ghost use Rattle.pf_posix.specs.ListComparisons.{AreCounted, AreFew, IsListComparison};
 
 use crate::argument_types::arguments;
-use crate::pairs::{InStepResult, compare_in_step};
 use crate::tables::ROOM;
 use crate::types::ArgumentType;
+use crate::types_in_order::TypesInOrder;
 use pf_text::{Refusal, Side};
 use pf_values::{ArgType, Model};
 
@@ -91,7 +92,7 @@ fn compared(model: Model, first: &[u8], second: &[u8]) -> Result<Comparison, (Si
             Err(refusal) => Err((Side::Second, refusal)),
             Ok(second_count) => {
                 if count.min(second_count) > FEW as u64 {
-                    return of_many(model, first, second, second_count);
+                    return of_many(model, first, second, count, second_count);
                 }
                 Ok(Comparison {
                     difference: difference(&types, count, &others, second_count),
@@ -116,20 +117,26 @@ fn with_itself(model: Model, text: &[u8]) -> Result<Option<u64>, (Side, Refusal)
     }
 }
 
-// Compares two formats if the second has this number of types. Never inlined, since it is rare.
+// Compares two formats that have these numbers of types. Never inlined, since it is rare.
 #[inline(never)]
 fn of_many(
     model: Model,
     first: &[u8],
     second: &[u8],
+    count: u64,
     second_count: u64,
 ) -> Result<Comparison, (Side, Refusal)>
-    requires { (others : List ArgumentTypeOf) → HasArguments model second.now others
-        → second_count ≡ length others }
+    requires { AreCounted model first.now second.now count second_count }
     ensures { MatchResult result (IsListComparison model first.now second.now)
         (FaultForFits model first.now second.now) }
 {
-    match difference_of_many(model, first, second) {
+    if count.min(second_count) > ROOM as u64 {
+        return Ok(Comparison {
+            difference: difference_in_order(model, first, second, count, second_count),
+            second_count,
+        });
+    }
+    match by_tables(model, first, second) {
         Ok(difference) => Ok(Comparison {
             difference,
             second_count,
@@ -138,45 +145,36 @@ fn of_many(
     }
 }
 
-// Where two formats differ, which are read side by side.
-fn difference_of_many(
+// Where two formats differ that have more types than a numbered one can have.
+fn difference_in_order(
     model: Model,
     first: &[u8],
     second: &[u8],
-) -> Result<Option<u64>, (Side, Refusal)>
-    ensures { MatchResult result (ComparesArgumentTypes model first.now second.now)
-        (FaultForFits model first.now second.now) }
+    count: u64,
+    second_count: u64,
+) -> Option<u64>
+    requires counted { AreCounted model first.now second.now count second_count }
+    requires many { (MOST < count) × (MOST < second_count) }
+    ensures { (types others : List ArgumentTypeOf) → HasArguments model first.now types
+        → HasArguments model second.now others → IsFirstDifference types others result }
 {
-    match compare_in_step(model, first, second) {
-        InStepResult::Equal => Ok(None),
-        InStepResult::Differ(index) => by_step(model, first, second, index),
-        InStepResult::Other => by_tables(model, first, second),
+    let mut one = TypesInOrder::new(first);
+    let mut other = TypesInOrder::new(second);
+    let least = count.min(second_count);
+    let mut index = 0;
+    while index < least {
+        if one.next(model).number() != other.next(model).number() {
+            return Some(index);
+        }
+        index += 1;
     }
+    if count == second_count {
+        return None;
+    }
+    Some(index)
 }
 
-// The index at which two formats differ, unless one is refused.
-fn by_step(
-    model: Model,
-    first: &[u8],
-    second: &[u8],
-    index: u64,
-) -> Result<Option<u64>, (Side, Refusal)>
-    requires { DifferAt model first.now second.now index }
-    ensures { MatchResult result (ComparesArgumentTypes model first.now second.now)
-        (FaultForFits model first.now second.now) }
-{
-    match arguments(model, first, &mut []) {
-        Err(refusal) => Err((Side::First, refusal)),
-        Ok(_) => match arguments(model, second, &mut []) {
-            Err(refusal) => Err((Side::Second, refusal)),
-            Ok(_) => Ok(Some(index)),
-        },
-    }
-}
-
-// Whether two formats take the same arguments, by the lists of their types: for where one of the formats
-// is refused or numbered.
-#[inline(never)]
+// Where two formats differ of which one has no more types than a numbered one can have.
 fn by_tables(model: Model, first: &[u8], second: &[u8]) -> Result<Option<u64>, (Side, Refusal)>
     requires { AreFew model first.now second.now }
     ensures { MatchResult result (ComparesArgumentTypes model first.now second.now)

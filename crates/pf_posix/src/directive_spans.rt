@@ -4,7 +4,7 @@ ghost use Rattle.pf_values.specs.declared.limits.TheConstants.{MAX_TEXT_LEN as L
 ghost use Rattle.pf_values.specs.declared.models.Model.{Model as ModelOf};
 ghost use Rattle.pf_posix.specs.declared.directive_spans.DirectiveSpan.{DirectiveSpan as DirectiveSpanOf};
 ghost use Rattle.pf_posix.specs.Directives.{FaultForDirectives, HasDirectiveCount, HasDirectives, argument_index, directive_between, star_index};
-ghost use Rattle.pf_posix.specs.DirectivesInText.{IsListedBehind, IsListedTo};
+ghost use Rattle.pf_posix.specs.DirectivesInText.{IsBehindItem, IsListedBehind, IsListedTo};
 ghost use Rattle.pf_posix.specs.Items.{IsPosixAccepted, PosixItem, ReadsPosix};
 ghost use Rattle.pf_posix.specs.OpaqueParts.{amount_at};
 ghost use Rattle.pf_posix.specs.PartsInText.{specification_read};
@@ -57,7 +57,7 @@ pub fn directives(model: Model, text: &[u8], out: &mut [DirectiveSpan]) -> Resul
 }
 
 /// Lists the conversion specifications of a format of the whole language in a data model, as
-/// `directives` does. It reads the format twice, and allocates once, for exactly their number. If there
+/// `directives` does. It checks the format once, and allocates once, for exactly their number. If there
 /// are no specifications, it allocates nothing. `Err` if the format or memory is refused.
 pub fn directives_vec(
     alloc: Global,
@@ -75,10 +75,8 @@ pub fn directives_vec(
         Ok(listed) => listed,
         Err(AllocError) => return Err(TextFault::Memory),
     };
-    match directives(model, text, &mut listed) {
-        Ok(_) => Ok(listed),
-        Err(refusal) => Err(TextFault::Refused(refusal)),
-    }
+    put_directives(model, text, &mut listed);
+    Ok(listed)
 }
 
 // Puts the specifications of an accepted format at the front of a slice.
@@ -111,11 +109,13 @@ fn put_directives(model: Model, text: &[u8], out: &mut [DirectiveSpan]) -> u64
     count as u64
 }
 
-// The item at an offset of an accepted format, if it is a specification and no byte; and where it ends.
-fn item_at(text: &[u8], at: usize) -> (Option<Specification>, usize)
+/// The item at an offset of an accepted format, if it is a specification and no byte; and where it ends.
+pub(crate) fn item_at(text: &[u8], at: usize) -> (Option<Specification>, usize)
     requires within { at < length text.now }
     requires reads { (items : List PosixItem) × ReadsPosix (drop at text.now) items }
     ensures further { at < result.1 }
+    ensures item { (items : List PosixItem) → ReadsPosix (drop at text.now) items
+        → IsBehindItem text.now items result.0 result.1 }
     ensures listed { (model : ModelOf) (all done : List DirectiveSpanOf) (next : ℕ) → IsListedTo model text.now all at next done
         → IsListedBehind model text.now all at next done result.0 result.1 }
 {
@@ -154,8 +154,8 @@ fn span_between(
     }
 }
 
-// How many arguments a specification fetches.
-fn fetch_count(read: &Specification) -> u64
+/// How many arguments a specification fetches.
+pub(crate) fn fetch_count(read: &Specification) -> u64
     ensures count { (model : ModelOf) → result ≡ length (fetches model (specification_read read.now)) }
     ensures few { result ≤ 3 }
 {

@@ -7,20 +7,17 @@ ghost use Rattle.pf_posix.specs.declared.types.ArgumentType.{ArgumentType as Arg
 ghost use Rattle.pf_posix.specs.Laws.{filled};
 ghost use Rattle.pf_posix.specs.OpaqueParts.{amount_of, parts_of_opaque};
 ghost use Rattle.pf_posix.specs.Plain.{HasTypeAt, IsFrontRead, IsPut};
-ghost use Rattle.pf_posix.specs.Defined.{undefined_of};
 ghost use Rattle.pf_posix.specs.Readings.{wanted_types};
 ghost use Rattle.pf_posix.specs.Types.{fetches, star_fetches};
 
 use crate::fetches::{bare_type, conversion_type};
 use crate::opaque_directives::{OpaqueAmount, OpaqueDirective, is_star};
-use crate::partial_specification::PartialSpecification;
-use crate::specifications::specification_at;
+use crate::plain_specifications::plain_at;
 use crate::tables::put;
 use crate::types::ArgumentType;
-use crate::undefined_combinations::undefined_as;
 use pf_text::{Percents, Walk, directive_at};
 use pf_values::limits::MAX_TEXT_LEN;
-use pf_values::{ArgType, Model, RefusalKind};
+use pf_values::{ArgType, Model};
 
 /// The front of a format, up to an offset between two items.
 #[derive(Clone, Copy, Debug)]
@@ -43,19 +40,18 @@ pub(crate) fn plain_front(model: Model, text: &[u8], out: &mut [ArgumentType]) -
     }
     let mut walk = Walk::new(text);
     while walk.find::<Percents>() {
-        match put_specification(model, text, walk.at, out, count) {
-            Some((stop, more)) => {
-                walk.at = stop;
-                count = more;
-            }
-            None => return PlainFront { at: walk.at, count },
+        let read = put_specification(model, text, walk.at, out, count);
+        if read.at == walk.at {
+            return read;
         }
+        walk.at = read.at;
+        count = read.count;
     }
     PlainFront { at: walk.at, count }
 }
 
-// Puts the types of the arguments of the specification at an offset after `count` others, and returns where
-// it ends, and how many types there are now. None if its arguments have numbers, or if it isn't accepted.
+// Puts the types of the arguments of the specification at an offset after `count` others, and returns the front up
+// to its end; or up to the offset if its arguments have numbers, or if it isn't accepted.
 #[inline(always)]
 fn put_specification(
     model: Model,
@@ -63,7 +59,7 @@ fn put_specification(
     at: usize,
     out: &mut [ArgumentType],
     count: usize,
-) -> Option<(usize, usize)>
+) -> PlainFront
     requires percent { HasPercent text.now at }
     requires short { length text.now ≤ LIMIT }
     requires few { count ≤ at }
@@ -72,7 +68,10 @@ fn put_specification(
     match type_at(model, text, at) {
         Some((wanted, stop)) => {
             put(out, count, wanted);
-            Some((stop, count + 1))
+            PlainFront {
+                at: stop,
+                count: count + 1,
+            }
         }
         None => put_any(model, text, at, out, count),
     }
@@ -109,34 +108,19 @@ fn put_any(
     at: usize,
     out: &mut [ArgumentType],
     count: usize,
-) -> Option<(usize, usize)>
+) -> PlainFront
     requires percent { HasPercent text.now at }
     requires short { length text.now ≤ LIMIT }
     requires few { count ≤ at }
     ensures { IsPut model text.now at out.old out.new count result }
 {
-    let (read, stop) = specification_at(text, at)?;
-    if read.position.is_some() {
-        return None;
+    match plain_at(text, at) {
+        Some((parts, stop)) => PlainFront {
+            at: stop,
+            count: put_types(model, &parts, out, count),
+        },
+        None => PlainFront { at, count },
     }
-    match undefined_parts(&read.parts) {
-        Some(_) => None,
-        None => Some((stop, put_types(model, &read.parts, out, count))),
-    }
-}
-
-// Why a specification of these parts is undefined, if it is.
-#[inline(always)]
-fn undefined_parts(parts: &OpaqueDirective) -> Option<RefusalKind>
-    ensures { result ≡ undefined_of (parts_of_opaque parts.now) }
-{
-    let front = PartialSpecification {
-        position: None,
-        flags: parts.flags,
-        width: parts.width.is_some(),
-        precision: parts.precision.is_some(),
-    };
-    undefined_as(front, parts.modifier, parts.conversion)
 }
 
 // Puts the types of the arguments of a specification of these parts after `count` others, and returns how many

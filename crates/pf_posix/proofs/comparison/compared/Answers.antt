@@ -1,9 +1,19 @@
 use Rattle.std.proofs.Common.{◌≡◌, arith, length, refl}
-use Rattle.pf_posix.proofs.DifferenceLemmas.{compared_few, count_of_each}
+use Rattle.pf_posix.proofs.DifferenceLemmas.{compared_few}
 use Rattle.pf_posix.proofs.comparison.compared.Goals as goal
 
 pub of_many-requires : goal.of_many-requires
-of_many-requires c = count_of_each c.args.model c.args.second.now _ _ _ c.in-Ok-arguments.ensures.types
+of_many-requires c =
+    let h = c.in-Ok.ensures.types in
+    let k = c.in-Ok-arguments.ensures.types in
+    record {
+      types = h.types;
+      others = k.types;
+      first_accepted = h.accepted;
+      second_accepted = k.accepted;
+      count_is = h.count_is;
+      second_count_is = k.count_is;
+    }
 
 pub returns-else-min : goal.returns-else-min
 returns-else-min c =

@@ -1,5 +1,5 @@
-use Rattle.std.proofs.Common.{sym}
-use Rattle.pf_posix.proofs.DirectiveLemmas.{listed_byte, listed_percent, listed_specification, other_byte, some_specification}
+use Rattle.std.proofs.Common.{refl, sym}
+use Rattle.pf_posix.proofs.DirectiveLemmas.{item_byte, item_percent, item_specification, listed_byte, listed_percent, listed_specification, other_byte, some_specification}
 use Rattle.pf_posix.proofs.directive_spans.item_at.Goals as goal
 
 pub returns-then-text-at-ne37-clause-listed : goal.returns-then-text-at-ne37-clause-listed
@@ -20,3 +20,16 @@ returns-clause-listed c model all done next h =
     let read = c.in-Some in
     listed_specification model c.args.text.now all done c.args.at next h c.requires.within c.if-text-at-ne37.false read.read read.end
     (sym c.if-has_byte.ensures.same) read.ensures
+
+pub returns-then-text-at-ne37-clause-item : goal.returns-then-text-at-ne37-clause-item
+returns-then-text-at-ne37-clause-item c = item_byte c.args.text.now c.args.at c.requires.within (other_byte _ c.if-text-at-ne37.true)
+
+pub returns-then-has_byte-clause-item : goal.returns-then-has_byte-clause-item
+returns-then-has_byte-clause-item c =
+    let second = c.if-has_byte.ensures in
+    item_percent c.args.text.now c.args.at c.requires.within c.if-text-at-ne37.false (sym second.same) (second.within refl)
+
+pub returns-clause-item : goal.returns-clause-item
+returns-clause-item c =
+    let read = c.in-Some in
+    item_specification c.args.text.now c.args.at c.requires.within c.if-text-at-ne37.false read.read read.end (sym c.if-has_byte.ensures.same) read.ensures

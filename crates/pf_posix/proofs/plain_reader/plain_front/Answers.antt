@@ -3,7 +3,7 @@ use Rattle.pf_values.specs.declared.limits.TheConstants.{MAX_TEXT_LEN}
 use Rattle.pf_posix.specs.Plain.{IsPlainFront}
 use Rattle.pf_text.specs.Walks.{HasPercent}
 use Rattle.pf_text.proofs.ReadingLemmas.{moved_over}
-use Rattle.pf_posix.proofs.PlainFrontLemmas.{front_put, front_walked, no_front, put_few}
+use Rattle.pf_posix.proofs.PlainFrontLemmas.{front_put, front_walked, no_front, none_put, put_few, was_put}
 use Rattle.pf_posix.proofs.plain_reader.plain_front.Goals as goal
 
 pub returns-then-text-gt-MAX_TEXT_LEN : goal.returns-then-text-gt-MAX_TEXT_LEN
@@ -26,8 +26,8 @@ loop-model-init c = record {
       (no_front c.args.model c.args.text.now c.args.out.now);
 }
 
-pub put_specification-requires-clause-percent : goal.put_specification-requires-clause-percent
-put_specification-requires-clause-percent c =
+pub put_specification-read-requires-clause-percent : goal.put_specification-read-requires-clause-percent
+put_specification-read-requires-clause-percent c =
     let t = c.args.text.now in
     let i = c.loop-model.invariant in
     let now = front_walked c.args.model t _ _ _ (omega (arith, c.if-text-gt-MAX_TEXT_LEN.false)) c.loop-model.walk c.find.new.self i.over i.within
@@ -41,24 +41,27 @@ loop-model-preserved c =
     let here = c.find.new.self in
     let short : length t ≤ MAX_TEXT_LEN = omega (arith, c.if-text-gt-MAX_TEXT_LEN.false) in
     let now = front_walked c.args.model t _ _ _ short c.loop-model.walk here i.over i.within c.find.ensures.passed i.front in
-    let read = c.in-Some in
+    let read = c.put_specification-read in
+    let put = was_put c.args.model t here.at _ _ _ read.result read.ensures c.if-read-walk.false in
     let few : c.loop-model.count ≤ c.find.new.self.at = omega (arith, i.few, c.find.ensures.passed.from) in
     record {
-      over = moved_over t here read.stop now.0;
-      within = read.ensures.plain.within;
-      few = put_few c.args.model t here.at _ _ _ read.stop read.more read.ensures few;
-      same = read.ensures.same_length ∙ i.same;
-      front = front_put c.args.model t here.at _ _ _ now.2 c.put_specification.new.out read.stop read.more read.ensures;
+      over = moved_over t here read.result.at now.0;
+      within = put.plain.within;
+      few = put_few c.args.model t here.at _ _ _ read.result.at read.result.count put few;
+      same = put.same_length ∙ i.same;
+      front = front_put c.args.model t here.at _ _ _ now.2 read.new.out read.result.at read.result.count put;
     }
 
-pub returns-in-None : goal.returns-in-None
-returns-in-None c =
+pub returns-then-read-walk : goal.returns-then-read-walk
+returns-then-read-walk c =
     let t = c.args.text.now in
     let i = c.loop-model.invariant in
+    let here = c.find.new.self in
     let short : length t ≤ MAX_TEXT_LEN = omega (arith, c.if-text-gt-MAX_TEXT_LEN.false) in
-    let now = front_walked c.args.model t _ _ _ short c.loop-model.walk c.find.new.self i.over i.within c.find.ensures.passed i.front in
-    let few : c.loop-model.count ≤ c.find.new.self.at = omega (arith, i.few, c.find.ensures.passed.from) in
-    rw c.in-None.ensures (record { front = now.2; same_length = i.same; within = now.1; limit = omega (arith, now.1, short); few = few })
+    let now = front_walked c.args.model t _ _ _ short c.loop-model.walk here i.over i.within c.find.ensures.passed i.front in
+    let few : c.loop-model.count ≤ here.at = omega (arith, i.few, c.find.ensures.passed.from) in
+    let none = none_put c.args.model t here.at _ _ _ c.put_specification-read.result c.put_specification-read.ensures c.if-read-walk.true in
+    rw (c.if-read-walk.true, none.0, none.1) (record { front = now.2; same_length = i.same; within = now.1; limit = omega (arith, now.1, short); few = few })
 
 pub returns : goal.returns
 returns c =

@@ -1,13 +1,9 @@
-use Rattle.std.proofs.Common.{◌≡◌, ◌-◌, ◌≤◌, length}
-use Rattle.pf_posix.specs.Endings.{ending, unnumbered_trace}
-use Rattle.pf_posix.specs.Walks.{trace_left}
+use Rattle.std.proofs.Common.{◌-◌, length}
+use Rattle.pf_posix.proofs.PlainLemmas.{HasAccepted}
 use Rattle.pf_posix.proofs.unnumbered.check_unnumbered.Given as goal
 
-abbrev pub invariant-loop-refusal : goal.invariant-loop-refusal
-invariant-loop-refusal l = record {
-  within : l.reader.at ≤ length l.text;
-  left : ending (unnumbered_trace l.model l.text) ≡ ending (trace_left l.model l.text l.reader);
-}
+abbrev pub invariant-loop-found : goal.invariant-loop-found
+invariant-loop-found l = HasAccepted l.text l.walk
 
-abbrev pub decreases-loop-refusal : goal.decreases-loop-refusal
-decreases-loop-refusal l = length l.text - l.reader.at
+abbrev pub decreases-loop-found : goal.decreases-loop-found
+decreases-loop-found l = length l.text - l.walk.at
