@@ -8,9 +8,8 @@ use Rattle.pf_values.specs.meaning.Text.{Text}
 use Rattle.pf_text.specs.declared.refusals.Refusal.{Refusal}
 use Rattle.pf_canon.specs.Sink.{IsSink}
 use Rattle.pf_canon.specs.Transducer.{GrowsByByte, IsThrough, PutsBytes, RefusesBlock, SettlesTo, StaysRefused, TakesByte, byte_output_text}
-use Rattle.pf_canon.proofs.ChunkLemmas.{through_settles}
 use Rattle.pf_canon.proofs.TextLemmas.{not_truncated}
-use Rattle.pf_canon.proofs.TransducerLemmas.{through_few}
+use Rattle.pf_canon.proofs.TransducerLemmas.{through_few, through_settles}
 use Rattle.pf_canon.specs.declared.output.StepOutput.{StepOutput}
 use Rattle.pf_canon.specs.declared.output.StepOutput.TheVariants as outputs
 use Rattle.pf_canon.specs.declared.transducer.Transducer.{Transducer}

@@ -20,7 +20,7 @@ use Rattle.pf_canon.specs.CanonicalBytes.{AnswerLeaves, CountsDrain, FaultCounts
 use Rattle.pf_canon.specs.CanonicalBytes.{IsNoReadFault}
 use Rattle.pf_canon.specs.Comparison.{StopsBy}
 use Rattle.pf_canon.specs.Transducer.{SettlesEnd, GrowsByByte, IsThrough, SettlesTo, TakesByte, byte_output_text}
-use Rattle.pf_canon.proofs.ChunkLemmas.{through_settles}
+use Rattle.pf_canon.proofs.TransducerLemmas.{through_settles}
 use Rattle.pf_canon.proofs.TextLemmas.{not_truncated}
 
 -- nothing more was taken

@@ -1,13 +1,11 @@
 -- Two texts that are compared.
-use Rattle.std.proofs.Common.{Some, ◌≡◌, ℕ, ◌+◌, ◌≤◌, ◌++◌, length, take, drop, sym, ap, ◌∙◌, ◌≢◌, ◌<◌, Bool, true, false, [], ◌∷◌, None, Result, Ok, Err, refl}
+use Rattle.std.proofs.Common.{Some, ◌≡◌, ℕ, ◌+◌, ◌≤◌, ◌++◌, length, take, drop, sym, ap, ap₂, ◌∙◌, ◌≢◌, ◌<◌, Bool, true, false, [], ◌∷◌, None, Result, Ok, Err, refl}
 use Rattle.std.proofs.Common.{subst, arith, inl, inr}
 use Rattle.std.proofs.Math.Seq.{take-add}
-use Rattle.std.proofs.lemmas.List.{take-append-le, append-nil, append_assoc, append_cancel_left, length-append, length-take, take-append-drop}
+use Rattle.std.proofs.lemmas.List.{take-append-le, append_assoc, append_cancel_left, length-append, length-take}
 use Rattle.std.specs.Prelude.{◌⊎◌}
 use Rattle.std.specs.Io.KnownBytes.{Consumes}
-use Rattle.pf_canon.proofs.OneCanonical.{are_same, end_both}
-use Rattle.pf_canon.proofs.SomeCanonical.{some_canonical}
-use Rattle.pf_values.specs.meaning.Items.{IsAccepted}
+use Rattle.pf_canon.proofs.OneCanonical.{end_both}
 use Rattle.pf_values.specs.meaning.Printing.{AreEquivalent}
 use Rattle.pf_values.specs.meaning.Text.{Text}
 use Rattle.pf_values.specs.declared.models.Model.{Model}
@@ -26,7 +24,6 @@ use Rattle.pf_canon.specs.Comparison.{
   IsInStep,
   IsReadInStep,
   StopsOn,
-  AreTextsSame,
 }
 use Rattle.pf_canon.specs.declared.faults.SideFault.{SideFault}
 use Rattle.pf_canon.specs.declared.faults.StreamFault.{StreamFault}
@@ -38,9 +35,8 @@ use Rattle.pf_canon.specs.CanonicalBytes.{History, IsFilled, IsReadFor, AnswerLe
 use Rattle.pf_canon.proofs.ByteTransducerLemmas.{ending, fault_later, read_in, reader_in, stops_by}
 use Rattle.pf_canon.proofs.EquivalentTexts.{equivalent_by}
 use Rattle.pf_canon.proofs.SliceLemmas.{none_both}
-use Rattle.pf_canon.specs.declared.transducer.Transducer.{Transducer}
-use Rattle.pf_canon.specs.Transducer.{IsUpTo}
-use Rattle.pf_canon.specs.CanonicalSlices.{AreApart, GoInStep, IsMidway, IsTakenWhole, IsAcceptedAs, pending_of}
+use Rattle.pf_canon.specs.CanonicalSlices.{AreApart, GoInStep, IsTakenWhole, pending_of}
+use Rattle.pf_canon.specs.Languages.{AreSameIn, Front, HasCanonicalIn, Refuses}
 use Rattle.pf_canon.specs.declared.canonical_slices.CanonicalSlices.{CanonicalSlices}
 
 -- more bytes are equal
@@ -207,61 +203,42 @@ module _ {A B : Type 0} (kept_a failed_a : A → A → Type 0) (kept_b failed_b 
   sides_later also_a later_a also_b later_b T (Err stop) a a_mid a_new b b_mid b_new h k s =
       stop_later also_a later_a also_b later_b stop.side stop.fault a a_mid a_new b b_mid b_new h k s
 
--- texts in memory
-begun : (model : Model) (r : Transducer) (f p out : Text) (common at : ℕ) → take common f ≡ p → r.model ≡ model → IsUpTo r p at out
-    → IsMidway model r (drop at f) [] f out
-begun model r f p out common at e same h =
-    let front : take at p ≡ take at f = sym (ap (take at) (sym (take-append-drop common f) ∙ ap (λ t. t ++ drop common f) e)
-    ∙ take-append-le at p (drop common f) h.0) in
-    record {
-      taken = take at f;
-      items = h.1;
-      split = sym (take-append-drop at f);
-      through = rw (← front, append-nil out, ← same) h.2;
-    }
-
--- what was taken is at the front of both
-pub begun_both : (model : Model) (r : Transducer) (f g out : Text) (common at : ℕ) → AreCommon f g common → r.model ≡ model → IsUpTo r (take common f) at out
-    → IsMidway model r (drop at f) [] f out × IsMidway model r (drop at g) [] g out
-begun_both model r f g out common at both same h = (
-  begun model r f (take common f) out common at refl same h,
-  begun model r g
-      (take common f) out common at (sym both.same) same h,
-)
-
--- their canonical texts differ
-unlike_told : (model : Model) (f g c d : Text) → c ≢ d → IsAcceptedAs model f c → IsAcceptedAs model g d → AreTextsSame model f g false
-unlike_told model f g c d unlike h k =
-    are_same model f g false (λ is. absurd (cc), λ e. absurd (unlike (equivalent_formats_one model f g c d e h.1 k.1))) h.0 k.0 (c, h.1) (d, k.1)
-
-module _ (model : Model) (f g given w v : Text) where
-  -- both canonical texts are equal
-  pub same_told : (x y : Text) → w ≡ [] → x ≡ [] → v ≡ [] → y ≡ [] → IsAcceptedAs model f (given ++ (w ++ x)) → IsAcceptedAs model g (given ++ (v ++ y))
-      → AreTextsSame model f g true
-  same_told x y w_none x_none v_none y_none h k =
-      let c = rw (w_none, x_none) at h in
-      let d = rw (v_none, y_none) at k in
-      are_same model f g true (λ _. equivalent_by model f g (given ++ []) c.1.equivalent d.1.equivalent, λ _. refl) h.0 k.0 (_, h.1) (_, k.1)
+-- two canonical texts that begin with what both gave
+module _ (has_front : Front) (model : Model) (f g given w v : Text) where
+  -- they are equal
+  pub same_told : (x y : Text) → w ≡ [] → x ≡ [] → v ≡ [] → y ≡ [] → HasCanonicalIn has_front model f (given ++ (w ++ x))
+      → HasCanonicalIn has_front model g (given ++ (v ++ y)) → AreSameIn has_front model f g true
+  same_told x y w_none x_none v_none y_none h k = record {
+    first = _;
+    second = _;
+    of_first = h;
+    of_second = k;
+    one = (λ yes. ap₂ (λ t u. given ++ (t ++ u)) (w_none ∙ sym v_none) (x_none ∙ sym y_none), λ same. refl);
+  }
 
   -- they go on with other bytes
-  pub apart_told : (x y : Text) → AreApart w v → (w ≡ [] → x ≡ []) → (v ≡ [] → y ≡ []) → IsAcceptedAs model f (given ++ (w ++ x))
-      → IsAcceptedAs model g (given ++ (v ++ y)) → AreTextsSame model f g false
-  apart_told x y apart no_x no_y h k = unlike_told model f g (given ++ (w ++ x)) (given ++ (v ++ y))
-      (λ e. apart x y no_x no_y (append_cancel_left given (w ++ x) (v ++ y) e)) h k
+  pub apart_told : (x y : Text) → AreApart w v → (w ≡ [] → x ≡ []) → (v ≡ [] → y ≡ []) → HasCanonicalIn has_front model f (given ++ (w ++ x))
+      → HasCanonicalIn has_front model g (given ++ (v ++ y)) → AreSameIn has_front model f g false
+  apart_told x y apart no_x no_y h k = record {
+    first = _;
+    second = _;
+    of_first = h;
+    of_second = k;
+    one = (λ is. absurd (cc), λ same. absurd (apart x y no_x no_y (append_cancel_left given (w ++ x) (v ++ y) same)));
+  }
 
 -- both texts were taken to their ends
-pub told : (model : Model) (first second : CanonicalSlices) (f g : Text) (is : Bool) (step : GoInStep model first f second g is)
-    → IsTakenWhole model first f step.given → IsTakenWhole model second g step.given → AreTextsSame model f g is
-told model first second f g true step h k =
+pub told : (has_front : Front) (refuses : Refuses) (model : Model) (first second : CanonicalSlices) (f g : Text) (is : Bool)
+    → (step : GoInStep has_front refuses model first f second g is) → IsTakenWhole has_front model first f step.given
+    → IsTakenWhole has_front model second g step.given → AreSameIn has_front model f g is
+told has_front refuses model first second f g true step h k =
     let none = step.so in
-    same_told model f g step.given (pending_of first) (pending_of second) h.more k.more none.0 (h.ended (step.one_ended none.0)) none.1
+    same_told has_front model f g step.given (pending_of first) (pending_of second) h.more k.more none.0 (h.ended (step.one_ended none.0)) none.1
     (k.ended (step.two_ended none.1)) h.whole k.whole
-told model first second f g false step h k =
-    apart_told model f g step.given (pending_of first) (pending_of second) h.more k.more step.so (λ none. h.ended (step.one_ended none))
+told has_front refuses model first second f g false step h k =
+    apart_told has_front model f g step.given (pending_of first) (pending_of second) h.more k.more step.so (λ none. h.ended (step.one_ended none))
     (λ none. k.ended (step.two_ended none)) h.whole k.whole
 
 -- an accepted text and itself
-pub told_itself : (model : Model) (t : Text) → IsAccepted t → AreTextsSame model t t true
-told_itself model t h =
-    let own = some_canonical model t h.0 h.1.reads in
-    are_same model t t true (λ _. equivalent_by model t t own.0 own.1.equivalent own.1.equivalent, λ _. refl) h h own own
+pub told_itself : (has_front : Front) (model : Model) (t c : Text) → HasCanonicalIn has_front model t c → AreSameIn has_front model t t true
+told_itself has_front model t c h = record { first = c; second = c; of_first = h; of_second = h; one = (λ yes. refl, λ same. refl) }

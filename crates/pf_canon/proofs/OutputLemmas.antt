@@ -1,5 +1,5 @@
 -- The bytes of an output, and those of silent directives.
-use Rattle.std.proofs.Common.{◌≡◌, ℕ, zero, suc, ◌*◌, ◌++◌, length, refl, ap, ◌∙◌, arith, ◌+◌, replicate}
+use Rattle.std.proofs.Common.{◌≡◌, ℕ, zero, suc, ◌*◌, [], ◌++◌, length, refl, ap, ◌∙◌, arith, ◌+◌, replicate}
 use Rattle.std.specs.Fmt.{digits}
 use Rattle.std.specs.Prelude.{flat_map}
 use Rattle.std.proofs.lemmas.List.{append-nil, length-append, length-replicate}
@@ -49,3 +49,10 @@ length-whole spaces zeros count bytes trail =
       length-silents count,
       length-replicate trail space,
     )
+
+-- silent directives and no spelling
+pub silents_alone : (count : ℕ) (bytes : Text) {t : Text} → t ≡ flat_map item_spelling (silents count) ++ bytes → bytes ≡ []
+    → t ≡ flat_map item_spelling (silents count)
+silents_alone count bytes is none =
+    let held = flat_map item_spelling (silents count) in
+    is ∙ ap (λ u. held ++ u) none ∙ append-nil held

@@ -1,25 +1,29 @@
 -- What items settle, also where no code goes through them.
-use Rattle.std.proofs.Common.{◌≡◌, ◌≢◌, ℕ, ◌+◌, List, [], ◌∷◌, ◌++◌, replicate, refl, sym, ap, ◌∙◌, subst}
-use Rattle.std.specs.Prelude.{flat_map}
-use Rattle.std.proofs.lemmas.List.{append-nil, append_assoc}
+use Rattle.std.proofs.Common.{◌≡◌, ◌≢◌, ℕ, ◌+◌, ◌*◌, ◌≤◌, List, [], ◌∷◌, ◌++◌, length, replicate, refl, sym, ap, ◌∙◌, subst, arith}
+use Rattle.std.specs.Prelude.{◌==◌, flat_map}
+use Rattle.std.proofs.lemmas.List.{append-nil, append_assoc, length-append, length-replicate}
 use Rattle.pf_values.specs.declared.models.Model.{Model}
 use Rattle.pf_values.specs.meaning.Canonical.{item_spelling}
 use Rattle.pf_values.specs.meaning.Defined.{IsDefined}
 use Rattle.pf_values.specs.meaning.Items.{Item, Byte, Directive}
 use Rattle.pf_values.specs.meaning.Specification.{Specification}
 use Rattle.pf_values.specs.meaning.Spelling.{spelling_of}
-use Rattle.pf_values.specs.meaning.Text.{Text, space, zero_digit}
+use Rattle.pf_values.specs.meaning.Text.{Text, percent, space, zero_digit}
 use Rattle.pf_values.proofs.Alike.{AreAlike, alike_after, alike_before, alike_refl, alike_trans, alike-printed, printed-alike}
 use Rattle.pf_text.specs.CanonicalRuns.{silents}
+use Rattle.pf_text.proofs.SpellingLemmas.{length-spelled}
 use Rattle.pf_reduce.specs.declared.results.Core.{Core}
 use Rattle.pf_reduce.specs.declared.results.Core.TheVariants as cores
 use Rattle.pf_reduce.specs.declared.results.Reduced.{Reduced}
-use Rattle.pf_reduce.specs.Reducing.{IsReducedTo}
+use Rattle.pf_reduce.specs.Reducing.{IsNormalCore, IsReducedTo}
 use Rattle.pf_reduce.proofs.Reductions.{reduction}
+use Rattle.pf_canon.specs.Answers.{most_len}
 use Rattle.pf_canon.specs.Making.{IsMaking, TakesCore}
 use Rattle.pf_canon.proofs.DirectiveLemmas.{reduction_made}
 use Rattle.pf_canon.proofs.MakingLemmas.{made_byte, made_more}
+use Rattle.pf_canon.proofs.OutputLemmas.{length-silents}
 use Rattle.pf_canon.proofs.Printing.{reduced_alike, reduced_items}
+use Rattle.pf_canon.proofs.TransducerLemmas.{byte_short}
 
 -- Items are made that print as these do.
 pub record IsSettling (model : Model) (out : Text) (held : ℕ) (items rest : List Item) : Type 0 where
@@ -27,11 +31,12 @@ pub record IsSettling (model : Model) (out : Text) (held : ℕ) (items rest : Li
   pub alike : AreAlike model items others
   pub making : IsMaking model out held others rest
 
--- a text that begins so, as far as it isn't refused
-pub record Settles (model : Model) (out : Text) (items : List Item) : Type 0 where
+-- more items settle this after others
+pub record Settles (model : Model) (out : Text) (held : ℕ) (before items : List Item) : Type 0 where
   pub more : Text
-  pub held : ℕ
-  pub made : IsSettling model (out ++ more) held items []
+  pub still : ℕ
+  pub made : IsSettling model (out ++ more) still (before ++ items) []
+  pub few : length more + 4 * still ≤ 4 * held + most_len items
 
 module _ (model : Model) (out : Text) (held : ℕ) where
   with_more : (items more : List Item) → IsSettling model out held items [] → IsSettling model out held (items ++ more) more
@@ -42,13 +47,14 @@ module _ (model : Model) (out : Text) (held : ℕ) where
   }
 
   -- a byte
-  pub byte_settled : (items : List Item) (byte : ℕ) → byte ≢ 0 → IsSettling model out held items [] → Settles model out (items ++ Byte byte ∷ [])
+  pub byte_settled : (items : List Item) (byte : ℕ) → byte ≢ 0 → IsSettling model out held items [] → Settles model out held items (Byte byte ∷ [])
   byte_settled items byte some h =
       let with = with_more items (Byte byte ∷ []) h in
       record {
         more = item_spelling (Byte byte);
-        held = held;
+        still = held;
         made = record { others = with.others; alike = with.alike; making = made_byte model out held byte with.others [] some with.making };
+        few = omega (arith, byte_short byte (byte == percent));
       }
 
   -- what has been made, and what a directive is reduced to
@@ -75,22 +81,35 @@ module _ (model : Model) (out : Text) (held : ℕ) where
       }
 
   -- how a core goes out
-  core_out : (core : Core) (zeroed : Text) → (cored : Text) × (still : ℕ) × (more : Text) × TakesCore core zeroed held cored still × (cored ≡ zeroed ++ more)
-  core_out cores.Silent zeroed = (zeroed, held + 1, [], (refl, refl), sym (append-nil zeroed))
-  core_out (cores.Normal n) zeroed =
+  core_out : (core : Core) (zeroed : Text) → IsNormalCore model core → (cored : Text) × (still : ℕ) × (more : Text) × TakesCore core zeroed held cored still
+      × (cored ≡ zeroed ++ more) × (length more + 4 * still ≤ 4 * held + 18)
+  core_out cores.Silent zeroed is = (zeroed, held + 1, [], (refl, refl), sym (append-nil zeroed), omega arith)
+  core_out (cores.Normal n) zeroed is =
       let more = flat_map item_spelling (silents held) ++ spelling_of n.specification in
-      (zeroed ++ more, 0, more, (refl, refl), refl)
+      let normal = is.1 in (
+        zeroed ++ more,
+        0,
+        more,
+        (refl, refl),
+        refl,
+        omega (
+          arith,
+          length-append (flat_map item_spelling (silents held)) (spelling_of n.specification),
+          length-silents held,
+          length-spelled n.specification normal.defined,
+        ),
+      )
 
   pub directive_settled : (items : List Item) (s : Specification) → IsDefined s → IsSettling model out held items []
-      → Settles model out (items ++ Directive s ∷ [])
+      → Settles model out held items (Directive s ∷ [])
   directive_settled items s defined h = one_more (reduction model s defined)
     where
-      one_more : (r : Reduced) × IsReducedTo model s r → Settles model out (items ++ Directive s ∷ [])
+      one_more : (r : Reduced) × IsReducedTo model s r → Settles model out held items (Directive s ∷ [])
       one_more (r, is) =
           let start = reduced (items ++ Directive s ∷ []) s r is (with_more items (Directive s ∷ []) h) in
           let padded = out ++ replicate r.spaces space in
           let zeroed = padded ++ replicate r.zeros zero_digit in
-          let (cored, still, more, takes, core) = core_out r.core zeroed in
+          let (cored, still, more, takes, core, few) = core_out r.core zeroed is.normal in
           let all = cored ++ replicate r.trail space in
           let text = replicate r.spaces space ++ (replicate r.zeros zero_digit ++ (more ++ replicate r.trail space)) in
           let whole : all ≡ out ++ text =
@@ -99,11 +118,22 @@ module _ (model : Model) (out : Text) (held : ℕ) where
           ∙ append_assoc out (replicate r.spaces space) (replicate r.zeros zero_digit ++ (more ++ replicate r.trail space)) in
           record {
             more = text;
-            held = still;
+            still = still;
             made = record {
               others = start.others;
               alike = start.alike;
               making = subst (λ t. IsMaking model t still start.others []) whole (reduction_made model s r out padded zeroed cored all held still start.others
                   [] is refl refl takes refl start.making);
             };
+            few = omega (
+              arith,
+              few,
+              is.few,
+              length-append (replicate r.spaces space) (replicate r.zeros zero_digit ++ (more ++ replicate r.trail space)),
+              length-append (replicate r.zeros zero_digit) (more ++ replicate r.trail space),
+              length-append more (replicate r.trail space),
+              length-replicate r.spaces space,
+              length-replicate r.zeros zero_digit,
+              length-replicate r.trail space,
+            );
           }

@@ -1,63 +1,35 @@
 -- The bytes that canonical slices give.
-use Rattle.std.proofs.Common.{
-  Option,
-  Some,
-  None,
-  Result,
-  Ok,
-  Err,
-  List,
-  ◌≡◌,
-  ◌+◌,
-  ◌-◌,
-  ℕ,
-  min,
-  [],
-  ◌∷◌,
-  ◌++◌,
-  length,
-  take,
-  drop,
-  refl,
-  sym,
-  ap,
-  ◌∙◌,
-  subst,
-  arith,
-  inl,
-  inr,
-}
-use Rattle.std.specs.Prelude.{MatchResult}
+use Rattle.std.proofs.Common.{Some, None, Result, Ok, Err, List, ◌≡◌, ◌+◌, ◌*◌, ◌-◌, ◌<◌, ◌≤◌, ◌^◌, ℕ, min, [], ◌∷◌, ◌++◌, length, take, drop, refl, sym, ap, ◌∙◌, subst, arith, inl, inr}
+use Rattle.std.specs.Prelude.{MatchResult, flat_map}
 use Rattle.std.proofs.Math.Seq.{drop-append-add, drop-length}
 use Rattle.std.proofs.lemmas.Bool.{cases_lt}
-use Rattle.std.proofs.lemmas.List.{append-nil, append_assoc, drop-append-le, take-append-drop}
-use Rattle.pf_values.specs.meaning.Text.{Text}
+use Rattle.std.proofs.lemmas.List.{append-nil, append_assoc, drop-append-le, length-append, length-drop, length-take, length-take-le, take-append-drop, take_all}
+use Rattle.pf_values.specs.declared.limits.TheConstants.{MAX_TEXT_LEN}
 use Rattle.pf_values.specs.declared.models.Model.{Model}
-use Rattle.pf_values.specs.meaning.Items.{Item}
-use Rattle.pf_values.specs.meaning.Refusals.{IsRefusedAt}
+use Rattle.pf_values.specs.meaning.Canonical.{item_spelling}
+use Rattle.pf_values.specs.meaning.Items.{Directive, IsReadAs, Item}
+use Rattle.pf_values.specs.meaning.Text.{Text}
+use Rattle.pf_text.specs.CanonicalRuns.{silents}
+use Rattle.pf_text.specs.FoundDirectives.{IsFoundAt}
+use Rattle.pf_text.specs.Walks.{IsWalkOver}
 use Rattle.pf_text.specs.declared.refusals.Refusal.{Refusal}
-use Rattle.pf_canon.specs.declared.output.Output.{Output}
-use Rattle.pf_canon.specs.declared.chunk.Chunk.{Chunk}
-use Rattle.pf_canon.specs.declared.chunk.ChunkRefusal.{ChunkRefusal}
-use Rattle.pf_canon.specs.declared.transducer.Transducer.{Transducer}
-use Rattle.pf_canon.specs.Output.{output_text}
-use Rattle.pf_canon.specs.Transducer.{SettlesEnd, GrowsByChunk, IsThrough, TakesVerbatim, RefusesChunk, chunk_output_text}
-use Rattle.pf_canon.specs.CanonicalSlices.{SlicesHaveGivenBy, IsMidway, IsTakenWhole, IsAcceptedAs, pending_of}
+use Rattle.pf_text.specs.declared.specification.FoundDirective.{FoundDirective}
+use Rattle.pf_text.specs.declared.walk.Walk.{Walk}
+use Rattle.pf_text.proofs.CanonicalRunLemmas.{take_front}
+use Rattle.pf_text.proofs.ReadingLemmas.{moved_over}
+use Rattle.pf_canon.specs.ChangedDirectives.{between}
+use Rattle.pf_canon.specs.CanonicalSlices.{AreSlices, IsMidway, IsPlaceIn, IsTakenWhole, SlicesHaveGiven, SlicesHaveGivenBy, pending_of}
+use Rattle.pf_canon.specs.Comparison.{AreCommon}
+use Rattle.pf_canon.specs.Languages.{Front, HasCanonicalIn, IsWrittenIn, Refuses}
+use Rattle.pf_canon.specs.Making.{IsMaking, IsVerbatimAfter, IsWritten}
+use Rattle.pf_canon.specs.Output.{pending_text}
 use Rattle.pf_canon.specs.declared.canonical_slices.CanonicalSlices.{CanonicalSlices}
-use Rattle.pf_canon.proofs.TextLemmas.{refused_behind}
-
--- more or fewer of the bytes were given
-pub given_alike : (end : Option (Result (Unit {0}) Refusal)) (model : Model) (r : Transducer) (rest pending text given w now : Text)
-    → given ++ pending ≡ now ++ w → SlicesHaveGivenBy end model r rest pending text given → SlicesHaveGivenBy end model r rest w text now
-given_alike None model r rest pending text given w now e h = record {
-  taken = h.taken;
-  items = h.items;
-  split = h.split;
-  through = subst
-      (IsThrough model r h.taken h.items) e h.through;
-}
-given_alike (Some (Ok done)) model r rest pending text given w now e h = rw (← e) h
-given_alike (Some (Err refusal)) model r rest pending text given w now e h = h
+use Rattle.pf_canon.specs.declared.canonical_slices.Place.{Place}
+use Rattle.pf_canon.specs.declared.output.PendingOutput.{PendingOutput}
+use Rattle.pf_canon.specs.declared.limits.TheConstants.{MAX_DIRECTIVE_LEN}
+use Rattle.pf_canon.proofs.ItemLemmas.{front_of_walk, walk_between}
+use Rattle.pf_canon.proofs.LanguageLemmas.{IsFrontTo, all_put, front_written, item_to, more_in, written_in}
+use Rattle.pf_canon.proofs.WrittenLemmas.{directive_written}
 
 pub some_given : (given pending : Text) (count : ℕ) → given ++ pending ≡ (given ++ take count pending) ++ drop count pending
 some_given given pending count = ap (λ t. given ++ t) (sym (take-append-drop count pending))
@@ -82,87 +54,156 @@ drop_both count first t u e = elim (cases_lt count (length t)) [
       ∙ sym (ap (λ k. drop k (t ++ u)) place ∙ drop-append-add t u (count - first))
 ]
 
--- verbatim bytes were taken
-pub verbatim_taken : (model : Model) (r new : Transducer) (rest pending text given : Text) (verbatim_len : ℕ) → pending ≡ []
-    → IsMidway model r rest pending text given
-    → ((t out : Text) (items : List Item) → IsThrough model r t items out → TakesVerbatim model t out rest verbatim_len new)
-    → IsMidway model new (drop verbatim_len rest) (take verbatim_len rest) text given
-verbatim_taken model r new rest pending text given verbatim_len none h kept =
-    let k = kept h.taken (given ++ pending) h.items h.through in
-    record {
-      taken = h.taken ++ take verbatim_len rest;
-      items = k.items;
-      split = h.split ∙ ap (λ t. h.taken ++ t) (sym (take-append-drop verbatim_len rest))
-          ∙ sym (append_assoc h.taken (take verbatim_len rest) (drop verbatim_len rest));
-      through = subst (λ t. IsThrough model new (h.taken ++ take verbatim_len rest) k.items (t ++ take verbatim_len rest))
-          (ap (λ t. given ++ t) none ∙ append-nil given) k.through;
-    }
+-- what was taken, where nothing is pending
+pub midway_of : (has_front : Front) (refuses : Refuses) (model : Model) (w : CanonicalSlices) (text given : Text) → w.end ≡ None → pending_of w ≡ []
+    → SlicesHaveGiven has_front refuses model w text given → IsMidway has_front model w.walk w.held text given
+midway_of has_front refuses model w text given still none h =
+    subst (IsMidway has_front model w.walk w.held text) (ap (λ u. given ++ u) none ∙ append-nil given)
+    (subst (λ end. SlicesHaveGivenBy end has_front refuses model w.walk w.held text (given ++ pending_of w)) still h.by)
 
--- a chunk of the rest was taken
-pub chunk_taken : (model : Model) (r new : Transducer) (rest pending text given : Text) (chunk : Chunk) → pending ≡ []
-    → IsMidway model r rest pending text given
-    → ((t out : Text) (items : List Item) → IsThrough model r t items out → GrowsByChunk model t out rest chunk new)
-    → IsMidway model new (drop chunk.len rest) (chunk_output_text chunk rest) text given
-chunk_taken model r new rest pending text given chunk none h fed =
-    let g = fed h.taken (given ++ pending) h.items h.through in
-    record {
-      taken = h.taken ++ take chunk.len rest;
-      items = g.items;
-      split = h.split ∙ ap (λ t. h.taken ++ t) (sym (take-append-drop chunk.len rest)) ∙ sym (append_assoc h.taken (take chunk.len rest) (drop chunk.len rest));
-      through = subst (λ t. IsThrough model new (h.taken ++ take chunk.len rest) g.items (t ++ chunk_output_text chunk rest))
-          (ap (λ t. given ++ t) none ∙ append-nil given) g.through;
-    }
+-- an output is pending after nothing
+pub alone : (w : CanonicalSlices) (now : PendingOutput) (bytes : Text) → pending_of w ≡ [] → pending_text now ≡ bytes → w.bytes.now ++ pending_text now ≡ bytes
+alone w now bytes none is = ap (λ t. t ++ pending_text now) (none_both w.bytes.now (pending_text w.output) none).0 ∙ is
 
-pub chunk_refused : (model : Model) (r : Transducer) (rest pending text given : Text) (refused : ChunkRefusal) → IsMidway model r rest pending text given
-    → ((t out : Text) (items : List Item) → IsThrough model r t items out → RefusesChunk model t out rest refused)
-    → IsRefusedAt text refused.refusal.kind refused.refusal.at
-chunk_refused model r rest pending text given refused h fed =
-    let out = given ++ pending in
-    subst (λ u. IsRefusedAt u refused.refusal.kind refused.refusal.at) (sym h.split) (refused_behind model h.taken out rest refused
-    (fed h.taken out h.items h.through))
-
--- the end was taken
-pub ended_whole : (model : Model) (r : Transducer) (rest pending text given : Text) (output : Output) → rest ≡ [] → pending ≡ []
-    → IsMidway model r rest pending text given
-    → ((t out : Text) (items : List Item) → IsThrough model r t items out → SettlesEnd model t items out (Ok output))
-    → IsAcceptedAs model text (given ++ output_text output)
-ended_whole model r rest pending text given output at_end none h ends =
-    let all : h.taken ≡ text = sym (append-nil h.taken) ∙ ap (λ t. h.taken ++ t) (sym at_end) ∙ sym h.split in
-    let out : given ++ pending ≡ given = ap (λ t. given ++ t) none ∙ append-nil given in
-    let e = ends h.taken (given ++ pending) h.items h.through in (
-      (h.items, record { reads = rw all at e.0; limit = rw all at h.through.after.limit }),
-      rw (all, out) at e.1,
-    )
-
-pub ended_refused : (model : Model) (r : Transducer) (rest pending text given : Text) (refusal : Refusal) → rest ≡ [] → IsMidway model r rest pending text given
-    → ((t out : Text) (items : List Item) → IsThrough model r t items out → SettlesEnd model t items out (Err refusal))
-    → IsRefusedAt text refusal.kind refusal.at
-ended_refused model r rest pending text given refusal at_end h ends =
-    let all : h.taken ≡ text = sym (append-nil h.taken) ∙ ap (λ t. h.taken ++ t) (sym at_end) ∙ sym h.split in
-    let e = ends h.taken (given ++ pending) h.items h.through in
-    subst (λ t. IsRefusedAt t refusal.kind refusal.at) all e.2
-
--- the rest was taken to its end
-pub rest_whole : (model : Model) (r : Transducer) (t out more : Text) (items : List Item) (output : Output) → IsThrough model r t items (out ++ more)
-    → SettlesEnd model t items (out ++ more) (Ok output) → (all : Text) × IsAcceptedAs model t (out ++ all)
-rest_whole model r t out more items output h ends = (
-  more ++ output_text output,
-  ((items, record { reads = ends.0; limit = h.after.limit }), rw (append_assoc out more (output_text output)) at ends.1),
+-- slices have a data model and a text
+pub are_slices : (has_front : Front) (refuses : Refuses) (model : Model) (w : CanonicalSlices) (text given : Text) → SlicesHaveGiven has_front refuses model w text given
+    → AreSlices has_front refuses w
+are_slices has_front refuses model w text given h = (
+  given,
+  subst (λ t. SlicesHaveGiven has_front refuses w.model w t given) (sym h.text_is)
+      (subst (λ m. SlicesHaveGiven has_front refuses m w text given) (sym h.model_is) h),
 )
 
--- what was read of a text whose rest is read
-pub rest_taken : (model : Model) (r : Transducer) (rest pending text given : Text) → (m : IsMidway model r rest pending text given) → (more : Text)
-    × IsAcceptedAs model (m.taken ++ rest) ((given ++ pending) ++ more)
-    → (more : Text) × IsAcceptedAs model text (given ++ (pending ++ more))
-rest_taken model r rest pending text given m all = (all.0, rw (m.split, ← append_assoc given pending all.0) all.1)
+module _ (has_front : Front) (refuses : Refuses) (model : Model) (w : CanonicalSlices) (text given : Text) where
+  -- the text was at its end
+  pub ended_before : (end : Result (Unit {0}) Refusal) → w.end ≡ Some end → SlicesHaveGiven has_front refuses model w text given
+      → MatchResult end (λ done. IsTakenWhole has_front model w text given) (λ refusal. refuses model text refusal.kind refusal.at)
+  ended_before (Ok done) is h = record {
+    more = [];
+    whole = subst (λ u. HasCanonicalIn has_front model text (given ++ u)) (sym (append-nil (pending_of w)))
+        (subst (λ end. SlicesHaveGivenBy end has_front refuses model w.walk w.held text (given ++ pending_of w)) is h.by);
+    ended = λ ended. refl;
+  }
+  ended_before (Err refusal) is h = subst (λ end. SlicesHaveGivenBy end has_front refuses model w.walk w.held text (given ++ pending_of w)) is h.by
 
--- the text was taken to its end, or is refused
-pub slices_taken : (model : Model) (w : CanonicalSlices) (text given : Text) (answer : Result (Unit {0}) Refusal) → w.end ≡ None
-    → (m : IsMidway model w.transducer w.rest.now (pending_of w) text given)
-    → MatchResult answer (λ _. (more : Text) × IsAcceptedAs model (m.taken ++ w.rest.now) ((given ++ pending_of w) ++ more))
-    (λ refusal. IsRefusedAt (m.taken ++ w.rest.now) refusal.kind refusal.at)
-    → MatchResult answer (λ _. IsTakenWhole model w text given) (λ refusal. IsRefusedAt text refusal.kind refusal.at)
-slices_taken model w text given (Ok done) still m h =
-    let all = rest_taken model w.transducer w.rest.now (pending_of w) text given m h in
-    record { more = all.0; whole = all.1; ended = λ ended. absurd (ended still) }
-slices_taken model w text given (Err refusal) still m h = subst (λ t. IsRefusedAt t refusal.kind refusal.at) (sym m.split) h
+  -- or it is now
+  pub ended_now : (end : Result (Unit {0}) Refusal) → w.end ≡ None
+      → MatchResult end (λ done. (more : Text) × HasCanonicalIn has_front model text ((given ++ pending_of w) ++ more))
+      (λ refusal. refuses model text refusal.kind refusal.at)
+      → MatchResult end (λ done. IsTakenWhole has_front model w text given) (λ refusal. refuses model text refusal.kind refusal.at)
+  ended_now (Ok done) still h = record {
+    more = h.0;
+    whole = subst (HasCanonicalIn has_front model text) (append_assoc given (pending_of w) h.0) h.1;
+    ended = λ ended. absurd (ended still);
+  }
+  ended_now (Err refusal) still h = h
+
+module _ (has_front : Front) (model : Model) where
+  -- a place after a front and items of the profile
+  pub place_put : (text : Text) (walk : Walk) → IsWalkOver text walk → (from at held : ℕ) (out more : Text) → from ≤ at → at ≤ length walk.text.now
+      → IsFrontTo has_front model text from out → IsWritten model (between from at walk.text.now) more held
+      → IsPlaceIn has_front model text (record { at = at; held = held }) (out ++ more)
+  place_put text walk over from at held out more low within to h =
+      let place = front_of_walk text walk over at within in
+      record {
+        within = place.1;
+        written = written_in has_front model text from at low place.1 place.2 out to more held
+            (subst (λ t. IsWritten model t more held) (walk_between text walk over from at low within) h);
+      }
+
+  -- a place in a front of a text is one in the text
+  place_longer : (t : Text) (common : ℕ) (place : Place) (out : Text) → common ≤ length t → IsPlaceIn has_front model (take common t) place out
+      → IsPlaceIn has_front model t place out
+  place_longer t common place out within h = record {
+    within = omega (arith, h.within, within, length-take-le common t within);
+    written = subst (λ u. IsWrittenIn has_front model u out place.held) (take_front place.at common t h.within) h.written;
+  }
+
+  -- and of two texts with this front
+  pub place_in_both : (t u : Text) (common : ℕ) (place : Place) (out : Text) → AreCommon t u common → IsPlaceIn has_front model (take common t) place out
+      → IsPlaceIn has_front model t place out × IsPlaceIn has_front model u place out
+  place_in_both t u common place out both h = (
+    place_longer t common place out both.first h,
+    place_longer u common place out both.second (subst (λ v. IsPlaceIn has_front model v place out) both.same h),
+  )
+
+  module _ (text : Text) where
+    -- nothing was taken after a place
+    pub midway_at : (walk : Walk) (place : Place) (out : Text) → IsWalkOver text walk → IsPlaceIn has_front model text place out
+        → IsMidway has_front model (record walk { at = place.at }) place.held text out
+    midway_at walk place out over h =
+        let limit : place.at ≤ MAX_TEXT_LEN = omega (arith, h.written.limit, length-take-le place.at text h.within) in
+        record {
+          over = moved_over text walk place.at over;
+          within = subst (λ t. place.at ≤ length t) (sym over.text_is) (omega (arith, limit, h.within, length-take MAX_TEXT_LEN text));
+          written = h.written;
+        }
+
+    module _ (walk : Walk) (held : ℕ) (out : Text) (h : IsMidway has_front model walk held text out) where
+      pub midway_within : (at : ℕ) → at ≤ length walk.text.now → (at ≤ length text) × (at ≤ MAX_TEXT_LEN)
+      midway_within at within = let place = front_of_walk text walk h.over at within in (place.1, place.2)
+
+      -- the bytes between two offsets of a walk's text
+      -- not too many are held
+      pub few_held : held ≤ MAX_TEXT_LEN
+      few_held =
+          let w = h.written in
+          omega (arith, w.limit, w.ends.few, ap length w.split, length-append w.front w.last)
+
+      -- verbatim bytes come
+      pub verbatim_taken : (stop : ℕ) → walk.at ≤ stop → stop ≤ length walk.text.now → IsVerbatimAfter model held (between walk.at stop walk.text.now)
+          → IsMidway has_front model (record walk { at = stop }) held text (out ++ between walk.at stop walk.text.now)
+      verbatim_taken stop low within verbatim =
+          let place = midway_within stop within in
+          let same = walk_between text walk h.over walk.at stop low within in
+          record {
+            over = moved_over text walk stop h.over;
+            within = within;
+            written = subst (λ u. IsWrittenIn has_front model (take stop text) (out ++ u) held) (sym same)
+                (more_in has_front model text walk.at stop low place.0 place.1 out held h.written (between walk.at stop text) held
+                (subst (IsVerbatimAfter model held) same verbatim));
+          }
+
+      -- a directive comes
+      pub directive_taken : (found : FoundDirective) (still : ℕ) (settled : Text) → IsFoundAt walk.text.now walk.at found → still ≤ held + 1
+          → length settled + 4 * still ≤ 4 * held + MAX_DIRECTIVE_LEN
+          → ((out : Text) (items rest : List Item) → held < 2 ^ 63 → IsMaking model out held items (Directive found.directive ∷ rest)
+          → IsMaking model (out ++ settled) still items rest)
+          → IsMidway has_front model (record walk { at = found.stop }) still text (out ++ settled)
+      directive_taken found still settled there one short settles =
+          let place = midway_within found.stop there.within in
+          let low : walk.at ≤ found.stop = omega (arith, there.some) in
+          let same = walk_between text walk h.over walk.at found.stop low there.within in
+          let long : 1 ≤ length (between walk.at found.stop text) =
+          omega (arith, there.some, place.0, length-take-le (found.stop - walk.at) (drop walk.at text) (omega (arith, place.0, length-drop walk.at text))) in
+          record {
+            over = moved_over text walk found.stop h.over;
+            within = there.within;
+            written = more_in has_front model text walk.at found.stop low place.0 place.1 out held h.written settled still
+                (λ before own w. directive_written model before own (between walk.at found.stop text) settled held still found.directive w
+                (subst (λ t. IsReadAs t (Directive found.directive)) same there.read) (omega (arith, one, long)) short
+                (λ items. settles own items [] (omega (arith, few_held))));
+          }
+
+      -- what is held is put
+      pub here : HasCanonicalIn has_front model (take walk.at text) (out ++ flat_map item_spelling (silents held))
+      here = all_put has_front model (take walk.at text) out held h.written
+
+      pub at_end : walk.at ≡ length text → HasCanonicalIn has_front model text (out ++ flat_map item_spelling (silents held))
+      at_end e = subst (λ t. HasCanonicalIn has_front model t (out ++ flat_map item_spelling (silents held)))
+          (take_all walk.at text (omega (arith, e))) here
+
+      -- and an item comes that the profile lacks
+      pub other_taken : (stop : ℕ) (spelling : Text) → has_front model (take stop text) ((out ++ flat_map item_spelling (silents held)) ++ spelling) → walk.at < stop
+          → stop ≤ length text → stop ≤ MAX_TEXT_LEN → length spelling ≤ 20
+          → IsMidway has_front model (record walk { at = stop }) 0 text (out ++ (flat_map item_spelling (silents held) ++ spelling))
+      other_taken stop spelling front some within limit short =
+          let c = out ++ flat_map item_spelling (silents held) in
+          let to : IsFrontTo has_front model text stop (c ++ spelling) =
+          item_to has_front model text walk.at stop c spelling here front some within limit short in
+          record {
+            over = moved_over text walk stop h.over;
+            within = subst (λ t. stop ≤ length t) (sym h.over.text_is) (omega (arith, within, limit, length-take MAX_TEXT_LEN text));
+            written = subst (λ u. IsWrittenIn has_front model (take stop text) u 0) (append_assoc out (flat_map item_spelling (silents held)) spelling)
+                (front_written has_front model text stop (c ++ spelling) to);
+          }

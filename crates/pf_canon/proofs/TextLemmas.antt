@@ -1,20 +1,15 @@
--- What is settled of a text in memory, chunk after chunk, and where it is refused.
-use Rattle.std.proofs.Common.{◌≡◌, ◌≢◌, ℕ, ◌∷◌, ◌++◌, Bool, true, false, length, drop, sym, ap, ◌∙◌, subst, ◌+◌, ◌≤◌, List, [], take, arith}
+-- How many items a text has, how long they are as canonical ones, and what its refusal is.
+use Rattle.std.proofs.Common.{◌≡◌, ◌≢◌, ℕ, ◌∷◌, ◌++◌, Bool, true, false, length, drop, sym, ap, ◌∙◌, subst, ◌+◌, ◌≤◌, List, [], arith}
 use Rattle.std.specs.Prelude.{MatchBool, ◌==◌}
-use Rattle.std.proofs.Math.Seq.{drop-append_seam, take-add}
-use Rattle.std.proofs.lemmas.List.{append_assoc, length-append}
+use Rattle.std.proofs.Math.Seq.{drop-append_seam}
+use Rattle.std.proofs.lemmas.List.{length-append}
 use Rattle.pf_values.specs.declared.limits.TheConstants.{MAX_TEXT_LEN}
 use Rattle.pf_values.specs.declared.refusals.RefusalKind.{RefusalKind}
 use Rattle.pf_values.specs.declared.refusals.RefusalKind.TheVariants.{TooLong, Truncated}
 use Rattle.pf_values.specs.meaning.Refusals.{HasCause, IsRefusedAt, IsRefusedByte}
 use Rattle.pf_values.specs.meaning.Text.{Text, percent}
-use Rattle.pf_values.specs.declared.models.Model.{Model}
 use Rattle.pf_values.specs.meaning.Items.{Item, Byte, Directive, IsReadAs, Reads}
-use Rattle.pf_canon.specs.declared.chunk.Chunk.{Chunk}
-use Rattle.pf_canon.specs.declared.chunk.ChunkRefusal.{ChunkRefusal}
-use Rattle.pf_canon.specs.declared.transducer.Transducer.{Transducer}
 use Rattle.pf_canon.specs.Answers.{most_len}
-use Rattle.pf_canon.specs.Transducer.{GrowsByChunk, IsThrough, RefusesChunk, chunk_output_text}
 
 no_byte_truncates : (b : Bool) (part : Text) (byte : ℕ) (kind : RefusalKind) → MatchBool b (kind ≡ TooLong) (IsRefusedByte part byte kind) → kind ≢ Truncated
 no_byte_truncates true part byte kind h e = let both : TooLong ≡ Truncated = sym h ∙ e in cc
@@ -46,18 +41,3 @@ pub most_len-append : (a b : List Item) → most_len (a ++ b) ≡ most_len a + m
 most_len-append [] b = omega arith
 most_len-append (Byte byte ∷ a) b = omega (arith, most_len-append a b)
 most_len-append (Directive s ∷ a) b = omega (arith, most_len-append a b)
-
--- a byte of the text that follows is refused
-pub refused_behind : (model : Model) (t out text : Text) (refused : ChunkRefusal) → RefusesChunk model t out text refused
-    → IsRefusedAt (t ++ text) refused.refusal.kind refused.refusal.at
-refused_behind model t out text refused h = subst (λ u. IsRefusedAt u refused.refusal.kind refused.refusal.at)
-    (append_assoc t h.fed (h.last ∷ h.rest) ∙ ap (λ u. t ++ u) (sym h.split)) (h.refused h.rest)
-
--- a chunk of the rest of a text was taken
-pub built_more : (model : Model) (t out now : Text) (at : ℕ) (chunk : Chunk) (new : Transducer) → GrowsByChunk model (take at t) out (drop at t) chunk new
-    → now ≡ out ++ chunk_output_text chunk (drop at t) → (items : List Item) × IsThrough model new (take (at + chunk.len) t) items now
-built_more model t out now at chunk new g e = (g.items, rw (e, take-add at chunk.len t) g.through)
-
--- more of a text, after what came before it
-pub taken_on : (t text : Text) (at len : ℕ) → (t ++ take at text) ++ take len (drop at text) ≡ t ++ take (at + len) text
-taken_on t text at len = append_assoc t (take at text) (take len (drop at text)) ∙ ap (λ u. t ++ u) (sym (take-add at len text))

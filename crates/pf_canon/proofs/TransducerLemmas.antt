@@ -1,5 +1,5 @@
 -- How a transducer goes on.
-use Rattle.std.proofs.Common.{◌≡◌, ℕ, ◌+◌, ◌*◌, ◌<◌, ◌≤◌, ◌^◌, List, [], ◌∷◌, ◌++◌, length, map, take, replicate, refl, sym, ap, ◌∙◌, subst, arith}
+use Rattle.std.proofs.Common.{◌≡◌, ℕ, ◌+◌, ◌*◌, ◌≤◌, ◌^◌, List, [], ◌∷◌, ◌++◌, length, replicate, refl, sym, ap, ◌∙◌, subst, arith}
 use Rattle.std.specs.Prelude.{flat_map, ◌⊎◌, ◌==◌, Bool, true, false, if◌then◌else◌}
 use Rattle.std.specs.List.{AllByRecursion}
 use Rattle.std.proofs.lemmas.List.{append-nil, append_assoc, length-append}
@@ -13,7 +13,7 @@ use Rattle.pf_values.specs.meaning.Text.{Text, percent, space, zero_digit}
 use Rattle.pf_text.specs.declared.scanner.Step.{Step}
 use Rattle.pf_text.specs.declared.scanner.Step.TheVariants as steps
 use Rattle.pf_text.specs.History.{IsAfter, IsLiteral, Says, with_step}
-use Rattle.pf_text.specs.CanonicalRuns.{IsCanonicalItem, PassesCanonicalRun}
+use Rattle.pf_text.specs.CanonicalRuns.{IsCanonicalItem}
 use Rattle.pf_text.proofs.SpellingLemmas.{length-spelled}
 use Rattle.pf_text.specs.History as scanned
 use Rattle.pf_reduce.specs.Reducing.{IsReducedTo}
@@ -25,13 +25,13 @@ use Rattle.pf_canon.specs.declared.transducer.Transducer.{Transducer}
 use Rattle.pf_text.specs.CanonicalRuns.{silents}
 use Rattle.pf_canon.specs.Making.{IsMaking}
 use Rattle.pf_canon.specs.Output.{whole_text}
-use Rattle.pf_canon.specs.Transducer.{GrowsByByte, IsStepOf, IsThrough, Settles, byte_output_text, more_of}
+use Rattle.pf_canon.specs.Transducer.{GrowsByByte, IsStepOf, IsThrough, Settles, SettlesTo, byte_output_text, more_of}
 use Rattle.pf_canon.specs.Answers.{most_len}
 use Rattle.pf_canon.proofs.TextLemmas.{items_few, most_len-append}
 use Rattle.pf_canon.proofs.DirectiveLemmas.{directive_made}
 use Rattle.pf_values.proofs.Alike.{alike_refl}
-use Rattle.pf_canon.proofs.MakingLemmas.{made_canonical, made_more, made_run, made_same}
-use Rattle.pf_canon.proofs.PieceLemmas.{run_made, run_short}
+use Rattle.pf_canon.proofs.MakingLemmas.{made_canonical, made_same, made_settled}
+use Rattle.pf_canon.proofs.PieceLemmas.{run_made}
 use Rattle.pf_canon.proofs.Printing.{reduced_items}
 
 is_step_of : (t : Text) (items : List Item) (byte : ℕ) (step : Step) → Says t items byte step → IsStepOf step byte
@@ -70,42 +70,8 @@ grown model old new t out items byte step output h same takes settles one less =
       };
     }
 
--- a directive was taken
-pub directive_grown : (model : Model) (old new : Transducer) (t bytes out settled : Text) (items : List Item) (d : Specification)
-    → IsThrough model old t items out → new.model ≡ old.model → IsAfter new.scanner (t ++ bytes) (items ++ Directive d ∷ []) → 1 ≤ length bytes
-    → (old.silents < 2 ^ 63 → IsMaking model out old.silents (items ++ Directive d ∷ []) (Directive d ∷ [])
-    → IsMaking model (out ++ settled) new.silents (items ++ Directive d ∷ []) [])
-    → new.silents ≤ old.silents + 1 → length settled + 4 * new.silents ≤ 4 * old.silents + most_len (Directive d ∷ [])
-    → IsThrough model new (t ++ bytes) (items ++ Directive d ∷ []) (out ++ settled)
-directive_grown model old new t bytes out settled items d h same after some settles one less =
-    let few = h.few in
-    let short = h.short in
-    let limit = h.after.limit in
-    record {
-      model_is = same ∙ h.model_is;
-      after = after;
-      made = settles (omega (arith, few, limit)) (made_more model out old.silents items [] (Directive d ∷ []) h.made);
-      few = omega (arith, few, one, some, length-append t bytes);
-      short = omega (arith, short, less, length-append out settled, most_len-append items (Directive d ∷ []));
-    }
-
--- literal bytes were taken
-pub passed : (model : Model) (old new : Transducer) (t out following : Text) (items : List Item) (len : ℕ) → IsThrough model old t items out
-    → scanned.Passes t items following len new.scanner → new.model ≡ old.model → new.silents ≡ old.silents
-    → IsThrough model new (t ++ take len following) (items ++ map Byte (take len following)) (out ++ take len following)
-passed model old new t out following items len h p same e =
-    let run = take len following in
-    let few = h.few in
-    let short = h.short in
-    record {
-      model_is = same ∙ h.model_is;
-      after = p.after;
-      made = rw e (run_made model run out (out ++ run) old.silents items p.literal refl h.made);
-      few = omega (arith, few, e, length-append t run);
-      short = omega (arith, short, e, run_short run out (out ++ run) old.silents refl, most_len-append items (map Byte run));
-    }
-
-byte_short : (byte : ℕ) (b : Bool) → length (if b then percent ∷ percent ∷ [] else byte ∷ []) ≤ 2
+-- a byte in a canonical text is short
+pub byte_short : (byte : ℕ) (b : Bool) → length (if b then percent ∷ percent ∷ [] else byte ∷ []) ≤ 2
 byte_short byte true = omega arith
 byte_short byte false = omega arith
 
@@ -121,27 +87,6 @@ run_is_short model (Byte byte ∷ items) all = omega (
 run_is_short model (Directive s ∷ items) all =
     let normal = all.0 in
     omega (arith, length-append (spelling_of s) (flat_map item_spelling items), length-spelled s normal.defined, run_is_short model items all.1)
-
--- items were taken that are spelled as a canonical text spells them, where no silent directive
--- waits
-pub passed_run : (model : Model) (old new : Transducer) (t out following : Text) (items : List Item) (len : ℕ) → IsThrough model old t items out
-    → (p : PassesCanonicalRun model t items following len new.scanner) → old.silents ≡ 0 → new.model ≡ old.model → new.silents ≡ old.silents
-    → IsThrough model new (t ++ take len following) (items ++ p.more) (out ++ take len following)
-passed_run model old new t out following items len h p none same e =
-    let run = take len following in
-    let more = p.more in
-    let whole = p.canonical.whole in
-    let few = h.few in
-    let short = h.short in
-    let made = made_run model more out (items ++ more) [] p.canonical.canonical (subst (IsMaking model out 0 (items ++ more)) (sym (append-nil more))
-    (made_more model out 0 items [] more (subst (λ w. IsMaking model out w items []) none h.made))) in
-    record {
-      model_is = same ∙ h.model_is;
-      after = p.after;
-      made = rw (e, none, whole) made;
-      few = omega (arith, few, e, length-append t run);
-      short = omega (arith, short, e, none, length-append out run, ap length whole, run_is_short model more p.canonical.canonical, most_len-append items more);
-    }
 
 pub byte_settled : (model : Model) (b byte held : ℕ) (out : Text) (items : List Item) → b ≡ byte → IsLiteral byte → IsMaking model out held items []
     → IsMaking model (out ++ byte ∷ []) held (items ++ Byte b ∷ []) []
@@ -181,13 +126,23 @@ normal_settled model s n r out held items rest core reduced same h =
 
 -- the end was taken
 pub ended : (model : Model) (t out : Text) (held : ℕ) (items : List Item) → Reads t items → IsMaking model out held items [] → (c : Text)
-    → c ≡ whole_text 0 0 held [] 0 → Reads t items × IsCanonicalOf model t (out ++ c) × (IsCanonicalText model t → out ++ c ≡ t)
-ended model t out held items reads h c e =
-    let same : c ≡ flat_map item_spelling (silents held) = e ∙ append-nil (flat_map item_spelling (silents held)) in (
-      reads,
-      subst (λ u. IsCanonicalOf model t (out ++ u)) (sym same) (made_canonical model out held items h t items reads (alike_refl model items)),
-      λ is. ap (λ u. out ++ u) same ∙ made_same model out held items h t reads is,
-    )
+    → c ≡ flat_map item_spelling (silents held) → Reads t items × IsCanonicalOf model t (out ++ c) × (IsCanonicalText model t → out ++ c ≡ t)
+ended model t out held items reads h c same = (
+  reads,
+  subst (λ u. IsCanonicalOf model t (out ++ u)) (sym same) (made_canonical model out held items h t items reads (alike_refl model items)),
+  λ is. ap (λ u. out ++ u) same ∙ made_same model out held items h t reads is,
+)
+
+-- what was settled of a text by then
+pub through_settles : (model : Model) (r : Transducer) (t out : Text) (items : List Item) → IsThrough model r t items out → SettlesTo model t out
+through_settles model r t out items h =
+    let splits = h.after.good.splits in
+    record {
+      items = items;
+      part = h.after.part;
+      good = h.after.good;
+      settled = made_settled model out r.silents items h.made splits.whole items splits.reads (alike_refl model items);
+    }
 
 pub most_items : (items : List Item) → most_len items ≤ 4120 * length items
 most_items [] = omega arith

@@ -16,7 +16,7 @@ use Rattle.pf_canon.specs.declared.transducer.Transducer.{Transducer}
 use Rattle.pf_canon.specs.Output.{pending_text}
 use Rattle.pf_canon.specs.CanonicalBytes.{History, IsEnding, IsReading, IsRefusedBehind, AnswerLeaves, RunBegins, RunEnds}
 use Rattle.pf_canon.specs.Transducer.{SettlesTo}
-use Rattle.pf_canon.proofs.ChunkLemmas.{through_settles}
+use Rattle.pf_canon.proofs.TransducerLemmas.{through_settles}
 
 module _ (model : Model) (t : Text) where
   -- all was taken

@@ -107,7 +107,7 @@ pub all_written : (model : Model) (t out : Text) (held : ℕ) → length t ≤ M
     → IsCanonicalFor model t (out ++ flat_map item_spelling (silents held))
 all_written model t out held few h =
     let last = flat_map item_spelling (silents held) in
-    let end = ended model t out held h.items h.reads h.made last (sym (append-nil last)) in
+    let end = ended model t out held h.items h.reads h.made last refl in
     record {
       items = h.items;
       accepted = record { reads = h.reads; limit = few };

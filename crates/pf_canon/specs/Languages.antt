@@ -1,45 +1,75 @@
 -- Texts of a language that has more items than the profile. This project's own.
-use Rattle.std.specs.Prelude.{◌≡◌, ◌≢◌, ◌⊎◌, ◌↔◌, ℕ, Bool, ◌<◌, ◌≤◌, ◌^◌, [], ◌++◌, length, IsTrue}
+use Rattle.std.specs.Prelude.{◌≡◌, ◌↔◌, ℕ, Bool, ◌*◌, ◌≤◌, [], ◌++◌, ◌≢◌, length, IsTrue}
+use Rattle.pf_values.specs.declared.limits.TheConstants.{MAX_TEXT_LEN}
 use Rattle.pf_values.specs.declared.models.Model.{Model}
 use Rattle.pf_values.specs.declared.refusals.RefusalKind.{RefusalKind}
-use Rattle.pf_values.specs.meaning.Canonical.{IsCanonicalText}
-use Rattle.pf_values.specs.meaning.Items.{IsAccepted}
 use Rattle.pf_values.specs.meaning.Text.{Text}
+use Rattle.pf_text.specs.Refusals.{RefusesOne}
+use Rattle.pf_text.specs.declared.refusals.Refusal.{Refusal}
+use Rattle.pf_text.specs.declared.refusals.Side.{Side}
 use Rattle.pf_text.specs.declared.refusals.TextFault.{TextFault}
 use Rattle.pf_text.specs.declared.refusals.TextFault.TheVariants.{Refused, Memory}
 use Rattle.pf_canon.specs.Answers.{IsCanonicalFor}
-use Rattle.pf_canon.specs.ChangedDirectives.{between}
+use Rattle.pf_canon.specs.Making.{IsWritten}
+use Rattle.pf_canon.specs.declared.limits.TheConstants.{MAX_DIRECTIVE_LEN}
 
--- what a language says of the first bytes of a text, up to an offset at which a stretch begins, that is,
--- items of the profile: they have this canonical text, and the text is accepted
+-- What a language says of a front of a text, which is empty or ends with an item that the profile lacks:
+-- it has this canonical text.
 abbrev pub Front : Type 1
-Front = Model → Text → ℕ → Text → Type 0
+Front = Model → Text → Text → Type 0
 
--- a stretch that ends at an offset, after a front
-pub record EndsAt (has_front : Front) (model : Model) (t : Text) (at : ℕ) (c : Text) : Type 0 where
-  pub start : ℕ
-  pub low : start ≤ at
+-- where and why a text is refused
+abbrev pub Refuses : Type 1
+Refuses = Model → Text → RefusalKind → ℕ → Type 0
+
+-- a text is such a front, and a stretch, that is, items of the profile; `c` is its canonical text
+pub record HasCanonicalIn (has_front : Front) (model : Model) (t c : Text) : Type 0 where
+  pub front : Text
+  pub last : Text
   pub out : Text
   pub own : Text
-  pub front : has_front model t start out
-  pub last : IsCanonicalFor model (between start at t) own
+  pub split : t ≡ front ++ last
+  pub begins : has_front model front out
+  pub ends : IsCanonicalFor model last own
   pub whole : c ≡ out ++ own
+  pub limit : length t ≤ MAX_TEXT_LEN
+  pub few : length out ≤ MAX_DIRECTIVE_LEN * length front
 
--- the canonical text of a text of the profile, or of one that is a front and a last stretch
-abbrev pub HasCanonicalIn : Front → Model → Text → Text → Type 0
-HasCanonicalIn has_front model t c = IsCanonicalFor model t c ⊎ EndsAt has_front model t (length t) c
+-- the same, where the last `held` silent directives of the stretch aren't written yet
+pub record IsWrittenIn (has_front : Front) (model : Model) (t out : Text) (held : ℕ) : Type 0 where
+  pub front : Text
+  pub last : Text
+  pub before : Text
+  pub own : Text
+  pub split : t ≡ front ++ last
+  pub begins : has_front model front before
+  pub ends : IsWritten model last own held
+  pub whole : out ≡ before ++ own
+  pub limit : length t ≤ MAX_TEXT_LEN
+  pub few : length before ≤ MAX_DIRECTIVE_LEN * length front
 
--- whose bytes can be counted
-pub record HasCountableIn (has_front : Front) (model : Model) (t c : Text) : Type 0 where
-  pub has : HasCanonicalIn has_front model t c
-  pub few : length c < 2 ^ 128
+-- a text has a canonical text
+abbrev pub IsAcceptedIn : Front → Model → Text → Type 0
+IsAcceptedIn has_front model t = (c : Text) × HasCanonicalIn has_front model t c
 
 -- why there is none
-abbrev pub FaultIn : Front → (Model → Text → RefusalKind → ℕ → Type 0) → Model → Text → TextFault → Type 0
+abbrev pub FaultIn : Front → Refuses → Model → Text → TextFault → Type 0
 FaultIn has_front refuses model t (Refused refusal) = refuses model t refusal.kind refusal.at
 FaultIn has_front refuses model t Memory = (c : Text) × HasCanonicalIn has_front model t c × (c ≢ [])
 
--- whether a text is canonical: one of the profile, or one that has a canonical text
+-- whether an accepted text is canonical
 abbrev pub DecidesIn : Front → Model → Text → Bool → Type 0
-DecidesIn has_front model t is = (IsAccepted t × (IsTrue is ↔ IsCanonicalText model t))
-    ⊎ ((c : Text) × HasCanonicalIn has_front model t c × (IsTrue is ↔ (c ≡ t)))
+DecidesIn has_front model t is = (c : Text) × HasCanonicalIn has_front model t c × (IsTrue is ↔ (c ≡ t))
+
+-- two texts are accepted, and this is whether they have one canonical text
+pub record AreSameIn (has_front : Front) (model : Model) (t u : Text) (is : Bool) : Type 0 where
+  pub first : Text
+  pub second : Text
+  pub of_first : HasCanonicalIn has_front model t first
+  pub of_second : HasCanonicalIn has_front model u second
+  pub one : IsTrue is ↔ (first ≡ second)
+
+-- the first is refused, or the first is accepted and the second refused
+abbrev pub StopsIn : Front → Refuses → Model → Text → Text → Side × Refusal → Type 0
+StopsIn has_front refuses model t u stop =
+    RefusesOne (IsAcceptedIn has_front model) (refuses model) t u stop.0 stop.1

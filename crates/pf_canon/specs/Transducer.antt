@@ -1,5 +1,5 @@
 -- A transducer after some bytes.
-use Rattle.std.specs.Prelude.{◌≡◌, ◌≢◌, ℕ, ◌+◌, ◌-◌, ◌*◌, ◌<◌, ◌≤◌, ◌^◌, List, [], ◌∷◌, ◌++◌, length, take, drop, Result, Ok, Err, ◌⊎◌}
+use Rattle.std.specs.Prelude.{◌≡◌, ◌≢◌, ℕ, ◌+◌, ◌*◌, ◌<◌, ◌≤◌, ◌^◌, List, [], ◌∷◌, ◌++◌, length, Result, Ok, Err, ◌⊎◌}
 use Rattle.pf_values.specs.declared.models.Model.{Model}
 use Rattle.pf_values.specs.declared.refusals.RefusalKind.{RefusalKind}
 use Rattle.pf_values.specs.declared.refusals.RefusalKind.TheVariants.{Truncated}
@@ -14,11 +14,8 @@ use Rattle.pf_text.specs.declared.scanner.Scanner.{Scanner}
 use Rattle.pf_text.specs.declared.scanner.Step.{Step}
 use Rattle.pf_text.specs.declared.scanner.Step.TheVariants as steps
 use Rattle.pf_text.specs.History.{IsAfter, IsLiteral, with_step}
-use Rattle.pf_text.specs.History as scanned
 use Rattle.pf_canon.specs.declared.output.Output.{Output}
-use Rattle.pf_canon.specs.declared.chunk.Chunk.{Chunk}
 use Rattle.pf_canon.specs.declared.output.StepOutput.{StepOutput}
-use Rattle.pf_canon.specs.declared.chunk.ChunkRefusal.{ChunkRefusal}
 use Rattle.pf_canon.specs.declared.output.StepOutput.TheVariants as outputs
 use Rattle.pf_canon.specs.declared.transducer.Transducer.{Transducer}
 use Rattle.pf_canon.specs.Answers.{most_len}
@@ -68,10 +65,6 @@ PutsBytes given old new before after bytes = (more : Text) × given old new more
     × ((model : Model) (t out : Text) (items : List Item) → IsThrough model before t items out
     → (now : List Item) × IsThrough model after (t ++ bytes) now (out ++ more))
 
--- in its data model, it took the first `at` bytes of a text, which settle `out`
-abbrev pub IsUpTo : Transducer → Text → ℕ → Text → Type 0
-IsUpTo r text at out = (at ≤ length text) × (items : List Item) × IsThrough r.model r (take at text) items out
-
 -- the item that a step ends, if it does
 abbrev pub more_of : Step → List Item
 more_of steps.More = []
@@ -79,30 +72,11 @@ more_of (steps.Byte b) = Byte b ∷ []
 more_of steps.Percent = Byte percent ∷ []
 more_of (steps.Directive d) = Directive d ∷ []
 
--- what a step settled, where this is its literal byte
-abbrev pub step_output_text : StepOutput → Text → Text
-step_output_text outputs.Nothing literal = []
-step_output_text outputs.Literal literal = literal
-step_output_text (outputs.Output output) literal = output_text output
-
 -- what a byte settled
 abbrev pub byte_output_text : StepOutput → ℕ → Text
-byte_output_text output byte = step_output_text output (byte ∷ [])
-
--- what the item settled that ends a chunk at the front of a text
-abbrev pub item_output_text : Chunk → Text → Text
-item_output_text chunk text =
-    step_output_text chunk.item_output (take (chunk.len - chunk.start) (drop chunk.start text))
-
--- and the whole chunk
-abbrev pub chunk_output_text : Chunk → Text → Text
-chunk_output_text chunk text = take chunk.verbatim_len text ++ item_output_text chunk text
-
-pub record IsChunkWithin (chunk : Chunk) (text : Text) : Type 0 where
-  pub some : 0 < chunk.len
-  pub verbatim_len : chunk.verbatim_len ≤ chunk.len
-  pub start : chunk.start ≤ chunk.len
-  pub len : chunk.len ≤ length text
+byte_output_text outputs.Nothing byte = []
+byte_output_text outputs.Literal byte = byte ∷ []
+byte_output_text (outputs.Output output) byte = output_text output
 
 -- one more byte was taken
 pub record GrowsByByte (model : Model) (t : Text) (items : List Item) (out : Text) (byte : ℕ)
@@ -140,13 +114,6 @@ SettlesDirective model s items rest out held output still = held < 2 ^ 63
     → IsMaking model out held items (Directive s ∷ rest)
     → IsMaking model (out ++ output_text output) still items rest
 
--- a chunk at the front of a text was taken
-pub record GrowsByChunk (model : Model) (t out text : Text) (chunk : Chunk)
-    (new : Transducer) : Type 0 where
-  pub items : List Item
-  pub through : IsThrough model new (t ++ take chunk.len text) items
-      (out ++ chunk_output_text chunk text)
-
 -- The byte `last` of a text that follows `t` is refused, and what comes before it settles `out`.
 pub record RefusesBlock (model : Model) (t out text : Text) (refusal : Refusal) : Type 0 where
   pub fed : Text
@@ -163,45 +130,6 @@ pub record RefusesBlock (model : Model) (t out text : Text) (refusal : Refusal) 
 abbrev pub TakesBlock : Model → Text → Text → Text → Result (Unit {0}) Refusal → Transducer → Type 0
 TakesBlock model t out block (Ok done) new = (items : List Item) × IsThrough model new (t ++ block) items out
 TakesBlock model t out block (Err refusal) new = RefusesBlock model t out block refusal
-
--- the same, where the first bytes are their own canonical text, and the others settle nothing
-abbrev pub RefusesChunk : Model → Text → Text → Text → ChunkRefusal → Type 0
-RefusesChunk model t out text stop =
-    RefusesBlock model t (out ++ take stop.verbatim_len text) text stop.refusal
-
-abbrev pub TakesChunk : Model → Text → Text → Text → Result Chunk ChunkRefusal → Transducer → Type 0
-TakesChunk model t out text (Ok chunk) new = GrowsByChunk model t out text chunk new
-TakesChunk model t out text (Err refused) new = RefusesChunk model t out text refused
-
--- the first `len` bytes of a text were taken, which are their own canonical text
-pub record TakesVerbatim (model : Model) (t out text : Text) (len : ℕ)
-    (new : Transducer) : Type 0 where
-  pub items : List Item
-  pub through : IsThrough model new (t ++ take len text) items (out ++ take len text)
-
--- The scanner took the text up to the byte at the offset `at`, inclusive, for which it made this
--- step. Nothing is settled by that yet.
-pub record HasScannedByte (model : Model) (r : Transducer) (t : Text) (items : List Item)
-    (out text : Text) (at : ℕ) (step : Step) : Type 0 where
-  pub before : Transducer
-  pub byte : ℕ
-  pub first : drop at text ≡ byte ∷ drop (at + 1) text
-  pub through : IsThrough model before (t ++ take at text) items out
-  pub model_is : r.model ≡ before.model
-  pub held : r.silents ≡ before.silents
-  pub takes : scanned.Takes (t ++ take at text) items byte step r.scanner
-
--- the first `len` bytes of a text were taken, which are a directive that settles `settled`
-pub record GrowsByDirective (model : Model) (t out text : Text) (len : ℕ) (settled : Text)
-    (new : Transducer) : Type 0 where
-  pub items : List Item
-  pub through : IsThrough model new (t ++ take len text) items (out ++ settled)
-
--- a text was taken to its end, or is refused, and this is what its whole items settle
-abbrev pub TakesText : Model → Text → Text → Result Transducer Refusal → Type 0
-TakesText model t out (Ok new) = (items : List Item) × IsThrough model new t items out
-TakesText model t out (Err refusal) =
-    IsRefusedAt t refusal.kind refusal.at × SettlesWhole model t out
 
 -- the text is whole, and with these bytes its canonical text
 abbrev pub SettlesEnd : Model → Text → List Item → Text → Result Output Refusal → Type 0

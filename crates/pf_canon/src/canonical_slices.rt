@@ -1,40 +1,77 @@
 //! The canonical text of a format in memory, slice by slice.
-ghost use Rattle.std.specs.Prelude.{◌≡◌, ◌≢◌, List, MatchBool, ◌++◌, ◌+◌, ◌≤◌, ◌<◌, [], None, length, take, drop, MatchResult};
-ghost use Rattle.pf_values.specs.meaning.Items.{Item};
-ghost use Rattle.pf_values.specs.meaning.Refusals.{IsRefusedAt};
+ghost use Rattle.std.specs.Prelude.{◌≡◌, ◌≢◌, MatchBool, ◌++◌, ◌+◌, ◌≤◌, ◌<◌, [], None, drop, length, take, MatchResult};
+ghost use Rattle.pf_values.specs.declared.models.Model.{Model as ModelOf};
 ghost use Rattle.pf_values.specs.meaning.Text.{Text};
-ghost use Rattle.pf_values.specs.declared.models.Model.{Model};
+ghost use Rattle.pf_text.specs.FoundDirectives.{BeginsNoItem, IsFoundAt};
+ghost use Rattle.pf_text.specs.Walks.{IsWalk};
+ghost use Rattle.pf_canon.specs.Making.{IsBetweenRuns, IsVerbatimAfter};
+ghost use Rattle.pf_canon.specs.ChangedDirectives.{between};
 ghost use Rattle.pf_canon.specs.Output.{IsFrontOf};
-ghost use Rattle.pf_canon.specs.Transducer.{IsChunkWithin, IsThrough, chunk_output_text};
-ghost use Rattle.pf_canon.specs.CanonicalSlices.{IsAcceptedAs, IsMidway, IsTakenWhole, SlicesHaveGiven, to_come, to_take, pending_of};
+ghost use Rattle.pf_canon.specs.CanonicalSlices.{AreSlices, IsPlaceIn, IsTakenWhole, SlicesHaveGiven, to_come, to_take, pending_of};
 
-use crate::chunk::Chunk;
-use crate::output::{PendingOutput, StepOutput};
-use crate::transducer::Transducer;
-use pf_text::Refusal;
+use crate::items::{put_items, run_end};
+use crate::languages::{Language, check_from};
+use crate::output::{Output, PendingOutput, settle};
+use crate::sink::ByteCount;
+use pf_text::{Canonical, FoundDirective, Percents, Refusal, Spelling, Walk, directive_at};
+use pf_values::Model;
+
+/// Where the reading of a text stands: up to this offset it is whole items, and so many silent directives
+/// aren't written yet.
+#[derive(Clone, Copy, Debug)]
+pub(crate) struct Place {
+    at: usize,
+    held: u64,
+}
+
+/// The place up to which a text is whole items. What begins there may end behind the text, which may be a
+/// part of a longer one.
+#[inline(always)]
+pub(crate) fn place_in<L: Language>(model: Model, text: &[u8]) -> Place
+    ensures { (out : Text) × IsPlaceIn L.has_front model text.now result out }
+{
+    let mut count = ByteCount { len: 0 };
+    let walk = Walk::new(text);
+    let mut from = 0;
+    loop {
+        let mut rest = walk;
+        rest.at = run_end::<Canonical>(walk, from);
+        let (at, held) = put_items(model, rest, from, &mut count);
+        match L::other_at(model, text, at) {
+            Ok(Some(other)) => from = other.stop,
+            Ok(None) => return Place { at, held },
+            Err(_) => return Place { at, held },
+        }
+    }
+}
 
 /// The canonical text of a format in memory, given slice by slice. Of what is settled the last
 /// bytes are pending: bytes of the format as they are, and then an output.
 #[derive(Drop)]
 pub(crate) struct CanonicalSlices<'a> {
-    transducer: Transducer,
-    rest: &'a [u8],
+    model: Model,
+    text: &'a [u8],
+    walk: Walk<'a>,
+    held: u64,
     bytes: &'a [u8],
     output: PendingOutput,
     end: Option<Result<(), Refusal>>,
 }
 
 impl<'a> CanonicalSlices<'a> {
-    /// The slices that follow, if all that the transducer settled was given, and `rest` is not
-    /// taken.
-    pub(crate) fn new(transducer: Transducer, rest: &'a [u8]) -> CanonicalSlices<'a>
-        ensures { (model : Model) (text given : Text)
-            → IsMidway model transducer rest.now [] text given
-            → SlicesHaveGiven model result text given }
+    /// The slices after a place, up to which all that was settled was given.
+    #[inline(always)]
+    pub(crate) fn new<L: Language>(model: Model, text: &'a [u8], place: Place) -> CanonicalSlices<'a>
+        ensures { (given : Text) → IsPlaceIn L.has_front model text.now place given
+            → SlicesHaveGiven L.has_front L.refuses model result text.now given }
     {
+        let mut walk = Walk::new(text);
+        walk.at = place.at;
         CanonicalSlices {
-            transducer,
-            rest,
+            model,
+            text,
+            walk,
+            held: place.held,
             bytes: &[],
             output: PendingOutput::Nothing,
             end: None,
@@ -42,10 +79,11 @@ impl<'a> CanonicalSlices<'a> {
     }
 
     /// Takes more, until something is pending or the text is at its end or refused.
-    pub(crate) fn fill(&mut self)
-        ensures given { (model : Model) (text given : Text)
-            → SlicesHaveGiven model self.old text given
-            → SlicesHaveGiven model self.new text given }
+    pub(crate) fn fill<L: Language>(&mut self)
+        requires { AreSlices L.has_front L.refuses self.old }
+        ensures given { (model : ModelOf) (text given : Text)
+            → SlicesHaveGiven L.has_front L.refuses model self.old text given
+            → SlicesHaveGiven L.has_front L.refuses model self.new text given }
         ensures some { pending_of self.new ≡ [] → self.new.end ≢ None }
         ensures fewer { to_come self.new ≤ to_come self.old }
     {
@@ -53,7 +91,7 @@ impl<'a> CanonicalSlices<'a> {
             if self.end.is_some() {
                 return;
             }
-            self.take();
+            self.take::<L>();
         }
     }
 
@@ -68,10 +106,10 @@ impl<'a> CanonicalSlices<'a> {
     }
 
     /// Gives the first `count` of the bytes that are pending, or all if there are fewer.
-    pub(crate) fn skip(&mut self, count: usize)
-        ensures given { (model : Model) (text given : Text)
-            → SlicesHaveGiven model self.old text given
-            → SlicesHaveGiven model self.new text (given ++ take count (pending_of self.old)) }
+    pub(crate) fn skip<L: Language>(&mut self, count: usize)
+        ensures given { (model : ModelOf) (text given : Text)
+            → SlicesHaveGiven L.has_front L.refuses model self.old text given
+            → SlicesHaveGiven L.has_front L.refuses model self.new text (given ++ take count (pending_of self.old)) }
         ensures fewer { count ≤ length (pending_of self.old)
             → to_come self.new + count ≤ to_come self.old }
     {
@@ -82,144 +120,121 @@ impl<'a> CanonicalSlices<'a> {
     }
 
     /// Reads the text to its end, and returns its refusal if it has one.
-    pub(crate) fn finish(&self) -> Result<(), Refusal>
-        ensures { (model : Model) (text given : Text)
-            → SlicesHaveGiven model self.now text given
-            → MatchResult result (λ _. IsTakenWhole model self.now text given)
-            (λ refusal. IsRefusedAt text refusal.kind refusal.at) }
+    pub(crate) fn finish<L: Language>(&self) -> Result<(), Refusal>
+        requires { AreSlices L.has_front L.refuses self.now }
+        ensures { (model : ModelOf) (text given : Text)
+            → SlicesHaveGiven L.has_front L.refuses model self.now text given
+            → MatchResult result (λ _. IsTakenWhole L.has_front model self.now text given)
+            (λ refusal. L.refuses model text refusal.kind refusal.at) }
     {
         match self.end {
             Some(end) => end,
-            None => finish_rest(self.transducer, self.rest),
+            None => check_from::<L>(self.model, self.text, self.walk),
         }
     }
 
-    // Takes the next chunk, or the end.
-    fn take(&mut self)
+    // Takes the verbatim bytes that come; or if there are none, an item, or the end.
+    fn take<L: Language>(&mut self)
+        requires slices { AreSlices L.has_front L.refuses self.old }
         requires open { self.old.end ≡ None }
         requires none { pending_of self.old ≡ [] }
-        ensures given { (model : Model) (text given : Text)
-            → SlicesHaveGiven model self.old text given
-            → SlicesHaveGiven model self.new text given }
+        ensures given { (model : ModelOf) (text given : Text)
+            → SlicesHaveGiven L.has_front L.refuses model self.old text given
+            → SlicesHaveGiven L.has_front L.refuses model self.new text given }
         ensures less { to_take self.new < to_take self.old }
         ensures fewer { to_come self.new ≤ to_come self.old }
     {
-        if self.rest.is_empty() {
-            self.take_end();
+        if self.take_verbatim::<L>() {
             return;
         }
-        if self.take_verbatim() {
-            return;
+        match directive_at(self.walk.text(), self.walk.at) {
+            Some(found) => self.take_directive::<L>(&found),
+            None => self.take_other::<L>(),
         }
-        self.take_chunk();
     }
 
+    // Takes the verbatim bytes that come, if there are any.
     #[inline(always)]
-    fn take_end(&mut self)
+    fn take_verbatim<L: Language>(&mut self) -> bool
+        requires slices { AreSlices L.has_front L.refuses self.old }
         requires open { self.old.end ≡ None }
         requires none { pending_of self.old ≡ [] }
-        requires end { self.old.rest.now ≡ [] }
-        ensures given { (model : Model) (text given : Text)
-            → SlicesHaveGiven model self.old text given
-            → SlicesHaveGiven model self.new text given }
+        ensures given { (model : ModelOf) (text given : Text)
+            → SlicesHaveGiven L.has_front L.refuses model self.old text given
+            → SlicesHaveGiven L.has_front L.refuses model self.new text given }
+        ensures taken { MatchBool result (to_take self.new < to_take self.old)
+            ((self.new ≡ self.old) × IsBetweenRuns self.old.walk.text.now self.old.walk.at) }
+        ensures fewer { to_come self.new ≤ to_come self.old }
+    {
+        let from = self.walk.at;
+        let stop = self.verbatim_end();
+        if stop == from {
+            return false;
+        }
+        let text = self.walk.text();
+        self.bytes = &text[from..stop];
+        self.walk.at = stop;
+        true
+    }
+
+    // Where the verbatim bytes end that come: after silent directives that are held they are literal bytes and
+    // `%%` alone.
+    #[inline(always)]
+    fn verbatim_end(&self) -> usize
+        requires walk { IsWalk self.now.walk }
+        requires within { self.now.walk.at ≤ length self.now.walk.text.now }
+        ensures within { (self.now.walk.at ≤ result) × (result ≤ length self.now.walk.text.now) }
+        ensures next { IsBetweenRuns self.now.walk.text.now result }
+        ensures written { IsVerbatimAfter self.now.model self.now.held (between self.now.walk.at result self.now.walk.text.now) }
+    {
+        if self.held > 0 {
+            return run_end::<Percents>(self.walk, self.walk.at);
+        }
+        run_end::<Canonical>(self.walk, self.walk.at)
+    }
+
+    // Takes a directive of the profile.
+    #[inline(always)]
+    fn take_directive<L: Language>(&mut self, found: &FoundDirective)
+        requires slices { AreSlices L.has_front L.refuses self.old }
+        requires open { self.old.end ≡ None }
+        requires none { pending_of self.old ≡ [] }
+        requires found { IsFoundAt self.old.walk.text.now self.old.walk.at found.now }
+        ensures given { (model : ModelOf) (text given : Text)
+            → SlicesHaveGiven L.has_front L.refuses model self.old text given
+            → SlicesHaveGiven L.has_front L.refuses model self.new text given }
         ensures less { to_take self.new < to_take self.old }
         ensures fewer { to_come self.new ≤ to_come self.old }
     {
-        match self.transducer.finish() {
-            Ok(output) => {
-                self.output = PendingOutput::of(output);
+        let output = settle(self.model, &found.directive, &mut self.held);
+        self.output = PendingOutput::of(output);
+        self.walk.at = found.stop;
+    }
+
+    // Takes an item that the profile lacks, or the end.
+    #[inline(always)]
+    fn take_other<L: Language>(&mut self)
+        requires slices { AreSlices L.has_front L.refuses self.old }
+        requires open { self.old.end ≡ None }
+        requires none { pending_of self.old ≡ [] }
+        requires stops { BeginsNoItem (drop self.old.walk.at self.old.walk.text.now) }
+        ensures given { (model : ModelOf) (text given : Text)
+            → SlicesHaveGiven L.has_front L.refuses model self.old text given
+            → SlicesHaveGiven L.has_front L.refuses model self.new text given }
+        ensures less { to_take self.new < to_take self.old }
+        ensures fewer { to_come self.new ≤ to_come self.old }
+    {
+        match L::other_at(self.model, self.text, self.walk.at) {
+            Ok(Some(other)) => {
+                self.output = PendingOutput::of(Output::spelled(self.held, other.spelling));
+                self.held = 0;
+                self.walk.at = other.stop;
+            }
+            Ok(None) => {
+                self.output = PendingOutput::of(Output::spelled(self.held, Spelling::new()));
                 self.end = Some(Ok(()));
             }
             Err(refusal) => self.end = Some(Err(refusal)),
         }
-    }
-
-    // Takes the verbatim bytes at the front of the rest, if there are any. It leaves the automaton
-    // alone, and most texts need nothing else.
-    #[inline(always)]
-    fn take_verbatim(&mut self) -> bool
-        requires open { self.old.end ≡ None }
-        requires none { pending_of self.old ≡ [] }
-        ensures given { (model : Model) (text given : Text)
-            → SlicesHaveGiven model self.old text given
-            → SlicesHaveGiven model self.new text given }
-        ensures taken { MatchBool result (to_take self.new < to_take self.old)
-            ((pending_of self.new ≡ []) × (self.new.rest.now ≡ self.old.rest.now)) }
-        ensures end { self.new.end ≡ self.old.end }
-        ensures fewer { to_come self.new ≤ to_come self.old }
-    {
-        let rest = self.rest;
-        let verbatim_len = self.transducer.pass_verbatim(rest);
-        if verbatim_len == 0 {
-            return false;
-        }
-        self.bytes = &rest[..verbatim_len];
-        self.rest = &rest[verbatim_len..];
-        true
-    }
-
-    // Takes a chunk that has no verbatim bytes.
-    #[inline(always)]
-    fn take_chunk(&mut self)
-        requires open { self.old.end ≡ None }
-        requires none { pending_of self.old ≡ [] }
-        requires some { 0 < length self.old.rest.now }
-        ensures given { (model : Model) (text given : Text)
-            → SlicesHaveGiven model self.old text given
-            → SlicesHaveGiven model self.new text given }
-        ensures less { to_take self.new < to_take self.old }
-        ensures fewer { to_come self.new ≤ to_come self.old }
-    {
-        // A copy, which lies in registers.
-        let mut transducer = self.transducer;
-        match transducer.finish_chunk(self.rest, 0) {
-            Ok(chunk) => {
-                self.transducer = transducer;
-                self.keep(chunk);
-            }
-            Err(refused) => self.end = Some(Err(refused.refusal)),
-        }
-    }
-
-    // Makes pending what the first chunk of the rest settles.
-    #[inline(always)]
-    fn keep(&mut self, chunk: Chunk)
-        requires none { pending_of self.old ≡ [] }
-        requires within { IsChunkWithin chunk self.old.rest.now }
-        requires item { chunk.verbatim_len ≡ 0 }
-        ensures pending { pending_of self.new ≡ chunk_output_text chunk self.old.rest.now }
-        ensures rest { self.new.rest.now ≡ drop chunk.len self.old.rest.now }
-        ensures transducer { self.new.transducer ≡ self.old.transducer }
-        ensures end { self.new.end ≡ self.old.end }
-    {
-        let Chunk {
-            verbatim_len: _,
-            start,
-            len,
-            item_output,
-        } = chunk;
-        let text = self.rest;
-        self.rest = &text[len..];
-        match item_output {
-            StepOutput::Nothing => {}
-            StepOutput::Literal => self.bytes = &text[start..len],
-            StepOutput::Output(output) => self.output = PendingOutput::of(output),
-        }
-    }
-}
-
-/// Reads the rest of a text to its end, and returns the text's refusal if it has one.
-pub(crate) fn finish_rest(transducer: Transducer, rest: &[u8]) -> Result<(), Refusal>
-    ensures { (model : Model) (t out : Text) (items : List Item)
-        → IsThrough model transducer t items out
-        → MatchResult result (λ _. (more : Text) × IsAcceptedAs model (t ++ rest.now) (out ++ more))
-        (λ refusal. IsRefusedAt (t ++ rest.now) refusal.kind refusal.at) }
-{
-    match transducer.passed(rest) {
-        Ok(passed) => match passed.finish() {
-            Ok(_) => Ok(()),
-            Err(refusal) => Err(refusal),
-        },
-        Err(refusal) => Err(refusal),
     }
 }

@@ -6,15 +6,15 @@ ghost use Rattle.pf_values.specs.meaning.Text.{Text};
 ghost use Rattle.pf_canon.specs.Comparison.{AreCommon, AreTextsSame, CountsBehind, CountsSides, EndsBoth, HaveCommon, IsFilledInStep, IsInStep, StopsSide, TextStops};
 ghost use Rattle.pf_canon.specs.CanonicalBytes.{AnswerLeaves, History, IsFilled, pending_in, units};
 ghost use Rattle.pf_canon.specs.CanonicalSlices.{AreApart, GoInStep, SlicesHaveGiven};
+ghost use Rattle.pf_canon.specs.Languages.{AreSameIn, StopsIn};
 
 use crate::canonical_bytes::{ByteSource, ByteTransducer};
-use crate::canonical_slices::CanonicalSlices;
+use crate::canonical_slices::{CanonicalSlices, place_in};
 use crate::common_prefix::common_prefix_len;
-use crate::early_difference::{differ_after, take_other_types};
-use crate::early_refusal::{item_start, refusal_of_item};
+use crate::early_difference::differ_after;
 use crate::faults::{SideFault, StreamFault};
-use crate::transducer::Transducer;
-use pf_text::{Refusal, Side, check};
+use crate::languages::{Language, Profile, check_from};
+use pf_text::{Refusal, Side, Walk};
 use pf_values::{Counted, Model};
 use std::io::Read;
 
@@ -44,11 +44,27 @@ pub fn same_stream<R: Read, S: Read>(
 pub fn same_text(model: Model, first: &[u8], second: &[u8]) -> Result<bool, (Side, Refusal)>
     ensures { MatchResult result (AreTextsSame model first.now second.now) (TextStops first.now second.now) }
 {
+    same_text_in::<Profile>(model, first, second)
+}
+
+/// Returns whether two formats have one canonical text in a language. `Err` if a text is refused: with the
+/// first text's refusal if it has one. Allocates nothing.
+pub fn same_text_in<L: Language>(
+    model: Model,
+    first: &[u8],
+    second: &[u8],
+) -> Result<bool, (Side, Refusal)>
+    ensures { MatchResult result (AreSameIn L.has_front model first.now second.now)
+        (StopsIn L.has_front L.refuses model first.now second.now) }
+{
     let common = common_prefix_len(first, second);
     if are_all(first, second, common) {
-        return same_itself(first);
+        return same_itself::<L>(model, first);
     }
-    same_others(model, first, second, common)
+    if differ_after(model, first, second, common) {
+        return Ok(false);
+    }
+    same_after_common::<L>(model, first, second, common)
 }
 
 // Whether the first `common` bytes of two texts, which are equal, are all of both.
@@ -60,36 +76,12 @@ fn are_all(first: &[u8], second: &[u8], common: usize) -> bool
     common == first.len() && common == second.len()
 }
 
-// Compares two texts that differ after their first `common` bytes.
-#[inline(always)]
-fn same_others(
-    model: Model,
-    first: &[u8],
-    second: &[u8],
-    common: usize,
-) -> Result<bool, (Side, Refusal)>
-    requires { AreCommon first.now second.now common }
-    ensures { MatchResult result (AreTextsSame model first.now second.now) (TextStops first.now second.now) }
-{
-    let start = item_start(first, common);
-    if start == common {
-        if differ_after(model, first, second, common) {
-            return Ok(false);
-        }
-    } else if let Some(refusal) = refusal_of_item(first, second, start) {
-        return Err((Side::Second, refusal));
-    } else if take_other_types(model, first, second) {
-        return Ok(false);
-    }
-    same_after_common(model, first, second, common)
-}
-
 // Compares a text with itself: it is accepted, or refused.
-fn same_itself(text: &[u8]) -> Result<bool, (Side, Refusal)>
-    ensures { (model : ModelOf) → MatchResult result (AreTextsSame model text.now text.now)
-        (TextStops text.now text.now) }
+fn same_itself<L: Language>(model: Model, text: &[u8]) -> Result<bool, (Side, Refusal)>
+    ensures { MatchResult result (AreSameIn L.has_front model text.now text.now)
+        (StopsIn L.has_front L.refuses model text.now text.now) }
 {
-    match check(text) {
+    match check_from::<L>(model, text, Walk::new(text)) {
         Ok(()) => Ok(true),
         Err(refusal) => Err((Side::First, refusal)),
     }
@@ -97,58 +89,48 @@ fn same_itself(text: &[u8]) -> Result<bool, (Side, Refusal)>
 
 // Compares two texts whose first `common` bytes are equal. These are read once.
 #[inline(never)]
-fn same_after_common(
+fn same_after_common<L: Language>(
     model: Model,
     first: &[u8],
     second: &[u8],
     common: usize,
 ) -> Result<bool, (Side, Refusal)>
     requires { AreCommon first.now second.now common }
-    ensures { MatchResult result (AreTextsSame model first.now second.now) (TextStops first.now second.now) }
+    ensures { MatchResult result (AreSameIn L.has_front model first.now second.now)
+        (StopsIn L.has_front L.refuses model first.now second.now) }
 {
-    let (mut first_slices, mut second_slices) = slices_of(model, first, second, common);
-    let same = go_in_step(&mut first_slices, &mut second_slices);
-    if let Err(refusal) = first_slices.finish() {
+    let place = place_in::<L>(model, &first[..common]);
+    let mut first_slices = CanonicalSlices::new::<L>(model, first, place);
+    let mut second_slices = CanonicalSlices::new::<L>(model, second, place);
+    let same = go_in_step::<L>(&mut first_slices, &mut second_slices);
+    if let Err(refusal) = first_slices.finish::<L>() {
         return Err((Side::First, refusal));
     }
-    if let Err(refusal) = second_slices.finish() {
+    if let Err(refusal) = second_slices.finish::<L>() {
         return Err((Side::Second, refusal));
     }
     Ok(same)
 }
 
-// The canonical slices of two texts whose first `common` bytes are equal.
-#[inline(always)]
-fn slices_of<'a>(
-    model: Model,
-    first: &'a [u8],
-    second: &'a [u8],
-    common: usize,
-) -> (CanonicalSlices<'a>, CanonicalSlices<'a>)
-    requires { AreCommon first.now second.now common }
-    ensures { (given : Text) × SlicesHaveGiven model result.0 first.now given
-        × SlicesHaveGiven model result.1 second.now given }
-{
-    let (transducer, at) = Transducer::after_chunks(model, &first[..common]);
-    let first_slices = CanonicalSlices::new(transducer, &first[at..]);
-    let second_slices = CanonicalSlices::new(transducer, &second[at..]);
-    (first_slices, second_slices)
-}
-
 // Gives the bytes that two canonical texts have in common, and returns whether both ended there.
-fn go_in_step(first: &mut CanonicalSlices<'_>, second: &mut CanonicalSlices<'_>) -> bool
-    ensures { (model : Model) (f g given : Text) → SlicesHaveGiven model first.old f given
-        → SlicesHaveGiven model second.old g given
-        → GoInStep model first.new f second.new g result }
+fn go_in_step<L: Language>(
+    first: &mut CanonicalSlices<'_>,
+    second: &mut CanonicalSlices<'_>,
+) -> bool
+    requires { (model : ModelOf) × (f g given : Text) × SlicesHaveGiven L.has_front L.refuses model first.old f given
+        × SlicesHaveGiven L.has_front L.refuses model second.old g given }
+    ensures { (model : ModelOf) (f g given : Text) → SlicesHaveGiven L.has_front L.refuses model first.old f given
+        → SlicesHaveGiven L.has_front L.refuses model second.old g given
+        → GoInStep L.has_front L.refuses model first.new f second.new g result }
 {
     loop {
-        first.fill();
-        second.fill();
+        first.fill::<L>();
+        second.fill::<L>();
         match common_front(first.front(), second.front()) {
             Some(0) => return true,
             Some(count) => {
-                first.skip(count);
-                second.skip(count);
+                first.skip::<L>(count);
+                second.skip::<L>(count);
             }
             None => return false,
         }

@@ -1,7 +1,8 @@
 //! Texts that are known to differ without their canonical texts.
-ghost use Rattle.std.specs.Prelude.{◌≢◌, ◌≤◌, length, take, IsTrue, false};
+ghost use Rattle.std.specs.Prelude.{◌≡◌, ◌≢◌, ◌⊎◌, ◌<◌, ◌≤◌, get_or, length, take, IsTrue, false};
 ghost use Rattle.pf_values.specs.declared.limits.TheConstants.{MAX_TEXT_LEN as LIMIT};
 ghost use Rattle.pf_values.specs.meaning.Items.{IsAccepted};
+ghost use Rattle.pf_values.specs.meaning.Text.{percent};
 ghost use Rattle.pf_text.specs.History.{IsLiteral};
 ghost use Rattle.pf_canon.specs.Comparison.{AreCommon, AreTextsSame, BeginApart};
 
@@ -11,7 +12,7 @@ use pf_values::{ArgType, Model};
 
 /// Whether two texts whose first `common` bytes are equal are known to differ. Either these are whole
 /// items, and then come different ordinary characters, or one text ends: so they print different bytes
-/// for all arguments. Or one goes on with `%`, and they take arguments of different types. False if
+/// for all arguments. Or they differ in a directive, and take arguments of different types. False if
 /// neither is so, or if a text is refused.
 #[inline(always)]
 pub(crate) fn differ_after(model: Model, first: &[u8], second: &[u8], common: usize) -> bool
@@ -20,7 +21,7 @@ pub(crate) fn differ_after(model: Model, first: &[u8], second: &[u8], common: us
 {
     let first_rest = &first[common..];
     let second_rest = &second[common..];
-    if !begin_apart(first_rest, second_rest) {
+    if item_start(first, common) != common || !begin_apart(first_rest, second_rest) {
         return take_other_types(model, first, second);
     }
     if !is_short(first) || !is_short(second) || !are_items(first, common) {
@@ -32,12 +33,57 @@ pub(crate) fn differ_after(model: Model, first: &[u8], second: &[u8], common: us
     is_rest(second_rest)
 }
 
+/// Returns the offset of the directive that has an offset inside it, or that offset if none seems to have it:
+/// a `%`, with bytes after it that may come before a conversion. This is a guess from the bytes before the
+/// offset, so the caller verifies it.
+#[inline(always)]
+pub fn item_start(text: &[u8], at: usize) -> usize
+    requires { at ≤ length text.now }
+    ensures before { result ≤ at }
+    ensures percent { result < at → get_or text.now result 0 ≡ percent }
+{
+    let mut start = at;
+    while start > 0 {
+        start -= 1;
+        let byte = text[start];
+        if byte == b'%' {
+            return start_by_percent(text, start, at);
+        }
+        if !may_be_within(byte) {
+            return at;
+        }
+    }
+    at
+}
+
+// The offset of the directive that the `%` at an offset begins, or `at` if it may end `%%`.
+#[inline(always)]
+fn start_by_percent(text: &[u8], offset: usize, at: usize) -> usize
+    requires within { offset < length text.now }
+    requires before { offset ≤ at }
+    ensures { (result ≡ at) ⊎ (result ≡ offset) }
+{
+    if offset > 0 && text[offset - 1] == b'%' {
+        return at;
+    }
+    offset
+}
+
+// Whether a byte may come before the conversion of a directive.
+#[inline(always)]
+fn may_be_within(byte: u8) -> bool {
+    matches!(
+        byte,
+        b' ' | b'#' | b'\'' | b'+' | b'-' | b'.' | b'0'..=b'9' | b'h' | b'j' | b'l' | b't' | b'z'
+    )
+}
+
 // The most arguments whose types are compared.
 const COMPARED: usize = 32;
 
-/// Whether two texts are known to be accepted, and to take arguments of different types.
+// Whether two texts are known to be accepted, and to take arguments of different types.
 #[inline(never)]
-pub(crate) fn take_other_types(model: Model, first: &[u8], second: &[u8]) -> bool
+fn take_other_types(model: Model, first: &[u8], second: &[u8]) -> bool
     ensures { IsTrue result → AreTextsSame model first.now second.now false }
 {
     let mut first_types = [ArgType::Int; COMPARED];
@@ -58,9 +104,9 @@ fn are_unequal(first: &[ArgType], second: &[ArgType]) -> bool
     first != second
 }
 
-/// Whether the first `len` bytes of a text are whole items. 0 bytes are, without a look.
+// Whether the first `len` bytes of a text are whole items. 0 bytes are, without a look.
 #[inline(always)]
-pub(crate) fn are_items(text: &[u8], len: usize) -> bool
+fn are_items(text: &[u8], len: usize) -> bool
     requires { len ≤ length text.now }
     ensures { IsTrue result → IsAccepted (take len text.now) }
 {
@@ -89,10 +135,10 @@ fn is_literal(byte: u8) -> bool
     byte != b'%' && byte != 0
 }
 
-/// Whether a text is known to be accepted.
+// Whether a text is known to be accepted.
 // Never inlined, since three texts are checked.
 #[inline(never)]
-pub(crate) fn is_format(text: &[u8]) -> bool
+fn is_format(text: &[u8]) -> bool
     ensures { IsTrue result → IsAccepted text.now }
 {
     items_end(text) == text.len()
@@ -111,9 +157,9 @@ fn begin_apart(first: &[u8], second: &[u8]) -> bool
     }
 }
 
-/// Whether a text isn't longer than a format may be.
+// Whether a text isn't longer than a format may be.
 #[inline(always)]
-pub(crate) fn is_short(text: &[u8]) -> bool
+fn is_short(text: &[u8]) -> bool
     ensures { IsTrue result → length text.now ≤ LIMIT }
 {
     text.len() as u64 <= MAX_TEXT_LEN

@@ -1,25 +1,23 @@
 //! Canonical texts: the one spelling to which each printf format is brought.
 //!
-//! The road through a text in memory is `items`, which puts its canonical text into a `sink`; that of streams
-//! is `transducer`, over `chunk`, which takes any format in any blocks. The shortcuts, and what a call costs with
+//! The one road is `items`, which puts the canonical text of items of the profile into a `sink`: of a text in
+//! memory, up to where a language has an item of its own (`languages`), and of the whole items in a block of a
+//! stream (`transducer`). The shortcuts, and what a call costs with
 //! one and without, in instructions over 4,000 formats: `verbatim_front` sees bytes that need no change
 //! (`canonical`: 235 and 331), `changed_directives` knows directives that change little (235 and 276),
 //! `short_texts` needs no vector (235 and 273), `plain_canonical` decides most texts (`is_canonical`: 187 and
 //! 580), the buffer on the stack in `canonical_texts` saves counting (490 and 540), `early_difference` sees
-//! different bytes and types (`same` of formats with other first bytes: 408 and 1,045), and `early_refusal` a
-//! refused item (342 and 577).
+//! different bytes and types (`same` of formats with other first bytes: 408 and 1,045).
 #![tactic(auto)]
 
 mod canonical_bytes;
 mod canonical_slices;
 mod canonical_texts;
 mod changed_directives;
-mod chunk;
 mod common_prefix;
 mod comparison;
 mod copy;
 mod early_difference;
-mod early_refusal;
 mod faults;
 mod items;
 mod languages;
@@ -38,9 +36,9 @@ pub use canonical_texts::{
     is_canonical_in,
 };
 pub use common_prefix::common_prefix_len;
-pub use comparison::{same_stream, same_text};
+pub use comparison::{same_stream, same_text, same_text_in};
 pub use copy::{canonical_stream, copy_canonical};
-pub use early_refusal::item_start;
+pub use early_difference::item_start;
 pub use faults::{CopyFault, SideFault, StreamFault};
 pub use languages::{Language, OtherItem, Profile};
 pub use pf_text::{Side, TextFault as CanonFault};

@@ -1,6 +1,6 @@
 //! The output that one item settles, to be put into a sink whole, or to be given in slices or byte
 //! by byte.
-ghost use Rattle.std.specs.Prelude.{◌≡◌, ◌*◌, ◌<◌, ◌≤◌, ℕ, List, drop, flat_map, length, replicate, ◌+◌, ◌^◌};
+ghost use Rattle.std.specs.Prelude.{◌≡◌, ◌*◌, ◌++◌, ◌<◌, ◌≤◌, ℕ, List, drop, flat_map, length, replicate, ◌+◌, ◌^◌};
 ghost use Rattle.pf_values.specs.meaning.Canonical.{item_spelling};
 ghost use Rattle.pf_values.specs.meaning.Items.{Item};
 ghost use Rattle.pf_values.specs.meaning.Text.{Text};
@@ -39,6 +39,20 @@ pub(crate) struct Output {
 }
 
 impl Output {
+    /// Silent directives, and a spelling.
+    #[inline(always)]
+    pub(crate) fn spelled(count: u64, spelling: Spelling) -> Output
+        ensures { output_text result ≡ flat_map item_spelling (silents count) ++ spelling.items }
+    {
+        Output {
+            spaces: 0,
+            zeros: 0,
+            silents: count,
+            spelling,
+            trail: 0,
+        }
+    }
+
     /// Puts these bytes into a sink.
     #[inline(always)]
     pub(crate) fn put<S: Sink>(&self, sink: &mut S)

@@ -1,4 +1,4 @@
-//! A transducer of formats: it is fed a byte, a chunk or the end, and returns what that settles.
+//! A transducer of formats: it is fed a byte, a block or the end, and returns or puts what that settles.
 ghost use Rattle.std.specs.Prelude.{◌≡◌, ◌+◌, ◌*◌, ◌<◌, ◌≤◌, ℕ, List, [], ◌∷◌, ◌++◌, length, min, take, IfOk, IfSome, MatchOption, MatchResult, OnOk};
 ghost use Rattle.pf_values.specs.declared.limits.TheConstants.{MAX_TEXT_LEN};
 ghost use Rattle.pf_values.specs.meaning.Items.{Item, Reads};
@@ -9,9 +9,8 @@ ghost use Rattle.pf_canon.specs.declared.limits.TheConstants.{MAX_DIRECTIVE_LEN}
 ghost use Rattle.pf_text.specs.Walks.{IsWalk};
 ghost use Rattle.pf_canon.specs.Making.{PutsItems};
 ghost use Rattle.pf_canon.specs.Output.{output_text};
-ghost use Rattle.pf_canon.specs.Transducer.{SettlesEnd, GrowsByChunk, HasScannedByte, IsChunkWithin, IsThrough, IsUpTo, PutsBytes, RefusesBlock, TakesBlock, TakesVerbatim, TakesText, Settles, TakesByte, SettlesDirective, TakesChunk, GrowsByDirective, chunk_output_text, byte_output_text, data_model_of, more_of, scanner_of, held_silents_of};
+ghost use Rattle.pf_canon.specs.Transducer.{SettlesEnd, IsThrough, PutsBytes, RefusesBlock, TakesBlock, Settles, TakesByte, SettlesDirective, byte_output_text, data_model_of, more_of, scanner_of, held_silents_of};
 
-use crate::chunk::{Chunk, ChunkRefusal};
 use crate::items::{put_items, run_end};
 use crate::output::{Output, StepOutput, settle};
 use crate::sink::Sink;
@@ -130,27 +129,6 @@ impl Transducer {
         Ok(at)
     }
 
-    /// A transducer that took a text chunk by chunk, up to its end or to what is refused, and how
-    /// many bytes it took.
-    pub(crate) fn after_chunks(model: Model, text: &[u8]) -> (Transducer, usize)
-        ensures model { data_model_of result.0 ≡ model }
-        ensures kept { (out : Text) × IsUpTo result.0 text.now result.1 out }
-    {
-        let mut transducer = Transducer::new(model);
-        let mut at = 0;
-        while at < text.len() {
-            let mut next = transducer;
-            match next.feed_chunk(&text[at..]) {
-                Ok(chunk) => {
-                    transducer = next;
-                    at += chunk.len;
-                }
-                Err(_) => return (transducer, at),
-            }
-        }
-        (transducer, at)
-    }
-
     /// Takes one more byte, and returns what it settles.
     pub(crate) fn feed(&mut self, byte: u8) -> Result<StepOutput, Refusal>
         ensures fed { (model : Model) (t out : Text) (items : List Item)
@@ -167,163 +145,6 @@ impl Transducer {
             Ok(step) => Ok(self.settle(&step)),
             Err(refusal) => Err(refusal),
         }
-    }
-
-    /// Takes the first chunk of a text: bytes that are their own canonical text, silent directives,
-    /// and then what follows up to the end of one other item, or up to the end of the text.
-    #[inline(always)]
-    pub(crate) fn feed_chunk(&mut self, text: &[u8]) -> Result<Chunk, ChunkRefusal>
-        requires { 0 < length text.now }
-        ensures fed { (model : Model) (t out : Text) (items : List Item)
-            → IsThrough model self.old t items out
-            → TakesChunk model t out text.now result self.new }
-        ensures within { MatchResult result (λ chunk. IsChunkWithin chunk text.now)
-            (λ refused. refused.verbatim_len ≤ length text.now) }
-        ensures few { IfOk result (λ chunk.
-            length (chunk_output_text chunk text.now) + 4 * held_silents_of self.new
-            ≤ 4 * held_silents_of self.old + MAX_DIRECTIVE_LEN * chunk.len) }
-    {
-        let verbatim_len = self.pass_verbatim(text);
-        self.finish_chunk(text, verbatim_len)
-    }
-
-    /// Takes the rest of the first chunk of a text, whose verbatim bytes were taken.
-    #[inline(always)]
-    pub(crate) fn finish_chunk(
-        &mut self,
-        text: &[u8],
-        verbatim_len: usize,
-    ) -> Result<Chunk, ChunkRefusal>
-        requires some { 0 < length text.now }
-        requires verbatim_len { verbatim_len ≤ length text.now }
-        ensures fed { (model : Model) (t out : Text) (items : List Item)
-            → IsThrough model self.old (t ++ take verbatim_len text.now) items
-            (out ++ take verbatim_len text.now)
-            → TakesChunk model t out text.now result self.new }
-        ensures within { MatchResult result (λ chunk. IsChunkWithin chunk text.now)
-            (λ refused. refused.verbatim_len ≤ length text.now) }
-        ensures verbatim_len { IfOk result (λ chunk. chunk.verbatim_len ≡ verbatim_len) }
-        ensures few { IfOk result (λ chunk.
-            length (chunk_output_text chunk text.now) + 4 * held_silents_of self.new
-            ≤ 4 * held_silents_of self.old + MAX_DIRECTIVE_LEN * chunk.len) }
-    {
-        let mut at = self.pass_silents(text, verbatim_len);
-        if let Some((output, len)) = self.take_directive(&text[at..]) {
-            return Ok(Chunk {
-                verbatim_len,
-                start: at,
-                len: at + len,
-                item_output: StepOutput::Output(output),
-            });
-        }
-        while at < text.len() {
-            match self.scanner.feed(text[at]) {
-                Ok(Step::More) => at += 1,
-                Ok(step) => return Ok(self.end_chunk(text, verbatim_len, at, &step)),
-                Err(refusal) => {
-                    return Err(ChunkRefusal {
-                        verbatim_len,
-                        refusal,
-                    });
-                }
-            }
-        }
-        Ok(Chunk {
-            verbatim_len,
-            start: at,
-            len: at,
-            item_output: StepOutput::Nothing,
-        })
-    }
-
-    /// Takes the first bytes of a text that are their own canonical text, and returns how many
-    /// these are. After silent directives that aren't written yet they are literal bytes alone, and
-    /// inside an item there are none.
-    #[inline(always)]
-    pub(crate) fn pass_verbatim(&mut self, text: &[u8]) -> usize
-        ensures model { data_model_of self.new ≡ data_model_of self.old }
-        ensures held { held_silents_of self.new ≡ held_silents_of self.old }
-        ensures kept { (model : Model) (t out : Text) (items : List Item)
-            → IsThrough model self.old t items out
-            → TakesVerbatim model t out text.now result self.new }
-        ensures within { result ≤ length text.now }
-    {
-        if self.silents > 0 {
-            return self.scanner.pass_literals(text);
-        }
-        self.scanner.pass_canonical_run(text)
-    }
-
-    // Takes the silent directives that follow the verbatim bytes, without writing them. Returns the
-    // offset of the first other byte.
-    #[inline(always)]
-    fn pass_silents(&mut self, text: &[u8], verbatim_len: usize) -> usize
-        requires { verbatim_len ≤ length text.now }
-        ensures kept { (model : Model) (t out : Text) (items : List Item)
-            → IsThrough model self.old (t ++ take verbatim_len text.now) items out
-            → (now : List Item) × IsThrough model self.new (t ++ take result text.now) now out }
-        ensures within { (verbatim_len ≤ result) × (result ≤ length text.now) }
-        ensures few { 4 * held_silents_of self.new + verbatim_len
-            ≤ 4 * held_silents_of self.old + result }
-    {
-        let count = self.scanner.pass_silents(&text[verbatim_len..]);
-        self.silents = self.silents.saturating_add(count as u64);
-        verbatim_len + 4 * count
-    }
-
-    // The chunk that ends with the byte at `at`, for which the scanner made this step.
-    #[inline(always)]
-    fn end_chunk(&mut self, text: &[u8], verbatim_len: usize, at: usize, step: &Step) -> Chunk
-        requires verbatim_len { verbatim_len ≤ at }
-        requires at { at < length text.now }
-        ensures fed { (model : Model) (t out : Text) (items : List Item)
-            → HasScannedByte model self.old t items (out ++ take verbatim_len text.now) text.now at
-            step.now → GrowsByChunk model t out text.now result self.new }
-        ensures within { IsChunkWithin result text.now }
-        ensures verbatim_len { result.verbatim_len ≡ verbatim_len }
-        ensures len { result.len ≡ at + 1 }
-        ensures few { length (chunk_output_text result text.now) + 4 * held_silents_of self.new
-            ≤ 4 * held_silents_of self.old + (verbatim_len + MAX_DIRECTIVE_LEN) }
-    {
-        Chunk {
-            verbatim_len,
-            start: at,
-            len: at + 1,
-            item_output: self.settle(step),
-        }
-    }
-
-    /// Takes the whole directive at the front of a text, and returns what it settles and how many bytes
-    /// it has. It takes none where `Scanner::pass_directive` doesn't.
-    #[inline(always)]
-    pub(crate) fn take_directive(&mut self, text: &[u8]) -> Option<(Output, usize)>
-        ensures fed { (model : Model) (t out : Text) (items : List Item)
-            → IsThrough model self.old t items out
-            → IfSome result (λ front.
-            GrowsByDirective model t out text.now front.1 (output_text front.0) self.new) }
-        ensures within { MatchOption result (self.new ≡ self.old)
-            (λ front. (0 < front.1) × (front.1 ≤ length text.now)) }
-        ensures few { IfSome result (λ front. length (output_text front.0) + 4 * held_silents_of self.new
-            ≤ 4 * held_silents_of self.old + MAX_DIRECTIVE_LEN) }
-    {
-        let (directive, len) = self.scanner.pass_directive(text)?;
-        Some((self.settle_directive(&directive), len))
-    }
-
-    /// A transducer that took a text after what this one took, or why that is refused.
-    pub(crate) fn passed(mut self, text: &[u8]) -> Result<Transducer, Refusal>
-        ensures { (model : Model) (t out : Text) (items : List Item)
-            → IsThrough model self t items out
-            → (more : Text) × TakesText model (t ++ text.now) (out ++ more) result }
-    {
-        let mut at = 0;
-        while at < text.len() {
-            match self.feed_chunk(&text[at..]) {
-                Ok(chunk) => at += chunk.len,
-                Err(refused) => return Err(refused.refusal),
-            }
-        }
-        Ok(self)
     }
 
     // What a step settles.
@@ -373,13 +194,7 @@ impl Transducer {
             length (output_text output) ≤ 4 * held_silents_of self.now) }
     {
         match self.scanner.finish() {
-            Ok(()) => Ok(Output {
-                spaces: 0,
-                zeros: 0,
-                silents: self.silents,
-                spelling: Spelling::new(),
-                trail: 0,
-            }),
+            Ok(()) => Ok(Output::spelled(self.silents, Spelling::new())),
             Err(refusal) => Err(refusal),
         }
     }
@@ -392,11 +207,5 @@ fn percents() -> Output
     let mut spelling = Spelling::new();
     spelling.push(b'%');
     spelling.push(b'%');
-    Output {
-        spaces: 0,
-        zeros: 0,
-        silents: 0,
-        spelling,
-        trail: 0,
-    }
+    Output::spelled(0, spelling)
 }

@@ -2,7 +2,7 @@
 ghost use Rattle.std.specs.Prelude.{IsTrue, MatchResult, ◌≡◌};
 ghost use Rattle.pf_values.specs.meaning.Text.{Text};
 ghost use Rattle.pf_canon.specs.Answers.{IsCanonicalFor};
-ghost use Rattle.pf_canon.specs.Languages.{HasCountableIn};
+ghost use Rattle.pf_canon.specs.Languages.{HasCanonicalIn};
 ghost use Rattle.pf_canon.specs.VerbatimFronts.{IsVerbatimFront, front_model};
 
 use crate::items::{put_stretch, run_end};
@@ -48,7 +48,7 @@ impl<'a> VerbatimFront<'a> {
     pub(crate) fn put<L: Language, S: Sink>(&self, text: &[u8], sink: &mut S) -> Result<(), Refusal>
         requires { IsVerbatimFront text.now self.now }
         ensures { MatchResult result (λ _. (c : Text) × S.given sink.old sink.new c
-            × HasCountableIn L.has_front (front_model self.now) text.now c)
+            × HasCanonicalIn L.has_front (front_model self.now) text.now c)
             (λ refusal. L.refuses (front_model self.now) text.now refusal.kind refusal.at) }
     {
         let stop = put_stretch(self.model, self.walk, 0, sink);

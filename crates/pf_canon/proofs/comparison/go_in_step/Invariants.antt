@@ -4,10 +4,12 @@ use Rattle.pf_canon.specs.CanonicalSlices.{SlicesHaveGiven, to_come}
 use Rattle.pf_canon.proofs.comparison.go_in_step.Given as goal
 
 abbrev pub invariant-loop-count : goal.invariant-loop-count
-invariant-loop-count l = record {
-  given : ((model : Model) (f g given : Text) → SlicesHaveGiven model l.fn.first f given → SlicesHaveGiven model l.fn.second g given → (now : Text)
-      × SlicesHaveGiven model l.first f now × SlicesHaveGiven model l.second g now);
+invariant-loop-count g l = record {
+  given : ((model : Model) (t u given : Text) → SlicesHaveGiven g.L.Language.has_front g.L.Language.refuses model l.fn.first t given
+      → SlicesHaveGiven g.L.Language.has_front g.L.Language.refuses model l.fn.second u given
+      → (now : Text) × SlicesHaveGiven g.L.Language.has_front g.L.Language.refuses model l.first t now
+      × SlicesHaveGiven g.L.Language.has_front g.L.Language.refuses model l.second u now);
 }
 
 abbrev pub decreases-loop-count : goal.decreases-loop-count
-decreases-loop-count l = to_come l.first
+decreases-loop-count g l = to_come l.first

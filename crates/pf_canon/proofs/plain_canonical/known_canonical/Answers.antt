@@ -3,8 +3,7 @@ use Rattle.std.proofs.lemmas.List.{take_rest}
 use Rattle.pf_text.specs.CanonicalRuns.{IsCanonicalRun}
 use Rattle.pf_text.proofs.WalkLemmas.{run_is_canonical}
 use Rattle.pf_canon.specs.ChangedDirectives.{between}
-use Rattle.pf_canon.proofs.ItemLemmas.{front_of_walk}
-use Rattle.pf_canon.proofs.LanguageLemmas.{all_of_it}
+use Rattle.pf_canon.proofs.ItemLemmas.{all_of_it, front_of_walk}
 use Rattle.pf_canon.proofs.KnownLemmas.{all_taken, directive_taken, other_known, other_taken, run_taken}
 use Rattle.pf_canon.proofs.plain_canonical.known_canonical.Goals as goal
 

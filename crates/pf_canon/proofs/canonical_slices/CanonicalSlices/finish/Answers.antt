@@ -1,11 +1,16 @@
-use Rattle.std.proofs.Common.{◌++◌}
-use Rattle.pf_canon.specs.CanonicalSlices.{IsMidway, pending_of}
-use Rattle.pf_canon.proofs.SliceLemmas.{slices_taken}
+use Rattle.std.proofs.Common.{◌++◌, subst}
+use Rattle.pf_canon.specs.CanonicalSlices.{SlicesHaveGivenBy, pending_of}
+use Rattle.pf_canon.proofs.SliceLemmas.{ended_before, ended_now}
 use Rattle.pf_canon.proofs.canonical_slices.CanonicalSlices.finish.Goals as goal
 
+pub returns-in-Some : goal.returns-in-Some
+returns-in-Some g c model text given h =
+    ended_before g.L.Language.has_front g.L.Language.refuses model c.args.self.now text given c.in-Some.end c.in-Some.is h
+
 pub returns-in-None : goal.returns-in-None
-returns-in-None c model text given h =
+returns-in-None g c model text given h =
     let w = c.args.self.now in
-    let midway : IsMidway model w.transducer w.rest.now (pending_of w) text given = rw c.in-None.is at h in
-    slices_taken model w text given c.finish_rest.result c.in-None.is midway (c.finish_rest.ensures model midway.taken
-    (given ++ pending_of w) midway.items midway.through)
+    let settled = given ++ pending_of w in
+    let m = subst (λ end. SlicesHaveGivenBy end g.L.Language.has_front g.L.Language.refuses model w.walk w.held text settled) c.in-None.is h.by in
+    ended_now g.L.Language.has_front g.L.Language.refuses model w text given c.check_from.result c.in-None.is
+    ((rw (h.model_is, h.text_is) at c.check_from.ensures) settled w.held m.written)
