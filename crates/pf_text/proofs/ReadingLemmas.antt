@@ -2,7 +2,7 @@
 use Rattle.std.proofs.Common.{◌≡◌, ℕ, ◌+◌, ◌-◌, ◌≤◌, max, List, [], ◌∷◌, ◌++◌, length, get_or, take, drop, Some, refl, sym, ap, ap₂, ◌∙◌, subst, arith, inl, inr}
 use Rattle.std.specs.Prelude.{⊤}
 use Rattle.std.proofs.lemmas.Bool.{cases_lt}
-use Rattle.std.proofs.lemmas.List.{append-nil, drop-take, length-drop, length-take, take_all}
+use Rattle.std.proofs.lemmas.List.{append-nil, drop-drop, drop-take, length-drop, length-take, take_all}
 use Rattle.pf_values.specs.declared.limits.TheConstants.{MAX_TEXT_LEN}
 use Rattle.pf_values.specs.declared.conversions.Conv.{Conv}
 use Rattle.pf_values.specs.declared.models.Model.{Model}
@@ -16,7 +16,7 @@ use Rattle.pf_text.specs.CanonicalRuns.{IsCanonicalRun}
 use Rattle.pf_text.specs.FoundDirectives.{BeginsNoItem}
 use Rattle.pf_text.specs.Letters.{conv_of}
 use Rattle.pf_text.specs.Signatures.{ReadsTyped, TakesTypes}
-use Rattle.pf_text.specs.Walks.{HasPassed, HasPercent, IsCanonicalEnd, IsItemsEnd, IsNormalInEach, IsPassedRun, IsPercent, IsWalkOver}
+use Rattle.pf_text.specs.Walks.{EndsItems, HasPassed, HasPercent, IsCanonicalEnd, IsItemsEnd, IsNormalInEach, IsPassedRun, IsPercent, IsWalk, IsWalkOver}
 use Rattle.pf_text.specs.declared.walk.Walk.{Walk}
 use Rattle.pf_text.proofs.CanonicalRunLemmas.{bare, take_front}
 use Rattle.pf_text.proofs.ItemLemmas.{one_read, read_more}
@@ -64,6 +64,61 @@ read_item text walk stop more h up within g =
       reads = subst (λ k. Reads (take k walk.text.now) (h.items ++ more)) place
           (read_more walk.text.now walk.at (stop - walk.at) h.items more h.reads g);
     }
+
+-- a walk has come from another one over whole items
+pub record HasReadFrom (start walk : Walk) : Type 0 where
+  pub is : IsWalk walk
+  pub text : walk.text.now ≡ start.text.now
+  pub low : start.at ≤ walk.at
+  pub within : walk.at ≤ length start.text.now
+  pub items : List Item
+  pub reads : Reads (take (walk.at - start.at) (drop start.at start.text.now)) items
+
+-- at first over none
+pub read_nothing : (walk : Walk) → IsWalk walk → walk.at ≤ length walk.text.now → HasReadFrom walk walk
+read_nothing walk h within =
+    let none : 0 ≡ walk.at - walk.at = omega arith in
+    record {
+      is = h;
+      text = refl;
+      low = omega arith;
+      within = within;
+      items = [];
+      reads = subst (λ k. Reads (take k (drop walk.at walk.text.now)) []) none refl;
+    }
+
+-- then over more of them
+pub read_from : (start walk to : Walk) (more : List Item) → HasReadFrom start walk → IsWalk to → to.text.now ≡ start.text.now → walk.at ≤ to.at
+    → to.at ≤ length start.text.now → Reads (take (to.at - walk.at) (drop walk.at start.text.now)) more → HasReadFrom start to
+read_from start walk to more h is text up within g =
+    let t = start.text.now in
+    let place : start.at + (walk.at - start.at) ≡ walk.at = omega (arith, h.low) in
+    let whole : (walk.at - start.at) + (to.at - walk.at) ≡ to.at - start.at = omega (arith, h.low, up) in
+    let behind : drop (walk.at - start.at) (drop start.at t) ≡ drop walk.at t = drop-drop (walk.at - start.at) start.at t ∙ ap (λ k. drop k t) place in
+    record {
+      is = is;
+      text = text;
+      low = omega (arith, h.low, up);
+      within = within;
+      items = h.items ++ more;
+      reads = subst (λ k. Reads (take k (drop start.at t)) (h.items ++ more)) whole
+          (read_more (drop start.at t) (walk.at - start.at) (to.at - walk.at) h.items more h.reads
+          (subst (λ u. Reads (take (to.at - walk.at) u) more) (sym behind) g));
+    }
+
+-- by what a walk passes
+pub passed_from : (passes : Item → Type 0) (start old new : Walk) → HasReadFrom start old → HasPassed passes old new → HasReadFrom start new
+passed_from passes start old new h g =
+    let t = start.text.now in
+    let text_is : new.text.now ≡ t = g.text ∙ h.text in
+    let most : new.at ≤ max old.at (length t) = subst (λ u. new.at ≤ max old.at (length u)) text_is g.within in
+    read_from start old new g.items h g.walk text_is g.from (omega (arith, most, h.within))
+    (run_is_read passes _ g.items (subst (λ u. IsPassedRun passes (take (new.at - old.at) (drop old.at u)) g.items) text_is g.run))
+
+-- up to where no item begins
+pub ends_items : (start walk : Walk) → HasReadFrom start walk → BeginsNoItem (drop walk.at walk.text.now) → EndsItems start walk.at
+ends_items start walk h none =
+    record { within = (h.low, h.within); read = (h.items, h.reads); stopped = subst (λ t. BeginsNoItem (drop walk.at t)) h.text none }
 
 -- so the text up to the offset is whole items, and that is all if no item begins there
 pub items_up_to : (text : Text) (walk : Walk) → HasRead text walk → BeginsNoItem (drop walk.at walk.text.now) → IsItemsEnd text walk.at
@@ -194,3 +249,16 @@ unfolding all_items items_up_to
 typed_all model text walk found h none e =
     let all = all_items text walk.at (items_up_to text walk h.read none) e in
     record { items = all.0; accepted = all.1; types_are = h.types_are }
+
+-- whole items from the beginning of a text on, up to where no item begins
+pub items_to : (text : Text) (walk : Walk) → IsWalkOver text walk → walk.at ≡ 0 → (stop : ℕ) → EndsItems walk stop → IsItemsEnd text stop
+items_to text walk over at stop h =
+    let whole : stop - 0 ≡ stop = omega arith in
+    let bytes : take (stop - walk.at) (drop walk.at walk.text.now) ≡ take stop walk.text.now =
+        ap (λ k. take (stop - k) (drop k walk.text.now)) at ∙ ap (λ k. take k walk.text.now) whole in
+    items_up_to text (record walk { at = stop }) (record {
+      over = moved_over text walk stop over;
+      within = h.within.1;
+      items = h.read.0;
+      reads = subst (λ u. Reads u h.read.0) bytes h.read.1;
+    }) h.stopped

@@ -90,3 +90,9 @@ pub record IsItemsEnd (t : Text) (stop : ℕ) : Type 0 where
   pub items : List Item
   pub reads : Reads (take stop t) items
   pub last : BeginsNoItem (drop stop (take MAX_TEXT_LEN t))
+
+-- the bytes of a walk's text between its offset and another are whole items, and no item begins there
+pub record EndsItems (walk : Walk) (stop : ℕ) : Type 0 where
+  pub within : (walk.at ≤ stop) × (stop ≤ length walk.text.now)
+  pub read : (items : List Item) × Reads (take (stop - walk.at) (drop walk.at walk.text.now)) items
+  pub stopped : BeginsNoItem (drop stop walk.text.now)

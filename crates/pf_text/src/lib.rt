@@ -32,7 +32,7 @@ mod walk;
 
 pub use argument_types::signature;
 pub use canonical_runs::canonical_end;
-pub use checking::{check, is_known_accepted, items_end, refusal_at};
+pub use checking::{check, is_known_accepted, items_end, items_end_from, refusal_at};
 pub use known_argument_types::known_types;
 pub use letters::{conv_of, flag_of, modifier_of};
 pub use passed::{Bare, Canonical, Nothing, Passed, Percents};
