@@ -1,11 +1,10 @@
 //! The whole language without numbered arguments.
 ghost use Rattle.pf_posix.specs.Unnumbered.{IsWholeRefusedAt};
-ghost use Rattle.pf_whole.specs.Fronts.{IsWholeFront};
+ghost use Rattle.pf_whole.specs.Fronts.{IsWholeFront, no_front};
 
-use crate::directives::normal_directive;
-use crate::spelling::spell;
+use crate::spelling::normal_spelling;
 use pf_canon::{Language, OtherItem};
-use pf_posix::{check_unnumbered, next_stretch};
+use pf_posix::opaque_at;
 use pf_text::Refusal;
 use pf_values::Model;
 
@@ -18,19 +17,16 @@ impl Language for Whole {
 
     ghost refuses = { IsWholeRefusedAt };
 
-    #[inline(always)]
-    fn check_others(model: Model, text: &[u8], _: usize) -> Result<(), Refusal> {
-        check_unnumbered(model, text)
-    }
+    ghost has_none = { no_front };
 
-    // No item of the profile begins there, so the stretch is empty.
     #[inline(always)]
-    fn other_at(model: Model, text: &[u8], at: usize) -> Option<OtherItem> {
-        let stretch = next_stretch(text, at)?;
-        let directive = stretch.opaque?;
-        Some(OtherItem {
-            spelling: spell(normal_directive(model, directive)),
-            stop: stretch.after,
-        })
+    fn other_at(model: Model, text: &[u8], at: usize) -> Result<Option<OtherItem>, Refusal> {
+        let Some((directive, stop)) = opaque_at(model, text, at)? else {
+            return Ok(None);
+        };
+        Ok(Some(OtherItem {
+            spelling: normal_spelling(model, directive),
+            stop,
+        }))
     }
 }

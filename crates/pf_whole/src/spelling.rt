@@ -1,28 +1,38 @@
 //! How opaque directives are spelled.
-ghost use Rattle.std.specs.Prelude.{◌≡◌, ◌≤◌, ◌+◌, ◌++◌, decimal};
+ghost use Rattle.std.specs.Prelude.{◌≡◌, ◌≤◌, ◌+◌, ◌++◌, decimal, false};
 ghost use Rattle.arrayvec.specs.ArrayVec.{array_vec_len};
+ghost use Rattle.pf_values.specs.declared.flags.Flag.TheVariants.{Group};
+ghost use Rattle.pf_values.specs.meaning.Flags.{has};
+ghost use Rattle.pf_values.specs.meaning.Spelling.{flags_spelled};
 ghost use Rattle.pf_posix.specs.Specifications.{modifier_letters};
 ghost use Rattle.pf_posix.specs.OpaqueParts.{amount_of, parts_of_opaque};
-ghost use Rattle.pf_whole.specs.meaning.NormalSpellings.{posix_precision_spelled, posix_spelling_of, posix_width_spelled};
+ghost use Rattle.pf_whole.specs.meaning.NormalSpellings.{normal_spelling, posix_precision_spelled, posix_spelling_of, posix_width_spelled};
 
+use crate::directives::normal_directive;
 use arrayvec::ArrayVec;
 use itoa::Buffer;
 use pf_posix::{Modifier, OpaqueAmount, OpaqueDirective};
-use pf_text::push_flags;
+use pf_text::{Spelling, push_flags};
+use pf_values::{FlagSet, Model};
 
-/// The bytes of a spelling: `%`, six flags, two numbers of five digits, a point, two letters of a
-/// length modifier, and the conversion.
-pub(crate) type OpaqueSpelling = ArrayVec<u8, 21>;
+/// Returns the normal spelling of a directive in a data model.
+pub(crate) fn normal_spelling(model: Model, directive: OpaqueDirective) -> Spelling
+    ensures bytes { result.items ≡ normal_spelling model (parts_of_opaque directive) }
+    ensures short { array_vec_len result ≤ 20 }
+{
+    spell(normal_directive(model, directive))
+}
 
-/// Returns the one spelling of a directive's parts: each flag once, in the order `-`, `+`, space,
-/// `#`, `0`, `'`, and numbers without zeros in front.
-pub(crate) fn spell(directive: OpaqueDirective) -> OpaqueSpelling
+// Returns the one spelling of a directive's parts: each flag once, in the order `-`, `+`, space, `#`, `0`, and
+// numbers without zeros in front. `'` isn't one of its flags, so there is room for all.
+fn spell(directive: OpaqueDirective) -> Spelling
+    requires { has directive.flags Group ≡ false }
     ensures bytes { result.items ≡ posix_spelling_of (parts_of_opaque directive) }
-    ensures short { array_vec_len result ≤ 21 }
+    ensures short { array_vec_len result ≤ 20 }
 {
     let mut out = ArrayVec::new();
     out.push(b'%');
-    push_flags(&mut out, directive.flags);
+    push_kept_flags(&mut out, directive.flags);
     push_width(&mut out, directive.width);
     push_precision(&mut out, directive.precision);
     push_letters(&mut out, directive.modifier);
@@ -30,8 +40,17 @@ pub(crate) fn spell(directive: OpaqueDirective) -> OpaqueSpelling
     out
 }
 
-fn push_width(out: &mut OpaqueSpelling, width: Option<OpaqueAmount>)
-    requires { array_vec_len out.old + 5 ≤ 21 }
+fn push_kept_flags(out: &mut Spelling, flags: FlagSet)
+    requires group { has flags Group ≡ false }
+    requires room { array_vec_len out.old ≤ 1 }
+    ensures bytes { out.new.items ≡ out.old.items ++ flags_spelled flags }
+    ensures len { array_vec_len out.new ≤ array_vec_len out.old + 5 }
+{
+    push_flags(out, flags);
+}
+
+fn push_width(out: &mut Spelling, width: Option<OpaqueAmount>)
+    requires { array_vec_len out.old + 5 ≤ 20 }
     ensures bytes { out.new.items ≡ out.old.items ++ posix_width_spelled (amount_of width) }
     ensures len { array_vec_len out.new ≤ array_vec_len out.old + 5 }
 {
@@ -42,8 +61,8 @@ fn push_width(out: &mut OpaqueSpelling, width: Option<OpaqueAmount>)
     }
 }
 
-fn push_precision(out: &mut OpaqueSpelling, precision: Option<OpaqueAmount>)
-    requires { array_vec_len out.old + 6 ≤ 21 }
+fn push_precision(out: &mut Spelling, precision: Option<OpaqueAmount>)
+    requires { array_vec_len out.old + 6 ≤ 20 }
     ensures bytes { out.new.items ≡ out.old.items ++ posix_precision_spelled (amount_of precision) }
     ensures len { array_vec_len out.new ≤ array_vec_len out.old + 6 }
 {
@@ -53,8 +72,8 @@ fn push_precision(out: &mut OpaqueSpelling, precision: Option<OpaqueAmount>)
     push_width(out, precision);
 }
 
-fn push_number(out: &mut OpaqueSpelling, number: u16)
-    requires { array_vec_len out.old + 5 ≤ 21 }
+fn push_number(out: &mut Spelling, number: u16)
+    requires { array_vec_len out.old + 5 ≤ 20 }
     ensures bytes { out.new.items ≡ out.old.items ++ decimal number }
     ensures len { array_vec_len out.new ≤ array_vec_len out.old + 5 }
 {
@@ -63,8 +82,8 @@ fn push_number(out: &mut OpaqueSpelling, number: u16)
         .unwrap();
 }
 
-fn push_letters(out: &mut OpaqueSpelling, modifier: Modifier)
-    requires { array_vec_len out.old + 2 ≤ 21 }
+fn push_letters(out: &mut Spelling, modifier: Modifier)
+    requires { array_vec_len out.old + 2 ≤ 20 }
     ensures bytes { out.new.items ≡ out.old.items ++ modifier_letters modifier }
     ensures len { array_vec_len out.new ≤ array_vec_len out.old + 2 }
 {

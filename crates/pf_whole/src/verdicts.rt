@@ -9,7 +9,7 @@ ghost use Rattle.pf_whole.specs.Comparisons.{AreShownNext, FaultForWholeCompare,
 ghost use Rattle.pf_whole.specs.meaning.Traces.{AreWholeAlike};
 
 use crate::calls::{argument_count, first_call_difference};
-use crate::comparison::same_by_stretches;
+use crate::comparison::same_text;
 use pf_compare::{CompareFault, Comparison, OwnedArg, Verdict, neutrals_of};
 use pf_posix::{fits, next_stretch};
 use pf_values::Model;
@@ -85,7 +85,7 @@ fn compare_by_stretches(
     ensures { MatchResult result (IsComparison model first.now second.now)
         (FaultForWholeCompare model first.now second.now) }
 {
-    match same_by_stretches(model, first, second) {
+    match same_text(model, first, second) {
         Ok(true) => Ok(WholeVerdict::Same),
         Ok(false) => compare_apart(alloc, model, first, second),
         Err((side, refusal)) => Err(CompareFault::Refused(side, refusal)),

@@ -1,5 +1,5 @@
-use Rattle.pf_whole.proofs.ProfileAnswers.{same_whole}
+use Rattle.pf_whole.proofs.LanguageLemmas.{compared_of_whole}
 use Rattle.pf_whole.proofs.comparison.same_text.Goals as goal
 
-pub returns-in-Ok : goal.returns-in-Ok
-returns-in-Ok c = same_whole c.args.model c.args.first.now c.args.second.now c.in-Ok.same c.in-Ok.ensures
+pub returns : goal.returns
+returns c = compared_of_whole c.args.model c.args.first.now c.args.second.now c.same_text_in.result c.same_text_in.ensures
