@@ -110,6 +110,7 @@ fn put_directives(model: Model, text: &[u8], out: &mut [DirectiveSpan]) -> u64
 }
 
 /// The item at an offset of an accepted format, if it is a specification and no byte; and where it ends.
+#[inline(always)]
 pub(crate) fn item_at(text: &[u8], at: usize) -> (Option<Specification>, usize)
     requires within { at < length text.now }
     requires reads { (items : List PosixItem) × ReadsPosix (drop at text.now) items }
