@@ -16,7 +16,7 @@ use crate::changed_directives::{ChangedDirective, keeps_letters};
 use crate::output::settle;
 use crate::sink::{Sink, put_repeated, put_silents};
 use pf_reduce::Change;
-use pf_text::{Bare, Canonical, FoundDirective, Passed, Percents, Walk, directive_at};
+use pf_text::{Canonical, FoundDirective, Passed, Percents, Walk, directive_at};
 use pf_values::padding::MAX_RUN;
 use pf_values::{Directive, Flag, Model, padding};
 use std::slice;
@@ -114,22 +114,6 @@ fn put_reduced<S: Sink>(model: Model, walk: Walk<'_>, from: usize, sink: &mut S)
         sink.put(&text[found.stop..at]);
     }
     (at, held)
-}
-
-/// Returns where the items of the profile end that begin at an offset of a walk's text.
-#[inline(always)]
-pub(crate) fn pass_items(walk: Walk<'_>, from: usize) -> usize
-    requires walk { IsWalk walk }
-    requires within { from ≤ length walk.text.now }
-    ensures within { (from ≤ result) × (result ≤ length walk.entry.text.now) }
-    ensures read { (items : List Item) × Reads (between from result walk.entry.text.now) items }
-    ensures stopped { BeginsNoItem (drop result walk.entry.text.now) }
-{
-    let mut at = run_end::<Bare>(walk, from);
-    while let Some(found) = directive_at(walk.text(), at) {
-        at = run_end::<Bare>(walk, found.stop);
-    }
-    at
 }
 
 /// Returns where the literal bytes and items of `P` end that begin at an offset of a walk's text.

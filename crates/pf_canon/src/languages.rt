@@ -10,9 +10,9 @@ ghost use Rattle.pf_text.specs.Walks.{IsWalkOver};
 ghost use Rattle.pf_canon.specs.Answers.{IsCanonicalFor};
 ghost use Rattle.pf_canon.specs.Languages.{Front, HasCanonicalIn, IsAcceptedIn, IsWrittenIn, Refuses};
 
-use crate::items::{pass_items, put_stretch, run_end};
+use crate::items::{put_stretch, run_end};
 use crate::sink::Sink;
-use pf_text::{Canonical, Refusal, Spelling, Walk, refusal_at};
+use pf_text::{Canonical, Refusal, Spelling, Walk, items_end_from, refusal_at};
 use pf_values::Model;
 
 /// An item that the profile lacks.
@@ -87,9 +87,11 @@ pub(crate) fn check_from<L: Language>(model: Model, text: &[u8], walk: Walk<'_>)
         → MatchResult result (λ _. (more : Text) × HasCanonicalIn L.has_front model text.now (out ++ more))
         (λ refusal. L.refuses model text.now refusal.kind refusal.at) }
 {
-    let mut at = pass_items(walk, walk.at);
+    let mut at = items_end_from(walk);
     while let Some(other) = L::other_at(model, text, at)? {
-        at = pass_items(walk, other.stop);
+        let mut rest = walk;
+        rest.at = other.stop;
+        at = items_end_from(rest);
     }
     Ok(())
 }
@@ -107,6 +109,9 @@ impl Language for Profile {
 
     #[inline(always)]
     fn other_at(_: Model, text: &[u8], at: usize) -> Result<Option<OtherItem>, Refusal> {
+        if at == text.len() {
+            return Ok(None);
+        }
         match refusal_at(text, at) {
             Some(refusal) => Err(refusal),
             None => Ok(None),

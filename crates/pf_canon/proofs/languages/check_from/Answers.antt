@@ -13,7 +13,7 @@ pub loop-other-init : goal.loop-other-init
 loop-other-init g c =
     let text = c.args.text.now in
     let start = c.args.walk.at in
-    let pass = c.pass_items-at in
+    let pass = c.items_end_from-at in
     let low = pass.ensures.within.0 in
     let place = front_of_walk text c.args.walk c.requires.over pass.result pass.ensures.within.1 in
     let same = walk_between text c.args.walk c.requires.over start pass.result low pass.ensures.within.1 in
@@ -43,8 +43,8 @@ returns-in_err-other g c out held h =
     let (more, before) = c.loop-other.invariant.read out held h in
     rw (p.1, p.2) (c.in_err-other.ensures.next (out ++ more) before)
 
-pub pass_items-at-requires-in-Some-clause-within : goal.pass_items-at-requires-in-Some-clause-within
-pass_items-at-requires-in-Some-clause-within g c =
+pub items_end_from-at-requires-in-Some-clause-within : goal.items_end_from-at-requires-in-Some-clause-within
+items_end_from-at-requires-in-Some-clause-within g c =
     let placed = rw c.in-Some.is at c.in_ok-other.ensures.placed in
     subst (λ t. c.in-Some.other.stop ≤ length t) (sym c.requires.over.text_is)
     (omega (arith, placed.1, placed.2, length-take MAX_TEXT_LEN c.args.text.now))
@@ -56,7 +56,7 @@ loop-other-preserved g c =
     let spelling = other.spelling.items in
     let has_front = g.L.Language.has_front in
     let model = c.args.model in
-    let pass = c.pass_items-at-in-Some in
+    let pass = c.items_end_from-at-in-Some in
     let low = pass.ensures.within.0 in
     let placed = rw c.in-Some.is at c.in_ok-other.ensures.placed in
     let place = front_of_walk text c.args.walk c.requires.over pass.result pass.ensures.within.1 in
@@ -80,7 +80,7 @@ loop-other-preserved g c =
 pub loop-other-smaller : goal.loop-other-smaller
 loop-other-smaller g c =
     let placed = rw c.in-Some.is at c.in_ok-other.ensures.placed in
-    omega (arith, placed.0, placed.1, c.pass_items-at-in-Some.ensures.within.0)
+    omega (arith, placed.0, placed.1, c.items_end_from-at-in-Some.ensures.within.0)
 
 pub returns : goal.returns
 returns g c out held h =
