@@ -12,8 +12,8 @@ use pf_values::{ArgType, Model};
 
 /// Whether two texts whose first `common` bytes are equal are known to differ. Either these are whole
 /// items, and then come different ordinary characters, or one text ends: so they print different bytes
-/// for all arguments. Or they differ in a directive, and take arguments of different types. False if
-/// neither is so, or if a text is refused.
+/// for all arguments. Or one goes on with `%`, and they take arguments of different types. False if
+/// neither is so, if they differ in a directive, or if a text is refused.
 #[inline(always)]
 pub(crate) fn differ_after(model: Model, first: &[u8], second: &[u8], common: usize) -> bool
     requires { AreCommon first.now second.now common }
@@ -21,7 +21,10 @@ pub(crate) fn differ_after(model: Model, first: &[u8], second: &[u8], common: us
 {
     let first_rest = &first[common..];
     let second_rest = &second[common..];
-    if item_start(first, common) != common || !begin_apart(first_rest, second_rest) {
+    if item_start(first, common) != common {
+        return false;
+    }
+    if !begin_apart(first_rest, second_rest) {
         return take_other_types(model, first, second);
     }
     if !is_short(first) || !is_short(second) || !are_items(first, common) {
