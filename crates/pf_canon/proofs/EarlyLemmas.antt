@@ -1,20 +1,14 @@
--- Texts that are known to differ, or to be refused, without their canonical texts.
-use Rattle.std.proofs.Common.{◌≡◌, ◌≢◌, ℕ, suc, ◌+◌, ◌≤◌, ◌<◌, Bool, true, false, not, ◌&&◌, List, [], ◌∷◌, ◌++◌, length, get_or, take, drop, refl, sym, ap, ◌∙◌, subst, arith, drop-cons}
+-- Texts that are known to differ without their canonical texts.
+use Rattle.std.proofs.Common.{◌≡◌, ◌≢◌, ◌≤◌, ◌<◌, Bool, true, false, not, ◌&&◌, List, [], ◌∷◌, length, get_or, refl, sym, ap, ◌∙◌, arith}
 use Rattle.std.specs.Prelude.{IsTrue}
 use Rattle.std.specs.Cmp.Lexicographic.{pointwise}
-use Rattle.std.proofs.Math.Seq.{take-add}
-use Rattle.std.proofs.lemmas.List.{take-append-drop}
-use Rattle.pf_values.specs.declared.limits.TheConstants.{MAX_TEXT_LEN}
 use Rattle.pf_values.specs.declared.models.Model.{Model}
-use Rattle.pf_values.specs.declared.refusals.RefusalKind.{RefusalKind}
 use Rattle.pf_values.specs.declared.types.ArgType.{ArgType}
-use Rattle.pf_values.specs.meaning.Items.{Byte, IsAccepted, Reads, types}
-use Rattle.pf_values.specs.meaning.Refusals.{IsRefusedAt}
+use Rattle.pf_values.specs.meaning.Items.{Byte, IsAccepted, types}
 use Rattle.pf_values.specs.meaning.Text.{Text}
 use Rattle.pf_text.specs.History.{IsLiteral}
 use Rattle.pf_values.specs.meaning.Printing.{AreEquivalent}
 use Rattle.pf_text.specs.Signatures.{TakesTypes}
-use Rattle.pf_text.proofs.CanonicalRunLemmas.{Reads-append}
 use Rattle.pf_text.proofs.LiteralLemmas.{Reads-literals}
 use Rattle.pf_text.proofs.Texts.{Reads-unique}
 use Rattle.pf_canon.specs.Comparison.{AreTextsSame}
@@ -48,24 +42,3 @@ pub literal_accepted : (t : Text) → 1 ≤ length t → length t < 2 → IsLite
 literal_accepted [] some few h = absurd (omega arith)
 literal_accepted (byte ∷ []) some few h = (Byte byte ∷ [], record { reads = Reads-literals (byte ∷ []) [] [] refl (h, tt); limit = omega arith })
 literal_accepted (byte ∷ other ∷ t) some few h = absurd (omega arith)
-
--- a text whose front and rest are accepted
-pub accepted_parts : (t : Text) (at : ℕ) → length t ≤ MAX_TEXT_LEN → IsAccepted (take at t) → IsAccepted (drop at t) → IsAccepted t
-accepted_parts t at few front rest = (
-  front.0 ++ rest.0,
-  record {
-    reads = subst (λ (u : Text). Reads u (front.0 ++ rest.0)) (take-append-drop at t)
-        (Reads-append (take at t) (drop at t) front.0 rest.0 front.1.reads rest.1.reads);
-    limit = few;
-  },
-)
-
--- the byte at an offset of a text, after those before it
-module _ (t : Text) (at : ℕ) (within : at < length t) where
-  pub one_more : take at t ++ get_or t at 0 ∷ [] ≡ take (at + 1) t
-  one_more = sym (take-add at 1 t ∙ ap (λ u. take at t ++ take 1 u) (drop-cons t at 0 within))
-
-  pub refused_at_byte : (kind : RefusalKind) (offset : ℕ) → ((more : Text) → IsRefusedAt (take at t ++ get_or t at 0 ∷ more) kind offset)
-      → IsRefusedAt t kind offset
-  refused_at_byte kind offset h = subst (λ u. IsRefusedAt u kind offset) (ap (λ u. take at t ++ u) (sym (drop-cons t at 0 within)) ∙ take-append-drop at t)
-      (h (drop (suc at) t))

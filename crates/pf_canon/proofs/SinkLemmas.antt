@@ -4,19 +4,15 @@ use Rattle.std.specs.Prelude.{flat_map, MatchResult, Result, Ok, Err, IsTrue, Ma
 use Rattle.std.proofs.lemmas.List.{replicate-append-replicate, append-nil, append_cancel_left}
 use Rattle.std.specs.Borrow.{Bor}
 use Rattle.pf_values.specs.meaning.Canonical.{item_spelling}
-use Rattle.pf_values.specs.declared.models.Model.{Model}
 use Rattle.pf_values.specs.meaning.Items.{Directive}
 use Rattle.pf_values.specs.meaning.Normal.{silent}
 use Rattle.pf_values.specs.meaning.Text.{Text}
 use Rattle.pf_text.specs.declared.refusals.Refusal.{Refusal}
 use Rattle.pf_text.specs.CanonicalRuns.{silents}
 use Rattle.pf_canon.specs.declared.limits.TheConstants.{BLOCK}
-use Rattle.pf_canon.specs.Answers.{IsCanonicalFor}
 use Rattle.pf_canon.specs.Sink.{IsBuilt, IsSink, Counts, IsFrontStripped, IsLeft, given_len}
 use Rattle.pf_canon.specs.declared.sink.TextBuilder.{TextBuilder}
 use Rattle.pf_canon.proofs.CanonicalItems.{item_spelling-append}
-use Rattle.pf_canon.proofs.TextLemmas.{items_few}
-use Rattle.pf_canon.proofs.TransducerLemmas.{most_items}
 
 -- some bytes several times
 pub record IsRepetition (of : ℕ → Text) : Type 0 where
@@ -56,13 +52,6 @@ pub front_put : {S : Type 0} {given : S → S → Text → Type 0} (laws : IsSin
     → MatchResult r (λ _. (c : Text) × given old new c × Is c) Fails
 front_put laws Is Fails front old mid new (Ok done) h g = (front ++ g.0, laws.both old mid new front g.0 h g.1, g.2)
 front_put laws Is Fails front old mid new (Err refusal) h g = g
-
--- the bytes of a canonical text can be counted
-pub few_bytes : (model : Model) (t c : Text) → IsCanonicalFor model t c → length c < 2 ^ 128
-few_bytes model t c h =
-    let few = h.few in
-    let limit = h.accepted.limit in
-    omega (arith, few, limit, most_items h.items, items_few t h.items h.accepted.reads)
 
 pub no_bytes : (t : Text) → length t ≡ 0 → t ≡ []
 no_bytes [] e = refl

@@ -13,7 +13,7 @@ use Rattle.pf_compare.specs.declared.comparisons.CompareFault.TheVariants as fau
 use Rattle.pf_compare.specs.declared.comparisons.Verdict.TheVariants as compared
 use Rattle.pf_compare.specs.declared.owned_args.OwnedArg.{OwnedArg}
 use Rattle.pf_compare.specs.Owned.{argument_of_owned, type_of_owned}
-use Rattle.pf_posix.specs.Stretches.{Stretches, Last, ReadsWhole, whole_types}
+use Rattle.pf_posix.specs.Stretches.{IsWholeAccepted, Stretches, Last, ReadsWhole, whole_types}
 use Rattle.pf_posix.specs.Types.{widened}
 use Rattle.pf_posix.proofs.ReadOnce.{read_once}
 use Rattle.pf_whole.specs.Answers.{HaveOneShape, IsWholeComparisonOf, IsWholeVerdict, WholeVerdict, Same, TypesDiffer, Different, ShowsNeutral}
@@ -26,7 +26,6 @@ use Rattle.pf_whole.proofs.AnswerLemmas.{comparison_is}
 use Rattle.pf_whole.proofs.Corresponding.{alike_is_corresponding}
 use Rattle.pf_whole.proofs.FindingLemmas.{shows_neutral, shows_probe}
 use Rattle.pf_whole.proofs.FindingLoops.{compared_from}
-use Rattle.pf_whole.proofs.ProfileAnswers.{accepted_whole}
 use Rattle.pf_whole.proofs.ProfileTexts.{profile_coincides}
 use Rattle.pf_whole.proofs.ShownLoops.{compared_end, neutral_end, typed_end, typed_from}
 use Rattle.pf_whole.proofs.StretchDifferences.{telling_probe, verdict_of_items}
@@ -51,6 +50,9 @@ widened_before [] (y ∷ ys) (suc i) k e h = cc
 widened_before (x ∷ xs) [] (suc i) k e h = cc
 widened_before (x ∷ xs) (y ∷ ys) (suc i) zero e h = let first : x ≡ y = cc in ap (λ z. Some (widened z)) first
 widened_before (x ∷ xs) (y ∷ ys) (suc i) (suc k) e h = widened_before xs ys i k (cc) (omega (arith, h))
+
+accepted_whole : (t : Text) → IsAccepted t → IsWholeAccepted t
+accepted_whole t h = record { stretches = Last h.0; reads = h.1.reads; limit = h.1.limit }
 
 first_accepted : (model : Model) (t u : Text) (comparison : Comparison) → IsComparisonOf model t u comparison → IsAccepted t
 first_accepted model t u comparison h = (h.first, h.accepted_first)
