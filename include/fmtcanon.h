@@ -309,7 +309,7 @@ int64_t fmtcanon_fits_fewer_models(const char *first, size_t first_len, const ch
 int64_t fmtcanon_whole_canonical_length(int model, const char *text, size_t len, fmtcanon_error *error);
 
 /* Returns the length of the canonical text of fmtcanon_whole_canonical_length(), and writes it into `out`
- * with a NUL after it. It fits if the length is below `cap`. Allocates that length. */
+ * with a NUL after it. It fits if the length is below `cap`. Allocates as fmtcanon_canonical() does. */
 int64_t fmtcanon_whole_canonical(int model, const char *text, size_t len, char *out, size_t cap,
                                  fmtcanon_error *error);
 

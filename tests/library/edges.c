@@ -462,6 +462,7 @@ static int64_t growing(int call, char *out, size_t cap, fmtcanon_comparison *fou
                        fmtcanon_error *e)
 {
     static const char many[] = "%d%d%d%d%d%d%d%d%d%d%4095d%4095d";
+    static const char other[] = "%d%d%d%d%f%d%d%d%d%d%4095d%4095d";
     /* 33 arguments: one more than wait on the stack, as do 16 records of directives. */
     static const char more[] = "%d%d%d%d%d%d%d%d%d%d%d%d%d%d%d%d%d%d%d%d%d%d%d%d%d%d%d%d%d%d%d%d%d";
     if (call == 0) return fmtcanon_canonical(LP64, many, sizeof many - 1, out, cap, e);
@@ -469,6 +470,7 @@ static int64_t growing(int call, char *out, size_t cap, fmtcanon_comparison *fou
     if (call == 2) return fmtcanon_decode_literal("\"a\\n\"", 5, out, cap, e);
     if (call == 3) return fmtcanon_encode_literal("a\n", 2, out, cap);
     if (call == 4) return fmtcanon_arguments(LP64, more, sizeof more - 1, (unsigned char *)out, cap, e);
+    if (call == 7) return fmtcanon_whole_canonical(LP64, other, sizeof other - 1, out, cap, e);
     if (call == 6) return fmtcanon_directives(LP64, more, sizeof more - 1, (void *)out, cap / sizeof(fmtcanon_directive), e);
     return fmtcanon_compare(LP64, "%d%s", 4, "%d%.4095s", 9, out, cap, found, e);
 }
@@ -478,7 +480,7 @@ static void refusals_of_memory(void)
     static uint64_t room[2048];
     char *out = (char *)room;
     int call, n;
-    for (call = 0; call < 7; call++) {
+    for (call = 0; call < 8; call++) {
         for (n = 0;; n++) {
             fmtcanon_error e = {77, 78, 79};
             fmtcanon_comparison found = {77, 78, 79};
@@ -513,7 +515,7 @@ static void memory_given_back(void)
     size_t i;
     int call;
     for (i = 0; i < COUNT(rooms); i++) {
-        for (call = 0; call < 7; call++) {
+        for (call = 0; call < 8; call++) {
             growths = 0;
             WANT(growing(call, out, rooms[i], &found, &e) > 0);
             WANT(growths > 0 && held == 0 && (call == 1 || call == 5 || growths == 1));
@@ -544,6 +546,8 @@ static void without_memory(void)
     fmtcanon_compare(LP64, "%i", 2, "%d", 2, NULL, 0, &found, &e);
     fmtcanon_compare(LP64, "%i", 2, "%s", 2, NULL, 0, &found, &e);
     fmtcanon_canonical(LP64, "%y", 2, NULL, 0, &e);
+    fmtcanon_whole_canonical(LP64, "%5.2f%i%zu", 10, (char *)out, 8, &e);
+    fmtcanon_whole_canonical(LP64, "%f%y", 4, NULL, 0, &e);
     fmtcanon_decode_literal("\"\" \"\"", 5, NULL, 0, &e);
     fmtcanon_decode_literal("\"\\q", 3, NULL, 0, &e);
     fmtcanon_source_offset("\"a\\n\"", 5, 1);

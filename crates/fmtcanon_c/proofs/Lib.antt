@@ -6,3 +6,4 @@ mod EndedLemmas
 mod PassedLemmas
 mod AnswerLemmas
 mod ModelAnswers
+mod LanguageAnswers

@@ -12,6 +12,7 @@ use Rattle.pf_text.specs.Signatures.{TakesManyArguments, TakesTypes}
 use Rattle.pf_text.specs.declared.refusals.Refusal.{Refusal}
 use Rattle.pf_text.specs.declared.refusals.TextFault.TheVariants.{Memory}
 use Rattle.pf_text.specs.declared.refusals.Side.TheVariants.{First}
+use Rattle.pf_canon.specs.Languages.{FaultIn, Front, HasCanonicalIn, Refuses}
 use Rattle.pf_canon.specs.Answers.{FaultForCanonical, IsCanonicalFor}
 use Rattle.pf_posix.specs.Directives.{HasDirectives}
 use Rattle.pf_posix.specs.Items.{HasArguments}
@@ -73,7 +74,12 @@ PutsElements Has written Refuses NeedsMemory out error code out_now error_now =
 abbrev pub with_nul : Text → Text
 with_nul t = t ++ 0 ∷ []
 
--- the canonical text, and a NUL
+-- the canonical text in a language, and a NUL
+abbrev pub PutsCanonicalIn : Front → Refuses → Model → Text → Text → CError → ℤ → Text → CError → Type 0
+PutsCanonicalIn has_front refuses model t = PutsElements (HasCanonicalIn has_front model t) with_nul (refuses model t)
+    (FaultIn has_front refuses model t Memory)
+
+-- that of the profile
 abbrev pub PutsCanonical : Model → Text → Text → CError → ℤ → Text → CError → Type 0
 PutsCanonical model t =
     PutsElements (IsCanonicalFor model t) with_nul (IsRefusedAt t) (FaultForCanonical model t Memory)

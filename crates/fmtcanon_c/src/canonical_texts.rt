@@ -5,13 +5,16 @@ ghost use Rattle.pf_canon.specs.Answers.{IsCanonicalFor};
 ghost use Rattle.pf_canon.specs.VerbatimFronts.{IsVerbatimFront, front_model};
 ghost use Rattle.pf_posix.specs.Unnumbered.{IsWholeRefusedAt};
 ghost use Rattle.pf_whole.specs.Answers.{IsWholeCanonicalFor};
-ghost use Rattle.fmtcanon_c.specs.Calls.{AnswersCanonical, AnswersLength, Checks, IsLengthAnswer, IsLengthCode, PutsCanonical, PutsWholeCanonical};
+ghost use Rattle.fmtcanon_c.specs.Calls.{AnswersCanonical, AnswersLength, Checks, IsLengthAnswer, IsLengthCode, PutsCanonical, PutsCanonicalIn, PutsWholeCanonical};
 ghost use Rattle.fmtcanon_c.specs.Models.{InModel};
 
 use crate::interface::{CError, NO_MEMORY, NO_MODEL, model_of, put_refusal, put_string};
-use pf_canon::{ShortText, VerbatimFront, canonical, canonical_len, is_canonical};
+use pf_canon::{
+    Language, Profile, ShortText, VerbatimFront, canonical_in, canonical_len, is_canonical,
+};
 use pf_text::{Refusal, Side, TextFault, check};
 use pf_values::Model;
+use pf_whole::Whole;
 use std::alloc::Global;
 
 /// Returns 0 if the text is accepted, otherwise minus the kind of its refusal.
@@ -59,18 +62,32 @@ pub extern "C" fn fmtcanon_canonical(
     let Some(model) = model_of(model) else {
         return NO_MODEL;
     };
+    put_canonical::<Profile>(alloc, model, text, out, error)
+}
+
+// Puts the canonical text of a format in a language, and a NUL.
+#[inline(always)]
+fn put_canonical<L: Language>(
+    alloc: Global,
+    model: Model,
+    text: &[u8],
+    out: &mut [u8],
+    error: &mut CError,
+) -> i64
+    ensures { PutsCanonicalIn L.has_front L.refuses model text.now out.old error.old result out.new error.new }
+{
     let front = VerbatimFront::of(model, text);
     if front.is_all(text) {
         put_string(out, text);
         return text.len() as i64;
     }
-    put_other_canonical(alloc, model, &front, text, out, error)
+    put_other_canonical::<L>(alloc, model, &front, text, out, error)
 }
 
 // Puts the canonical text of a format that isn't verbatim. Never inlined, so that one that is doesn't make
 // the room.
 #[inline(never)]
-fn put_other_canonical(
+fn put_other_canonical<L: Language>(
     alloc: Global,
     model: Model,
     front: &VerbatimFront<'_>,
@@ -80,32 +97,32 @@ fn put_other_canonical(
 ) -> i64
     requires model { front_model front.now ≡ model }
     requires taken { IsVerbatimFront text.now front.now }
-    ensures { PutsCanonical model text.now out.old error.old result out.new error.new }
+    ensures { PutsCanonicalIn L.has_front L.refuses model text.now out.old error.old result out.new error.new }
 {
     let mut short = ShortText::new();
-    match short.put(front, text) {
+    match short.put::<L>(front, text) {
         Ok(true) => {
             let canonical = short.as_slice();
             put_string(out, canonical);
             canonical.len() as i64
         }
-        Ok(false) => put_long_canonical(alloc, model, text, out, error),
+        Ok(false) => put_long_canonical::<L>(alloc, model, text, out, error),
         Err(refusal) => put_refusal(error, Side::First, refusal),
     }
 }
 
 // Puts the canonical text of a format that may be too long for the stack.
 #[inline(never)]
-fn put_long_canonical(
+fn put_long_canonical<L: Language>(
     alloc: Global,
     model: Model,
     text: &[u8],
     out: &mut [u8],
     error: &mut CError,
 ) -> i64
-    ensures { PutsCanonical model text.now out.old error.old result out.new error.new }
+    ensures { PutsCanonicalIn L.has_front L.refuses model text.now out.old error.old result out.new error.new }
 {
-    match canonical(alloc, model, text) {
+    match canonical_in::<L>(alloc, model, text, 0) {
         Ok(canonical) => {
             put_string(out, &canonical);
             canonical.len() as i64
@@ -145,14 +162,7 @@ pub extern "C" fn fmtcanon_whole_canonical(
     let Some(model) = model_of(model) else {
         return NO_MODEL;
     };
-    match pf_whole::canonical(alloc, model, text) {
-        Ok(canonical) => {
-            put_string(out, &canonical);
-            canonical.len() as i64
-        }
-        Err(TextFault::Refused(refusal)) => put_refusal(error, Side::First, refusal),
-        Err(TextFault::Memory) => NO_MEMORY,
-    }
+    put_canonical::<Whole>(alloc, model, text, out, error)
 }
 
 /// Returns the length of the canonical text of a format of the whole language, or the code of an error:

@@ -237,7 +237,7 @@ module _ (model : Model) (t : Text) where
         last = none;
       }
 
-  fault_of_profile : (fault : TextFault) → FaultIn no_front (λ model. IsRefusedAt) model t fault → FaultForCanonical model t fault
+  pub fault_of_profile : (fault : TextFault) → FaultIn no_front (λ model. IsRefusedAt) model t fault → FaultForCanonical model t fault
   fault_of_profile (Refused refusal) h = h
   fault_of_profile Memory h = (h.0, of_profile h.0 h.1, h.2)
 

@@ -82,7 +82,7 @@ module _ (model : Model) where
         (past_opaque h.front h.out h.last h.own middle h.ends.items (parts_of_opaque found.0) h.begins h.ends.accepted.reads h.ends.canonical_is there.spelled))
 
 module _ (model : Model) (t : Text) where
-  fault_of_whole : (fault : TextFault) → FaultIn IsWholeFront IsWholeRefusedAt model t fault → FaultForWholeCanonical model t fault
+  pub fault_of_whole : (fault : TextFault) → FaultIn IsWholeFront IsWholeRefusedAt model t fault → FaultForWholeCanonical model t fault
   fault_of_whole (Refused refusal) h = h
   fault_of_whole Memory h = (h.0, whole_canonical model t h.0 h.1, h.2)
 

@@ -10,7 +10,7 @@ use pf_values::Model;
 
 /// The profile, and the directives that it lacks, each in its normal spelling.
 #[derive(Clone, Copy, Debug)]
-pub(crate) struct Whole;
+pub struct Whole;
 
 impl Language for Whole {
     ghost has_front = { IsWholeFront };

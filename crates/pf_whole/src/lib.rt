@@ -17,4 +17,5 @@ mod verdicts;
 pub use canonical_texts::{canonical, canonical_len, canonical_with_room, is_canonical};
 pub use comparison::same_text;
 pub use directives::normal_directive;
+pub use languages::Whole;
 pub use verdicts::{WholeVerdict, compare};
