@@ -175,6 +175,29 @@ fn put_whole_canonical(
 ) -> i64
     ensures { PutsWholeCanonical model text.now out.old error.old result out.new error.new }
 {
+    let mut short = ShortText::new();
+    match pf_whole::put_canonical(&mut short, model, text) {
+        Ok(true) => {
+            let canonical = short.as_slice();
+            put_string(out, canonical);
+            canonical.len() as i64
+        }
+        Ok(false) => put_long_whole(alloc, model, text, out, error),
+        Err(refusal) => put_refusal(error, Side::First, refusal),
+    }
+}
+
+// Puts the canonical text of a format of the whole language that may be too long for the stack.
+#[inline(never)]
+fn put_long_whole(
+    alloc: Global,
+    model: Model,
+    text: &[u8],
+    out: &mut [u8],
+    error: &mut CError,
+) -> i64
+    ensures { PutsWholeCanonical model text.now out.old error.old result out.new error.new }
+{
     match pf_whole::canonical(alloc, model, text) {
         Ok(canonical) => {
             put_string(out, &canonical);

@@ -20,7 +20,7 @@ use Rattle.pf_text.specs.declared.refusals.TextFault.TheVariants.{Refused, Memor
 use Rattle.pf_canon.specs.Answers.{FaultForCanonical, IsCanonicalFor}
 use Rattle.pf_canon.specs.ChangedDirectives.{between}
 use Rattle.pf_canon.specs.Comparison.{AreTextsSame, TextStops}
-use Rattle.pf_canon.specs.Languages.{AreSameIn, DecidesIn, FaultIn, Front, HasCanonicalIn, IsWrittenIn, Refuses, StopsIn}
+use Rattle.pf_canon.specs.Languages.{AreSameIn, DecidesIn, FaultIn, Front, HasCanonicalIn, IsAcceptedIn, IsWrittenIn, Refuses, StopsIn}
 use Rattle.pf_canon.specs.Making.{IsWritten}
 use Rattle.pf_canon.specs.declared.limits.TheConstants.{MAX_DIRECTIVE_LEN}
 use Rattle.pf_probes.proofs.Unique.{equivalent_formats_one}
@@ -205,9 +205,11 @@ module _ (has_front : Front) (model : Model) where
         (written_in at at (omega arith) h.within h.limit out h [] 0
         (subst (λ n. IsWritten model (take n (drop at t)) [] 0) (sym none) (none_written model)))
 
-  -- nothing was read yet
-  pub nothing_read : has_front model [] [] → (t : Text) (at : ℕ) → at ≡ 0 → IsWrittenIn has_front model (take at t) [] 0
-  nothing_read none t at start = subst (λ n. IsWrittenIn has_front model (take n t) [] 0) (sym start) (front_written t 0 [] (none_to t none))
+-- more comes after what came after a text
+pub more_after : (Is : Text → Type 0) (Fails : Refusal → Type 0) (out more : Text) (r : Result (Unit {0}) Refusal)
+    → MatchResult r (λ done. (rest : Text) × Is ((out ++ more) ++ rest)) Fails → MatchResult r (λ done. (rest : Text) × Is (out ++ rest)) Fails
+more_after Is Fails out more (Ok done) h = (more ++ h.0, subst Is (append_assoc out more h.0) h.1)
+more_after Is Fails out more (Err refusal) h = h
 
 -- there may be no memory for a text of some bytes
 pub hindered : (has_front : Front) (refuses : Refuses) (model : Model) (t c : Text) → HasCanonicalIn has_front model t c
@@ -248,6 +250,12 @@ module _ (model : Model) (t : Text) where
   answer_of_profile of (Err fault) h = fault_of_profile fault h
 
 module _ (model : Model) (t : Text) where
+  pub short_of_profile : (c : Text) (r : Result Bool Refusal)
+      → MatchResult r (λ is. IsTrue is → HasCanonicalIn no_front model t c) (λ refusal. IsRefusedAt t refusal.kind refusal.at)
+      → MatchResult r (λ is. IsTrue is → IsCanonicalFor model t c) (λ refusal. IsRefusedAt t refusal.kind refusal.at)
+  short_of_profile c (Ok is) h = λ yes. of_profile model t c (h yes)
+  short_of_profile c (Err refusal) h = h
+
   pub len_of_profile : (r : Result ℕ Refusal)
       → MatchResult r (λ len. (c : Text) × HasCanonicalIn no_front model t c × (len ≡ length c)) (λ refusal. IsRefusedAt t refusal.kind refusal.at)
       → MatchResult r (λ len. (c : Text) × IsCanonicalFor model t c × (len ≡ length c)) (λ refusal. IsRefusedAt t refusal.kind refusal.at)
@@ -268,6 +276,12 @@ module _ (model : Model) (t : Text) where
 
 -- what is known of a text of the profile
 module _ (has_front : Front) (model : Model) (none : has_front model [] []) where
+  -- a part of it, up to where items end
+  pub end_in : (t : Text) (stop : ℕ) → IsItemsEnd t stop → IsAcceptedIn has_front model (take stop t)
+  end_in t stop h =
+      let (c, own) = accepted_canonical model (take stop t) (h.items, record { reads = h.reads; limit = within_limit t stop h.few }) in
+      (c, one_stretch has_front model none (take stop t) c own)
+
   pub known_in : (t : Text) (is : Bool) → IsAccepted t → (IsTrue is ↔ IsCanonicalText model t) → DecidesIn has_front model t is
   known_in t is accepted h =
       let (c, own) = accepted_canonical model t accepted in (

@@ -1,16 +1,17 @@
 //! The canonical text of a format in memory, slice by slice.
-ghost use Rattle.std.specs.Prelude.{◌≡◌, ◌≢◌, MatchBool, ◌++◌, ◌+◌, ◌≤◌, ◌<◌, [], None, drop, length, take, MatchResult};
+ghost use Rattle.std.specs.Prelude.{ℕ, ◌≡◌, ◌≢◌, MatchBool, ◌++◌, ◌+◌, ◌≤◌, ◌<◌, [], None, drop, length, take, MatchResult};
 ghost use Rattle.pf_values.specs.declared.models.Model.{Model as ModelOf};
 ghost use Rattle.pf_values.specs.meaning.Text.{Text};
 ghost use Rattle.pf_text.specs.FoundDirectives.{BeginsNoItem, IsFoundAt};
-ghost use Rattle.pf_text.specs.Walks.{IsWalk};
+ghost use Rattle.pf_text.specs.Walks.{IsWalk, IsWalkOver};
 ghost use Rattle.pf_canon.specs.Making.{IsBetweenRuns, IsVerbatimAfter};
 ghost use Rattle.pf_canon.specs.ChangedDirectives.{between};
+ghost use Rattle.pf_canon.specs.Languages.{HasCanonicalIn, IsWrittenIn};
 ghost use Rattle.pf_canon.specs.Output.{IsFrontOf};
 ghost use Rattle.pf_canon.specs.CanonicalSlices.{AreSlices, IsPlaceIn, IsTakenWhole, SlicesHaveGiven, to_come, to_take, pending_of};
 
-use crate::items::{put_items, run_end};
-use crate::languages::{Language, check_from};
+use crate::items::{pass_items, put_items, run_end};
+use crate::languages::{Language, check_others};
 use crate::output::{Output, PendingOutput, settle};
 use crate::sink::ByteCount;
 use pf_text::{Canonical, FoundDirective, Percents, Refusal, Spelling, Walk, directive_at};
@@ -129,7 +130,7 @@ impl<'a> CanonicalSlices<'a> {
     {
         match self.end {
             Some(end) => end,
-            None => check_from::<L>(self.model, self.text, self.walk),
+            None => check_rest::<L>(self.model, self.walk, self.text),
         }
     }
 
@@ -237,4 +238,18 @@ impl<'a> CanonicalSlices<'a> {
             Err(refusal) => self.end = Some(Err(refusal)),
         }
     }
+}
+
+// Checks what comes of a text after a walk over it, in the midst of a stretch.
+#[inline(always)]
+fn check_rest<L: Language>(model: Model, walk: Walk<'_>, text: &[u8]) -> Result<(), Refusal>
+    requires over { IsWalkOver text.now walk }
+    requires within { walk.at ≤ length walk.text.now }
+    requires written { (out : Text) × (held : ℕ) × IsWrittenIn L.has_front model (take walk.at text.now) out held }
+    ensures { (out : Text) (held : ℕ) → IsWrittenIn L.has_front model (take walk.entry.at text.now) out held
+        → MatchResult result (λ _. (more : Text) × HasCanonicalIn L.has_front model text.now (out ++ more))
+        (λ refusal. L.refuses model text.now refusal.kind refusal.at) }
+{
+    let stop = pass_items(walk, walk.at);
+    check_others::<L>(model, walk, text, stop)
 }

@@ -13,8 +13,8 @@ use crate::canonical_slices::{CanonicalSlices, place_in};
 use crate::common_bytes::common_bytes;
 use crate::early_difference::differ_after;
 use crate::faults::{SideFault, StreamFault};
-use crate::languages::{Language, Profile, check_from};
-use pf_text::{Refusal, Side, Walk};
+use crate::languages::{Language, Profile, check_others};
+use pf_text::{Refusal, Side, Walk, items_end};
 use pf_values::{Counted, Model};
 use std::io::Read;
 
@@ -81,7 +81,11 @@ fn same_itself<L: Language>(model: Model, text: &[u8]) -> Result<bool, (Side, Re
     ensures { MatchResult result (AreSameIn L.has_front model text.now text.now)
         (StopsIn L.has_front L.refuses model text.now text.now) }
 {
-    match check_from::<L>(model, text, Walk::new(text)) {
+    let stop = items_end(text);
+    if stop == text.len() {
+        return Ok(true);
+    }
+    match check_others::<L>(model, Walk::new(text), text, stop) {
         Ok(()) => Ok(true),
         Err(refusal) => Err((Side::First, refusal)),
     }

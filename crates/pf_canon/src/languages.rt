@@ -1,5 +1,5 @@
 //! The languages of formats: what each has that the profile lacks.
-ghost use Rattle.std.specs.Prelude.{ℕ, ◌≡◌, ◌<◌, ◌≤◌, ◌++◌, [], drop, length, take, refl, IfOk, IfSome, MatchOption, MatchResult};
+ghost use Rattle.std.specs.Prelude.{◌≡◌, ◌<◌, ◌≤◌, ◌++◌, [], drop, length, take, refl, IfOk, IfSome, MatchOption, MatchResult};
 ghost use Rattle.arrayvec.specs.ArrayVec.{array_vec_len};
 ghost use Rattle.pf_values.specs.declared.limits.TheConstants.{MAX_TEXT_LEN};
 ghost use Rattle.pf_values.specs.declared.models.Model.{Model};
@@ -8,7 +8,7 @@ ghost use Rattle.pf_values.specs.meaning.Text.{Text};
 ghost use Rattle.pf_text.specs.FoundDirectives.{BeginsNoItem};
 ghost use Rattle.pf_text.specs.Walks.{IsWalkOver};
 ghost use Rattle.pf_canon.specs.Answers.{IsCanonicalFor};
-ghost use Rattle.pf_canon.specs.Languages.{Front, HasCanonicalIn, IsAcceptedIn, IsWrittenIn, Refuses};
+ghost use Rattle.pf_canon.specs.Languages.{Front, HasCanonicalIn, IsAcceptedIn, Refuses};
 
 use crate::items::{pass_items, put_stretch, run_end};
 use crate::sink::Sink;
@@ -78,16 +78,23 @@ pub(crate) fn put_others<L: Language, S: Sink>(
     Ok(())
 }
 
-/// Checks whether a text is accepted. What comes before a walk over it is.
-pub(crate) fn check_from<L: Language>(model: Model, text: &[u8], walk: Walk<'_>) -> Result<(), Refusal>
+/// Checks what comes after the first stretch of a text, or after a part of it that is accepted.
+#[inline(never)]
+pub(crate) fn check_others<L: Language>(
+    model: Model,
+    walk: Walk<'_>,
+    text: &[u8],
+    first: usize,
+) -> Result<(), Refusal>
     requires over { IsWalkOver text.now walk }
-    requires within { walk.at ≤ length walk.text.now }
-    requires written { (out : Text) × (held : ℕ) × IsWrittenIn L.has_front model (take walk.at text.now) out held }
-    ensures { (out : Text) (held : ℕ) → IsWrittenIn L.has_front model (take walk.entry.at text.now) out held
-        → MatchResult result (λ _. (more : Text) × HasCanonicalIn L.has_front model text.now (out ++ more))
+    requires within { first ≤ length walk.text.now }
+    requires none { BeginsNoItem (drop first walk.text.now) }
+    requires front { IsAcceptedIn L.has_front model (take first text.now) }
+    ensures { (c : Text) → HasCanonicalIn L.has_front model (take first text.now) c
+        → MatchResult result (λ _. (more : Text) × HasCanonicalIn L.has_front model text.now (c ++ more))
         (λ refusal. L.refuses model text.now refusal.kind refusal.at) }
 {
-    let mut at = pass_items(walk, walk.at);
+    let mut at = first;
     while let Some(other) = L::other_at(model, text, at)? {
         at = pass_items(walk, other.stop);
     }

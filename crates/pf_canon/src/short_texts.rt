@@ -2,11 +2,12 @@
 ghost use Rattle.std.specs.Prelude.{◌≡◌, IsTrue, MatchResult};
 ghost use Rattle.pf_values.specs.meaning.Refusals.{IsRefusedAt};
 ghost use Rattle.pf_canon.specs.Answers.{IsCanonicalFor};
+ghost use Rattle.pf_canon.specs.Languages.{HasCanonicalIn};
 ghost use Rattle.pf_canon.specs.ShortTexts.{IsUnused, short_text};
 ghost use Rattle.pf_canon.specs.VerbatimFronts.{IsVerbatimFront, front_model};
 
 use crate::canonical_texts::STACK_ROOM;
-use crate::languages::Profile;
+use crate::languages::{Language, Profile};
 use crate::sink::TextBuilder;
 use crate::verbatim_front::VerbatimFront;
 use arrayvec::ArrayVec;
@@ -49,10 +50,21 @@ impl ShortText {
             (λ is. IsTrue is → IsCanonicalFor (front_model front.now) text.now (short_text self.new))
             (λ refusal. IsRefusedAt text.now refusal.kind refusal.at) }
     {
+        self.put_in::<Profile>(front, text)
+    }
+
+    /// Puts the canonical text of a format in a language, as `put` does.
+    pub fn put_in<L: Language>(&mut self, front: &VerbatimFront<'_>, text: &[u8]) -> Result<bool, Refusal>
+        requires unused { IsUnused self.old }
+        requires front { IsVerbatimFront text.now front.now }
+        ensures { MatchResult result
+            (λ is. IsTrue is → HasCanonicalIn L.has_front (front_model front.now) text.now (short_text self.new))
+            (λ refusal. L.refuses (front_model front.now) text.now refusal.kind refusal.at) }
+    {
         if STACK_ROOM < text.len() {
             return Ok(false);
         }
-        front.put::<Profile, _>(text, &mut self.builder)?;
+        front.put::<L, _>(text, &mut self.builder)?;
         Ok(self.builder.lost == 0)
     }
 }

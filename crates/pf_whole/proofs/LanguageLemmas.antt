@@ -98,6 +98,12 @@ module _ (model : Model) (t : Text) where
   len_of_whole (Ok len) h = (h.0, whole_canonical model t h.0 h.1, h.2)
   len_of_whole (Err refusal) h = h
 
+  pub short_of_whole : (c : Text) (r : Result Bool Refusal)
+      → MatchResult r (λ is. IsTrue is → HasCanonicalIn IsWholeFront model t c) (λ refusal. IsWholeRefusedAt model t refusal.kind refusal.at)
+      → MatchResult r (λ is. IsTrue is → IsWholeCanonicalFor model t c) (λ refusal. IsWholeRefusedAt model t refusal.kind refusal.at)
+  short_of_whole c (Ok is) h = λ yes. whole_canonical model t c (h yes)
+  short_of_whole c (Err refusal) h = h
+
   pub decided_of_whole : (r : Result Bool Refusal)
       → MatchResult r (DecidesIn IsWholeFront model t) (λ refusal. IsWholeRefusedAt model t refusal.kind refusal.at)
       → MatchResult r (λ is. IsWholeAccepted t × (IsTrue is ↔ IsWholeCanonicalOf model t t)) (λ refusal. IsWholeRefusedAt model t refusal.kind refusal.at)

@@ -4,6 +4,7 @@
 ghost use Rattle.std.specs.Prelude.{◌≡◌, ◌≢◌, ◌≤◌, ◌+◌, ◌↔◌, [], IfOk, IsTrue, MatchResult, length};
 ghost use Rattle.std.specs.Vec.{vec_capacity};
 ghost use Rattle.pf_values.specs.meaning.Text.{Text};
+ghost use Rattle.pf_canon.specs.ShortTexts.{IsUnused, short_text};
 ghost use Rattle.pf_posix.specs.Stretches.{IsWholeAccepted};
 ghost use Rattle.pf_posix.specs.Unnumbered.{IsWholeRefusedAt};
 ghost use Rattle.pf_whole.specs.Answers.{IsWholeCanonicalFor};
@@ -11,7 +12,7 @@ ghost use Rattle.pf_whole.specs.Faults.{FaultForWholeCanonical};
 ghost use Rattle.pf_whole.specs.meaning.WholeCanonical.{IsWholeCanonicalOf};
 
 use crate::languages::Whole;
-use pf_canon::{canonical_in, canonical_len_in, is_canonical_in};
+use pf_canon::{ShortText, VerbatimFront, canonical_in, canonical_len_in, is_canonical_in};
 use pf_text::{Refusal, TextFault};
 use pf_values::Model;
 use std::alloc::Global;
@@ -56,4 +57,16 @@ pub fn is_canonical(model: Model, text: &[u8]) -> Result<bool, Refusal>
         (λ refusal. IsWholeRefusedAt model text.now refusal.kind refusal.at) }
 {
     is_canonical_in::<Whole>(model, text)
+}
+
+/// Puts the canonical text of a format into room in which nothing was put. False if it, or the format, may have
+/// more than 128 bytes. `Err` if it is refused. Allocates nothing.
+pub fn put_canonical(short: &mut ShortText, model: Model, text: &[u8]) -> Result<bool, Refusal>
+    requires { IsUnused short.old }
+    ensures { MatchResult result
+        (λ is. IsTrue is → IsWholeCanonicalFor model text.now (short_text short.new))
+        (λ refusal. IsWholeRefusedAt model text.now refusal.kind refusal.at) }
+{
+    let front = VerbatimFront::of(model, text);
+    short.put_in::<Whole>(&front, text)
 }

@@ -14,7 +14,9 @@ pub mod laws;
 mod spelling;
 mod verdicts;
 
-pub use canonical_texts::{canonical, canonical_len, canonical_with_room, is_canonical};
+pub use canonical_texts::{
+    canonical, canonical_len, canonical_with_room, is_canonical, put_canonical,
+};
 pub use comparison::same_text;
 pub use directives::normal_directive;
 pub use verdicts::{WholeVerdict, compare};

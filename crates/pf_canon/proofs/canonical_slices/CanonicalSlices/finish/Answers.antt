@@ -12,5 +12,5 @@ returns-in-None g c model text given h =
     let w = c.args.self.now in
     let settled = given ++ pending_of w in
     let m = subst (λ end. SlicesHaveGivenBy end g.L.Language.has_front g.L.Language.refuses model w.walk w.held text settled) c.in-None.is h.by in
-    ended_now g.L.Language.has_front g.L.Language.refuses model w text given c.check_from.result c.in-None.is
-    ((rw (h.model_is, h.text_is) at c.check_from.ensures) settled w.held m.written)
+    ended_now g.L.Language.has_front g.L.Language.refuses model w text given c.check_rest.result c.in-None.is
+    ((rw (h.model_is, h.text_is) at c.check_rest.ensures) settled w.held m.written)
