@@ -53,7 +53,8 @@ impl ShortText {
         self.put_in::<Profile>(front, text)
     }
 
-    /// Puts the canonical text of a format in a language, as `put` does.
+    /// Puts the canonical text of a format in a language. False if it may have more than 128 bytes. `Err` if it is
+    /// refused.
     pub fn put_in<L: Language>(&mut self, front: &VerbatimFront<'_>, text: &[u8]) -> Result<bool, Refusal>
         requires unused { IsUnused self.old }
         requires front { IsVerbatimFront text.now front.now }
