@@ -40,20 +40,21 @@ other_at-requires-clause-none g c = subst (λ t. BeginsNoItem (drop c.put_items-
 pub loop-other-preserved : goal.loop-other-preserved
 loop-other-preserved g c =
     let text = c.args.text.now in
-    let other = c.in-Ok-Some.other in
+    let stop = c.in-Ok-Some.other.stop in
+    let spelling = c.in-Ok-Some.other.spelling.items in
     let put = c.put_items-at in
     let (out, to) = c.loop-other.invariant.front in
     let (more, given, step) = put.ensures.put in
     let place = place_put g.L.Language.has_front c.args.model text c.new-walk.result c.new-walk.ensures.over c.loop-other.from put.result.0 put.result.1 out
     more (omega (arith, c.run_end.ensures.within.0, put.ensures.within.0)) put.ensures.within.1 to (step [] [] (none_written c.args.model)) in
     let before = all_put g.L.Language.has_front c.args.model (take put.result.0 text) (out ++ more) put.result.1 place.written in
-    let next = rw c.in-Ok-Some.field-0-is at c.in-Ok-Some.ensures.next in
+    let next = (rw c.in-Ok-Some.field-0-is at c.in-Ok-Some.ensures.next) _ before in
     let placed = rw c.in-Ok-Some.field-0-is at c.in-Ok-Some.ensures.placed in
     record {
-      within = subst (λ t. other.stop ≤ length t) (sym c.new-walk.ensures.over.text_is) (omega (arith, placed.1, placed.2, length-take MAX_TEXT_LEN text));
+      within = subst (λ t. stop ≤ length t) (sym c.new-walk.ensures.over.text_is) (omega (arith, placed.1, placed.2, length-take MAX_TEXT_LEN text));
       front = (
         _,
-        item_to g.L.Language.has_front c.args.model text put.result.0 other.stop _ other.spelling.items before (next _ before) placed.0 placed.1 placed.2 placed.3,
+        item_to g.L.Language.has_front c.args.model text put.result.0 stop _ spelling before next placed.0 placed.1 placed.2 placed.3,
       );
     }
 
