@@ -1,5 +1,5 @@
 -- Directives that are reduced to themselves with other letters, or with a precision in place of a width.
-use Rattle.std.proofs.Common.{◌≡◌, ◌≢◌, ℕ, zero, suc, ◌+◌, ◌≤◌, max, Bool, true, false, Option, Some, None, ◌++◌, refl, sym, ap, ◌∙◌, subst, arith, rules, ℤ, inl, inr}
+use Rattle.std.proofs.Common.{◌≡◌, ◌≢◌, ℕ, zero, suc, ◌+◌, ◌≤◌, max, Bool, true, false, Option, Some, None, ◌++◌, refl, sym, ap, ◌∙◌, subst, arith, ℤ, inl, inr}
 use Rattle.std.specs.Prelude.{MatchBool, nat_abs, unwrap_or}
 use Rattle.std.proofs.lemmas.List.{append-nil}
 use Rattle.pf_values.specs.declared.bases.Alternative.{Alternative}
@@ -11,7 +11,6 @@ use Rattle.pf_values.specs.declared.conversions.Kind.TheVariants as kinds
 use Rattle.pf_values.specs.declared.flags.Flag.TheVariants.{Zero}
 use Rattle.pf_values.specs.declared.flags.FlagSet.{FlagSet}
 use Rattle.pf_values.specs.declared.lengths.Length.{Length}
-use Rattle.pf_values.specs.declared.lengths.Length.TheVariants as lengths
 use Rattle.pf_values.specs.declared.models.Model.{Model}
 use Rattle.pf_values.specs.meaning.Bases.{alternative_of}
 use Rattle.pf_values.specs.meaning.Conversions.{is_signed, is_text, kept_conv, kind_of}
@@ -67,9 +66,7 @@ kept_conv_twice _ = refl
 precision_kept : (model : Model) (f : FlagSet) (w p : Option ℕ) (l : Length) (conv : Conv) (v : ℤ) (filled : Bool)
     → precision_under filled (record { flags = f; width = w; precision = p; length = l; conv = conv }) v
     ≡ precision_under filled (record { flags = f; width = w; precision = p; length = kept_length model l; conv = kept_conv conv }) v
-precision_kept model f w p l I v true = refl
-precision_kept model f w p l _ v true = refl
-precision_kept model f w p l _ v false = refl
+precision_kept model f w p l conv v filled = grind arith
 
 value_kept : (model : Model) (f : FlagSet) (w p : Option ℕ) (l : Length) (conv : Conv) (v : ℤ)
     → value_text (record { flags = f; width = w; precision = p; length = l; conv = conv }) v
@@ -204,10 +201,7 @@ module _ (model : Model) (s : Specification) where
     no_field = record (padding_of s) { width = 0 }
 
     written : (w : Option ℕ) → 2 ≤ unwrap_or w 0 → kept_precision (unwrap_or w 0) ≡ w
-    written None some = absurd (omega (arith, some))
-    written (Some zero) some = absurd (omega (arith, some))
-    written (Some (suc zero)) some = absurd (omega (arith, some))
-    written (Some (suc (suc w))) some = refl
+    written w some = grind arith
 
     -- a precision does what the flag `0` does in a field
     pub filled_change : is_text s.conv ≡ false → is_signed s.conv ≡ false → s.flags ≡ with_flag no_flags Zero → s.precision ≡ None

@@ -37,51 +37,26 @@ record HasSignFlags (left : Bool) (sign : Sign) (s : Specification) : Type 0 whe
 
 sign_flags_are : (left : Bool) (sign : Sign) (s : Specification)
     → s.flags ≡ with_side left (sign_flags sign) → HasSignFlags left sign s
-sign_flags_are true signs.None s e = rw e (record {
-  minus = refl;
-  no_zero = refl;
-  no_alt = refl;
-  no_group = refl;
-  one_sign = λ h. refl;
-  len = refl;
-  space = λ h. cc;
-  none = λ h. refl;
-  no_plus = λ h. λ g. cc;
-})
-sign_flags_are true signs.Plus s e = search rules
-sign_flags_are true signs.Space s e = search rules
-sign_flags_are false signs.None s e = search rules
-sign_flags_are false signs.Plus s e = search rules
-sign_flags_are false signs.Space s e = search rules
+sign_flags_are left sign s e = grind arith
 
 pub width_within : (w : ℕ) → w ≤ MAX_NUMBER → is_above_limit (width_given (Some w)) ≡ false
-width_within zero h = refl
-width_within (suc w) h = grind (arith, nat_tests)
+width_within w h = grind (arith, nat_tests)
 
 pub precision_within : (p : ℕ) → p ≤ MAX_NUMBER → is_above_limit (kept_precision p) ≡ false
-precision_within zero h = grind (arith, nat_tests)
-precision_within (suc zero) h = refl
-precision_within (suc (suc p)) h = grind (arith, nat_tests)
+precision_within p h = grind (arith, nat_tests)
 
 pub some_width : (w : ℕ) → width_given (Some w) ≢ Some 0
-some_width zero e = cc
-some_width (suc w) e = cc
+some_width w e = grind arith
 
 pub no_precision_1 : (p : ℕ) → kept_precision p ≢ Some 1
-no_precision_1 zero e = cc
-no_precision_1 (suc zero) e = cc
-no_precision_1 (suc (suc p)) e = cc
+no_precision_1 p e = grind arith
 
 pub kept_signed : (conv : Conv) → is_signed conv ≡ true → kept_conv conv ≡ D
-kept_signed D e = refl
-kept_signed I e = refl
-kept_signed _ e = cc
+kept_signed conv e = grind arith
 
 digits_signed : (conv : Conv) → is_signed conv ≡ true
     → (b : Bits) → most_digits conv b ≡ most_digits D b
-digits_signed D e b = refl
-digits_signed I e b = refl
-digits_signed _ e b = cc
+digits_signed conv e b = grind arith
 
 -- such a directive, of the letters that are kept
 module _ (model : Model) (p : Padding) (sign : Sign) (precision : ℕ) (length : Length)

@@ -26,22 +26,17 @@ use Rattle.pf_reduce.specs.Cores.{kept_precision, padded_core, with_side}
 use Rattle.pf_reduce.specs.Padded.{constants, padding_of}
 use Rattle.pf_reduce.specs.declared.signs.Sign.{Sign}
 use Rattle.pf_reduce.specs.declared.signs.Sign.TheVariants as signs
-use Rattle.pf_reduce.specs.Signs.{sign_flags, sign_length, sign_of}
+use Rattle.pf_reduce.specs.Signs.{sign_flags, sign_length, sign_of, unseen_signed_width, unseen_width}
 use Rattle.pf_reduce.specs.Prefixes.{is_prefixed, puts_prefix}
 use Rattle.pf_reduce.specs.Reducing.{itself}
 use Rattle.pf_reduce.proofs.NormalForms.{unsigned_with_prefix}
 
 -- the parts, written as a core writes them
 own_width : (w : Option ℕ) → w ≢ Some 0 → width_given (Some (unwrap_or w 0)) ≡ w
-own_width None h = refl
-own_width (Some zero) h = absurd (h refl)
-own_width (Some (suc w)) h = refl
+own_width w h = grind arith
 
 own_precision : (p : Option ℕ) → p ≢ Some 1 → kept_precision (unwrap_or p 1) ≡ p
-own_precision None h = refl
-own_precision (Some zero) h = refl
-own_precision (Some (suc zero)) h = absurd (h refl)
-own_precision (Some (suc (suc p))) h = refl
+own_precision p h = grind arith
 
 pub own_core : (model : Model) (s : Specification) (q : Padding) (flags : FlagSet) (precision : Option ℕ)
     → IsNormal model s → with_side (has s.flags Minus) flags ≡ s.flags → precision ≡ s.precision
@@ -57,15 +52,11 @@ different : false ≡ true → ⊥
 different e = cc
 
 too_narrow : (w sign : ℕ) → (1 ≤ sign) ⊎ (w ≤ 1) → sign ≡ 0 → 2 ≤ w → ⊥
-too_narrow w sign (inl some) none wide = omega (arith, some, none)
-too_narrow w sign (inr narrow) none wide = omega (arith, narrow, wide)
+too_narrow w sign h none wide = grind arith
 
 -- a number's
 text_no_string : (k : Kind) → prints_text k ≡ false → prints_string k ≡ false
-text_no_string kinds.Signed e = refl
-text_no_string (kinds.Unsigned base capitals) e = refl
-text_no_string kinds.Char e = refl
-text_no_string kinds.String e = cc
+text_no_string k e = grind arith
 
 pub own_number : (model : Model) (s : Specification) (q : Padding) (flags : FlagSet) (p : ℕ)
     → IsNormal model s → is_text s.conv ≡ false → with_side (has s.flags Minus) flags ≡ s.flags
@@ -95,9 +86,7 @@ seen_before left w (inr none) right some = omega (arith, none, some)
 -- so does the side, where the width is seen
 pub own_side : (before after : Bool) (w most : ℕ) → (after ≡ true → (before ≡ true) × (most < w))
     → (most < w → after ≡ before) → (before ≡ true → most < w) → after ≡ before
-own_side true after w most wide right seen = right (seen refl)
-own_side false true w most wide right seen = sym (wide refl).0
-own_side false false w most wide right seen = refl
+own_side before after w most wide right seen = grind arith
 
 -- the flags of a directive, as its side and other flags
 abbrev set_of : Bool → Bool → Bool → Bool → Bool → Bool → FlagSet
@@ -112,8 +101,7 @@ on_side true flags f m right p s a z g = same_set _ _ _ _ _ _ _ _ _ _ _ _ m p s 
 on_side false flags f m right p s a z g = same_set _ _ _ _ _ _ _ _ _ _ _ _ (right ∙ m) p s a z g
 
 false_else : (b : Bool) → (b ≡ true → false ≡ true) → b ≡ false
-false_else true h = sym (h refl)
-false_else false h = refl
+false_else b h = grind arith
 
 -- those of a number without a sign
 module _ (model : Model) (s : Specification) (h : IsNormal model s) (signed : is_signed s.conv ≡ false) where
@@ -205,10 +193,7 @@ prefixed_number conv e = (unsigned_with_prefix conv e).text
 
 -- what a directive that is filled with zeros has
 filled_parts : (zeros minus : Bool) (p : Option ℕ) → (zeros && not minus && is_none p) ≡ true → (zeros ≡ true) × (minus ≡ false) × (p ≡ None)
-filled_parts true false None e = (refl, refl, refl)
-filled_parts true false (Some p) e = absurd (different e)
-filled_parts true true p e = absurd (different e)
-filled_parts false minus p e = absurd (different e)
+filled_parts zeros minus p e = grind arith
 
 pub own_filled_prefixed : (model : Model) (s : Specification) → IsNormal model s → is_prefixed s.conv ≡ true → has s.flags Alt ≡ true
     → is_zero_filled s ≡ true → padded_core model s (padding_of s) (with_flag (with_flag no_flags Alt) Zero) None ≡ itself model s
@@ -219,30 +204,25 @@ own_filled_prefixed model s h form alt fill =
     own_core model s (padding_of s) (with_flag (with_flag no_flags Alt) Zero) None h (filled_alt_flags model s h signed alt parts.0) (sym parts.2) refl refl refl
 
 -- the side is seen
-pub seen_from : (p w least unseen : ℕ) → (0 < w) × (p ≡ 0 → least < w) → (p ≡ 0 → unseen ≡ least) → (1 ≤ p → unseen ≡ 0) → unseen < w
-seen_from zero w least unseen h none some = let e = none refl in let l = h.1 refl in omega (arith, e, l)
-seen_from (suc p) w least unseen h none some = let e = some (omega arith) in omega (arith, e, h.0)
+pub seen_from : (p w least : ℕ) → (0 < w) × (p ≡ 0 → least < w) → unseen_width p least < w
+seen_from zero w least h = h.1 refl
+seen_from (suc p) w least h = h.0
 
 -- digits after a sign
 sign_len_under : (plus space : Bool) → (if plus || space then 1 else 0) ≡ sign_length (if plus then signs.Plus else (if space then signs.Space else signs.None))
-sign_len_under true space = refl
-sign_len_under false true = refl
-sign_len_under false false = refl
+sign_len_under plus space = grind arith
 
 pub sign_len_is : (s : Specification) → sign_len s ≡ sign_length (sign_of s.flags)
 sign_len_is s = sign_len_under (has s.flags Plus) (has s.flags Space)
 
 space_under : (plus space : Bool) → (if plus then signs.Plus else (if space then signs.Space else signs.None)) ≡ signs.Space → space ≡ true
-space_under plus true e = refl
-space_under true false e = cc
-space_under false false e = cc
+space_under plus space e = grind arith
 
 pub space_is : (s : Specification) → sign_of s.flags ≡ signs.Space → has s.flags Space ≡ true
 space_is s e = space_under (has s.flags Plus) (has s.flags Space) e
 
 no_plus_under : (plus space : Bool) → (if plus then signs.Plus else (if space then signs.Space else signs.None)) ≢ signs.Plus → plus ≡ false
-no_plus_under true space h = absurd (h refl)
-no_plus_under false space h = refl
+no_plus_under plus space h = grind arith
 
 pub no_plus_is : (s : Specification) → sign_of s.flags ≢ signs.Plus → has s.flags Plus ≡ false
 no_plus_is s h = no_plus_under (has s.flags Plus) (has s.flags Space) h
@@ -265,9 +245,7 @@ signed_form model s len h signed len_is idle = unfilled_signed model s (has s.fl
     (signed_kind model s (kind_of s.conv) signed h.form)
 
 signed_conv : (conv : Conv) → is_signed conv ≡ true → (conv ≡ D) ⊎ (conv ≡ I)
-signed_conv D e = inl refl
-signed_conv I e = inr refl
-signed_conv _ e = cc
+signed_conv conv e = grind arith
 
 no_alt_with : (s : Specification) → refused_as s ≡ None → (s.conv ≡ D) ⊎ (s.conv ≡ I) → has s.flags Alt ≡ false
 no_alt_with s allowed (inl is) = search rules
@@ -277,20 +255,14 @@ signed_no_alt : (s : Specification) → refused_as s ≡ None → is_signed s.co
 signed_no_alt s allowed signed = no_alt_with s allowed (signed_conv s.conv signed)
 
 signed_text : (k : Kind) → prints_signed k ≡ true → prints_text k ≡ false
-signed_text kinds.Signed e = refl
-signed_text (kinds.Unsigned base capitals) e = refl
-signed_text kinds.Char e = absurd (different e)
-signed_text kinds.String e = absurd (different e)
+signed_text k e = grind arith
 
 pub signed_number : (conv : Conv) → is_signed conv ≡ true → is_text conv ≡ false
 signed_number conv e = signed_text (kind_of conv) e
 
 sign_flags_are : (p s : Bool) → (p ≡ true → s ≡ false)
     → sign_flags (if p then signs.Plus else (if s then signs.Space else signs.None)) ≡ set_of false p s false false false
-sign_flags_are true true h = absurd (different (sym (h refl)))
-sign_flags_are true false h = refl
-sign_flags_are false true h = refl
-sign_flags_are false false h = refl
+sign_flags_are p s h = grind arith
 
 pub signed_flags : (model : Model) (s : Specification) → IsNormal model s → is_signed s.conv ≡ true → (has s.flags Plus ≡ true → has s.flags Space ≡ false)
     → has s.flags Zero ≡ false → with_side (has s.flags Minus) (sign_flags (sign_of s.flags)) ≡ s.flags
@@ -300,9 +272,7 @@ signed_flags model s h signed one unfilled =
 
 no_sign_under : (plus space : Bool) → sign_length (if plus then signs.Plus else (if space then signs.Space else signs.None)) ≡ 0
     → (plus ≡ false) × (space ≡ false)
-no_sign_under true space e = cc
-no_sign_under false true e = cc
-no_sign_under false false e = (refl, refl)
+no_sign_under plus space e = grind arith
 
 pub own_filled_signed : (model : Model) (s : Specification) → IsNormal model s → is_signed s.conv ≡ true → sign_length (sign_of s.flags) ≡ 0
     → is_zero_filled s ≡ true → padded_core model s (padding_of s) (with_flag no_flags Zero) None ≡ itself model s
@@ -315,10 +285,5 @@ own_filled_signed model s h signed none fill =
     (sym h.no_group)) (sym parts.2) refl refl refl
 
 -- the side of a sign is seen
-pub seen_sign : (sign : Sign) (p w unseen : ℕ) → (0 < w) × (sign ≢ signs.Plus → p ≡ 0 → sign_length sign + 1 < w) → (sign ≡ signs.Plus → unseen ≡ 0)
-    → (sign ≢ signs.Plus → p ≡ 0 → unseen ≡ sign_length sign + 1) → (1 ≤ p → unseen ≡ 0) → unseen < w
-seen_sign signs.Plus p w unseen h plus none some = let e = plus refl in omega (arith, e, h.0)
-seen_sign signs.Space zero w unseen h plus none some = let e = none (λ x. cc) refl in let l = h.1 (λ x. cc) refl in omega (arith, e, l)
-seen_sign signs.None zero w unseen h plus none some = let e = none (λ x. cc) refl in let l = h.1 (λ x. cc) refl in omega (arith, e, l)
-seen_sign signs.Space (suc p) w unseen h plus none some = let e = some (omega arith) in omega (arith, e, h.0)
-seen_sign signs.None (suc p) w unseen h plus none some = let e = some (omega arith) in omega (arith, e, h.0)
+pub seen_sign : (sign : Sign) (p w : ℕ) → (0 < w) × (sign ≢ signs.Plus → p ≡ 0 → sign_length sign + 1 < w) → unseen_signed_width p sign < w
+seen_sign sign p w h = grind arith

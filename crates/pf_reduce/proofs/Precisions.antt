@@ -34,9 +34,7 @@ pub effective : (s : Specification) (v : ℤ) (sign : ℕ) → (is_zero_filled s
 effective s v sign h = value_text-is s v ∙ effective_under (is_zero_filled s) s v sign h
 
 pub written_is : (p : ℕ) → unwrap_or (kept_precision p) 1 ≡ p
-written_is zero = refl
-written_is (suc zero) = refl
-written_is (suc (suc p)) = refl
+written_is p = grind arith
 
 unfilled : (left : Bool) (flags : FlagSet) (b : Bool) → has flags Zero ≡ false
     → (has (with_side left flags) Zero && not (has (with_side left flags) Minus) && b) ≡ false
@@ -73,14 +71,11 @@ same_filled s t v h width all all_t =
     ∙ sym (filled_text s v all)
 
 right_of : (a b c : Bool) → (a && not b && c) ≡ true → b ≡ false
-right_of a false c h = refl
-right_of true true c h = cc
-right_of false true c h = cc
+right_of a b c h = grind arith
 
 -- a directive that is filled with zeros is right-justified
 pub filled_right : (s : Specification) → is_zero_filled s ≡ true → has s.flags Minus ≡ false
 filled_right s h = right_of (has s.flags Zero) (has s.flags Minus) _ h
 
 pub alt_kept : (left : Bool) → has (with_side left (with_flag no_flags Alt)) Alt ≡ true
-alt_kept true = refl
-alt_kept false = refl
+alt_kept left = grind arith

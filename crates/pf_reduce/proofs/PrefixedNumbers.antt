@@ -40,6 +40,7 @@ use Rattle.pf_reduce.specs.declared.padding.Padding.{Padding}
 use Rattle.pf_reduce.specs.Cores.{padded_core, core_of_parts, kept_precision}
 use Rattle.pf_reduce.specs.Padded.{IsUnseen, constants, with_padding, padding_of}
 use Rattle.pf_reduce.specs.Reducing.{IsNormalCore, IsReducedTo}
+use Rattle.pf_reduce.specs.Signs.{unseen_width}
 use Rattle.pf_reduce.proofs.CarriedIntegers.{integer_reduced, kept_kind, width_is}
 use Rattle.pf_reduce.proofs.UnprefixedNumbers.{digits_text, length-digits_text, natural_is}
 use Rattle.pf_reduce.proofs.Precisions.{PrintsLike, alt_kept, core_text, effective, filled_right, same_filled, same_number}
@@ -50,9 +51,7 @@ IsPrefix n t = ((n ≡ 0) × (t ≡ [])) ⊎ ((1 ≤ n) × (length t ≡ 2))
 
 prefix_is : (letters : Text) (n : ℕ) (alt : Bool) → length letters ≡ 2 → alt ≡ true
     → IsPrefix n (if alt && not (is_zero n) then letters else [])
-prefix_is letters zero true two e = inl (refl, refl)
-prefix_is letters (suc n) true two e = inr (omega arith, two)
-prefix_is letters n false two e = cc
+prefix_is letters n alt two e = grind arith
 
 -- what is known of a kind of numbers that have a prefix under `#`
 pub record HasPrefix (k : Kind) : Type 0 where
@@ -67,12 +66,7 @@ pub record HasPrefix (k : Kind) : Type 0 where
 
 prefix_of_two : (base : Base) (capitals : Bool) → alternative_of base ≡ Prefixed
     → length (prefix_of base capitals) ≡ 2
-prefix_of_two Binary true e = refl
-prefix_of_two Binary false e = refl
-prefix_of_two Octal capitals e = cc
-prefix_of_two Decimal capitals e = cc
-prefix_of_two Hexadecimal true e = refl
-prefix_of_two Hexadecimal false e = refl
+prefix_of_two base capitals e = grind arith
 
 with_prefix : (base : Base) (capitals : Bool) → alternative_of base ≡ Prefixed → 2 ≤ number_of base → HasPrefix (kinds.Unsigned base capitals)
 with_prefix base capitals e two = record {
@@ -175,10 +169,9 @@ module _ (model : Model) (s : Specification) (form : is_prefixed s.conv ≡ true
       ap (with_padding (padding_of s)) (sym (same_filled s t v (like s form alt t v refl (rw right refl)) (width_is (width_of s)) all (rw right refl))))
 
 -- with precision 0 the side isn't seen up to a width of 3
-pub unseen_side : (w most precision : ℕ) (body : Text) → (precision ≡ 0 → most ≡ 3) → (1 ≤ precision → most ≡ 0)
-    → (precision ≡ 0 → (body ≡ []) ⊎ (3 ≤ length body)) → w ≤ most → IsUnseen w body
-unseen_side w most zero body none some h small = elim (h refl) [
+pub unseen_side : (w precision : ℕ) (body : Text) → (precision ≡ 0 → (body ≡ []) ⊎ (3 ≤ length body)) → w ≤ unseen_width precision 3 → IsUnseen w body
+unseen_side w zero body h small = elim (h refl) [
   | inl empty ↦ inr (rw empty refl)
-  | inr long ↦ let m = none refl in inl (omega arith)
+  | inr long ↦ inl (omega (arith, small, long))
 ]
-unseen_side w most (suc precision) body none some h small = let m = some (omega arith) in inl (omega arith)
+unseen_side w (suc precision) body h small = inl (omega (arith, small))

@@ -47,7 +47,7 @@ use Rattle.pf_reduce.specs.declared.signs.Sign.TheVariants as signs
 use Rattle.pf_reduce.specs.Cores.{padded_core, core_of_parts, with_side, kept_precision}
 use Rattle.pf_reduce.specs.Padded.{IsUnseen, constants, with_padding, padding_of}
 use Rattle.pf_reduce.specs.Reducing.{IsNormalCore, IsReducedTo}
-use Rattle.pf_reduce.specs.Signs.{sign_flags, sign_length, sign_of, sign_text}
+use Rattle.pf_reduce.specs.Signs.{sign_flags, sign_length, sign_of, sign_text, unseen_signed_width}
 use Rattle.pf_reduce.proofs.CarriedIntegers.{integer_reduced, kept_kind, kept_sign, width_is}
 use Rattle.pf_reduce.proofs.UnprefixedNumbers.{
   digits_text,
@@ -62,19 +62,11 @@ abbrev pub signed_text : Sign → ℕ → ℤ → Text
 signed_text sign precision v = sign_text sign (is_negative v) ++ digits_text D precision (nat_abs v)
 
 signed_kind : (k : Kind) → prints_signed k ≡ true → k ≡ kinds.Signed
-signed_kind kinds.Signed e = refl
-signed_kind (kinds.Unsigned base capitals) e = cc
-signed_kind kinds.Char e = cc
-signed_kind kinds.String e = cc
+signed_kind k e = grind arith
 
 sign_under : (negative plus spaced : Bool) → (if negative then codes "-" else (if plus then codes "+" else (if spaced then codes " " else [])))
     ≡ sign_text (if plus then signs.Plus else (if spaced then signs.Space else signs.None)) negative
-sign_under true true spaced = refl
-sign_under true false true = refl
-sign_under true false false = refl
-sign_under false true spaced = refl
-sign_under false false true = refl
-sign_under false false false = refl
+sign_under negative plus spaced = grind arith
 
 sign-is : (s : Specification) (v : ℤ) → sign s v ≡ sign_text (sign_of s.flags) (is_negative v)
 sign-is s v = sign_under (is_negative v) (has s.flags Plus) (has s.flags Space)
@@ -102,11 +94,7 @@ number_text-signed s precision v signed =
     ∙ ap (λ t. t ++ digits_text D precision n) (front-is s v signed)
 
 sign_some : (sign : Sign) (negative : Bool) → 1 ≤ sign_length sign → length (sign_text sign negative) ≡ sign_length sign
-sign_some signs.None negative h = absurd (omega arith)
-sign_some signs.Plus true h = refl
-sign_some signs.Plus false h = refl
-sign_some signs.Space true h = refl
-sign_some signs.Space false h = refl
+sign_some sign negative h = grind arith
 
 -- each number has the sign's length, or the field has no room for zeros
 zeros_by_precision : (s : Specification) (v : ℤ) → is_signed s.conv ≡ true → (1 ≤ sign_length (sign_of s.flags)) ⊎ (width_of s ≤ 1)
@@ -120,22 +108,13 @@ signed_value : (s : Specification) (v : ℤ) → is_signed s.conv ≡ true → (
 signed_value s v signed h = effective s v _ (λ filled. zeros_by_precision s v signed (h filled)) ∙ number_text-signed s _ v signed
 
 sign_kept : (left : Bool) (sign : Sign) → sign_of (with_side left (sign_flags sign)) ≡ sign
-sign_kept true signs.None = refl
-sign_kept true signs.Plus = refl
-sign_kept true signs.Space = refl
-sign_kept false signs.None = refl
-sign_kept false signs.Plus = refl
-sign_kept false signs.Space = refl
+sign_kept left sign = grind arith
 
 no_other_flag : (sign : Sign) → (has (sign_flags sign) Zero ≡ false) × (has (sign_flags sign) Minus ≡ false)
-no_other_flag signs.None = (refl, refl)
-no_other_flag signs.Plus = (refl, refl)
-no_other_flag signs.Space = (refl, refl)
+no_other_flag sign = grind arith
 
 no_sign : (sign : Sign) → sign_length sign ≡ 0 → sign ≡ signs.None
-no_sign signs.None h = refl
-no_sign signs.Plus h = absurd (omega arith)
-no_sign signs.Space h = absurd (omega arith)
+no_sign sign none = grind arith
 
 module _ (model : Model) (s : Specification) (signed : is_signed s.conv ≡ true) where
   pub signed_reduced : (p : Padding) (sign : Sign) (precision : ℕ) → (is_zero_filled s ≡ true → (1 ≤ sign_length (sign_of s.flags)) ⊎ (width_of s ≤ 1))
@@ -179,12 +158,7 @@ module _ (model : Model) (s : Specification) (signed : is_signed s.conv ≡ true
       ap (with_padding (padding_of s)) (sym (same_filled s t v like (width_is (width_of s)) all (rw right refl))))
 
 sign_lengths : (sign : Sign) (negative : Bool) → (sign_length sign ≤ length (sign_text sign negative)) × (length (sign_text sign negative) ≤ 1)
-sign_lengths signs.None true = (omega arith, omega arith)
-sign_lengths signs.Plus true = (omega arith, omega arith)
-sign_lengths signs.Space true = (omega arith, omega arith)
-sign_lengths signs.None false = (omega arith, omega arith)
-sign_lengths signs.Plus false = (omega arith, omega arith)
-sign_lengths signs.Space false = (omega arith, omega arith)
+sign_lengths sign negative = grind arith
 
 -- how long a signed number is
 pub signed_least : (sign : Sign) (precision : ℕ) (v : ℤ) → sign_length sign + precision ≤ length (signed_text sign precision v)
@@ -219,9 +193,9 @@ unseen_at_0 signs.Plus w (pos zero) e h = absurd (e refl)
 unseen_at_0 sign w (pos (suc k)) e h = let some = longer sign (pos (suc k)) (omega arith) in inl (omega arith)
 unseen_at_0 sign w (negsuc k) e h = let some = longer sign (negsuc k) (omega arith) in inl (omega arith)
 
-pub unseen_signed_side : (sign : Sign) (w most precision : ℕ) (v : ℤ) → (sign ≡ signs.Plus → most ≡ 0)
-    → (sign ≢ signs.Plus → precision ≡ 0 → most ≡ sign_length sign + 1) → (1 ≤ precision → most ≡ 0) → w ≤ most → IsUnseen w (signed_text sign precision v)
-unseen_signed_side signs.Plus w most precision v plus none some h = let m = plus refl in inl (omega arith)
-unseen_signed_side sign w most (suc precision) v plus none some h = let m = some (omega arith) in inl (omega arith)
-unseen_signed_side signs.None w most zero v plus none some h = unseen_at_0 signs.None w v (λ e. cc) (omega (arith, none (λ e. cc) refl))
-unseen_signed_side signs.Space w most zero v plus none some h = unseen_at_0 signs.Space w v (λ e. cc) (omega (arith, none (λ e. cc) refl))
+pub unseen_signed_side : (sign : Sign) (w precision : ℕ) (v : ℤ) → w ≤ unseen_signed_width precision sign → IsUnseen w (signed_text sign precision v)
+unseen_signed_side signs.Plus w precision v h = inl (omega arith)
+unseen_signed_side signs.None w (suc precision) v h = inl (omega arith)
+unseen_signed_side signs.Space w (suc precision) v h = inl (omega arith)
+unseen_signed_side signs.None w zero v h = unseen_at_0 signs.None w v (λ e. cc) h
+unseen_signed_side signs.Space w zero v h = unseen_at_0 signs.Space w v (λ e. cc) h

@@ -59,16 +59,11 @@ length-digits_text conv precision n =
 
 no_prefix_under : (form : Alternative) (base : Base) (capitals : Bool) (s : Specification) (v : ℤ)
     → has s.flags Alt ≡ false → prefix_under form base capitals s v ≡ []
-no_prefix_under Undefined base capitals s v alt = refl
-no_prefix_under Raised base capitals s v alt = refl
-no_prefix_under Prefixed base capitals s v alt = rw alt refl
+no_prefix_under form base capitals s v alt = grind arith
 
 no_front : (k : Kind) (s : Specification) (v : ℤ) → prints_signed k ≡ false
     → has s.flags Alt ≡ false → front_under k s v ≡ []
-no_front kinds.Signed s v sign alt = cc
-no_front (kinds.Unsigned base capitals) s v sign alt = no_prefix_under (alternative_of base) base capitals s v alt
-no_front kinds.Char s v sign alt = refl
-no_front kinds.String s v sign alt = refl
+no_front k s v sign alt = grind arith
 
 pub no_prefix : (s : Specification) (v : ℤ) → is_signed s.conv ≡ false
     → has s.flags Alt ≡ false → sign_or_prefix s v ≡ []
@@ -79,8 +74,7 @@ pub natural_is : (conv : Conv) (alt : Bool) (n : ℕ) → (is_octal conv && alt)
 natural_is conv alt n e = rw e refl
 
 not_from_zero : (octal alt : Bool) → alt ≡ false → (octal && alt) ≡ false
-not_from_zero true alt e = e
-not_from_zero false alt e = refl
+not_from_zero octal alt e = grind arith
 
 number_text-plain : (s : Specification) (precision : ℕ) (v : ℤ) → is_signed s.conv ≡ false
     → has s.flags Alt ≡ false → number_text s precision v ≡ digits_text s.conv precision (nat_abs v)
@@ -96,8 +90,7 @@ pub same_digits : (c d : Conv) (precision n : ℕ) → kind_of c ≡ kind_of d
 same_digits c d precision n e = rw e refl
 
 no_alt : (left : Bool) → has (with_side left no_flags) Alt ≡ false
-no_alt true = refl
-no_alt false = refl
+no_alt left = grind arith
 
 -- Digits alone are left.
 pub digits_reduced : (model : Model) (s : Specification) (p : Padding) (precision : ℕ) → is_text s.conv ≡ false → is_signed s.conv ≡ false
@@ -149,8 +142,7 @@ abbrev pub IsOctal : Conv → Type 0
 IsOctal conv = kind_of conv ≡ kinds.Unsigned Octal false
 
 pub octal : (conv : Conv) → is_octal conv ≡ true → IsOctal conv
-octal O e = refl
-octal _ e = cc
+octal conv e = grind arith
 
 number_text-octal : (s : Specification) (precision : ℕ) (v : ℤ) → IsOctal s.conv
     → has s.flags Alt ≡ true → number_text s precision v ≡ octal_text precision (nat_abs v)
