@@ -20,7 +20,7 @@ use Rattle.pf_text.specs.declared.refusals.TextFault.TheVariants.{Refused, Memor
 use Rattle.pf_canon.specs.Answers.{FaultForCanonical, IsCanonicalFor}
 use Rattle.pf_canon.specs.ChangedDirectives.{between}
 use Rattle.pf_canon.specs.Comparison.{AreTextsSame, TextStops}
-use Rattle.pf_canon.specs.Languages.{AreSameIn, DecidesIn, FaultIn, Front, HasCanonicalIn, IsWrittenIn, Refuses, StopsIn}
+use Rattle.pf_canon.specs.Languages.{AreSameIn, DecidesIn, FaultIn, Front, HasCanonicalIn, IsAcceptedIn, IsWrittenIn, Refuses, StopsIn}
 use Rattle.pf_canon.specs.Making.{IsWritten}
 use Rattle.pf_canon.specs.declared.limits.TheConstants.{MAX_DIRECTIVE_LEN}
 use Rattle.pf_probes.proofs.Unique.{equivalent_formats_one}
@@ -268,6 +268,11 @@ module _ (model : Model) (t : Text) where
 
 -- what is known of a text of the profile
 module _ (has_front : Front) (model : Model) (none : has_front model [] []) where
+  pub accepted_in : (t : Text) → IsAccepted t → IsAcceptedIn has_front model t
+  accepted_in t accepted =
+      let (c, own) = accepted_canonical model t accepted in
+      (c, one_stretch has_front model none t c own)
+
   pub known_in : (t : Text) (is : Bool) → IsAccepted t → (IsTrue is ↔ IsCanonicalText model t) → DecidesIn has_front model t is
   known_in t is accepted h =
       let (c, own) = accepted_canonical model t accepted in (

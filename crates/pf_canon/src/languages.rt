@@ -79,7 +79,6 @@ pub(crate) fn put_others<L: Language, S: Sink>(
 }
 
 /// Checks whether a text is accepted. What comes before a walk over it is.
-#[inline(always)]
 pub(crate) fn check_from<L: Language>(model: Model, text: &[u8], walk: Walk<'_>) -> Result<(), Refusal>
     requires over { IsWalkOver text.now walk }
     requires within { walk.at ≤ length walk.text.now }

@@ -65,11 +65,41 @@ fn put_specification(
     requires few { count ≤ at }
     ensures { IsPut model text.now at out.old out.new count result }
 {
-    match type_at(model, text, at) {
-        Some((wanted, stop)) => {
+    match bare_type(text[at + 1]) {
+        Some(wanted) => {
             put(out, count, wanted);
             PlainFront {
-                at: stop,
+                at: at + 2,
+                count: count + 1,
+            }
+        }
+        None => put_other(model, text, at, out, count),
+    }
+}
+
+// The same of one that isn't a conversion alone. It isn't inlined: that keeps the loop of those short.
+#[inline(never)]
+fn put_other(
+    model: Model,
+    text: &[u8],
+    at: usize,
+    out: &mut [ArgumentType],
+    count: usize,
+) -> PlainFront
+    requires percent { HasPercent text.now at }
+    requires short { length text.now ≤ LIMIT }
+    requires few { count ≤ at }
+    ensures { IsPut model text.now at out.old out.new count result }
+{
+    match directive_at(text, at) {
+        Some(found) => {
+            put(
+                out,
+                count,
+                ArgumentType::Profile(found.directive.arg_type(model)),
+            );
+            PlainFront {
+                at: found.stop,
                 count: count + 1,
             }
         }
@@ -77,30 +107,7 @@ fn put_specification(
     }
 }
 
-// The type of the argument of the specification at an offset, and where it ends, if it is one of the profile or a
-// conversion alone.
-#[inline(always)]
-fn type_at(model: Model, text: &[u8], at: usize) -> Option<(ArgumentType, usize)>
-    requires { HasPercent text.now at }
-    ensures { IfSome result (HasTypeAt model text.now at) }
-{
-    match bare_type(text[at + 1]) {
-        Some(wanted) => Some((wanted, at + 2)),
-        None => profile_type_at(model, text, at),
-    }
-}
-
-// The same of one of the profile. It isn't inlined: that keeps the loop of the others short.
-#[inline(never)]
-fn profile_type_at(model: Model, text: &[u8], at: usize) -> Option<(ArgumentType, usize)>
-    ensures { IfSome result (HasTypeAt model text.now at) }
-{
-    let found = directive_at(text, at)?;
-    let wanted = ArgumentType::Profile(found.directive.arg_type(model));
-    Some((wanted, found.stop))
-}
-
-// Puts the types of a specification that has others than these, as `put_specification` does.
+// The same of one that the profile lacks.
 #[inline(never)]
 fn put_any(
     model: Model,
