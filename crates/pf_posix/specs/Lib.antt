@@ -6,11 +6,11 @@ pub mod Items
 pub mod Stages
 pub mod Letters
 pub mod States
-pub mod Moves
 pub mod Fronts
 pub mod Refusals
 pub mod TypeNumbers
 pub mod Readings
+pub mod Traces
 pub mod Walks
 pub mod Tabled
 pub mod Laws
