@@ -1,4 +1,5 @@
 -- The trace of a text from an offset on.
+use Rattle.memchr.specs.Find.{Passes, is_byte2}
 use Rattle.pf_posix.specs.Spelling.{SpellsPositive}
 use Rattle.pf_text.proofs.NumberDigits.{first_above_zero}
 use Rattle.pf_values.proofs.Numerals.{number_after-place_sum}
@@ -30,16 +31,16 @@ use Rattle.pf_text.specs.Offsets.{EndsNumber, EndsWidth, HasBytes, ContinuesNumb
 use Rattle.pf_text.specs.Letters.{flag_of}
 use Rattle.pf_values.specs.meaning.Spelling.{width_spelled}
 use Rattle.std.proofs.lemmas.Bool.Decides.{nat_tests}
-use Rattle.std.proofs.Common.{ap₂, ◌≡◌, ◌≢◌, ℕ, ◌+◌, ◌-◌, ◌<◌, ◌≤◌, Bool, true, false, List, [], ◌∷◌, ◌++◌, length, length-append, drop, get_or, refl, sym, ap, ◌∙◌, arith, subst, ◌*◌, suc, map}
+use Rattle.std.proofs.Common.{ap₂, ◌≡◌, ◌≢◌, ℕ, ◌+◌, ◌-◌, ◌<◌, ◌≤◌, Bool, true, false, List, [], ◌∷◌, ◌++◌, length, length-append, drop, get_or, refl, sym, ap, ◌∙◌, arith, subst, ◌*◌, suc, map, take}
 use Rattle.std.proofs.Common.{Ok, Err, inl, inr}
 use Rattle.std.proofs.lemmas.Bool.{cases_lt}
 use Rattle.std.specs.Prelude.{Some, None, ◌==◌, nat_lt, Option, if◌then◌else◌}
-use Rattle.std.proofs.lemmas.List.{drop_all, drop_more, length-drop, length_push}
+use Rattle.std.proofs.lemmas.List.{drop_all, drop_more, length-drop, length_push, get_or-drop, take_rest}
 use Rattle.pf_values.specs.declared.limits.TheConstants.{MAX_TEXT_LEN, MAX_NUMBER}
 use Rattle.pf_values.specs.declared.lengths.Length.TheVariants as lengths
 use Rattle.pf_values.specs.declared.models.Model.{Model}
 use Rattle.pf_values.specs.declared.refusals.RefusalKind.{RefusalKind}
-use Rattle.pf_values.specs.declared.refusals.RefusalKind.TheVariants.{Truncated, Mixed, PrecisionTooLarge}
+use Rattle.pf_values.specs.declared.refusals.RefusalKind.TheVariants.{Truncated, Mixed, PrecisionTooLarge, NulByte}
 use Rattle.pf_values.specs.meaning.Text.{Text}
 use Rattle.pf_posix.specs.declared.fetches.Fetch.{Fetch}
 use Rattle.pf_posix.specs.declared.partial_specification.Numbering.{Numbering}
@@ -414,3 +415,16 @@ module _ (model : Model) (t : Text) (short : length t ≤ MAX_TEXT_LEN) where
       → EndsWidth (Some n) t stop → trace_at model t numbering Opened at ≡ trace_at model t numbering (First n) stop
   first_on numbering n at stop h some few ends =
       number_on Width numbering Opened First (λ m byte d. rw d refl) n at stop (λ less f g p d. first_step model numbering (get_or t at 0) f p) h some few ends
+
+  -- a NUL that a search found
+  pub nul_on : (numbering : Numbering) (at : ℕ) → at < length t → get_or t at 0 ≢ 37 → Passes (is_byte2 37 0) (take (length t - at) (drop at t)) 0
+      → trace_at model t numbering Between at ≡ Fault NulByte at
+  nul_on numbering at less other passes =
+      let here : at + 0 ≡ at = omega arith in
+      let same : get_or (take (length t - at) (drop at t)) 0 0 ≡ get_or t at 0 =
+      ap (λ u. get_or u 0 0) (take_rest t at) ∙ get_or-drop at t 0 0 ∙ ap (λ k. get_or t k 0) here in
+      let test : is_byte2 37 0 (get_or t at 0) ≡ true = ap (is_byte2 37 0) (sym same) ∙ passes in
+      let zero_byte = only_zero (get_or t at 0) (not_percent (get_or t at 0) other) test in
+      step_on numbering Between at less (Err NulByte) (rw zero_byte refl) where
+        only_zero : (byte : ℕ) → (byte == 37) ≡ false → is_byte2 37 0 byte ≡ true → (byte == 0) ≡ true
+        only_zero byte n e = grind (arith, nat_tests)

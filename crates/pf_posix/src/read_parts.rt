@@ -2,6 +2,7 @@
 //! then, each at its byte, and the kind of its refusal.
 ghost use Rattle.std.specs.Prelude.{◌≡◌, ◌≢◌, ◌+◌, ◌<◌, ◌≤◌, ℕ, true, false, None, Err, get_or, length, IsFalse, IsTrue};
 ghost use Rattle.pf_values.specs.declared.limits.TheConstants.{MAX_TEXT_LEN as LIMIT};
+ghost use Rattle.pf_values.specs.declared.models.Model.{Model as ModelOf};
 ghost use Rattle.pf_values.specs.declared.refusals.RefusalKind.TheVariants.{TooLong};
 ghost use Rattle.pf_values.specs.meaning.Text.{percent};
 ghost use Rattle.pf_text.specs.Offsets.{EndsFlags, EndsNumber, EndsWidth};
@@ -21,7 +22,7 @@ use crate::partial_specification::{Numbering, PartialSpecification, WidthOrPreci
 use crate::specifications::{has_byte, has_digit, second_modifier};
 use crate::types::ArgumentType;
 use crate::undefined_combinations::undefined_as;
-use pf_text::{Refusal, digits_at, flags_at, number_at};
+use pf_text::{Refusal, digits_at, flags_at, literal_len, number_at};
 use pf_values::limits::MAX_TEXT_LEN;
 use pf_values::{ArgType, Length, Model, RefusalKind};
 
@@ -484,19 +485,31 @@ fn next_within(model: Model, text: &[u8], at: usize, numbering: Numbering) -> Ne
     if at >= text.len() {
         return Next::End;
     }
-    if text[at] == 0 {
-        return Next::Refused(Refusal {
-            kind: RefusalKind::NulByte,
-            at: at as u64,
-        });
-    }
     if text[at] != b'%' {
-        return Next::Passed(at + 1);
+        return literals_at(text, at);
     }
     if has_byte(text, at + 1, b'%') {
         return Next::Passed(at + 2);
     }
     Next::Read(reading_at(model, text, at, numbering))
+}
+
+// Literal bytes, or a NUL.
+fn literals_at(text: &[u8], at: usize) -> Next
+    requires short { length text.now ≤ LIMIT }
+    requires within { at < length text.now }
+    requires other { get_or text.now at 0 ≢ percent }
+    ensures next { (model : ModelOf) (numbering : NumberingOf) → IsNextAt model text.now numbering at result }
+    ensures further { IsFurther text.now at result }
+{
+    let run = literal_len(&text[at..]);
+    if run == 0 {
+        return Next::Refused(Refusal {
+            kind: RefusalKind::NulByte,
+            at: at as u64,
+        });
+    }
+    Next::Passed(at + run)
 }
 
 // A specification of a text that is too long, as it is read in its front.
