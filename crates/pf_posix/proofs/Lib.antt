@@ -15,6 +15,8 @@ pub mod PlainFrontLemmas
 pub mod TableLemmas
 pub mod Running
 pub mod Reaching
+mod TraceLemmas
+mod LongTraces
 pub mod Following
 pub mod Unique
 pub mod BeginningStates

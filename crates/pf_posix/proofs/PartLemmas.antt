@@ -189,7 +189,7 @@ module _ (t : Text) (start : ℕ) where
   first_no_star : is_first_digit byte_here ≡ true → (byte_here == 42) ≡ false
   first_no_star h = star_no_first byte_here h
 
-  no_first_digit : EndsWidth None t start → is_first_digit byte_here ≡ false
+  pub no_first_digit : EndsWidth None t start → is_first_digit byte_here ≡ false
   no_first_digit h = elim (cases_lt start (length t)) [
     | inl less ↦ only_zero byte_here (h less)
     | inr over ↦ ap is_first_digit (get_or_past t start 0 over)

@@ -99,10 +99,10 @@ flag_tests Alt = (refl, refl, refl)
 flag_tests Zero = (refl, refl, refl)
 flag_tests Group = (refl, refl, refl)
 
-digit_tests : (d : ℕ) → d < 10 → (is_digit (digit_glyph false d) ≡ true) × (digit_glyph false d - 48 ≡ d)
+pub digit_tests : (d : ℕ) → d < 10 → (is_digit (digit_glyph false d) ≡ true) × (digit_glyph false d - 48 ≡ d)
 digit_tests d h = (grind (arith, nat_tests), grind (arith, nat_tests))
 
-first_tests : (d : ℕ) → 0 < d → d < 10 → (is_first_digit (digit_glyph false d) ≡ true) × (flag_of (digit_glyph false d) ≡ None)
+pub first_tests : (d : ℕ) → 0 < d → d < 10 → (is_first_digit (digit_glyph false d) ≡ true) × (flag_of (digit_glyph false d) ≡ None)
     × ((digit_glyph false d == 37) ≡ false)
 first_tests d low high = (grind (arith, nat_tests), grind (arith, nat_tests), grind (arith, nat_tests))
 
@@ -112,7 +112,7 @@ small n h = grind (arith, nat_tests)
 -- digits after a first one, in a state that holds a number
 module _ (model : Model) (slot : WidthOrPrecision) (numbering : Numbering) (own : List Fetch) (state : ℕ → PosixState)
     (step : (n byte : ℕ) → is_digit byte ≡ true → posix_step model numbering (state n) byte ≡ with_digit slot state n (byte - 48)) where
-  more_digits : (ds : List ℕ) (n : ℕ) → AllByRecursion (λ d. d < 10) ds → number_from_digits_after 10 n ds ≤ MAX_NUMBER
+  pub more_digits : (ds : List ℕ) (n : ℕ) → AllByRecursion (λ d. d < 10) ds → number_from_digits_after 10 n ds ≤ MAX_NUMBER
       → run model (Ok (stand numbering (state n) own)) (map (digit_glyph false) ds) ≡ Ok (stand numbering (state (number_from_digits_after 10 n ds)) own)
   more_digits [] n h few = refl
   more_digits (d ∷ ds) n h few =
@@ -169,7 +169,7 @@ module _ (model : Model) (numbering : Numbering) where
       ∙ ap (λ p. run model p (36 ∷ [])) (first_run [] h.0 n h.1) ∙ ap (went numbering []) (dollar_step n follows)
 
   -- flags
-  more_flags : (flags : List Flag) (parts : PartialSpecification)
+  pub more_flags : (flags : List Flag) (parts : PartialSpecification)
       → run model (Ok (stand numbering (Flags parts) [])) (map flag_byte flags) ≡ Ok
       (stand numbering (Flags (record parts { flags = fold with_flag parts.flags flags })) [])
   more_flags [] parts = refl

@@ -7,19 +7,14 @@ use Rattle.memchr.specs.Find.{Nowhere, Passes, is_byte2}
 use Rattle.pf_values.specs.declared.limits.TheConstants.{MAX_TEXT_LEN}
 use Rattle.pf_values.specs.declared.models.Model.{Model}
 use Rattle.pf_values.specs.meaning.Text.{Text}
-use Rattle.pf_values.specs.declared.refusals.RefusalKind.TheVariants.{TooLong}
 use Rattle.pf_posix.specs.declared.partial_specification.Numbering.{Numbering}
-use Rattle.pf_posix.specs.Readings.{Fault, trace_from}
-use Rattle.pf_posix.specs.Stages.{PosixState, Between}
-use Rattle.pf_posix.specs.declared.reader.NextFetch.{NextFetch}
-use Rattle.pf_posix.specs.declared.reader.NextFetch.TheVariants as nexts
-use Rattle.pf_posix.specs.declared.reader.Reader.{Reader}
-use Rattle.pf_posix.specs.Walks.{IsNextFetch, trace_left}
+use Rattle.pf_posix.specs.Readings.{trace_from}
+use Rattle.pf_posix.specs.Stages.{Between}
 
 pub within_limit : (n : ℕ) → n < MAX_TEXT_LEN → nat_le MAX_TEXT_LEN n ≡ false
 within_limit n h = grind (arith, nat_tests)
 
-past_limit : (n : ℕ) → MAX_TEXT_LEN ≤ n → nat_le MAX_TEXT_LEN n ≡ true
+pub past_limit : (n : ℕ) → MAX_TEXT_LEN ≤ n → nat_le MAX_TEXT_LEN n ≡ true
 past_limit n h = grind (arith, nat_tests)
 
 pub literal : (byte : ℕ) → is_byte2 37 0 byte ≢ true → ((byte == 0) ≡ false) × ((byte == 37) ≡ false)
@@ -30,10 +25,6 @@ literal byte h = go (byte == 37) (byte == 0) refl refl h where
   go false false e f h = (f, e)
 
 module _ (model : Model) (numbering : Numbering) (t : Text) where
-  pub too_long : (state : PosixState) (at : ℕ) → at < length t → MAX_TEXT_LEN ≤ at → trace_from model numbering state at (drop at t) ≡ Fault TooLong at
-  too_long state at less past = let split = drop_more t at 0 less in let full = past_limit at past in ap (trace_from model numbering state at) split
-      ∙ rw full refl
-
   one_passed : (at : ℕ) → at < length t → at < MAX_TEXT_LEN → is_byte2 37 0 (get_or t at 0) ≢ true
       → trace_from model numbering Between at (drop at t) ≡ trace_from model numbering Between (at + 1) (drop (at + 1) t)
   one_passed at less short plain =
@@ -64,10 +55,3 @@ module _ (model : Model) (numbering : Numbering) (t : Text) where
       let fits : n ≤ length (drop at t) = subst (λ u. n ≤ length u) rest few in
       passed n at (omega (arith, fits, long)) short
       (λ k less. subst (λ x. is_byte2 37 0 x ≢ true) (ap (λ u. get_or u k 0) rest ∙ get_or-drop at t k 0) (none k (omega arith) less))
-
--- a reader with as much left as another
-pub carried : (model : Model) (t : Text) (old self : Reader) (n : NextFetch) (new : Reader) → trace_left model t old ≡ trace_left model t self
-    → IsNextFetch model t self n new → IsNextFetch model t old n new
-carried model t old self (nexts.Fetched f) new e h = (h.0, h.1, e ∙ h.2)
-carried model t old self nexts.End new e h = e ∙ h
-carried model t old self (nexts.Refused refusal) new e h = e ∙ h

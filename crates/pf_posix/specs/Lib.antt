@@ -6,12 +6,12 @@ pub mod Items
 pub mod Stages
 pub mod Letters
 pub mod States
-pub mod Moves
 pub mod Fronts
 pub mod Beginnings
 pub mod Refusals
 pub mod TypeNumbers
 pub mod Readings
+pub mod Traces
 pub mod Walks
 pub mod Tabled
 pub mod Laws

@@ -1,26 +1,44 @@
 -- The reader of a text, as the code has it. No public contract names these.
-use Rattle.std.specs.Prelude.{◌≡◌, ℕ, ◌+◌, ◌<◌, ◌≤◌, length, drop}
+use Rattle.std.specs.Prelude.{◌≡◌, ℕ, ◌+◌, ◌≤◌, length}
+use Rattle.pf_values.specs.declared.limits.TheConstants.{MAX_TEXT_LEN}
 use Rattle.pf_values.specs.declared.models.Model.{Model}
 use Rattle.pf_values.specs.meaning.Text.{Text}
+use Rattle.pf_posix.specs.declared.partial_specification.Numbering.{Numbering}
+use Rattle.pf_posix.specs.declared.reader.Left.{Left}
+use Rattle.pf_posix.specs.declared.reader.Left.TheVariants as lefts
 use Rattle.pf_posix.specs.declared.reader.NextFetch.{NextFetch}
 use Rattle.pf_posix.specs.declared.reader.NextFetch.TheVariants as nexts
 use Rattle.pf_posix.specs.declared.reader.Reader.{Reader}
-use Rattle.pf_posix.specs.Readings.{Fault, Fetches, FetchTrace, Whole, trace_from}
-use Rattle.pf_posix.specs.Stages.{posix_state_of}
+use Rattle.pf_posix.specs.Readings.{Fault, Fetches, FetchTrace, Whole}
+use Rattle.pf_posix.specs.Stages.{Between}
+use Rattle.pf_posix.specs.Traces.{Ascends, behind_width_trace, end_trace, trace_at}
 
--- the trace of the text that a reader has left
+-- the trace of what is left of a text
+abbrev pub trace_of : Model → Text → Numbering → ℕ → Left → FetchTrace
+trace_of model t numbering at lefts.Items = trace_at model t numbering Between at
+trace_of model t numbering at (lefts.Behind behind) = behind_width_trace model t behind
+trace_of model t numbering at (lefts.End end) = end_trace model t end
+
 abbrev pub trace_left : Model → Text → Reader → FetchTrace
-trace_left model t reader = trace_from model reader.numbering (posix_state_of reader.automaton) reader.at (drop reader.at t)
+trace_left model t reader = trace_of model t reader.numbering reader.at reader.left
 
--- the next step, between a reader before it and after it; an argument is fetched at the byte before
--- the reader
+-- what a trace begins with, and a reader after it; an argument is fetched at the byte before the reader
+abbrev pub Begins : Model → Text → FetchTrace → NextFetch → Reader → Type 0
+Begins model t trace (nexts.Fetched f) new =
+    (at : ℕ) × (new.at ≡ at + 1) × (trace ≡ Fetches f at (trace_left model t new))
+Begins model t trace nexts.End new = trace ≡ Whole
+Begins model t trace (nexts.Refused refusal) new = trace ≡ Fault refusal.kind refusal.at
+
+-- so it does, if it fetches at bytes inside the text
+abbrev pub IsFetchOf : Model → Text → FetchTrace → NextFetch → Reader → Type 0
+IsFetchOf model t trace next new = (low : ℕ) → Ascends (length t) low trace → Begins model t trace next new
+
+-- a reader is inside a text, and what is left is fetched behind it
+pub record IsReading (model : Model) (t : Text) (reader : Reader) : Type 0 where
+  pub within : reader.at ≤ length t
+  pub limit : reader.at ≤ MAX_TEXT_LEN
+  pub ascends : Ascends (length t) reader.at (trace_left model t reader)
+
+-- the next step, between a reader before it and after it
 abbrev pub IsNextFetch : Model → Text → Reader → NextFetch → Reader → Type 0
-IsNextFetch model t old (nexts.Fetched f) new =
-    (at : ℕ) × (new.at ≡ at + 1) × (trace_left model t old ≡ Fetches f at (trace_left model t new))
-IsNextFetch model t old nexts.End new = trace_left model t old ≡ Whole
-IsNextFetch model t old (nexts.Refused refusal) new = trace_left model t old ≡ Fault refusal.kind refusal.at
-
--- the reader moves on
-abbrev pub AdvancesReader : Text → Reader → NextFetch → Reader → Type 0
-AdvancesReader t old (nexts.Fetched f) new = (old.at < new.at) × (new.at ≤ length t)
-AdvancesReader t old _ new = Unit {0}
+IsNextFetch model t old next new = IsFetchOf model t (trace_left model t old) next new

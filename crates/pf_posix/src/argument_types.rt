@@ -5,7 +5,7 @@ ghost use Rattle.pf_posix.specs.Readings.{Fetches, fetch_trace};
 ghost use Rattle.pf_posix.specs.Refusals.{IsPosixRefusedAt};
 ghost use Rattle.pf_posix.specs.Plain.{IsOrderedFront};
 ghost use Rattle.pf_posix.specs.declared.types.ArgumentType.{ArgumentType as ArgumentTypeOf};
-ghost use Rattle.pf_posix.specs.Walks.{trace_left};
+ghost use Rattle.pf_posix.specs.Walks.{IsReading, trace_left};
 ghost use Rattle.pf_posix.specs.Items.{HasArguments};
 
 use crate::fetches::Fetch;
@@ -33,7 +33,7 @@ pub fn arguments(model: Model, text: &[u8], out: &mut [ArgumentType]) -> Result<
         return Ok(front.count as u64);
     }
     if front.count == 0 {
-        return read_by_bytes(model, text, out);
+        return by_first_fetch(model, text, out);
     }
     in_order(
         model,
@@ -44,9 +44,9 @@ pub fn arguments(model: Model, text: &[u8], out: &mut [ArgumentType]) -> Result<
     )
 }
 
-// The types of a format that the automaton reads from its first byte on.
+// The types of a format that may be numbered: its first argument shows it.
 #[inline(never)]
-fn read_by_bytes(model: Model, text: &[u8], out: &mut [ArgumentType]) -> Result<u64, Refusal>
+fn by_first_fetch(model: Model, text: &[u8], out: &mut [ArgumentType]) -> Result<u64, Refusal>
     ensures types { MatchResult result
         (λ count. HasCount model text.now out.old out.new count)
         (λ refusal. IsPosixRefusedAt model text.now refusal.kind refusal.at) }
@@ -75,7 +75,7 @@ fn in_order(
     front: usize,
     out: &mut [ArgumentType],
 ) -> Result<u64, Refusal>
-    requires within { after_front.at ≤ length text.now }
+    requires reading { IsReading model text.now after_front }
     requires few { front ≤ after_front.at }
     ensures types { (old : List ArgumentTypeOf)
         → IsOrderedFront model text.now (trace_left model text.now after_front) old out.old front
@@ -107,7 +107,7 @@ fn by_number(
     first: Fetch,
     out: &mut [ArgumentType],
 ) -> Result<u64, Refusal>
-    requires within { after_first.at ≤ length text.now }
+    requires reading { IsReading model text.now after_first }
     requires number { IsTrue (is_some first.number) }
     requires first { (at : ℕ) × (after_first.at ≡ at + 1)
         × (fetch_trace model text.now ≡ Fetches first at (trace_left model text.now after_first)) }

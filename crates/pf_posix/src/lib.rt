@@ -2,14 +2,14 @@
 //! of C23: with numbered arguments, `*`, floating and wide conversions, `p` and `n`. Formats without
 //! numbered arguments, split at the directives that the profile lacks.
 //!
-//! The road is `specifications`, which reads a specification part by part. Where a format may be refused,
-//! `automaton` reads on byte by byte, over which `reader` walks: it finds out why. The shortcuts, and what a call
-//! costs with one and without, in instructions over 4,000 formats: `plain_reader` reads formats without numbers
-//! (`arguments`: 213 and 530), and `comparison` sees that two formats are equal (`fits`: 241 and 875).
+//! The road is `specifications`, which reads a specification part by part. Where a format is numbered or may be
+//! refused, `read_parts` reads it up to the refused byte, and finds out why; `reader` goes from one of its fetched
+//! arguments to the next. The shortcuts, and what a call costs with one and without, in instructions over 4,000
+//! formats: `plain_reader` reads formats without numbers (`arguments`: 213 and 530), and `comparison` sees that
+//! two formats are equal (`fits`: 241 and 875).
 #![tactic(auto)]
 
 mod argument_types;
-mod automaton;
 mod comparison;
 mod conversions;
 mod directive_spans;
@@ -20,6 +20,7 @@ mod opaque_directives;
 mod partial_specification;
 mod plain_reader;
 mod plain_specifications;
+mod read_parts;
 mod reader;
 mod specifications;
 mod stretches;

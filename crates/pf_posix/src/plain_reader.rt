@@ -1,5 +1,5 @@
 //! The front of a format in which no argument has a number, read part by part. What comes after it is left to
-//! the automaton, which reads byte by byte.
+//! `reader`.
 ghost use Rattle.std.specs.Prelude.{◌≡◌, ◌+◌, ◌≤◌, ◌++◌, IfSome, List, length};
 ghost use Rattle.pf_values.specs.declared.limits.TheConstants.{MAX_TEXT_LEN as LIMIT};
 ghost use Rattle.pf_text.specs.Walks.{HasPercent};

@@ -1,22 +1,20 @@
 //! The reader of a text, which goes from one fetched argument to the next.
-ghost use Rattle.std.specs.Prelude.{◌≡◌, ◌+◌, ◌<◌, ◌≤◌, length, slice_index, MatchOption, ◌≢◌, drop};
-ghost use Rattle.memchr.specs.Find.{Nowhere, Passes, is_byte2};
+ghost use Rattle.std.specs.Prelude.{◌≡◌, ◌+◌, ◌<◌, ◌≤◌};
 ghost use Rattle.pf_values.specs.declared.limits.TheConstants.{MAX_TEXT_LEN as LIMIT};
-ghost use Rattle.pf_values.specs.declared.models.Model.{Model};
-ghost use Rattle.pf_values.specs.meaning.Text.{Text, percent};
-ghost use Rattle.pf_posix.specs.declared.reader.Reader.{Reader as ReaderOf};
-ghost use Rattle.pf_posix.specs.Readings.{trace_from, fetch_trace};
+ghost use Rattle.pf_values.specs.declared.models.Model.{Model as ModelOf};
+ghost use Rattle.pf_values.specs.meaning.Text.{Text};
 ghost use Rattle.pf_posix.specs.declared.partial_specification.Numbering.TheVariants.{Unnumbered};
+ghost use Rattle.pf_posix.specs.Readings.{fetch_trace};
 ghost use Rattle.pf_posix.specs.Refusals.{numbering_by};
-ghost use Rattle.pf_posix.specs.Stages.{Between, posix_state_of};
-ghost use Rattle.pf_posix.specs.Walks.{AdvancesReader, IsNextFetch, trace_left};
+ghost use Rattle.pf_posix.specs.Stages.{Between};
+ghost use Rattle.pf_posix.specs.Traces.{behind_width_trace, end_trace, reading_trace, trace_at};
+ghost use Rattle.pf_posix.specs.Walks.{IsFetchOf, IsNextFetch, trace_left};
 
-use crate::automaton::{Automaton, Move};
 use crate::fetches::Fetch;
 use crate::partial_specification::Numbering;
-use pf_text::{Refusal, literal_len};
-use pf_values::limits::MAX_TEXT_LEN;
-use pf_values::{Model, RefusalKind};
+use crate::read_parts::{BehindWidth, End, Next, Reading, next_at};
+use pf_text::Refusal;
+use pf_values::Model;
 
 /// What comes next in a text.
 #[derive(Clone, Copy, Debug)]
@@ -29,10 +27,22 @@ pub(crate) enum NextFetch {
     Refused(Refusal),
 }
 
-/// A reader of a text: its offset, the automaton, and whether arguments are numbered.
+/// What is left of the last specification.
+#[derive(Clone, Copy, Debug)]
+pub(crate) enum Left {
+    /// Nothing.
+    Items,
+    /// What comes after its width.
+    Behind(BehindWidth),
+    /// Its end.
+    End(End),
+}
+
+/// A reader of a text: what is left of the last specification, the offset after the byte at which the last
+/// argument was fetched, and whether arguments are numbered.
 #[derive(Clone, Copy, Debug)]
 pub(crate) struct Reader {
-    automaton: Automaton,
+    left: Left,
     numbering: Numbering,
     at: usize,
 }
@@ -42,10 +52,10 @@ impl Reader {
     #[inline(always)]
     pub(crate) fn new() -> Reader
         ensures start { result.at ≡ 0 }
-        ensures left { (model : Model) (t : Text) → trace_left model t result ≡ fetch_trace model t }
+        ensures left { (model : ModelOf) (t : Text) → trace_left model t result ≡ fetch_trace model t }
     {
         Reader {
-            automaton: Automaton::new(),
+            left: Left::Items,
             numbering: Numbering::Undecided,
             at: 0,
         }
@@ -55,11 +65,11 @@ impl Reader {
     #[inline(always)]
     pub(crate) fn unnumbered_at(at: usize) -> Reader
         ensures start { result.at ≡ at }
-        ensures left { (model : Model) (t : Text)
-            → trace_left model t result ≡ trace_from model Unnumbered Between at (drop at t) }
+        ensures left { (model : ModelOf) (t : Text)
+            → trace_left model t result ≡ trace_at model t Unnumbered Between at }
     {
         Reader {
-            automaton: Automaton::new(),
+            left: Left::Items,
             numbering: Numbering::Unnumbered,
             at,
         }
@@ -75,119 +85,83 @@ impl Reader {
 
     /// The next fetched argument, the end, or the refusal. After the end and after a refusal the
     /// reader is of no use.
-    #[inline(always)]
     pub(crate) fn next_fetch(&mut self, model: Model, text: &[u8]) -> NextFetch
-        ensures next { IsNextFetch model text.now self.old result self.new }
-        ensures further { AdvancesReader text.now self.old result self.new }
+        requires { self.old.at ≤ LIMIT }
+        ensures { IsNextFetch model text.now self.old result self.new }
     {
-        while self.at < text.len() {
-            if let Some(next) = self.advance(model, text) {
-                return next;
+        match self.left {
+            Left::Items => self.next_of_items(model, text),
+            Left::Behind(behind) => self.take_behind(behind),
+            Left::End(end) => self.take_end(end),
+        }
+    }
+
+    // That of the items at the offset.
+    fn next_of_items(&mut self, model: Model, text: &[u8]) -> NextFetch
+        requires { self.old.at ≤ LIMIT }
+        ensures { IsFetchOf model text.now (trace_at model text.now self.old.numbering Between self.old.at) result self.new }
+    {
+        let mut at = self.at;
+        while at < text.len() {
+            match next_at(model, text, at, self.numbering) {
+                Next::Passed(stop) => at = stop,
+                Next::End => return NextFetch::End,
+                Next::Read(read) => return self.take_reading(read),
+                Next::Refused(refusal) => return NextFetch::Refused(refusal),
             }
         }
-        self.end()
+        NextFetch::End
     }
 
-    // Reads on by one byte or more; `None` where no argument is fetched by that.
-    #[inline(always)]
-    fn advance(&mut self, model: Model, text: &[u8]) -> Option<NextFetch>
-        requires { self.old.at < length text.now }
-        ensures next { MatchOption result
-            (trace_left model text.now self.old ≡ trace_left model text.now self.new)
-            (λ next. IsNextFetch model text.now self.old next self.new) }
-        ensures further { MatchOption result
-            ((self.old.at < self.new.at) × (self.new.at ≤ length text.now))
-            (λ next. AdvancesReader text.now self.old next self.new) }
+    fn take_reading(&mut self, read: Reading) -> NextFetch
+        ensures { (model : ModelOf) (t : Text) → IsFetchOf model t (reading_trace model t read) result self.new }
     {
-        if self.at as u64 >= MAX_TEXT_LEN {
-            return Some(refused(RefusalKind::TooLong, self.at));
-        }
-        if self.automaton.is_between() {
-            if text[self.at] != b'%' {
-                return self.skip_literal(text);
+        match read.star {
+            Some(fetch) => {
+                self.left = Left::Behind(read.behind);
+                self.fetched(fetch, read.star_at)
             }
+            None => self.take_behind(read.behind),
         }
-        self.take_byte(model, text)
     }
 
-    // Passes over literal bytes between items.
-    #[inline(always)]
-    fn skip_literal(&mut self, text: &[u8]) -> Option<NextFetch>
-        requires within { self.old.at < length text.now }
-        requires short { self.old.at < LIMIT }
-        requires between { posix_state_of self.old.automaton ≡ Between }
-        requires other { slice_index text.now self.old.at ≢ percent }
-        ensures next { (model : Model) → MatchOption result
-            (trace_left model text.now self.old ≡ trace_left model text.now self.new)
-            (λ next. IsNextFetch model text.now self.old next self.new) }
-        ensures further { MatchOption result
-            ((self.old.at < self.new.at) × (self.new.at ≤ length text.now))
-            (λ next. AdvancesReader text.now self.old next self.new) }
+    fn take_behind(&mut self, behind: BehindWidth) -> NextFetch
+        ensures { (model : ModelOf) (t : Text) → IsFetchOf model t (behind_width_trace model t behind) result self.new }
     {
-        let run = run_len(&text[self.at..], self.at);
-        if run == 0 {
-            return Some(refused(RefusalKind::NulByte, self.at));
-        }
-        self.at += run;
-        None
-    }
-
-    // Takes one more byte.
-    #[inline(always)]
-    fn take_byte(&mut self, model: Model, text: &[u8]) -> Option<NextFetch>
-        requires within { self.old.at < length text.now }
-        requires short { self.old.at < LIMIT }
-        ensures next { MatchOption result
-            (trace_left model text.now self.old ≡ trace_left model text.now self.new)
-            (λ next. IsNextFetch model text.now self.old next self.new) }
-        ensures further { MatchOption result
-            ((self.old.at < self.new.at) × (self.new.at ≤ length text.now))
-            (λ next. AdvancesReader text.now self.old next self.new) }
-    {
-        match self.automaton.step(model, self.numbering, text[self.at]) {
-            Ok(Move::More) => {
-                self.at += 1;
-                None
+        match behind.star {
+            Some(fetch) => {
+                self.left = Left::End(behind.end);
+                self.fetched(fetch, behind.star_at)
             }
-            Ok(Move::Fetched) => {
-                self.at += 1;
-                let fetch = self.automaton.fetch();
-                self.numbering = numbering_by(fetch.number);
-                Some(NextFetch::Fetched(fetch))
-            }
-            Err(kind) => Some(refused(kind, self.at)),
+            None => self.take_end(behind.end),
         }
     }
 
-    // The answer at the end of the text.
-    #[inline(always)]
-    fn end(&self) -> NextFetch
-        ensures next { (model : Model) (t : Text) (new : ReaderOf) → length t ≤ self.now.at
-            → IsNextFetch model t self.now result new }
-        ensures further { (t : Text) (old new : ReaderOf) → AdvancesReader t old result new }
+    fn take_end(&mut self, end: End) -> NextFetch
+        ensures { (model : ModelOf) (t : Text) → IsFetchOf model t (end_trace model t end) result self.new }
     {
-        if self.automaton.is_between() {
-            return NextFetch::End;
+        match end.last {
+            Ok(fetch) => {
+                self.left = Left::Items;
+                self.fetched(fetch, end.at)
+            }
+            Err(kind) => NextFetch::Refused(Refusal {
+                kind,
+                at: end.at as u64,
+            }),
         }
-        refused(RefusalKind::Truncated, self.at)
     }
-}
 
-// How many bytes at the front of the rest of a text are literal, up to the limit of a text.
-#[inline(always)]
-fn run_len(rest: &[u8], at: usize) -> usize
-    requires { at < LIMIT }
-    ensures within { result ≤ length rest.now }
-    ensures short { at + result ≤ LIMIT }
-    ensures run { Nowhere (Passes (is_byte2 37 0) rest.now) 0 result }
-    ensures ended { result ≡ 0 → 0 < length rest.now → Passes (is_byte2 37 0) rest.now 0 }
-{
-    let room = MAX_TEXT_LEN as usize - at;
-    let len = literal_len(rest);
-    if len > room {
-        return room;
+    fn fetched(&mut self, fetch: Fetch, at: usize) -> NextFetch
+        ensures result { result ≡ NextFetch.Fetched fetch }
+        ensures left { self.new.left ≡ self.old.left }
+        ensures numbering { self.new.numbering ≡ numbering_by fetch.number }
+        ensures at { at < LIMIT → self.new.at ≡ at + 1 }
+    {
+        self.at = at.saturating_add(1);
+        self.numbering = numbering_by(fetch.number);
+        NextFetch::Fetched(fetch)
     }
-    len
 }
 
 /// Whether an argument is fetched by its number.
@@ -199,13 +173,4 @@ pub(crate) fn numbering_by(number: Option<u16>) -> Numbering
         Some(_) => Numbering::Numbered,
         None => Numbering::Unnumbered,
     }
-}
-
-fn refused(kind: RefusalKind, at: usize) -> NextFetch
-    ensures { result ≡ NextFetch.Refused (record { kind = kind; at = at }) }
-{
-    NextFetch::Refused(Refusal {
-        kind,
-        at: at as u64,
-    })
 }

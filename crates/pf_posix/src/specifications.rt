@@ -1,5 +1,5 @@
 //! A conversion specification of the whole language, read part by part (C11 7.21.6.1, paragraph 4; POSIX
-//! fprintf on numbered arguments). The automaton reads the same byte by byte, and finds out why a text has
+//! fprintf on numbered arguments). `read_parts` finds out why a text has
 //! none.
 ghost use Rattle.std.specs.Prelude.{◌≡◌, ◌≢◌, ◌+◌, ◌<◌, ◌≤◌, ◌==◌, ◌++◌, ◌∷◌, [], IfSome, IsTrue, MatchOption, Some, drop, get_or, is_some, length};
 ghost use Rattle.pf_values.specs.meaning.Text.{Text, percent, point};
@@ -179,9 +179,9 @@ pub(crate) fn has_byte(text: &[u8], at: usize, byte: u8) -> bool
     text[at] == byte
 }
 
-// Whether an offset of a text has a digit.
+/// Whether an offset of a text has a digit.
 #[inline(always)]
-fn has_digit(text: &[u8], at: usize) -> bool
+pub(crate) fn has_digit(text: &[u8], at: usize) -> bool
     ensures same { result ≡ is_digit (get_or text.now at 0) }
     ensures within { IsTrue result → at < length text.now }
 {
@@ -226,7 +226,7 @@ fn modifier_with(text: &[u8], start: usize, first: Modifier) -> (Modifier, usize
 
 // The modifier of two letters that a byte ends, after the first one of this modifier.
 #[inline(always)]
-fn second_modifier(first: Modifier, byte: u8) -> Option<Modifier>
+pub(crate) fn second_modifier(first: Modifier, byte: u8) -> Option<Modifier>
     ensures { result ≡ second_modifier first byte }
 {
     match first {
