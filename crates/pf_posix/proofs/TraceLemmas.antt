@@ -45,9 +45,9 @@ use Rattle.pf_values.specs.meaning.Text.{Text}
 use Rattle.pf_posix.specs.declared.fetches.Fetch.{Fetch}
 use Rattle.pf_posix.specs.declared.partial_specification.Numbering.{Numbering}
 use Rattle.pf_posix.specs.Readings.{Fault, Fetches, moved, trace_at_end, trace_from}
-use Rattle.pf_posix.specs.Refusals.{numbering_by, too_large, Follows}
+use Rattle.pf_posix.specs.Refusals.{numbering_by, Follows}
 use Rattle.pf_posix.specs.Stages.{PosixState, Between, Opened, First, Flags, Digits, Star, StarDigits, Placed, Point, Modified}
-use Rattle.pf_posix.specs.States.{PosixStep, posix_step, stray, move_to, with_digit, after_amount, after_numbers, after_star, flag_or_width, parts_at, star_at, after_modifier_letter, conversion_at, with_width}
+use Rattle.pf_posix.specs.States.{PosixStep, posix_step, stray, move_to, with_digit, after_amount, after_numbers, after_star, flag_or_width, parts_at, star_at, after_modifier_letter, conversion_at, with_width, too_large}
 use Rattle.pf_posix.specs.Traces.{IsStrayAt, StepsAs, trace_at, IsBeforeFlags, IsReadStar, behind_star, behind_width_trace, end_trace, last_trace, reading_trace, star_trace}
 use Rattle.pf_posix.proofs.Running.{first_step, Stand, run, stand, went, digit_tests, flag_tests, flags_parts, more_digits, more_flags, plain_percent, first_tests}
 use Rattle.pf_posix.proofs.WalkLemmas.{within_limit}

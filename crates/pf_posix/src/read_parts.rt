@@ -7,9 +7,8 @@ ghost use Rattle.pf_values.specs.declared.refusals.RefusalKind.TheVariants.{TooL
 ghost use Rattle.pf_values.specs.meaning.Text.{percent};
 ghost use Rattle.pf_text.specs.Offsets.{EndsFlags, EndsNumber, EndsWidth};
 ghost use Rattle.pf_text.specs.States.{is_digit};
-ghost use Rattle.pf_posix.specs.Refusals.{too_large};
 ghost use Rattle.pf_posix.specs.Stages.{Between, Digits, First, Modified, Opened, Point, PosixState};
-ghost use Rattle.pf_posix.specs.States.{after_amount, after_numbers, conversion_at, flag_or_width, star_at};
+ghost use Rattle.pf_posix.specs.States.{after_amount, after_numbers, conversion_at, flag_or_width, star_at, too_large};
 ghost use Rattle.pf_posix.specs.Traces.{IsBeforeFlags, IsEndOfLong, IsFurther, IsReadOfLong, IsNextAt, IsStarRead, IsStrayAt, StepsAs, behind_star, behind_width_trace, end_trace, reading_trace, trace_at};
 ghost use Rattle.pf_posix.specs.Types.{fetch, int_type};
 ghost use Rattle.pf_posix.specs.declared.partial_specification.Numbering.{Numbering as NumberingOf};
