@@ -92,7 +92,7 @@ LIMITS = {
     "docs/CONTRIBUTING.md": 1350,
     "SECURITY.md": 150,
     "CHANGELOG.md": 1100,
-    CALLING: 9000,
+    CALLING: 9200,
 }
 MARGIN = 10
 

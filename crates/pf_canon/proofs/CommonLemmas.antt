@@ -88,10 +88,10 @@ module _ (t u : Text) (at n : ℕ) (first : at + n ≤ length t) (second : at + 
       let a = get_or t (at + r) 0 in
       let b = get_or u (at + r) 0 in
       let place : get_or differences r false ≡ unlike a b =
-          get_or-zip2 unlike (chunk at n t) (chunk at n u) r 0 0 false (omega (arith, inside, length-chunk at n t first)) (omega (arith, inside, length-chunk at n u second))
-          ∙ ap (λ x. unlike x (get_or (chunk at n u) r 0)) (get_or-chunk at n t r 0 inside) ∙ ap (unlike a) (get_or-chunk at n u r 0 inside) in
+      get_or-zip2 unlike (chunk at n t) (chunk at n u) r 0 0 false (omega (arith, inside, length-chunk at n t first)) (omega (arith, inside, length-chunk at n u second))
+      ∙ ap (λ x. unlike x (get_or (chunk at n u) r 0)) (get_or-chunk at n t r 0 inside) ∙ ap (unlike a) (get_or-chunk at n u r 0 inside) in
       let stops : not (get_or differences r false) ≡ false = subst (λ k. not (get_or differences k false) ≡ false) (sym counted)
-          (prefix_len_stops not differences false (omega (arith, counted, long, inside))) in
+      (prefix_len_stops not differences false (omega (arith, counted, long, inside))) in
       apart a b (a == b) refl (ap not (sym place) ∙ stops)
 
   pub all_same : mask ≡ 0 → take n (drop at t) ≡ take n (drop at u)

@@ -3,7 +3,7 @@ use Rattle.std.proofs.Common.{◌≡◌, inl, inr, ℕ, ◌+◌, ◌*◌, ◌-�
 use Rattle.std.specs.Prelude.{Bool, true, false, get_or, refl, ◌⊎◌}
 use Rattle.std.proofs.lemmas.List.{append-nil, append_assoc, length-drop, length-take, length-take-le, take_all}
 use Rattle.pf_values.specs.declared.models.Model.{Model}
-use Rattle.pf_values.specs.meaning.Items.{Item, Directive, Reads}
+use Rattle.pf_values.specs.meaning.Items.{Item, Directive}
 use Rattle.pf_values.specs.meaning.Text.{Text}
 use Rattle.pf_text.specs.CanonicalRuns.{IsCanonicalRun}
 use Rattle.pf_text.specs.Walks.{Finds, HasPercent, IsPassedRun, IsPercent, IsWalkOver}
@@ -13,7 +13,7 @@ use Rattle.pf_text.specs.FoundDirectives.{BeginsNoDirective, BeginsNoItem, IsFou
 use Rattle.pf_text.specs.declared.specification.FoundDirective.{FoundDirective}
 use Rattle.pf_text.proofs.NoItemLemmas.{none_at_percent}
 use Rattle.pf_text.proofs.ReadingLemmas.{part_of_front}
-use Rattle.pf_text.proofs.CanonicalRunLemmas.{Reads-append, take_front}
+use Rattle.pf_text.proofs.CanonicalRunLemmas.{take_front}
 use Rattle.pf_canon.specs.ChangedDirectives.{PutsFront, between}
 use Rattle.pf_canon.specs.Making.{IsBetweenRuns, IsMaking, IsWritten, PutsItems}
 use Rattle.pf_canon.specs.Sink.{IsSink}
@@ -174,20 +174,3 @@ run_next passes leaves old new false h = inl (subst (λ t. BeginsNoItem (drop ne
 -- a part of a text isn't too long if that isn't
 pub between_short : (t : Text) (start stop : ℕ) → length t ≤ MAX_TEXT_LEN → length (between start stop t) ≤ MAX_TEXT_LEN
 between_short t start stop few = omega (arith, few, length-take (stop - start) (drop start t), length-drop start t)
-
--- more items are read
-pub read_on : (text : Text) (start at stop : ℕ) (items more : List Item) → start ≤ at → at ≤ stop → Reads (between start at text) items
-    → Reads (between at stop text) more → (all : List Item) × Reads (between start stop text) all
-read_on text start at stop items more low high h g = (
-  items ++ more,
-  subst (λ t. Reads t (items ++ more)) (between-join text start at stop low high)
-      (Reads-append (between start at text) (between at stop text) items more h g),
-)
-
--- and a directive after them
-pub read_directive : (text : Text) (start at : ℕ) (items : List Item) (found : FoundDirective) → start ≤ at → IsFoundAt text at found
-    → Reads (between start at text) items → (all : List Item) × Reads (between start found.stop text) all
-read_directive text start at items found low there h =
-    let bytes = between at found.stop text in
-    read_on text start at found.stop items (Directive found.directive ∷ []) low (omega (arith, there.some)) h
-    (bytes, [], there.read, refl, sym (append-nil bytes))

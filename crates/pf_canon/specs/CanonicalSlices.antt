@@ -11,7 +11,7 @@ use Rattle.pf_canon.specs.declared.canonical_slices.Place.{Place}
 use Rattle.pf_canon.specs.Languages.{Front, HasCanonicalIn, IsWrittenIn, Refuses}
 use Rattle.pf_canon.specs.Output.{pending_text}
 
--- a text up to a place is whole items, of which all but those that are held is written in `out`
+-- a text up to a place is whole items, and all but those that are held are written in `out`
 pub record IsPlaceIn (has_front : Front) (model : Model) (t : Text) (place : Place) (out : Text) : Type 0 where
   pub within : place.at ≤ length t
   pub written : IsWrittenIn has_front model (take place.at t) out place.held

@@ -25,7 +25,7 @@ pub record AreCommon (t u : Text) (count : ℕ) : Type 0 where
   pub second : count ≤ length u
   pub same : take count t ≡ take count u
 
--- behind this many bytes one of two texts ends, or they go on with different ones
+-- after this many bytes one of two texts ends, or they go on with different ones
 abbrev pub EndsCommon : Text → Text → ℕ → Type 0
 EndsCommon t u count = count < length t → count < length u → get_or t count 0 ≢ get_or u count 0
 

@@ -16,15 +16,15 @@ use crate::sink::ByteCount;
 use pf_text::{Canonical, FoundDirective, Percents, Refusal, Spelling, Walk, directive_at};
 use pf_values::Model;
 
-/// Where the reading of a text stands: up to this offset it is whole items, and so many silent directives
-/// aren't written yet.
+/// Where the reading of a text stands: up to this offset it is whole items, and this number of silent
+/// directives aren't written yet.
 #[derive(Clone, Copy, Debug)]
 pub(crate) struct Place {
     at: usize,
     held: u64,
 }
 
-/// The place up to which a text is whole items. What begins there may end behind the text, which may be a
+/// The place up to which a text is whole items. What begins there may end after the text, which may be a
 /// part of a longer one.
 #[inline(always)]
 pub(crate) fn place_in<L: Language>(model: Model, text: &[u8]) -> Place
@@ -61,7 +61,11 @@ pub(crate) struct CanonicalSlices<'a> {
 impl<'a> CanonicalSlices<'a> {
     /// The slices after a place, up to which all that was settled was given.
     #[inline(always)]
-    pub(crate) fn new<L: Language>(model: Model, text: &'a [u8], place: Place) -> CanonicalSlices<'a>
+    pub(crate) fn new<L: Language>(
+        model: Model,
+        text: &'a [u8],
+        place: Place,
+    ) -> CanonicalSlices<'a>
         ensures { (given : Text) → IsPlaceIn L.has_front model text.now place given
             → SlicesHaveGiven L.has_front L.refuses model result text.now given }
     {

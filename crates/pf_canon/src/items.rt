@@ -1,7 +1,7 @@
 //! The canonical text of items of the profile: it is put together from runs that need no change and from
 //! reduced directives.
 ghost use Rattle.std.specs.Prelude.{◌≡◌, ◌⊎◌, ◌+◌, ◌<◌, ◌≤◌, List, [], ◌∷◌, ◌++◌, decimal, drop, get_or, length};
-ghost use Rattle.pf_values.specs.meaning.Items.{Item, Reads};
+ghost use Rattle.pf_values.specs.meaning.Items.{Item};
 ghost use Rattle.pf_text.specs.CanonicalRuns.{IsCanonicalRun};
 ghost use Rattle.pf_text.specs.FoundDirectives.{BeginsNoItem, IsSpelledAt};
 ghost use Rattle.pf_text.specs.Walks.{HasPercent, IsPassedRun, IsWalk};

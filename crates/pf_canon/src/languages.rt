@@ -79,7 +79,11 @@ pub(crate) fn put_others<L: Language, S: Sink>(
 }
 
 /// Checks whether a text is accepted. What comes before a walk over it is.
-pub(crate) fn check_from<L: Language>(model: Model, text: &[u8], walk: Walk<'_>) -> Result<(), Refusal>
+pub(crate) fn check_from<L: Language>(
+    model: Model,
+    text: &[u8],
+    walk: Walk<'_>,
+) -> Result<(), Refusal>
     requires over { IsWalkOver text.now walk }
     requires within { walk.at ≤ length walk.text.now }
     requires written { (out : Text) × (held : ℕ) × IsWrittenIn L.has_front model (take walk.at text.now) out held }

@@ -134,8 +134,11 @@ star_parts slot parts part own h = go parts.position refl where
       inl (star_part slot h.0 part (42 ∷ []) parts h.1 own None h.2 s h.3 (h.4 ∙ ap (λ q. h.1 ++ at_star q) p))
   go (Some n) p =
       let same : own ≡ h.1 = h.4 ∙ ap (λ q. h.1 ++ at_star q) p ∙ append-nil h.1 in
-      inr (inl (subst (EndsInStar part parts.position) (sym same)
-      (record { kind = too_large slot; before = h.0; before_is = before_of slot h.0 parts h.1 h.2; whole = h.3 }), ap is_some p))
+      inr (inl (
+        subst (EndsInStar part parts.position) (sym same)
+            (record { kind = too_large slot; before = h.0; before_is = before_of slot h.0 parts h.1 h.2; whole = h.3 }),
+        ap is_some p,
+      ))
 
 pub parts_of : (state : PosixState) (part : Text) (own : List Fetch) → IsStateAfter state part own → state ≢ Between → PartsOf state part own
 parts_of Between part own h some = absurd (some refl)
@@ -168,14 +171,18 @@ parts_of (Star slot parts) part own h some = record { position = parts.position;
 parts_of (StarDigits slot parts n) part own h some =
     record {
       position = parts.position;
-      begun = inr (inr (too_large slot, n, record {
-        before = h.0;
-        digits = h.1;
-        before_is = before_of slot h.0 parts own h.2;
-        numbered = h.4;
-        digits_are = h.3;
-        whole = h.5;
-      }));
+      begun = inr (inr (
+        too_large slot,
+        n,
+        record {
+          before = h.0;
+          digits = h.1;
+          before_is = before_of slot h.0 parts own h.2;
+          numbered = h.4;
+          digits_are = h.3;
+          whole = h.5;
+        },
+      ));
       shown = inr refl;
     }
 parts_of (Placed slot parts) part own h some =

@@ -33,8 +33,8 @@ Begins model t trace (nexts.Refused refusal) new = trace ≡ Fault refusal.kind 
 abbrev pub IsFetchOf : Model → Text → FetchTrace → NextFetch → Reader → Type 0
 IsFetchOf model t trace next new = (low : ℕ) → Ascends (length t) low trace → Begins model t trace next new
 
--- a reader is inside a text, and what is left is fetched behind it
-pub record IsReading (model : Model) (t : Text) (reader : Reader) : Type 0 where
+-- a reader is inside a text, and what is left is fetched after it
+pub record ReadsOnFrom (model : Model) (t : Text) (reader : Reader) : Type 0 where
   pub within : reader.at ≤ length t
   pub limit : reader.at ≤ MAX_TEXT_LEN
   pub ascends : Ascends (length t) reader.at (trace_left model t reader)

@@ -5,8 +5,8 @@
 //! The road is `specifications`, which reads a specification part by part. Where a format is numbered or may be
 //! refused, `read_parts` reads it up to the refused byte, and finds out why; `reader` goes from one of its fetched
 //! arguments to the next. The shortcuts, and what a call costs with one and without, in instructions over 4,000
-//! formats: `plain_reader` reads formats without numbers (`arguments`: 213 and 530), and `comparison` sees that
-//! two formats are equal (`fits`: 241 and 875).
+//! formats: `plain_reader` reads formats without numbers (`arguments`: 244 and 935), and `comparison` sees that
+//! two formats are equal (`fits`: 260 and 472).
 #![tactic(auto)]
 
 mod argument_types;

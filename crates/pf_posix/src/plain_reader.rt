@@ -1,12 +1,12 @@
 //! The front of a format in which no argument has a number, read part by part. What comes after it is left to
 //! `reader`.
-ghost use Rattle.std.specs.Prelude.{◌≡◌, ◌+◌, ◌≤◌, ◌++◌, IfSome, List, length};
+ghost use Rattle.std.specs.Prelude.{◌≡◌, ◌+◌, ◌≤◌, ◌++◌, List, length};
 ghost use Rattle.pf_values.specs.declared.limits.TheConstants.{MAX_TEXT_LEN as LIMIT};
 ghost use Rattle.pf_text.specs.Walks.{HasPercent};
 ghost use Rattle.pf_posix.specs.declared.types.ArgumentType.{ArgumentType as ArgumentTypeOf};
 ghost use Rattle.pf_posix.specs.Laws.{filled};
 ghost use Rattle.pf_posix.specs.OpaqueParts.{amount_of, parts_of_opaque};
-ghost use Rattle.pf_posix.specs.Plain.{HasTypeAt, IsFrontRead, IsPut};
+ghost use Rattle.pf_posix.specs.Plain.{IsFrontRead, IsPut};
 ghost use Rattle.pf_posix.specs.Readings.{wanted_types};
 ghost use Rattle.pf_posix.specs.Types.{fetches, star_fetches};
 

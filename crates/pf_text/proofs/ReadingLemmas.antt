@@ -255,7 +255,7 @@ pub items_to : (text : Text) (walk : Walk) → IsWalkOver text walk → walk.at 
 items_to text walk over at stop h =
     let whole : stop - 0 ≡ stop = omega arith in
     let bytes : take (stop - walk.at) (drop walk.at walk.text.now) ≡ take stop walk.text.now =
-        ap (λ k. take (stop - k) (drop k walk.text.now)) at ∙ ap (λ k. take k walk.text.now) whole in
+    ap (λ k. take (stop - k) (drop k walk.text.now)) at ∙ ap (λ k. take k walk.text.now) whole in
     items_up_to text (record walk { at = stop }) (record {
       over = moved_over text walk stop over;
       within = h.within.1;

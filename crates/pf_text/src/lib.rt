@@ -2,13 +2,13 @@
 //! directives are spelled; the types of the arguments that a format takes.
 //!
 //! The road through a text in memory is `walk`: a loop over `Walk::find`, with a step by the part readers of
-//! `specification` for the item that it stops at. Where a text is refused or comes in blocks, `scanner` goes on byte by byte. The shortcuts, and what a
-//! call costs with one and without, in instructions over 4,000 formats: `marks` finds each `%` of a short
-//! text in one step (`check`: 133 and 167), `passed` knows items that need no look at their parts (bare ones
-//! in `check`: 133 and 208; canonical ones in `canonical`: 235 and 507), `checking` and
-//! `known_argument_types` need no scanner (`check`: 133 and 204; `types`: 238 and 338),
-//! `specification` reads one flag or none first (`check`: 133 and 139), and `search` looks at 64 bytes before
-//! `memchr2` (`check`: 133 and 141).
+//! `specification` for the item that it stops at. Where a text is refused or comes in blocks, `scanner` goes on
+//! byte by byte. The shortcuts, and what a call costs with one and without, in instructions over 4,000 formats:
+//! `marks` finds each `%` of a short text in one step (`check`: 134 and 170), `passed` knows items that need no
+//! look at their parts (bare ones in `check`: 134 and 217; canonical ones in `canonical`: 227 and 463),
+//! `checking` and `known_argument_types` need no scanner (`check`: 134 and 754; `types`: 233 and 424),
+//! `specification` reads one flag or none first (`check`: 134 and 154), and `search` looks at 64 bytes before
+//! `memchr2` (`check`: 134 and 142).
 #![tactic(auto)]
 
 mod argument_types;
