@@ -82,7 +82,7 @@ module _ (t : Text) (at : ℕ) (less : at < length t) where
   some_specification (Byte x ∷ later) reads percent other none = no_byte x later reads percent other
   some_specification (Specification s ∷ later) reads percent other none = none reads.0 reads.1 s reads.2.0 reads.4
 
--- so it is behind that item
+-- so it is after that item
 module _ (t : Text) (at : ℕ) (less : at < length t) where
   pub item_byte : (get_or t at 0 == 37) ≡ false → (items : List PosixItem) → ReadsPosix (drop at t) items → IsBehindItem t items None (at + 1)
   item_byte other [] reads = absurd (no_end t at less reads)

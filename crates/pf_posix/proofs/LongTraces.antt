@@ -22,7 +22,7 @@ use Rattle.pf_posix.specs.States.{PosixStep, posix_step}
 use Rattle.pf_posix.specs.Traces.{Ascends, IsReadOfLong, last_of_long, last_trace, refused_by, reading_trace, star_trace, trace_at}
 use Rattle.pf_posix.proofs.WalkLemmas.{past_limit, within_limit}
 
--- what a longer text makes of the end of its front, and of a refusal there
+-- in a longer text, the end of its front and a refusal there are one of the length
 abbrev long_fault : Bool → RefusalKind → ℕ → FetchTrace
 long_fault true kind at = Fault TooLong MAX_TEXT_LEN
 long_fault false kind at = Fault kind at

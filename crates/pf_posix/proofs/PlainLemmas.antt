@@ -212,7 +212,7 @@ module _ (model : Model) (t : Text) (at : ℕ) (within : at ≤ length t) (front
         let read = ends_whole model rest left in
         not_read read.stretches few read.reads
 
--- what is read behind an accepted front
+-- more items after an accepted front
 module _ (t : Text) (at stop : ℕ) (front : IsWholeAccepted (take at t)) (up : at ≤ stop) (few : stop ≤ MAX_TEXT_LEN) where
   accepted_more : (items : List PosixItem) → ReadsPosix (take (stop - at) (drop at t)) items → AllByRecursion IsUnnumbered items → IsWholeAccepted (take stop t)
   accepted_more items reads unnumbered =

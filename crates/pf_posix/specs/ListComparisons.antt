@@ -17,7 +17,7 @@ AreFew model first second = (types others : List ArgumentType)
     → HasArguments model first types → HasArguments model second others
     → (length types ≤ ROOM) ⊎ (length others ≤ ROOM)
 
--- two texts are accepted, and take so many arguments
+-- two texts are accepted, and these are the numbers of their arguments
 pub record AreCounted (model : Model) (first second : Text) (count second_count : ℕ) : Type 0 where
   pub types : List ArgumentType
   pub others : List ArgumentType
@@ -35,13 +35,13 @@ pub record IsListComparison (model : Model) (first second : Text) (found : Compa
   pub difference : IsFirstDifference types others found.difference
   pub count_is : found.second_count ≡ length others
 
--- so many types, of which all but the last are ints
+-- types of this number: all but the last are ints
 abbrev pub ints_up_to : ℕ → ArgumentType → List ArgumentType
 ints_up_to zero last = []
 ints_up_to (suc zero) last = last ∷ []
 ints_up_to (suc (suc n)) last = int_type ∷ ints_up_to (suc n) last
 
--- these types are left: those of the last specification, and those of the items behind it
+-- these types are left: those of the last specification, and those of the items after it
 pub record HasLeft (model : Model) (order : TypesInOrder) (types : List ArgumentType) : Type 0 where
   pub within : order.at ≤ length order.text.now
   pub items : List PosixItem

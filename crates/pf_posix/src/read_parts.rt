@@ -34,7 +34,7 @@ pub(crate) struct End {
     pub(crate) at: usize,
 }
 
-/// What comes after a width: the argument of a precision that is a `*`, with its byte, and the end.
+/// The rest after a width: the argument of a precision that is a `*`, with its byte, and the end.
 #[derive(Clone, Copy, Debug)]
 pub(crate) struct BehindWidth {
     pub(crate) star: Option<Fetch>,
@@ -42,7 +42,7 @@ pub(crate) struct BehindWidth {
     pub(crate) end: End,
 }
 
-/// What comes after a `%`: the argument of a width that is a `*`, with its byte, and the rest.
+/// The rest after a `%`: the argument of a width that is a `*`, with its byte, and the rest.
 #[derive(Clone, Copy, Debug)]
 pub(crate) struct Reading {
     pub(crate) star: Option<Fetch>,
@@ -151,7 +151,7 @@ fn second_end(
     }
 }
 
-// What comes after a width, which may be missing.
+// The rest after a width, which may be missing.
 fn behind_width(model: Model, text: &[u8], at: usize, parts: PartialSpecification) -> BehindWidth
     requires { length text.now ≤ LIMIT }
     ensures { (numbering : NumberingOf) (state : PosixState) → state ≢ Between
@@ -210,7 +210,7 @@ fn precision_star(model: Model, text: &[u8], at: usize, parts: PartialSpecificat
     }
 }
 
-// What comes after a precision that is a `*`.
+// The rest after a precision that is a `*`.
 fn behind_precision_star(model: Model, text: &[u8], at: usize, parts: PartialSpecification) -> End
     requires { length text.now ≤ LIMIT }
     ensures { (numbering : NumberingOf) (state : PosixState) → state ≢ Between
@@ -289,7 +289,7 @@ fn width_reading(model: Model, text: &[u8], at: usize, parts: PartialSpecificati
     }
 }
 
-// What comes after the digits of a width.
+// The rest after the digits of a width.
 fn behind_number(model: Model, text: &[u8], at: usize, parts: PartialSpecification) -> BehindWidth
     requires { length text.now ≤ LIMIT }
     ensures { (numbering : NumberingOf) (n : ℕ) → EndsNumber n text.now at
@@ -330,7 +330,7 @@ fn width_star(model: Model, text: &[u8], at: usize, parts: PartialSpecification)
     }
 }
 
-// What comes after a width that is a `*`.
+// The rest after a width that is a `*`.
 fn behind_width_star(
     model: Model,
     text: &[u8],
@@ -363,7 +363,7 @@ pub(crate) fn reading_at(model: Model, text: &[u8], start: usize, numbering: Num
     }
 }
 
-// What comes after a `%` that no number comes after.
+// The rest after a `%` without a number.
 fn without_number(model: Model, text: &[u8], at: usize, numbering: Numbering) -> Reading
     requires short { length text.now ≤ LIMIT }
     requires within { at ≤ length text.now }
@@ -386,7 +386,7 @@ fn no_reading(at: usize, kind: RefusalKind) -> Reading
     given(at, without_star(at, refused(kind, at)))
 }
 
-// What comes after a `%` and a number.
+// The rest after a `%` and a number.
 fn with_number(model: Model, text: &[u8], at: usize, numbering: Numbering, number: u16) -> Reading
     requires short { length text.now ≤ LIMIT }
     requires ended { EndsNumber number text.now at }
@@ -446,7 +446,7 @@ fn int_at(number: Option<u16>) -> Fetch
     }
 }
 
-/// What comes next in a text.
+/// The next thing in a text.
 #[derive(Clone, Copy, Debug)]
 pub(crate) enum Next {
     /// An item that fetches nothing, which ends at this offset.
@@ -459,7 +459,7 @@ pub(crate) enum Next {
     Refused(Refusal),
 }
 
-/// What comes at an offset between two items, after specifications of a numbering.
+/// The next thing at an offset between two items, after specifications of a numbering.
 pub(crate) fn next_at(model: Model, text: &[u8], at: usize, numbering: Numbering) -> Next
     requires { at ≤ LIMIT }
     ensures next { IsNextAt model text.now numbering at result }
