@@ -1,5 +1,5 @@
 -- The trace of a text that is too long, by that of its front; and where a trace fetches.
-use Rattle.std.proofs.Common.{◌≡◌, ℕ, ◌+◌, ◌-◌, ◌<◌, ◌≤◌, Bool, true, false, [], ◌∷◌, ◌++◌, length, drop, get_or, take, refl, sym, ap, ap₂, ◌∙◌, arith, subst, Ok, Err}
+use Rattle.std.proofs.Common.{◌≡◌, ℕ, ◌+◌, ◌-◌, ◌<◌, ◌≤◌, Bool, true, false, [], ◌∷◌, ◌++◌, length, drop, get_or, take, refl, sym, ap, ap₂, ◌∙◌, arith, subst, Ok, Err, inl, inr}
 use Rattle.std.specs.Prelude.{Option, Some, None, Result, nat_le, if◌then◌else◌}
 use Rattle.std.proofs.lemmas.Bool.Decides.{nat_tests}
 use Rattle.std.proofs.lemmas.List.{drop-drop, drop-take, drop_more, length-drop, length-take-le, take-append-drop}
@@ -17,10 +17,10 @@ use Rattle.pf_posix.specs.declared.reader.Reader.{Reader}
 use Rattle.pf_posix.specs.Walks.{Begins, IsNextFetch, IsReading, trace_left}
 use Rattle.pf_posix.specs.Readings.{Fault, Fetches, FetchTrace, Whole, fetch_trace, moved, trace_at_end, trace_from}
 use Rattle.pf_posix.specs.Refusals.{numbering_by}
-use Rattle.pf_posix.specs.Stages.{PosixState, Between, Opened, First, Flags, Digits, Star, StarDigits, Placed, Point, Modified}
+use Rattle.pf_posix.specs.Stages.{PosixState, Between}
 use Rattle.pf_posix.specs.States.{PosixStep, posix_step}
 use Rattle.pf_posix.specs.Traces.{Ascends, IsReadOfLong, last_of_long, last_trace, refused_by, reading_trace, star_trace, trace_at}
-use Rattle.pf_posix.proofs.WalkLemmas.{past_limit, within_limit}
+use Rattle.pf_posix.proofs.WalkLemmas.{past_limit, within_limit, at_end}
 
 -- in a longer text, the end of its front and a refusal there are one of the length
 abbrev long_fault : Bool → RefusalKind → ℕ → FetchTrace
@@ -33,16 +33,10 @@ long (Fault kind at) = long_fault (nat_le MAX_TEXT_LEN at) kind at
 long (Fetches f at rest) = Fetches f at (long rest)
 
 long_end : (state : PosixState) (at : ℕ) → at ≡ MAX_TEXT_LEN → long (trace_at_end state at) ≡ Fault TooLong MAX_TEXT_LEN
-long_end Between at e = refl
-long_end Opened at e = let over = past_limit at (omega (arith, e)) in rw over refl
-long_end (First n) at e = let over = past_limit at (omega (arith, e)) in rw over refl
-long_end (Flags parts) at e = let over = past_limit at (omega (arith, e)) in rw over refl
-long_end (Digits slot parts n) at e = let over = past_limit at (omega (arith, e)) in rw over refl
-long_end (Star slot parts) at e = let over = past_limit at (omega (arith, e)) in rw over refl
-long_end (StarDigits slot parts n) at e = let over = past_limit at (omega (arith, e)) in rw over refl
-long_end (Placed slot parts) at e = let over = past_limit at (omega (arith, e)) in rw over refl
-long_end (Point parts) at e = let over = past_limit at (omega (arith, e)) in rw over refl
-long_end (Modified parts modifier) at e = let over = past_limit at (omega (arith, e)) in rw over refl
+long_end state at e = elim (at_end state at) [
+  | inl h ↦ ap long h.1
+  | inr f ↦ let over = past_limit at (omega (arith, e)) in ap long f ∙ rw over refl
+]
 
 module _ (model : Model) where
   cut_long : (u rest : Text) (byte : ℕ) (numbering : Numbering) (state : PosixState) (at : ℕ) → at + length u ≡ MAX_TEXT_LEN
@@ -62,16 +56,10 @@ module _ (model : Model) where
 
   -- traces ascend
   end_ascends : (size : ℕ) (state : PosixState) (at : ℕ) → Ascends size at (trace_at_end state at)
-  end_ascends size Between at = tt
-  end_ascends size Opened at = tt
-  end_ascends size (First n) at = tt
-  end_ascends size (Flags parts) at = tt
-  end_ascends size (Digits slot parts n) at = tt
-  end_ascends size (Star slot parts) at = tt
-  end_ascends size (StarDigits slot parts n) at = tt
-  end_ascends size (Placed slot parts) at = tt
-  end_ascends size (Point parts) at = tt
-  end_ascends size (Modified parts modifier) at = tt
+  end_ascends size state at = elim (at_end state at) [
+    | inl h ↦ subst (Ascends size at) (sym h.1) tt
+    | inr f ↦ subst (Ascends size at) (sym f) tt
+  ]
 
   lower : (size at : ℕ) (trace : FetchTrace) → Ascends size (at + 1) trace → Ascends size at trace
   lower size at Whole h = tt
