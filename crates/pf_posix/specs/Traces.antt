@@ -13,8 +13,8 @@ use Rattle.pf_posix.specs.declared.partial_specification.PartialSpecification.{P
 use Rattle.pf_posix.specs.declared.partial_specification.WidthOrPrecision.{WidthOrPrecision}
 use Rattle.pf_posix.specs.declared.read_parts.BehindWidth.{BehindWidth}
 use Rattle.pf_posix.specs.declared.read_parts.End.{End}
-use Rattle.pf_posix.specs.declared.read_parts.Next.{Next}
-use Rattle.pf_posix.specs.declared.read_parts.Next.TheVariants as next
+use Rattle.pf_posix.specs.declared.next_items.Next.{Next}
+use Rattle.pf_posix.specs.declared.next_items.Next.TheVariants as next
 use Rattle.pf_posix.specs.declared.read_parts.Reading.{Reading}
 use Rattle.pf_posix.specs.declared.read_parts.StarRead.{StarRead}
 use Rattle.pf_posix.specs.Readings.{Fault, Fetches, FetchTrace, Whole, trace_from}

@@ -2,15 +2,13 @@
 //! then, each at its byte, and the kind of its refusal.
 ghost use Rattle.std.specs.Prelude.{◌≡◌, ◌≢◌, ◌+◌, ◌<◌, ◌≤◌, ℕ, true, false, None, Err, get_or, length, IsFalse, IsTrue};
 ghost use Rattle.pf_values.specs.declared.limits.TheConstants.{MAX_TEXT_LEN as LIMIT};
-ghost use Rattle.pf_values.specs.declared.models.Model.{Model as ModelOf};
-ghost use Rattle.pf_values.specs.declared.refusals.RefusalKind.TheVariants.{TooLong};
 ghost use Rattle.pf_values.specs.meaning.Text.{percent};
 ghost use Rattle.pf_text.specs.Offsets.{EndsFlags, EndsNumber, EndsWidth};
 ghost use Rattle.pf_text.specs.States.{is_digit};
 ghost use Rattle.pf_posix.specs.Refusals.{too_large};
 ghost use Rattle.pf_posix.specs.Stages.{Between, Digits, First, Modified, Opened, Point, PosixState};
 ghost use Rattle.pf_posix.specs.States.{after_amount, after_numbers, conversion_at, flag_or_width, star_at};
-ghost use Rattle.pf_posix.specs.Traces.{IsBeforeFlags, IsEndOfLong, IsFurther, IsReadOfLong, IsNextAt, IsStarRead, IsStrayAt, StepsAs, behind_star, behind_width_trace, end_trace, reading_trace, trace_at};
+ghost use Rattle.pf_posix.specs.Traces.{IsBeforeFlags, IsStarRead, IsStrayAt, StepsAs, behind_star, behind_width_trace, end_trace, reading_trace, trace_at};
 ghost use Rattle.pf_posix.specs.Types.{fetch, int_type};
 ghost use Rattle.pf_posix.specs.declared.partial_specification.Numbering.{Numbering as NumberingOf};
 ghost use Rattle.pf_posix.specs.declared.partial_specification.WidthOrPrecision.TheVariants.{Precision, Width};
@@ -22,8 +20,7 @@ use crate::partial_specification::{Numbering, PartialSpecification, WidthOrPreci
 use crate::specifications::{has_byte, has_digit, second_modifier};
 use crate::types::ArgumentType;
 use crate::undefined_combinations::undefined_as;
-use pf_text::{Refusal, digits_at, flags_at, literal_len, number_at};
-use pf_values::limits::MAX_TEXT_LEN;
+use pf_text::{digits_at, flags_at, number_at};
 use pf_values::{ArgType, Length, Model, RefusalKind};
 
 /// The argument that a specification converts, or why it is refused; with the byte of the conversion, or the
@@ -90,7 +87,8 @@ fn conversion_end(
     }
 }
 
-fn refused(kind: RefusalKind, at: usize) -> End
+/// The end of a specification that is refused at an offset.
+pub(crate) fn refused(kind: RefusalKind, at: usize) -> End
     ensures last { result.last ≡ Err kind }
     ensures at { result.at ≡ at }
 {
@@ -443,111 +441,5 @@ fn int_at(number: Option<u16>) -> Fetch
     Fetch {
         number,
         wanted: ArgumentType::Profile(ArgType::Int),
-    }
-}
-
-/// The next thing in a text.
-#[derive(Clone, Copy, Debug)]
-pub(crate) enum Next {
-    /// An item that fetches nothing, which ends at this offset.
-    Passed(usize),
-    /// The end.
-    End,
-    /// A specification, or its refusal.
-    Read(Reading),
-    /// A refusal outside of a specification.
-    Refused(Refusal),
-}
-
-/// The next thing at an offset between two items, after specifications of a numbering.
-pub(crate) fn next_at(model: Model, text: &[u8], at: usize, numbering: Numbering) -> Next
-    requires { at ≤ LIMIT }
-    ensures next { IsNextAt model text.now numbering at result }
-    ensures further { IsFurther text.now at result }
-{
-    if text.len() as u64 <= MAX_TEXT_LEN {
-        return next_within(model, text, at, numbering);
-    }
-    match next_within(model, &text[..MAX_TEXT_LEN as usize], at, numbering) {
-        Next::Passed(stop) => Next::Passed(stop),
-        Next::End => Next::Refused(too_long()),
-        Next::Read(read) => Next::Read(read_of_long(read)),
-        Next::Refused(refusal) => Next::Refused(refusal),
-    }
-}
-
-// The same in a text that isn't too long.
-fn next_within(model: Model, text: &[u8], at: usize, numbering: Numbering) -> Next
-    requires { length text.now ≤ LIMIT }
-    ensures next { IsNextAt model text.now numbering at result }
-    ensures further { IsFurther text.now at result }
-{
-    if at >= text.len() {
-        return Next::End;
-    }
-    if text[at] != b'%' {
-        return literals_at(text, at);
-    }
-    if has_byte(text, at + 1, b'%') {
-        return Next::Passed(at + 2);
-    }
-    Next::Read(reading_at(model, text, at, numbering))
-}
-
-// Literal bytes, or a NUL.
-fn literals_at(text: &[u8], at: usize) -> Next
-    requires short { length text.now ≤ LIMIT }
-    requires within { at < length text.now }
-    requires other { get_or text.now at 0 ≢ percent }
-    ensures next { (model : ModelOf) (numbering : NumberingOf) → IsNextAt model text.now numbering at result }
-    ensures further { IsFurther text.now at result }
-{
-    let run = literal_len(&text[at..]);
-    if run == 0 {
-        return Next::Refused(Refusal {
-            kind: RefusalKind::NulByte,
-            at: at as u64,
-        });
-    }
-    Next::Passed(at + run)
-}
-
-// A specification of a text that is too long, as it is read in its front.
-fn read_of_long(read: Reading) -> Reading
-    ensures { IsReadOfLong read result }
-{
-    let behind = read.behind;
-    Reading {
-        star: read.star,
-        star_at: read.star_at,
-        behind: BehindWidth {
-            star: behind.star,
-            star_at: behind.star_at,
-            end: end_of_long(behind.end),
-        },
-    }
-}
-
-// A refusal at the limit is one of the length.
-fn end_of_long(end: End) -> End
-    ensures { IsEndOfLong end result }
-{
-    match end.last {
-        Ok(_) => end,
-        Err(_) => {
-            if end.at as u64 >= MAX_TEXT_LEN {
-                return refused(RefusalKind::TooLong, MAX_TEXT_LEN as usize);
-            }
-            end
-        }
-    }
-}
-
-fn too_long() -> Refusal
-    ensures { result ≡ record { kind = TooLong; at = LIMIT } }
-{
-    Refusal {
-        kind: RefusalKind::TooLong,
-        at: MAX_TEXT_LEN,
     }
 }

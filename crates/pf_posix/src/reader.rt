@@ -11,8 +11,9 @@ ghost use Rattle.pf_posix.specs.Traces.{behind_width_trace, end_trace, reading_t
 ghost use Rattle.pf_posix.specs.Walks.{IsFetchOf, IsNextFetch, trace_left};
 
 use crate::fetches::Fetch;
+use crate::next_items::{Next, next_at};
 use crate::partial_specification::Numbering;
-use crate::read_parts::{BehindWidth, End, Next, Reading, next_at};
+use crate::read_parts::{BehindWidth, End, Reading};
 use pf_text::Refusal;
 use pf_values::Model;
 
