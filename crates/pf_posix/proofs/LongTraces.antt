@@ -14,12 +14,12 @@ use Rattle.pf_posix.specs.declared.partial_specification.Numbering.TheVariants.{
 use Rattle.pf_posix.specs.declared.read_parts.Reading.{Reading}
 use Rattle.pf_posix.specs.declared.reader.NextFetch.TheVariants as nexts
 use Rattle.pf_posix.specs.declared.reader.Reader.{Reader}
-use Rattle.pf_posix.specs.Walks.{Begins, IsNextFetch, IsReading, trace_left}
+use Rattle.pf_posix.specs.Walks.{Begins, IsNextFetch, ReadsOn, trace_left}
 use Rattle.pf_posix.specs.Readings.{Fault, Fetches, FetchTrace, Whole, fetch_trace, moved, trace_at_end, trace_from}
 use Rattle.pf_posix.specs.Refusals.{numbering_by}
 use Rattle.pf_posix.specs.Stages.{PosixState, Between}
 use Rattle.pf_posix.specs.States.{PosixStep, posix_step}
-use Rattle.pf_posix.specs.Traces.{Ascends, IsReadOfLong, last_of_long, last_trace, refused_by, reading_trace, star_trace, trace_at}
+use Rattle.pf_posix.specs.Traces.{Ascends, IsReadOfLong, last_of_long, last_trace, limited_by, reading_trace, star_trace, trace_at}
 use Rattle.pf_posix.proofs.WalkLemmas.{past_limit, within_limit, at_end}
 
 -- in a longer text, the end of its front and a refusal there are one of the length
@@ -134,7 +134,7 @@ module _ (model : Model) where
     long_last (Ok f) stop low h = ap (Fetches f stop) (sym (long_at (numbering_by f.number) Between (stop + 1) (omega (arith, h.1))))
     long_last (Err kind) stop low h = go (nat_le MAX_TEXT_LEN stop) refl where
       go : (over : Bool) → nat_le MAX_TEXT_LEN stop ≡ over → long_fault over kind stop
-          ≡ last_trace model t (refused_by over kind stop).0 (refused_by over kind stop).1
+          ≡ last_trace model t (limited_by over kind stop).0 (limited_by over kind stop).1
       go true e = refl
       go false e = refl
 
@@ -159,7 +159,7 @@ module _ (model : Model) where
 
 -- a reader between two items
 pub reading_starts : (model : Model) (t : Text) (reader : Reader) (numbering : Numbering) → reader.at ≤ length t → reader.at ≤ MAX_TEXT_LEN
-    → trace_left model t reader ≡ trace_at model t numbering Between reader.at → IsReading model t reader
+    → trace_left model t reader ≡ trace_at model t numbering Between reader.at → ReadsOn model t reader
 reading_starts model t reader numbering within limit e = record {
   within = within;
   limit = limit;
@@ -167,8 +167,8 @@ reading_starts model t reader numbering within limit e = record {
 }
 
 -- and after an argument
-pub reading_next : (model : Model) (t : Text) (old new : Reader) (f : Fetch) → IsReading model t old → Begins model t (trace_left model t old) (nexts.Fetched f) new
-    → IsReading model t new × (old.at < new.at)
+pub reading_next : (model : Model) (t : Text) (old new : Reader) (f : Fetch) → ReadsOn model t old → Begins model t (trace_left model t old) (nexts.Fetched f) new
+    → ReadsOn model t new × (old.at < new.at)
 reading_next model t old new f h b =
     let up = subst (Ascends (length t) old.at) b.2 h.ascends in (
       record {
@@ -184,7 +184,7 @@ first_ascends model t trace e = subst (Ascends (length t) 0) (sym e) (ascends mo
 
 -- after the first argument of all
 pub first_reading : (model : Model) (t : Text) (old new : Reader) (f : Fetch) → old.at ≡ 0 → trace_left model t old ≡ fetch_trace model t
-    → IsNextFetch model t old (nexts.Fetched f) new → IsReading model t new × (old.at < new.at)
+    → IsNextFetch model t old (nexts.Fetched f) new → ReadsOn model t new × (old.at < new.at)
 first_reading model t old new f start e h =
     let begun = reading_starts model t old Undecided (omega (arith, start)) (omega (arith, start))
     (e ∙ ap (λ k. trace_at model t Undecided Between k) (sym start)) in

@@ -96,13 +96,13 @@ IsFurther t at (next.Refused refusal) = refusal.at < length t
 IsFurther t at _ = ⊤
 
 -- a refusal at the limit is one of the length, if the text goes on
-abbrev pub refused_by : Bool → RefusalKind → ℕ → Result Fetch RefusalKind × ℕ
-refused_by true kind at = (Err TooLong, MAX_TEXT_LEN)
-refused_by false kind at = (Err kind, at)
+abbrev pub limited_by : Bool → RefusalKind → ℕ → Result Fetch RefusalKind × ℕ
+limited_by true kind at = (Err TooLong, MAX_TEXT_LEN)
+limited_by false kind at = (Err kind, at)
 
 abbrev pub last_of_long : Result Fetch RefusalKind → ℕ → Result Fetch RefusalKind × ℕ
 last_of_long (Ok f) at = (Ok f, at)
-last_of_long (Err kind) at = refused_by (nat_le MAX_TEXT_LEN at) kind at
+last_of_long (Err kind) at = limited_by (nat_le MAX_TEXT_LEN at) kind at
 
 abbrev pub IsEndOfLong : End → End → Type 0
 IsEndOfLong end result = (result.last, result.at) ≡ last_of_long end.last end.at

@@ -34,7 +34,7 @@ abbrev pub IsFetchOf : Model → Text → FetchTrace → NextFetch → Reader �
 IsFetchOf model t trace next new = (low : ℕ) → Ascends (length t) low trace → Begins model t trace next new
 
 -- a reader is inside a text, and fetches the rest after its offset
-pub record IsReading (model : Model) (t : Text) (reader : Reader) : Type 0 where
+pub record ReadsOn (model : Model) (t : Text) (reader : Reader) : Type 0 where
   pub within : reader.at ≤ length t
   pub limit : reader.at ≤ MAX_TEXT_LEN
   pub ascends : Ascends (length t) reader.at (trace_left model t reader)
