@@ -1,4 +1,5 @@
 -- What is run through is read, and so a text has one verdict.
+use Rattle.pf_posix.proofs.WalkLemmas.{at_end}
 use Rattle.std.proofs.Common.{◌≡◌, ◌≢◌, ℕ, suc, ◌+◌, ◌<◌, ◌≤◌, Bool, true, false, List, [], ◌∷◌, ◌++◌, length, refl, sym, ap, ◌∙◌, arith, subst, inl, inr, Ok}
 use Rattle.std.proofs.Common.{Err, length-append}
 use Rattle.std.specs.Prelude.{Option, Some, None, ◌⊎◌, nat_le, ◌==◌, MatchBool}
@@ -18,7 +19,7 @@ use Rattle.pf_posix.specs.Readings.{Refused, Takes, conflicts, trace_at_end, mov
 use Rattle.pf_posix.specs.Refusals.{AreAgreed, Follows, HasGap, IsOneType, IsPosixRefusedAt, numbering_by, numbering_of}
 use Rattle.pf_posix.proofs.StateRefusals.{IsRefusedInState, IsByteRefusedIn, IsCauseIn, numbering_in}
 use Rattle.pf_posix.specs.Specifications.{PosixSpecification}
-use Rattle.pf_posix.specs.Stages.{PosixState, Between, Opened, First, Flags, Digits, Star, StarDigits, Placed, Point, Modified}
+use Rattle.pf_posix.specs.Stages.{PosixState, Between}
 use Rattle.pf_posix.specs.States.{PosixStep, posix_step}
 use Rattle.pf_posix.specs.Types.{fetch, fetches, star_fetches, conversion_type}
 use Rattle.pf_posix.proofs.Agreeing.{agreed_clear, agreed_follows, agreed_front, all_back, all_map, conflicts_no, numbering_push}
@@ -223,16 +224,10 @@ module _ (model : Model) where
         ∙ ap (λ f. verdict_after f (trace_from model (numbering_of f) h.state at h.rest)) (sym h.good.fetches_are)
 
   ended_open : (fs : List Fetch) (state : PosixState) (at : ℕ) → state ≢ Between → verdict_after fs (trace_at_end state at) ≡ Refused Truncated at
-  ended_open fs Between at some = absurd (some refl)
-  ended_open fs Opened at some = refl
-  ended_open fs (First n) at some = refl
-  ended_open fs (Flags parts) at some = refl
-  ended_open fs (Digits slot parts n) at some = refl
-  ended_open fs (Star slot parts) at some = refl
-  ended_open fs (StarDigits slot parts n) at some = refl
-  ended_open fs (Placed slot parts) at some = refl
-  ended_open fs (Point parts) at some = refl
-  ended_open fs (Modified parts modifier) at some = refl
+  ended_open fs state at some = elim (at_end state at) [
+    | inl h ↦ absurd (some h.0)
+    | inr e ↦ ap (verdict_after fs) e
+  ]
 
   -- what a byte makes that is refused
   byte_refused : (fs : List Fetch) (state : PosixState) (at byte : ℕ) (rest : Text) (kind : RefusalKind) → at ≤ MAX_TEXT_LEN

@@ -1,5 +1,5 @@
 -- The trace of a text that is too long, by that of its front; and where a trace fetches.
-use Rattle.std.proofs.Common.{◌≡◌, ℕ, ◌+◌, ◌-◌, ◌<◌, ◌≤◌, Bool, true, false, [], ◌∷◌, ◌++◌, length, drop, get_or, take, refl, sym, ap, ap₂, ◌∙◌, arith, subst, Ok, Err}
+use Rattle.std.proofs.Common.{◌≡◌, ℕ, ◌+◌, ◌-◌, ◌<◌, ◌≤◌, Bool, true, false, [], ◌∷◌, ◌++◌, length, drop, get_or, take, refl, sym, ap, ap₂, ◌∙◌, arith, subst, Ok, Err, inl, inr}
 use Rattle.std.specs.Prelude.{Option, Some, None, Result, nat_le, if◌then◌else◌}
 use Rattle.std.proofs.lemmas.Bool.Decides.{nat_tests}
 use Rattle.std.proofs.lemmas.List.{drop-drop, drop-take, drop_more, length-drop, length-take-le, take-append-drop}
@@ -14,15 +14,15 @@ use Rattle.pf_posix.specs.declared.partial_specification.Numbering.TheVariants.{
 use Rattle.pf_posix.specs.declared.read_parts.Reading.{Reading}
 use Rattle.pf_posix.specs.declared.reader.NextFetch.TheVariants as nexts
 use Rattle.pf_posix.specs.declared.reader.Reader.{Reader}
-use Rattle.pf_posix.specs.Walks.{Begins, IsNextFetch, ReadsOnFrom, trace_left}
+use Rattle.pf_posix.specs.Walks.{Begins, IsNextFetch, ReadsOn, trace_left}
 use Rattle.pf_posix.specs.Readings.{Fault, Fetches, FetchTrace, Whole, fetch_trace, moved, trace_at_end, trace_from}
 use Rattle.pf_posix.specs.Refusals.{numbering_by}
-use Rattle.pf_posix.specs.Stages.{PosixState, Between, Opened, First, Flags, Digits, Star, StarDigits, Placed, Point, Modified}
+use Rattle.pf_posix.specs.Stages.{PosixState, Between}
 use Rattle.pf_posix.specs.States.{PosixStep, posix_step}
-use Rattle.pf_posix.specs.Traces.{Ascends, IsReadOfLong, last_of_long, last_trace, refused_at_limit, reading_trace, star_trace, trace_at}
-use Rattle.pf_posix.proofs.WalkLemmas.{past_limit, within_limit}
+use Rattle.pf_posix.specs.Traces.{Ascends, IsReadOfLong, last_of_long, last_trace, limited_by, reading_trace, star_trace, trace_at}
+use Rattle.pf_posix.proofs.WalkLemmas.{past_limit, within_limit, at_end}
 
--- what a longer text makes of the end of its front, and of a refusal there
+-- in a longer text, the end of its front and a refusal there are one of the length
 abbrev long_fault : Bool → RefusalKind → ℕ → FetchTrace
 long_fault true kind at = Fault TooLong MAX_TEXT_LEN
 long_fault false kind at = Fault kind at
@@ -33,16 +33,10 @@ long (Fault kind at) = long_fault (nat_le MAX_TEXT_LEN at) kind at
 long (Fetches f at rest) = Fetches f at (long rest)
 
 long_end : (state : PosixState) (at : ℕ) → at ≡ MAX_TEXT_LEN → long (trace_at_end state at) ≡ Fault TooLong MAX_TEXT_LEN
-long_end Between at e = refl
-long_end Opened at e = let over = past_limit at (omega (arith, e)) in rw over refl
-long_end (First n) at e = let over = past_limit at (omega (arith, e)) in rw over refl
-long_end (Flags parts) at e = let over = past_limit at (omega (arith, e)) in rw over refl
-long_end (Digits slot parts n) at e = let over = past_limit at (omega (arith, e)) in rw over refl
-long_end (Star slot parts) at e = let over = past_limit at (omega (arith, e)) in rw over refl
-long_end (StarDigits slot parts n) at e = let over = past_limit at (omega (arith, e)) in rw over refl
-long_end (Placed slot parts) at e = let over = past_limit at (omega (arith, e)) in rw over refl
-long_end (Point parts) at e = let over = past_limit at (omega (arith, e)) in rw over refl
-long_end (Modified parts modifier) at e = let over = past_limit at (omega (arith, e)) in rw over refl
+long_end state at e = elim (at_end state at) [
+  | inl h ↦ ap long h.1
+  | inr f ↦ let over = past_limit at (omega (arith, e)) in ap long f ∙ rw over refl
+]
 
 module _ (model : Model) where
   cut_long : (u rest : Text) (byte : ℕ) (numbering : Numbering) (state : PosixState) (at : ℕ) → at + length u ≡ MAX_TEXT_LEN
@@ -62,16 +56,10 @@ module _ (model : Model) where
 
   -- traces ascend
   end_ascends : (size : ℕ) (state : PosixState) (at : ℕ) → Ascends size at (trace_at_end state at)
-  end_ascends size Between at = tt
-  end_ascends size Opened at = tt
-  end_ascends size (First n) at = tt
-  end_ascends size (Flags parts) at = tt
-  end_ascends size (Digits slot parts n) at = tt
-  end_ascends size (Star slot parts) at = tt
-  end_ascends size (StarDigits slot parts n) at = tt
-  end_ascends size (Placed slot parts) at = tt
-  end_ascends size (Point parts) at = tt
-  end_ascends size (Modified parts modifier) at = tt
+  end_ascends size state at = elim (at_end state at) [
+    | inl h ↦ subst (Ascends size at) (sym h.1) tt
+    | inr f ↦ subst (Ascends size at) (sym f) tt
+  ]
 
   lower : (size at : ℕ) (trace : FetchTrace) → Ascends size (at + 1) trace → Ascends size at trace
   lower size at Whole h = tt
@@ -146,7 +134,7 @@ module _ (model : Model) where
     long_last (Ok f) stop low h = ap (Fetches f stop) (sym (long_at (numbering_by f.number) Between (stop + 1) (omega (arith, h.1))))
     long_last (Err kind) stop low h = go (nat_le MAX_TEXT_LEN stop) refl where
       go : (over : Bool) → nat_le MAX_TEXT_LEN stop ≡ over → long_fault over kind stop
-          ≡ last_trace model t (refused_at_limit over kind stop).0 (refused_at_limit over kind stop).1
+          ≡ last_trace model t (limited_by over kind stop).0 (limited_by over kind stop).1
       go true e = refl
       go false e = refl
 
@@ -171,7 +159,7 @@ module _ (model : Model) where
 
 -- a reader between two items
 pub reading_starts : (model : Model) (t : Text) (reader : Reader) (numbering : Numbering) → reader.at ≤ length t → reader.at ≤ MAX_TEXT_LEN
-    → trace_left model t reader ≡ trace_at model t numbering Between reader.at → ReadsOnFrom model t reader
+    → trace_left model t reader ≡ trace_at model t numbering Between reader.at → ReadsOn model t reader
 reading_starts model t reader numbering within limit e = record {
   within = within;
   limit = limit;
@@ -179,8 +167,8 @@ reading_starts model t reader numbering within limit e = record {
 }
 
 -- and after an argument
-pub reading_next : (model : Model) (t : Text) (old new : Reader) (f : Fetch) → ReadsOnFrom model t old → Begins model t (trace_left model t old) (nexts.Fetched f) new
-    → ReadsOnFrom model t new × (old.at < new.at)
+pub reading_next : (model : Model) (t : Text) (old new : Reader) (f : Fetch) → ReadsOn model t old → Begins model t (trace_left model t old) (nexts.Fetched f) new
+    → ReadsOn model t new × (old.at < new.at)
 reading_next model t old new f h b =
     let up = subst (Ascends (length t) old.at) b.2 h.ascends in (
       record {
@@ -196,7 +184,7 @@ first_ascends model t trace e = subst (Ascends (length t) 0) (sym e) (ascends mo
 
 -- after the first argument of all
 pub first_reading : (model : Model) (t : Text) (old new : Reader) (f : Fetch) → old.at ≡ 0 → trace_left model t old ≡ fetch_trace model t
-    → IsNextFetch model t old (nexts.Fetched f) new → ReadsOnFrom model t new × (old.at < new.at)
+    → IsNextFetch model t old (nexts.Fetched f) new → ReadsOn model t new × (old.at < new.at)
 first_reading model t old new f start e h =
     let begun = reading_starts model t old Undecided (omega (arith, start)) (omega (arith, start))
     (e ∙ ap (λ k. trace_at model t Undecided Between k) (sym start)) in

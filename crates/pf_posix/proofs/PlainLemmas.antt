@@ -1,4 +1,5 @@
 -- Specifications without numbers at an offset of a text, and what is there if none begins.
+use Rattle.pf_values.specs.declared.refusals.RefusalKind.TheVariants.{Truncated}
 use Rattle.pf_posix.proofs.Profile.{item_of, reads_here}
 use Rattle.pf_posix.proofs.Bounds.{all_append}
 use Rattle.pf_posix.specs.Unnumbered.{IsUnnumbered}
@@ -9,7 +10,7 @@ use Rattle.pf_text.specs.declared.walk.Walk.{Walk}
 use Rattle.pf_text.specs.declared.specification.FoundDirective.{FoundDirective}
 use Rattle.pf_text.specs.Walks.{Finds, HasPassed, HasPercent, IsWalkOver}
 use Rattle.std.specs.List.{AllByRecursion}
-use Rattle.std.proofs.Common.{◌≡◌, ◌≢◌, ℕ, ◌+◌, ◌-◌, ◌<◌, ◌≤◌, Bool, true, false, List, [], ◌∷◌, ◌++◌, drop, get_or, length, length-append, take, refl, sym, ap, ◌∙◌, arith, subst, map, take-add}
+use Rattle.std.proofs.Common.{◌≡◌, ◌≢◌, ℕ, ◌+◌, ◌-◌, ◌<◌, ◌≤◌, Bool, true, false, List, [], ◌∷◌, ◌++◌, drop, get_or, length, length-append, take, refl, sym, ap, ◌∙◌, arith, subst, map, take-add, inl, inr}
 use Rattle.std.proofs.Common.{Ok, Err}
 use Rattle.std.proofs.Math.Seq.{take-append-add, take-append_seam}
 use Rattle.std.specs.Prelude.{Some, None, is_some, IsTrue, IsFalse}
@@ -35,7 +36,7 @@ use Rattle.pf_posix.specs.Plain.{BeginsNoPlain, IsPlain, IsPlainAt}
 use Rattle.pf_posix.specs.Readings.{Fault, Whole, moved, trace_at_end, trace_from}
 use Rattle.pf_posix.specs.Refusals.{numbering_by}
 use Rattle.pf_posix.specs.Specifications.{PosixSpecification}
-use Rattle.pf_posix.specs.Stages.{PosixState, Between, Opened, First, Flags, Digits, Star, StarDigits, Placed, Point, Modified}
+use Rattle.pf_posix.specs.Stages.{PosixState, Between}
 use Rattle.pf_posix.specs.States.{PosixStep, posix_step}
 use Rattle.pf_posix.specs.Stretches.{Stretches, Last, Before, IsWholeAccepted, ReadsWhole}
 use Rattle.pf_posix.proofs.FoundLemmas.{same_there, unnumbered_parts}
@@ -45,7 +46,7 @@ use Rattle.pf_posix.proofs.PartLemmas.{head_at}
 use Rattle.pf_posix.proofs.ReadOnce.{narrow}
 use Rattle.pf_posix.proofs.SpecificationsOnce.{no_number, parts_of}
 use Rattle.pf_posix.proofs.UnnumberedEnds.{end_after_items, ends_whole}
-use Rattle.pf_posix.proofs.WalkLemmas.{within_limit}
+use Rattle.pf_posix.proofs.WalkLemmas.{within_limit, at_end}
 
 -- the text from an offset on, and from a later one
 parted : (t : Text) (start stop : ℕ) → start ≤ stop → drop start t ≡ take (stop - start) (drop start t) ++ drop stop t
@@ -131,16 +132,10 @@ module _ (t : Text) (at : ℕ) (none : BeginsNoItem (drop at (take MAX_TEXT_LEN 
 -- a text that ends whole does so from any lower offset
 module _ (model : Model) where
   end_lower : (state : PosixState) (at low : ℕ) → ending (trace_at_end state at) ≡ Whole → ending (trace_at_end state low) ≡ Whole
-  end_lower Between at low e = refl
-  end_lower Opened at low e = cc
-  end_lower (First n) at low e = cc
-  end_lower (Flags parts) at low e = cc
-  end_lower (Digits slot parts n) at low e = cc
-  end_lower (Star slot parts) at low e = cc
-  end_lower (StarDigits slot parts n) at low e = cc
-  end_lower (Placed slot parts) at low e = cc
-  end_lower (Point parts) at low e = cc
-  end_lower (Modified parts modifier) at low e = cc
+  end_lower state at low e = elim (at_end state at) [
+    | inl h ↦ ap (λ s. ending (trace_at_end s low)) h.0
+    | inr f ↦ let no : Fault Truncated at ≡ Whole = sym (ap ending f) ∙ e in cc
+  ]
 
   whole_lower : (t : Text) (numbering : Numbering) (state : PosixState) (at low : ℕ) → low ≤ at → at + length t ≤ MAX_TEXT_LEN
       → ending (trace_from model numbering state at t) ≡ Whole → ending (trace_from model numbering state low t) ≡ Whole
@@ -212,7 +207,7 @@ module _ (model : Model) (t : Text) (at : ℕ) (within : at ≤ length t) (front
         let read = ends_whole model rest left in
         not_read read.stretches few read.reads
 
--- what is read after an accepted front
+-- more items after an accepted front
 module _ (t : Text) (at stop : ℕ) (front : IsWholeAccepted (take at t)) (up : at ≤ stop) (few : stop ≤ MAX_TEXT_LEN) where
   accepted_more : (items : List PosixItem) → ReadsPosix (take (stop - at) (drop at t)) items → AllByRecursion IsUnnumbered items → IsWholeAccepted (take stop t)
   accepted_more items reads unnumbered =

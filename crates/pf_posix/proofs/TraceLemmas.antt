@@ -50,20 +50,14 @@ use Rattle.pf_posix.specs.Stages.{PosixState, Between, Opened, First, Flags, Dig
 use Rattle.pf_posix.specs.States.{PosixStep, posix_step, stray, move_to, with_digit, after_amount, after_numbers, after_star, flag_or_width, parts_at, star_at, after_modifier_letter, conversion_at, with_width, too_large}
 use Rattle.pf_posix.specs.Traces.{IsStrayAt, StepsAs, trace_at, IsBeforeFlags, IsReadStar, behind_star, behind_width_trace, end_trace, last_trace, reading_trace, star_trace}
 use Rattle.pf_posix.proofs.Running.{first_step, Stand, run, stand, went, digit_tests, flag_tests, flags_parts, more_digits, more_flags, plain_percent, first_tests}
-use Rattle.pf_posix.proofs.WalkLemmas.{within_limit}
+use Rattle.pf_posix.proofs.WalkLemmas.{within_limit, at_end}
 
 -- the end of a text inside a specification
 ends_open : (state : PosixState) (at : ℕ) → state ≢ Between → trace_at_end state at ≡ Fault Truncated at
-ends_open Between at some = absurd (some refl)
-ends_open Opened at some = refl
-ends_open (First n) at some = refl
-ends_open (Flags parts) at some = refl
-ends_open (Digits slot parts n) at some = refl
-ends_open (Star slot parts) at some = refl
-ends_open (StarDigits slot parts n) at some = refl
-ends_open (Placed slot parts) at some = refl
-ends_open (Point parts) at some = refl
-ends_open (Modified parts modifier) at some = refl
+ends_open state at some = elim (at_end state at) [
+  | inl h ↦ absurd (some h.0)
+  | inr e ↦ e
+]
 
 not_percent : (byte : ℕ) → byte ≢ 37 → (byte == 37) ≡ false
 not_percent byte h = grind (arith, nat_tests)

@@ -1,6 +1,7 @@
 -- What a reader passes over, and where it stops.
-use Rattle.std.proofs.Common.{◌≡◌, ◌≢◌, ℕ, zero, suc, ◌+◌, ◌-◌, ◌<◌, ◌≤◌, Bool, true, false, ◌||◌, length, get_or, drop, take, refl, ap, ◌∙◌, subst, arith}
-use Rattle.std.specs.Prelude.{◌==◌, nat_le}
+use Rattle.pf_values.specs.declared.refusals.RefusalKind.TheVariants.{Truncated}
+use Rattle.std.proofs.Common.{◌≡◌, ◌≢◌, ℕ, zero, suc, ◌+◌, ◌-◌, ◌<◌, ◌≤◌, Bool, true, false, ◌||◌, length, get_or, drop, take, refl, ap, ◌∙◌, subst, arith, inl, inr}
+use Rattle.std.specs.Prelude.{◌==◌, nat_le, ◌⊎◌}
 use Rattle.std.proofs.lemmas.Bool.Decides.{nat_tests}
 use Rattle.std.proofs.lemmas.List.{drop_more, get_or-drop, length-drop, take_rest}
 use Rattle.memchr.specs.Find.{Nowhere, Passes, is_byte2}
@@ -8,8 +9,8 @@ use Rattle.pf_values.specs.declared.limits.TheConstants.{MAX_TEXT_LEN}
 use Rattle.pf_values.specs.declared.models.Model.{Model}
 use Rattle.pf_values.specs.meaning.Text.{Text}
 use Rattle.pf_posix.specs.declared.partial_specification.Numbering.{Numbering}
-use Rattle.pf_posix.specs.Readings.{trace_from}
-use Rattle.pf_posix.specs.Stages.{Between}
+use Rattle.pf_posix.specs.Readings.{trace_from, Fault, Whole, trace_at_end}
+use Rattle.pf_posix.specs.Stages.{Between, PosixState, Opened, First, Flags, Digits, Star, StarDigits, Placed, Point, Modified}
 
 pub within_limit : (n : ℕ) → n < MAX_TEXT_LEN → nat_le MAX_TEXT_LEN n ≡ false
 within_limit n h = grind (arith, nat_tests)
@@ -55,3 +56,16 @@ module _ (model : Model) (numbering : Numbering) (t : Text) where
       let fits : n ≤ length (drop at t) = subst (λ u. n ≤ length u) rest few in
       passed n at (omega (arith, fits, long)) short
       (λ k less. subst (λ x. is_byte2 37 0 x ≢ true) (ap (λ u. get_or u k 0) rest ∙ get_or-drop at t k 0) (none k (omega arith) less))
+
+-- a text ends between two items, or it is truncated
+pub at_end : (state : PosixState) (at : ℕ) → ((state ≡ Between) × (trace_at_end state at ≡ Whole)) ⊎ (trace_at_end state at ≡ Fault Truncated at)
+at_end Between at = inl (refl, refl)
+at_end Opened at = inr refl
+at_end (First n) at = inr refl
+at_end (Flags parts) at = inr refl
+at_end (Digits slot parts n) at = inr refl
+at_end (Star slot parts) at = inr refl
+at_end (StarDigits slot parts n) at = inr refl
+at_end (Placed slot parts) at = inr refl
+at_end (Point parts) at = inr refl
+at_end (Modified parts modifier) at = inr refl

@@ -17,7 +17,7 @@ AreFew model first second = (types others : List ArgumentType)
     → HasArguments model first types → HasArguments model second others
     → (length types ≤ ROOM) ⊎ (length others ≤ ROOM)
 
--- two texts are accepted, and take these numbers of arguments
+-- two texts are accepted, and these are the numbers of their arguments
 pub record AreCounted (model : Model) (first second : Text) (count second_count : ℕ) : Type 0 where
   pub types : List ArgumentType
   pub others : List ArgumentType
@@ -35,7 +35,7 @@ pub record IsListComparison (model : Model) (first second : Text) (found : Compa
   pub difference : IsFirstDifference types others found.difference
   pub count_is : found.second_count ≡ length others
 
--- this number of types: ints, and a last one
+-- types of this number: all but the last are ints
 abbrev pub ints_up_to : ℕ → ArgumentType → List ArgumentType
 ints_up_to zero last = []
 ints_up_to (suc zero) last = last ∷ []

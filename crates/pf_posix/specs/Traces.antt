@@ -13,8 +13,8 @@ use Rattle.pf_posix.specs.declared.partial_specification.PartialSpecification.{P
 use Rattle.pf_posix.specs.declared.partial_specification.WidthOrPrecision.{WidthOrPrecision}
 use Rattle.pf_posix.specs.declared.read_parts.BehindWidth.{BehindWidth}
 use Rattle.pf_posix.specs.declared.read_parts.End.{End}
-use Rattle.pf_posix.specs.declared.read_parts.Next.{Next}
-use Rattle.pf_posix.specs.declared.read_parts.Next.TheVariants as next
+use Rattle.pf_posix.specs.declared.next_items.Next.{Next}
+use Rattle.pf_posix.specs.declared.next_items.Next.TheVariants as next
 use Rattle.pf_posix.specs.declared.read_parts.Reading.{Reading}
 use Rattle.pf_posix.specs.declared.read_parts.StarRead.{StarRead}
 use Rattle.pf_posix.specs.Readings.{Fault, Fetches, FetchTrace, Whole, trace_from}
@@ -55,7 +55,7 @@ behind_width_trace model t behind = star_trace behind.star behind.star_at (end_t
 abbrev pub reading_trace : Model → Text → Reading → FetchTrace
 reading_trace model t read = star_trace read.star read.star_at (behind_width_trace model t read.behind)
 
--- what a byte does after a `*`, with the number of its argument in a numbered specification
+-- the step of a byte after a `*`, with the number of its argument in a numbered specification
 abbrev pub behind_star : Model → WidthOrPrecision → PartialSpecification → Option ℕ → ℕ → PosixStep
 behind_star model slot parts None byte = after_star model slot parts None byte
 behind_star model slot parts (Some n) byte = after_amount model slot parts byte
@@ -80,7 +80,7 @@ IsBeforeFlags model t numbering state at None = (numbering ≢ Numbered) × (sta
     × (get_or t at 0 ≢ percent) × EndsWidth None t at
 IsBeforeFlags model t numbering state at (Some n) = state ≡ Flags (parts_at (Some n))
 
--- what comes next, and the trace from there on
+-- the next thing, and the trace from there on
 abbrev pub IsNextAt : Model → Text → Numbering → ℕ → Next → Type 0
 IsNextAt model t numbering at (next.Passed stop) =
     trace_at model t numbering Between at ≡ trace_at model t numbering Between stop
@@ -96,13 +96,13 @@ IsFurther t at (next.Refused refusal) = refusal.at < length t
 IsFurther t at _ = ⊤
 
 -- a refusal at the limit is one of the length, if the text goes on
-abbrev pub refused_at_limit : Bool → RefusalKind → ℕ → Result Fetch RefusalKind × ℕ
-refused_at_limit true kind at = (Err TooLong, MAX_TEXT_LEN)
-refused_at_limit false kind at = (Err kind, at)
+abbrev pub limited_by : Bool → RefusalKind → ℕ → Result Fetch RefusalKind × ℕ
+limited_by true kind at = (Err TooLong, MAX_TEXT_LEN)
+limited_by false kind at = (Err kind, at)
 
 abbrev pub last_of_long : Result Fetch RefusalKind → ℕ → Result Fetch RefusalKind × ℕ
 last_of_long (Ok f) at = (Ok f, at)
-last_of_long (Err kind) at = refused_at_limit (nat_le MAX_TEXT_LEN at) kind at
+last_of_long (Err kind) at = limited_by (nat_le MAX_TEXT_LEN at) kind at
 
 abbrev pub IsEndOfLong : End → End → Type 0
 IsEndOfLong end result = (result.last, result.at) ≡ last_of_long end.last end.at
@@ -115,7 +115,7 @@ pub record IsReadOfLong (read result : Reading) : Type 0 where
   pub behind_star_at : result.behind.star_at ≡ read.behind.star_at
   pub end : IsEndOfLong read.behind.end result.behind.end
 
--- what is fetched, is fetched at one byte after another, from an offset on, and inside of a text of this size
+-- it fetches at one byte after another, from an offset on, and inside of a text of this size
 abbrev pub Ascends : ℕ → ℕ → FetchTrace → Type 0
 Ascends size at Whole = ⊤
 Ascends size at (Fault kind place) = ⊤

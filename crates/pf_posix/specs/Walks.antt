@@ -22,7 +22,7 @@ trace_of model t numbering at (lefts.End end) = end_trace model t end
 abbrev pub trace_left : Model → Text → Reader → FetchTrace
 trace_left model t reader = trace_of model t reader.numbering reader.at reader.left
 
--- what a trace begins with, and a reader after it; an argument is fetched at the byte before the reader
+-- a trace begins with this, and the rest is the reader's; an argument is fetched at the byte before the reader
 abbrev pub Begins : Model → Text → FetchTrace → NextFetch → Reader → Type 0
 Begins model t trace (nexts.Fetched f) new =
     (at : ℕ) × (new.at ≡ at + 1) × (trace ≡ Fetches f at (trace_left model t new))
@@ -33,8 +33,8 @@ Begins model t trace (nexts.Refused refusal) new = trace ≡ Fault refusal.kind 
 abbrev pub IsFetchOf : Model → Text → FetchTrace → NextFetch → Reader → Type 0
 IsFetchOf model t trace next new = (low : ℕ) → Ascends (length t) low trace → Begins model t trace next new
 
--- a reader is inside a text, and what is left is fetched after it
-pub record ReadsOnFrom (model : Model) (t : Text) (reader : Reader) : Type 0 where
+-- a reader is inside a text, and fetches the rest after its offset
+pub record ReadsOn (model : Model) (t : Text) (reader : Reader) : Type 0 where
   pub within : reader.at ≤ length t
   pub limit : reader.at ≤ MAX_TEXT_LEN
   pub ascends : Ascends (length t) reader.at (trace_left model t reader)

@@ -5,7 +5,7 @@ ghost use Rattle.pf_posix.specs.Readings.{Fetches, fetch_trace};
 ghost use Rattle.pf_posix.specs.Refusals.{IsPosixRefusedAt};
 ghost use Rattle.pf_posix.specs.Plain.{IsOrderedFront};
 ghost use Rattle.pf_posix.specs.declared.types.ArgumentType.{ArgumentType as ArgumentTypeOf};
-ghost use Rattle.pf_posix.specs.Walks.{ReadsOnFrom, trace_left};
+ghost use Rattle.pf_posix.specs.Walks.{ReadsOn, trace_left};
 ghost use Rattle.pf_posix.specs.Items.{HasArguments};
 
 use crate::fetches::Fetch;
@@ -75,7 +75,7 @@ fn in_order(
     front: usize,
     out: &mut [ArgumentType],
 ) -> Result<u64, Refusal>
-    requires reading { ReadsOnFrom model text.now after_front }
+    requires reading { ReadsOn model text.now after_front }
     requires few { front ≤ after_front.at }
     ensures types { (old : List ArgumentTypeOf)
         → IsOrderedFront model text.now (trace_left model text.now after_front) old out.old front
@@ -107,7 +107,7 @@ fn by_number(
     first: Fetch,
     out: &mut [ArgumentType],
 ) -> Result<u64, Refusal>
-    requires reading { ReadsOnFrom model text.now after_first }
+    requires reading { ReadsOn model text.now after_first }
     requires number { IsTrue (is_some first.number) }
     requires first { (at : ℕ) × (after_first.at ≡ at + 1)
         × (fetch_trace model text.now ≡ Fetches first at (trace_left model text.now after_first)) }

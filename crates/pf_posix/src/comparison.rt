@@ -174,7 +174,7 @@ fn difference_in_order(
     Some(index)
 }
 
-// Where two formats differ, if one has no more types than a numbered one can have.
+// Where two formats differ. One of them has no more types than a numbered one can have.
 fn by_tables(model: Model, first: &[u8], second: &[u8]) -> Result<Option<u64>, (Side, Refusal)>
     requires { AreFew model first.now second.now }
     ensures { MatchResult result (ComparesArgumentTypes model first.now second.now)

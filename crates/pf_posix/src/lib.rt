@@ -16,6 +16,7 @@ mod directive_spans;
 mod fetches;
 pub mod laws;
 mod letters;
+mod next_items;
 mod opaque_directives;
 mod partial_specification;
 mod plain_reader;

@@ -2,14 +2,12 @@
 //! then, each at its byte, and the kind of its refusal.
 ghost use Rattle.std.specs.Prelude.{◌≡◌, ◌≢◌, ◌+◌, ◌<◌, ◌≤◌, ℕ, true, false, None, Err, get_or, length, IsFalse, IsTrue};
 ghost use Rattle.pf_values.specs.declared.limits.TheConstants.{MAX_TEXT_LEN as LIMIT};
-ghost use Rattle.pf_values.specs.declared.models.Model.{Model as ModelOf};
-ghost use Rattle.pf_values.specs.declared.refusals.RefusalKind.TheVariants.{TooLong};
 ghost use Rattle.pf_values.specs.meaning.Text.{percent};
 ghost use Rattle.pf_text.specs.Offsets.{EndsFlags, EndsNumber, EndsWidth};
 ghost use Rattle.pf_text.specs.States.{is_digit};
 ghost use Rattle.pf_posix.specs.Stages.{Between, Digits, First, Modified, Opened, Point, PosixState};
 ghost use Rattle.pf_posix.specs.States.{after_amount, after_numbers, conversion_at, flag_or_width, star_at, too_large};
-ghost use Rattle.pf_posix.specs.Traces.{IsBeforeFlags, IsEndOfLong, IsFurther, IsReadOfLong, IsNextAt, IsStarRead, IsStrayAt, StepsAs, behind_star, behind_width_trace, end_trace, reading_trace, trace_at};
+ghost use Rattle.pf_posix.specs.Traces.{IsBeforeFlags, IsStarRead, IsStrayAt, StepsAs, behind_star, behind_width_trace, end_trace, reading_trace, trace_at};
 ghost use Rattle.pf_posix.specs.Types.{fetch, int_type};
 ghost use Rattle.pf_posix.specs.declared.partial_specification.Numbering.{Numbering as NumberingOf};
 ghost use Rattle.pf_posix.specs.declared.partial_specification.WidthOrPrecision.TheVariants.{Precision, Width};
@@ -21,8 +19,7 @@ use crate::partial_specification::{Numbering, PartialSpecification, WidthOrPreci
 use crate::specifications::{has_byte, has_digit, second_modifier};
 use crate::types::ArgumentType;
 use crate::undefined_combinations::undefined_as;
-use pf_text::{Refusal, digits_at, flags_at, literal_len, number_at};
-use pf_values::limits::MAX_TEXT_LEN;
+use pf_text::{digits_at, flags_at, number_at};
 use pf_values::{ArgType, Length, Model, RefusalKind};
 
 /// The argument that a specification converts, or why it is refused; with the byte of the conversion, or the
@@ -33,7 +30,7 @@ pub(crate) struct End {
     pub(crate) at: usize,
 }
 
-/// What comes after a width: the argument of a precision that is a `*`, with its byte, and the end.
+/// The rest after a width: the argument of a precision that is a `*`, with its byte, and the end.
 #[derive(Clone, Copy, Debug)]
 pub(crate) struct BehindWidth {
     pub(crate) star: Option<Fetch>,
@@ -41,7 +38,7 @@ pub(crate) struct BehindWidth {
     pub(crate) end: End,
 }
 
-/// What comes after a `%`: the argument of a width that is a `*`, with its byte, and the rest.
+/// The rest after a `%`: the argument of a width that is a `*`, with its byte, and the rest.
 #[derive(Clone, Copy, Debug)]
 pub(crate) struct Reading {
     pub(crate) star: Option<Fetch>,
@@ -89,7 +86,8 @@ fn conversion_end(
     }
 }
 
-fn refused(kind: RefusalKind, at: usize) -> End
+/// The end of a specification that is refused at an offset.
+pub(crate) fn refused(kind: RefusalKind, at: usize) -> End
     ensures last { result.last ≡ Err kind }
     ensures at { result.at ≡ at }
 {
@@ -150,7 +148,7 @@ fn second_end(
     }
 }
 
-// What comes after a width, which may be missing.
+// The rest after a width, which may be missing.
 fn behind_width(model: Model, text: &[u8], at: usize, parts: PartialSpecification) -> BehindWidth
     requires { length text.now ≤ LIMIT }
     ensures { (numbering : NumberingOf) (state : PosixState) → state ≢ Between
@@ -209,7 +207,7 @@ fn precision_star(model: Model, text: &[u8], at: usize, parts: PartialSpecificat
     }
 }
 
-// What comes after a precision that is a `*`.
+// The rest after a precision that is a `*`.
 fn behind_precision_star(model: Model, text: &[u8], at: usize, parts: PartialSpecification) -> End
     requires { length text.now ≤ LIMIT }
     ensures { (numbering : NumberingOf) (state : PosixState) → state ≢ Between
@@ -288,7 +286,7 @@ fn width_reading(model: Model, text: &[u8], at: usize, parts: PartialSpecificati
     }
 }
 
-// What comes after the digits of a width.
+// The rest after the digits of a width.
 fn behind_number(model: Model, text: &[u8], at: usize, parts: PartialSpecification) -> BehindWidth
     requires { length text.now ≤ LIMIT }
     ensures { (numbering : NumberingOf) (n : ℕ) → EndsNumber n text.now at
@@ -329,7 +327,7 @@ fn width_star(model: Model, text: &[u8], at: usize, parts: PartialSpecification)
     }
 }
 
-// What comes after a width that is a `*`.
+// The rest after a width that is a `*`.
 fn behind_width_star(
     model: Model,
     text: &[u8],
@@ -362,7 +360,7 @@ pub(crate) fn reading_at(model: Model, text: &[u8], start: usize, numbering: Num
     }
 }
 
-// What comes after a `%` that no number comes after.
+// The rest after a `%` without a number.
 fn without_number(model: Model, text: &[u8], at: usize, numbering: Numbering) -> Reading
     requires short { length text.now ≤ LIMIT }
     requires within { at ≤ length text.now }
@@ -385,7 +383,7 @@ fn no_reading(at: usize, kind: RefusalKind) -> Reading
     given(at, without_star(at, refused(kind, at)))
 }
 
-// What comes after a `%` and a number.
+// The rest after a `%` and a number.
 fn with_number(model: Model, text: &[u8], at: usize, numbering: Numbering, number: u16) -> Reading
     requires short { length text.now ≤ LIMIT }
     requires ended { EndsNumber number text.now at }
@@ -442,111 +440,5 @@ fn int_at(number: Option<u16>) -> Fetch
     Fetch {
         number,
         wanted: ArgumentType::Profile(ArgType::Int),
-    }
-}
-
-/// What comes next in a text.
-#[derive(Clone, Copy, Debug)]
-pub(crate) enum Next {
-    /// An item that fetches nothing, which ends at this offset.
-    Passed(usize),
-    /// The end.
-    End,
-    /// A specification, or its refusal.
-    Read(Reading),
-    /// A refusal outside of a specification.
-    Refused(Refusal),
-}
-
-/// What comes at an offset between two items, after specifications of a numbering.
-pub(crate) fn next_at(model: Model, text: &[u8], at: usize, numbering: Numbering) -> Next
-    requires { at ≤ LIMIT }
-    ensures next { IsNextAt model text.now numbering at result }
-    ensures further { IsFurther text.now at result }
-{
-    if text.len() as u64 <= MAX_TEXT_LEN {
-        return next_within(model, text, at, numbering);
-    }
-    match next_within(model, &text[..MAX_TEXT_LEN as usize], at, numbering) {
-        Next::Passed(stop) => Next::Passed(stop),
-        Next::End => Next::Refused(too_long()),
-        Next::Read(read) => Next::Read(read_of_long(read)),
-        Next::Refused(refusal) => Next::Refused(refusal),
-    }
-}
-
-// The same in a text that isn't too long.
-fn next_within(model: Model, text: &[u8], at: usize, numbering: Numbering) -> Next
-    requires { length text.now ≤ LIMIT }
-    ensures next { IsNextAt model text.now numbering at result }
-    ensures further { IsFurther text.now at result }
-{
-    if at >= text.len() {
-        return Next::End;
-    }
-    if text[at] != b'%' {
-        return literals_at(text, at);
-    }
-    if has_byte(text, at + 1, b'%') {
-        return Next::Passed(at + 2);
-    }
-    Next::Read(reading_at(model, text, at, numbering))
-}
-
-// Literal bytes, or a NUL.
-fn literals_at(text: &[u8], at: usize) -> Next
-    requires short { length text.now ≤ LIMIT }
-    requires within { at < length text.now }
-    requires other { get_or text.now at 0 ≢ percent }
-    ensures next { (model : ModelOf) (numbering : NumberingOf) → IsNextAt model text.now numbering at result }
-    ensures further { IsFurther text.now at result }
-{
-    let run = literal_len(&text[at..]);
-    if run == 0 {
-        return Next::Refused(Refusal {
-            kind: RefusalKind::NulByte,
-            at: at as u64,
-        });
-    }
-    Next::Passed(at + run)
-}
-
-// A specification of a text that is too long, as it is read in its front.
-fn read_of_long(read: Reading) -> Reading
-    ensures { IsReadOfLong read result }
-{
-    let behind = read.behind;
-    Reading {
-        star: read.star,
-        star_at: read.star_at,
-        behind: BehindWidth {
-            star: behind.star,
-            star_at: behind.star_at,
-            end: end_of_long(behind.end),
-        },
-    }
-}
-
-// A refusal at the limit is one of the length.
-fn end_of_long(end: End) -> End
-    ensures { IsEndOfLong end result }
-{
-    match end.last {
-        Ok(_) => end,
-        Err(_) => {
-            if end.at as u64 >= MAX_TEXT_LEN {
-                return refused(RefusalKind::TooLong, MAX_TEXT_LEN as usize);
-            }
-            end
-        }
-    }
-}
-
-fn too_long() -> Refusal
-    ensures { result ≡ record { kind = TooLong; at = LIMIT } }
-{
-    Refusal {
-        kind: RefusalKind::TooLong,
-        at: MAX_TEXT_LEN,
     }
 }

@@ -11,12 +11,13 @@ ghost use Rattle.pf_posix.specs.Traces.{behind_width_trace, end_trace, reading_t
 ghost use Rattle.pf_posix.specs.Walks.{IsFetchOf, IsNextFetch, trace_left};
 
 use crate::fetches::Fetch;
+use crate::next_items::{Next, next_at};
 use crate::partial_specification::Numbering;
-use crate::read_parts::{BehindWidth, End, Next, Reading, next_at};
+use crate::read_parts::{BehindWidth, End, Reading};
 use pf_text::Refusal;
 use pf_values::Model;
 
-/// What comes next in a text.
+/// The next thing in a text.
 #[derive(Clone, Copy, Debug)]
 pub(crate) enum NextFetch {
     /// An argument is fetched.
@@ -27,12 +28,12 @@ pub(crate) enum NextFetch {
     Refused(Refusal),
 }
 
-/// What is left of the last specification.
+/// The rest of the last specification.
 #[derive(Clone, Copy, Debug)]
 pub(crate) enum Left {
     /// Nothing.
     Items,
-    /// What comes after its width.
+    /// All after its width.
     Behind(BehindWidth),
     /// Its end.
     End(End),
@@ -96,7 +97,7 @@ impl Reader {
         }
     }
 
-    // That of the items at the offset.
+    // The next one of the items at the offset.
     fn next_of_items(&mut self, model: Model, text: &[u8]) -> NextFetch
         requires { self.old.at ≤ LIMIT }
         ensures { IsFetchOf model text.now (trace_at model text.now self.old.numbering Between self.old.at) result self.new }

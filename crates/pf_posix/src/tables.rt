@@ -5,7 +5,7 @@ ghost use Rattle.pf_values.specs.declared.refusals.RefusalKind.TheVariants.{Miss
 ghost use Rattle.pf_posix.specs.Laws.{filled};
 ghost use Rattle.pf_posix.specs.Readings.{Fetches, conflicts, listed, fetch_trace};
 ghost use Rattle.pf_posix.specs.Refusals.{HasGap, IsPosixRefusedAt};
-ghost use Rattle.pf_posix.specs.Walks.{ReadsOnFrom, trace_left};
+ghost use Rattle.pf_posix.specs.Walks.{ReadsOn, trace_left};
 ghost use Rattle.pf_posix.specs.Tabled.{IsTabled, TableHolds};
 ghost use Rattle.pf_posix.specs.Types.{IsFetched, fetch};
 
@@ -52,7 +52,7 @@ impl Table {
         first: Fetch,
     ) -> Result<(), Refusal>
         requires empty { TableHolds self.old [] }
-        requires reading { ReadsOnFrom model text.now after_first }
+        requires reading { ReadsOn model text.now after_first }
         requires number { IsTrue (is_some first.number) }
         requires first { (at : ℕ) × (after_first.at ≡ at + 1)
             × (fetch_trace model text.now ≡ Fetches first at (trace_left model text.now after_first)) }

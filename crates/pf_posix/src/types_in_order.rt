@@ -12,7 +12,7 @@ use crate::fetches::conversion_type;
 use crate::types::ArgumentType;
 use pf_values::{ArgType, Model};
 
-/// What is left of such a format.
+/// The rest of such a format.
 #[derive(Clone, Copy)]
 pub(crate) struct TypesInOrder<'a> {
     text: &'a [u8],

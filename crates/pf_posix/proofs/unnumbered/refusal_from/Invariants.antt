@@ -1,11 +1,11 @@
 use Rattle.std.proofs.Common.{◌≡◌, ◌-◌, length}
 use Rattle.pf_posix.specs.Endings.{ending, unnumbered_trace}
-use Rattle.pf_posix.specs.Walks.{ReadsOnFrom, trace_left}
+use Rattle.pf_posix.specs.Walks.{ReadsOn, trace_left}
 use Rattle.pf_posix.proofs.unnumbered.refusal_from.Given as goal
 
 abbrev pub invariant-loop-refusal : goal.invariant-loop-refusal
 invariant-loop-refusal l = record {
-  reading : ReadsOnFrom l.model l.text l.reader;
+  reading : ReadsOn l.model l.text l.reader;
   left : ending (unnumbered_trace l.model l.text) ≡ ending (trace_left l.model l.text l.reader);
 }
 

@@ -3,7 +3,7 @@ use Rattle.std.proofs.lemmas.List.{length-drop, take_rest}
 use Rattle.memchr.specs.Find.{Passes, is_byte2}
 use Rattle.pf_posix.proofs.TraceLemmas.{nul_on}
 use Rattle.pf_posix.proofs.WalkLemmas.{run_passed}
-use Rattle.pf_posix.proofs.read_parts.literals_at.Goals as goal
+use Rattle.pf_posix.proofs.next_items.literals_at.Goals as goal
 
 pub returns-then-run-eq0-clause-next : goal.returns-then-run-eq0-clause-next
 returns-then-run-eq0-clause-next c model numbering =

@@ -2,7 +2,7 @@ use Rattle.std.proofs.Common.{◌<◌, ◌∙◌, ap, length, arith, sym}
 use Rattle.pf_values.specs.declared.limits.TheConstants.{MAX_TEXT_LEN}
 use Rattle.pf_posix.specs.Readings.{Fault}
 use Rattle.pf_posix.proofs.LongTraces.{cut_size, long_passed, long_read, long_refused, long_whole}
-use Rattle.pf_posix.proofs.read_parts.next_at.Goals as goal
+use Rattle.pf_posix.proofs.next_items.next_at.Goals as goal
 
 pub slice_bounds-next_within-end : goal.slice_bounds-next_within-end
 slice_bounds-next_within-end c = sym (cut_size c.args.model c.args.text.now (omega (arith, c.if-text-le-MAX_TEXT_LEN.false)))
