@@ -1,30 +1,26 @@
 -- The parts of a normal spelling are their own normal parts. If a directive is defined and opaque, so
 -- are its normal parts, and they take arguments of the same types.
 use Rattle.std.proofs.Common.{◌≡◌, ℕ, Bool, true, false, refl, ap, ◌∙◌, arith}
-use Rattle.std.specs.Prelude.{Option, Some, None, is_some, not, ◌&&◌, ◌||◌, ◌==◌, if◌then◌else◌}
+use Rattle.std.specs.Prelude.{Option, Some, is_some, not, ◌&&◌, if◌then◌else◌}
 use Rattle.pf_values.specs.declared.conversions.Kind.{Kind}
-use Rattle.pf_values.specs.declared.conversions.Kind.TheVariants as kinds
 use Rattle.pf_values.specs.declared.flags.FlagSet.{FlagSet}
 use Rattle.pf_values.specs.declared.flags.Flag.TheVariants.{Minus, Plus, Space, Zero}
 use Rattle.pf_values.specs.declared.lengths.Length.{Length}
 use Rattle.pf_values.specs.declared.models.Model.{Model}
-use Rattle.pf_values.specs.meaning.Conversions.{is_text, kept_conv, kind_of, prints_text}
+use Rattle.pf_values.specs.meaning.Conversions.{prints_text}
 use Rattle.pf_values.specs.meaning.DataModel.{kept_length}
 use Rattle.pf_values.specs.meaning.Flags.{has}
-use Rattle.pf_values.specs.meaning.Lengths.{is_absent, is_long}
 use Rattle.pf_values.proofs.DataModelLemmas.{kept_row}
-use Rattle.pf_reduce.proofs.CarriedIntegers.{kept_kind}
+use Rattle.pf_reduce.proofs.CarriedIntegers.{kept_kind, kept_text}
 use Rattle.pf_posix.specs.declared.conversions.Conversion.{Conversion}
-use Rattle.pf_posix.specs.declared.conversions.Conversion.TheVariants.{Profile, Float, UpperC, UpperS, Pointer, Count}
 use Rattle.pf_posix.specs.declared.conversions.Modifier.{Modifier}
-use Rattle.pf_posix.specs.declared.conversions.Modifier.TheVariants.{Integer, LongDouble}
 use Rattle.pf_posix.specs.Defined.{is_count, takes_alt, takes_modifier, takes_precision, takes_zero}
-use Rattle.pf_posix.specs.Specifications.{Amount, Given, Fetched, PosixSpecification}
-use Rattle.pf_posix.specs.Types.{conversion_type, counted_type, integer_length, kind_type, star_fetches, widened}
+use Rattle.pf_posix.specs.Specifications.{Amount, Given, PosixSpecification}
+use Rattle.pf_posix.specs.Types.{conversion_type, counted_type, integer_length, kind_type, star_fetches}
 use Rattle.pf_posix.specs.Opaque.{is_opaque, is_outside, is_star}
 use Rattle.pf_posix.specs.Stretches.{types_of_opaque}
 use Rattle.pf_posix.proofs.SpecificationsOnce.{same_fields}
-use Rattle.pf_whole.specs.meaning.NormalSpellings.{given_precision, integer_modifier, is_amount, is_general, is_given, is_integer, keeps_sign, kept_conversion}
+use Rattle.pf_whole.specs.meaning.NormalSpellings.{given_precision, integer_modifier, is_general, is_given, is_integer, keeps_sign, kept_conversion}
 use Rattle.pf_whole.specs.meaning.NormalSpellings.{kept_flags, kept_modifier, normal_precision, meant_precision, normal_parts}
 
 -- conversions
@@ -47,22 +43,11 @@ kept_again : (model : Model) (length : Length) → kept_length model (kept_lengt
 kept_again model length = ap (λ row. row.kept) (kept_row model length)
 
 integer_again : (model : Model) (modifier : Modifier) → integer_modifier model (integer_modifier model modifier) ≡ integer_modifier model modifier
-integer_again model (Integer length) = ap Integer (kept_again model length)
-integer_again model LongDouble = refl
+integer_again model modifier = grind (arith, kept_again)
 
 modifier_again : (model : Model) (conversion : Conversion) (modifier : Modifier)
     → kept_modifier model (kept_conversion conversion) (kept_modifier model conversion modifier) ≡ kept_modifier model conversion modifier
-modifier_again model (Profile conv) modifier = go (is_text conv) refl where
-  go : (b : Bool) → is_text conv ≡ b → (if is_text (kept_conv conv) then (if b then modifier else integer_modifier model modifier) else integer_modifier model
-      (if b then modifier else integer_modifier model modifier)) ≡ (if b then modifier else integer_modifier model modifier)
-  go true e = let same : is_text (kept_conv conv) ≡ true = ap prints_text (kept_kind conv) ∙ e in rw same refl
-  go false e = let same : is_text (kept_conv conv) ≡ false = ap prints_text (kept_kind conv) ∙ e in rw same (integer_again model modifier)
-modifier_again model (Float floating) (Integer length) = refl
-modifier_again model (Float floating) LongDouble = refl
-modifier_again model UpperC modifier = refl
-modifier_again model UpperS modifier = refl
-modifier_again model Pointer modifier = refl
-modifier_again model Count modifier = integer_again model modifier
+modifier_again model conversion modifier = grind (arith, integer_again, kept_text)
 
 -- types
 counted_again : (model : Model) (length : Length) → counted_type model (kept_length model length) ≡ counted_type model length
@@ -71,25 +56,11 @@ counted_again model length = grind arith
 kind_again : (model : Model) (kind : Kind) (modifier : Modifier)
     → kind_type model kind (integer_length (if prints_text kind then modifier else integer_modifier model modifier))
     ≡ kind_type model kind (integer_length modifier)
-kind_again model kinds.Signed (Integer length) = ap (λ row. widened row.signed) (kept_row model length)
-kind_again model kinds.Signed LongDouble = refl
-kind_again model (kinds.Unsigned base capitals) (Integer length) = ap (λ row. widened row.unsigned) (kept_row model length)
-kind_again model (kinds.Unsigned base capitals) LongDouble = refl
-kind_again model kinds.Char modifier = refl
-kind_again model kinds.String modifier = refl
+kind_again model kind modifier = grind (arith, kept_row)
 
 type_again : (model : Model) (conversion : Conversion) (modifier : Modifier)
     → conversion_type model (kept_modifier model conversion modifier) (kept_conversion conversion) ≡ conversion_type model modifier conversion
-type_again model (Profile conv) modifier =
-    ap (λ kind. kind_type model kind (integer_length (if prints_text (kind_of conv) then modifier else integer_modifier model modifier))) (kept_kind conv)
-    ∙ kind_again model (kind_of conv) modifier
-type_again model (Float floating) (Integer length) = refl
-type_again model (Float floating) LongDouble = refl
-type_again model UpperC modifier = refl
-type_again model UpperS modifier = refl
-type_again model Pointer modifier = refl
-type_again model Count (Integer length) = counted_again model length
-type_again model Count LongDouble = refl
+type_again model conversion modifier = grind (arith, kind_again, kept_kind, counted_again)
 
 -- precisions
 pub record SamePrecision (conversion : Conversion) (before after : Option Amount) : Type 0 where
@@ -103,26 +74,14 @@ general_means : (conversion : Conversion) → is_general conversion ≡ true →
 general_means conversion e = grind arith
 
 given_same : (conversion : Conversion) (n : ℕ) → SamePrecision conversion (Some (Given n)) (given_precision conversion n)
-given_same conversion n = go (is_amount (meant_precision conversion) n) (is_general conversion && n == 0) refl refl where
-  go : (b c : Bool) → is_amount (meant_precision conversion) n ≡ b → (is_general conversion && n == 0) ≡ c
-      → SamePrecision conversion (Some (Given n)) (if b then None else (if c then Some (Given 1) else Some (Given n)))
-  go true c h g = record { again = refl; given = λ e. cc; star = refl; some = λ e. cc; fetched = refl }
-  go false true h g = record { again = one (is_general conversion) refl g; given = λ e. cc; star = refl; some = λ e. cc; fetched = refl } where
-    one : (d : Bool) → is_general conversion ≡ d → (is_general conversion && n == 0) ≡ true → given_precision conversion 1 ≡ Some (Given 1)
-    one true e g = let meant = general_means conversion e in rw (meant, e) refl
-    one false e g = let no : (false && n == 0) ≡ true = rw e at g in cc
-  go false false h g = record { again = rw (h, g) refl; given = λ e. e; star = refl; some = λ e. e; fetched = refl }
+given_same conversion n = grind (arith, general_means)
 
 pub precision_same : (conversion : Conversion) (precision : Option Amount) → SamePrecision conversion precision (normal_precision conversion precision)
-precision_same conversion None = record { again = refl; given = λ e. e; star = refl; some = λ e. e; fetched = refl }
-precision_same conversion (Some (Given n)) = given_same conversion n
-precision_same conversion (Some (Fetched number)) = record { again = refl; given = λ e. e; star = refl; some = λ e. e; fetched = refl }
+precision_same conversion precision = grind (arith, given_same)
 
 precision_for : (a b : Conversion) (precision : Option Amount) → meant_precision a ≡ meant_precision b → is_general a ≡ is_general b
     → normal_precision a precision ≡ normal_precision b precision
-precision_for a b None h g = refl
-precision_for a b (Some (Given n)) h g = rw (h, g) refl
-precision_for a b (Some (Fetched number)) h g = refl
+precision_for a b precision h g = grind arith
 
 -- flags
 both_again : (a b : Bool) → ((a && b) && b) ≡ (a && b)
@@ -178,48 +137,17 @@ types_again model s =
 -- opaque
 outside_again : (model : Model) (conversion : Conversion) (modifier : Modifier) → is_outside conversion modifier ≡ true
     → is_outside (kept_conversion conversion) (kept_modifier model conversion modifier) ≡ true
-outside_again model (Profile conv) modifier e = go (is_text conv) refl e where
-  go : (b : Bool) → is_text conv ≡ b → (b && is_long (integer_length modifier)) ≡ true
-      → (is_text (kept_conv conv) && is_long (integer_length (if b then modifier else integer_modifier model modifier))) ≡ true
-  go true h e = let same : is_text (kept_conv conv) ≡ true = ap prints_text (kept_kind conv) ∙ h in rw same e
-  go false h e = cc
-outside_again model (Float floating) modifier e = refl
-outside_again model UpperC modifier e = refl
-outside_again model UpperS modifier e = refl
-outside_again model Pointer modifier e = refl
-outside_again model Count modifier e = refl
-
-one_of : (a b c d : Bool) → (a || b || c) ≡ true → (c ≡ true → d ≡ true) → (a || b || d) ≡ true
-one_of a b c d e h = grind arith
+outside_again model conversion modifier e = grind (arith, kept_text)
 
 pub opaque_again : (model : Model) (s : PosixSpecification) → is_opaque s ≡ true → is_opaque (normal_parts model s) ≡ true
-opaque_again model s e =
-    let precision = precision_same s.conversion s.precision in
-    ap (λ b. is_star s.width || b || is_outside (kept_conversion s.conversion) (kept_modifier model s.conversion s.modifier)) precision.star
-    ∙ one_of (is_star s.width) (is_star s.precision) (is_outside s.conversion s.modifier) _ e (outside_again model s.conversion s.modifier)
+opaque_again model s e = grind (arith, precision_same, outside_again)
 
 pub modifier_stands : (model : Model) (conversion : Conversion) (modifier : Modifier) → not (takes_modifier conversion modifier) ≡ false
     → not (takes_modifier (kept_conversion conversion) (kept_modifier model conversion modifier)) ≡ false
-modifier_stands model (Profile conv) LongDouble e = cc
-modifier_stands model (Profile conv) (Integer length) e = go (is_text conv) refl e where
-  go : (b : Bool) → is_text conv ≡ b → not (not b || is_absent length || is_long length) ≡ false
-      → not (takes_modifier (Profile (kept_conv conv)) (if b then Integer length else Integer (kept_length model length))) ≡ false
-  go true h e = let same : is_text (kept_conv conv) ≡ true = ap prints_text (kept_kind conv) ∙ h in rw same e
-  go false h e = let same : is_text (kept_conv conv) ≡ false = ap prints_text (kept_kind conv) ∙ h in rw same refl
-modifier_stands model (Float floating) (Integer length) e = refl
-modifier_stands model (Float floating) LongDouble e = refl
-modifier_stands model UpperC modifier e = refl
-modifier_stands model UpperS modifier e = refl
-modifier_stands model Pointer modifier e = e
-modifier_stands model Count (Integer length) e = refl
-modifier_stands model Count LongDouble e = cc
+modifier_stands model conversion modifier e = grind (arith, kept_text)
 
 pub less : (z w m i t : Bool) → (z && not t) ≡ false → ((z && w && m && i) && not t) ≡ false
 less z w m i t e = grind arith
 
 pub fewer_some : (p q t : Bool) → (p ≡ false → q ≡ false) → (p && not t) ≡ false → (q && not t) ≡ false
 fewer_some p q t h e = grind arith
-
-pub no_flags_left : (m p s a z g w q r : Bool) (x n y u v k : Bool) → (q ≡ false → r ≡ false) → ((m || p || s || a || z || g) || w || q) ≡ false
-    → (((m && w) || (p && x) || (s && n && y) || a || (z && u && v && k) || false) || w || r) ≡ false
-no_flags_left m p s a z g w q r x n y u v k h e = grind arith

@@ -1,8 +1,8 @@
 -- A normal spelling spells the normal parts.
-use Rattle.std.proofs.Common.{◌≡◌, ℕ, ◌≤◌, Bool, true, false, [], ◌∷◌, ◌++◌, map, refl, sym, ap, ◌∙◌, arith, subst}
-use Rattle.std.specs.Prelude.{Option, Some, None, is_some, not, ◌&&◌, ◌||◌, ◌==◌, filter, if◌then◌else◌, ⊤}
+use Rattle.std.proofs.Common.{◌≡◌, ℕ, ◌≤◌, false, [], ◌∷◌, ◌++◌, map, refl, sym, ap, ◌∙◌, arith, subst}
+use Rattle.std.specs.Prelude.{Option, Some, None, is_some, not, ◌&&◌, ◌||◌, filter, ⊤}
 use Rattle.std.specs.Int.Digits.{digits_of}
-use Rattle.pf_values.specs.declared.flags.Flag.TheVariants.{Minus, Plus, Space, Alt, Zero, Group}
+use Rattle.pf_values.specs.declared.flags.Flag.TheVariants.{Minus, Alt, Zero}
 use Rattle.pf_values.specs.declared.limits.TheConstants.{MAX_NUMBER}
 use Rattle.pf_values.specs.declared.models.Model.{Model}
 use Rattle.pf_values.specs.meaning.Flags.{all_flags, flag_byte, has}
@@ -16,10 +16,10 @@ use Rattle.pf_posix.specs.Spelling.{SpellsPosition, SpellsPosix, SpellsPosixPrec
 use Rattle.pf_posix.specs.Opaque.{SpellsOpaque}
 use Rattle.pf_posix.proofs.DefinedLemmas.{is_defined, no_reason}
 use Rattle.pf_posix.proofs.SpecificationsOnce.{HasParts, no_number, parts_of}
-use Rattle.pf_whole.specs.meaning.NormalSpellings.{is_amount, is_general, is_given, is_integer, keeps_sign, kept_conversion, kept_flags, kept_modifier}
-use Rattle.pf_whole.specs.meaning.NormalSpellings.{normal_precision, meant_precision, normal_parts, normal_spelling, posix_precision_spelled}
+use Rattle.pf_whole.specs.meaning.NormalSpellings.{is_given, is_integer, kept_conversion, kept_flags, kept_modifier}
+use Rattle.pf_whole.specs.meaning.NormalSpellings.{normal_precision, normal_parts, normal_spelling, posix_precision_spelled}
 use Rattle.pf_whole.specs.meaning.NormalSpellings.{posix_width_spelled}
-use Rattle.pf_whole.proofs.NormalLemmas.{fewer_some, less, modifier_stands, no_flags_left, opaque_again, precision_same, same_conversion}
+use Rattle.pf_whole.proofs.NormalLemmas.{fewer_some, less, modifier_stands, opaque_again, precision_same, same_conversion}
 
 none_placed : (number : Option ℕ) → number ≡ None → SpellsPosition [] number
 none_placed None e = refl
@@ -51,13 +51,7 @@ few_of t (Some (Given n)) h = h.1
 few_of t (Some (Fetched number)) h = h.1.numbering
 
 few_kept : (conversion : Conversion) (precision : Option Amount) → IsFew precision → IsFew (normal_precision conversion precision)
-few_kept conversion None h = tt
-few_kept conversion (Some (Given n)) h = go (is_amount (meant_precision conversion) n) (is_general conversion && n == 0) where
-  go : (b c : Bool) → IsFew (if b then None else (if c then Some (Given 1) else Some (Given n)))
-  go true c = tt
-  go false true = omega arith
-  go false false = h
-few_kept conversion (Some (Fetched number)) h = h
+few_kept conversion precision h = grind arith
 
 precision_here : (precision : Option Amount) → IsFew precision → SpellsPosixPrecision (posix_precision_spelled precision) None precision
 precision_here None h = refl
@@ -91,15 +85,7 @@ spelled_normally model t s h =
 
 counted : (model : Model) (s : PosixSpecification) → (is_count s.conversion && (has_any_flag s.flags || is_some s.width || is_some s.precision)) ≡ false
     → (is_count s.conversion && (has_any_flag (kept_flags s) || is_some s.width || is_some (normal_precision s.conversion s.precision))) ≡ false
-counted model s e = go (is_count s.conversion) e where
-  go : (b : Bool) → (b && (has_any_flag s.flags || is_some s.width || is_some s.precision)) ≡ false
-      → (b && (has_any_flag (kept_flags s) || is_some s.width || is_some (normal_precision s.conversion s.precision))) ≡ false
-  go true e = no_flags_left (has s.flags Minus) (has s.flags Plus) (has s.flags Space) (has s.flags Alt) (has s.flags Zero) (has s.flags Group)
-      (is_some s.width) (is_some s.precision) (is_some (normal_precision s.conversion s.precision))
-      (keeps_sign s.conversion) (not (has s.flags Plus)) (keeps_sign s.conversion) (is_some s.width) (not (has s.flags Minus))
-      (not (is_integer s.conversion && is_given s.precision))
-      (precision_same s.conversion s.precision).some e
-  go false e = refl
+counted model s e = grind (arith, precision_same)
 
 defined_normally : (model : Model) (s : PosixSpecification) → IsPosixDefined s → IsPosixDefined (normal_parts model s)
 defined_normally model s h =
