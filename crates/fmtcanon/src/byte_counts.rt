@@ -1,11 +1,11 @@
 //! The smallest and the largest number of bytes that a format prints, in a line.
-ghost use Rattle.std.specs.Prelude.{◌≡◌, ◌++◌, IfOk, MatchResult, decimal};
+ghost use Rattle.std.specs.Prelude.{◌≡◌, ◌++◌, IfOk, MatchResult};
 ghost use Rattle.fmtcanon.specs.Answers.{IsFormatFault};
 ghost use Rattle.fmtcanon.specs.ByteCounts.{HasBoundsLine, bounds_line, greatest_words};
 ghost use Rattle.pf_whole.specs.Languages.{Profile};
 
+use crate::lines::push_decimal;
 use crate::outcome::Fault;
-use itoa::Buffer;
 use pf_bounds::{Bounds, bounds};
 use pf_values::Model;
 use std::alloc::{AllocError, Global};
@@ -27,7 +27,7 @@ fn line_of_bounds(alloc: Global, found: Bounds) -> Result<Vec<u8>, AllocError>
     ensures { IfOk result (λ out. out.items ≡ bounds_line found.least found.greatest) }
 {
     let mut out = Vec::new(alloc);
-    push_count(&mut out, found.least)?;
+    push_decimal(&mut out, found.least)?;
     out.push(b' ')?;
     push_greatest(&mut out, found.greatest)?;
     out.push(b'\n')?;
@@ -40,14 +40,6 @@ fn push_greatest(out: &mut Vec<u8>, greatest: Option<u128>) -> Result<(), AllocE
 {
     match greatest {
         None => out.extend_from_slice(b"unbounded"),
-        Some(count) => push_count(out, count),
+        Some(count) => push_decimal(out, count),
     }
-}
-
-// Adds the decimal digits of a number of bytes.
-fn push_count(out: &mut Vec<u8>, count: u128) -> Result<(), AllocError>
-    ensures { IfOk result (λ _. out.new.items ≡ out.old.items ++ decimal count) }
-{
-    let mut digits = Buffer::new();
-    out.extend_from_slice(digits.format(count).as_bytes())
 }

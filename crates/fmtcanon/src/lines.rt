@@ -1,10 +1,11 @@
 //! Lines on the stack, and what an answer is made of.
-ghost use Rattle.std.specs.Prelude.{◌≡◌, ◌≤◌, ◌+◌, ◌++◌, codes, decimal, length};
+ghost use Rattle.std.specs.Prelude.{◌≡◌, ◌≤◌, ◌+◌, ◌++◌, IfOk, codes, decimal, length};
 ghost use Rattle.arrayvec.specs.ArrayString.{array_string_len};
 ghost use Rattle.fmtcanon.specs.Lines.{line, output_bytes};
 
 use arrayvec::ArrayString;
 use itoa::Buffer;
+use std::alloc::AllocError;
 
 /// A line. One of the longest is `second: refused 16 PrecisionUndefined at byte
 /// 18446744073709551615`.
@@ -64,4 +65,21 @@ pub fn line_of(text: &str) -> Line
     line.push_str(text);
     line.push_str("\n");
     line
+}
+
+/// Adds the decimal digits of a number to bytes in memory.
+pub(crate) fn push_decimal(out: &mut Vec<u8>, number: u128) -> Result<(), AllocError>
+    ensures { IfOk result (λ _. out.new.items ≡ out.old.items ++ decimal number) }
+{
+    let mut digits = Buffer::new();
+    out.extend_from_slice(digits.format(number).as_bytes())
+}
+
+/// Adds a text as a line.
+pub(crate) fn push_line(out: &mut Vec<u8>, text: &str) -> Result<(), AllocError>
+    ensures { IfOk result (λ _. out.new.items ≡ out.old.items ++ line text.now) }
+{
+    out.extend_from_slice(text.as_bytes())?;
+    out.push(b'\n')?;
+    Ok(())
 }

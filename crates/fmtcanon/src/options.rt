@@ -1,5 +1,5 @@
 //! The options without a value that a command has.
-ghost use Rattle.std.specs.Prelude.{◌≡◌, codes};
+ghost use Rattle.std.specs.Prelude.{◌≡◌, codes, if◌then◌else◌};
 ghost use Rattle.std.specs.Str.{bytes_eq};
 ghost use Rattle.fmtcanon.specs.Options.{is_set, notation_in, rows_in};
 
@@ -10,11 +10,14 @@ use clap::ArgMatches;
 pub fn notation_of(inner: &ArgMatches<'_>) -> Notation
     ensures { result ≡ notation_in (rows_in inner.now) }
 {
-    if is_set(inner, "literal") {
-        Notation::Literals
-    } else {
-        Notation::Bytes
-    }
+    if_set(inner, "literal", Notation::Literals, Notation::Bytes)
+}
+
+/// Returns the first of two values if an option without a value is given, otherwise the second.
+pub fn if_set<T: Copy>(inner: &ArgMatches<'_>, id: &str, given: T, missing: T) -> T
+    ensures { result ≡ (if is_set id.now (rows_in inner.now) then given else missing) }
+{
+    if is_set(inner, id) { given } else { missing }
 }
 
 /// Returns whether an option without a value is given.

@@ -9,7 +9,7 @@ ghost use Rattle.fmtcanon.specs.Questions.{language_of};
 use crate::answer::{Answer, Ending};
 use crate::comparison::{alike_in, comparison_in};
 use crate::fits::{fewer_in, fit_in};
-use crate::lines::Output;
+use crate::lines::{Output, push_line};
 use crate::models::{Models, name_of};
 use crate::outcome::Fault;
 use crate::questions::PairQuestion;
@@ -118,8 +118,7 @@ fn numbered_refusal(model: Model, bytes: &[u8]) -> Option<Fault>
 fn push_verdict(out: &mut Vec<u8>, name: &str, lines: &[u8]) -> Result<(), AllocError>
     ensures { IfOk result (λ _. out.new.items ≡ out.old.items ++ line name.now ++ lines.now) }
 {
-    out.extend_from_slice(name.as_bytes())?;
-    out.push(b'\n')?;
+    push_line(out, name)?;
     out.extend_from_slice(lines)?;
     Ok(())
 }

@@ -5,7 +5,7 @@ ghost use Rattle.fmtcanon.specs.Questions.{IsAbout, IsAsked, IsAskedOfOne, IsAsk
 
 use crate::formats::{GivenFormat, Notation};
 use crate::models::{Models, model_of, models_of};
-use crate::options::{is_set, notation_of};
+use crate::options::{if_set, notation_of};
 use clap::ArgMatches;
 use pf_values::Model;
 
@@ -134,22 +134,14 @@ pub fn question_of(name: &str, inner: &ArgMatches<'_>) -> Option<RecordQuestion>
 fn about_types(inner: &ArgMatches<'_>) -> FormatQuestion
     ensures { IsAskedOfOne (codes "types") (rows_in inner.now) result }
 {
-    if is_set(inner, "whole") {
-        FormatQuestion::WholeTypes
-    } else {
-        FormatQuestion::Types
-    }
+    if_set(inner, "whole", FormatQuestion::WholeTypes, FormatQuestion::Types)
 }
 
 // What the command about canonical texts asks: in the profile, or in the whole language.
 fn about_canonical(inner: &ArgMatches<'_>) -> FormatQuestion
     ensures { IsAskedOfOne (codes "canon") (rows_in inner.now) result }
 {
-    if is_set(inner, "whole") {
-        FormatQuestion::WholeCanonical
-    } else {
-        FormatQuestion::Canonical
-    }
+    if_set(inner, "whole", FormatQuestion::WholeCanonical, FormatQuestion::Canonical)
 }
 
 // The question of the command about the arguments of two formats: whether the second takes just the
@@ -157,20 +149,12 @@ fn about_canonical(inner: &ArgMatches<'_>) -> FormatQuestion
 fn about_fits(inner: &ArgMatches<'_>) -> PairQuestion
     ensures { IsAskedOfTwo (codes "fits") (rows_in inner.now) result }
 {
-    if is_set(inner, "fewer") {
-        PairQuestion::FitsFewer
-    } else {
-        PairQuestion::Fits
-    }
+    if_set(inner, "fewer", PairQuestion::FitsFewer, PairQuestion::Fits)
 }
 
 // What the command that compares asks: in the profile, or in the whole language.
 fn about_same(inner: &ArgMatches<'_>) -> PairQuestion
     ensures { IsAskedOfTwo (codes "same") (rows_in inner.now) result }
 {
-    if is_set(inner, "whole") {
-        PairQuestion::WholeSame
-    } else {
-        PairQuestion::Same
-    }
+    if_set(inner, "whole", PairQuestion::WholeSame, PairQuestion::Same)
 }

@@ -11,9 +11,9 @@ ghost use Rattle.fmtcanon.specs.Lines.{line};
 ghost use Rattle.fmtcanon.specs.Shows.{HasShownLines, IsLineOf, reduced_line, reduced_text, shown_of};
 ghost use Rattle.fmtcanon.specs.TypeLines.{type_name};
 
+use crate::lines::push_decimal;
 use crate::outcome::Fault;
 use crate::type_lines::type_name;
-use itoa::Buffer;
 use pf_reduce::{Core, Reduced, reduce};
 use pf_text::{Piece, Pieces, check, spell};
 use pf_values::{Directive, Model};
@@ -60,7 +60,7 @@ fn push_run(out: &mut Vec<u8>, len: usize) -> Result<(), AllocError>
         (λ _. out.new.items ≡ out.old.items ++ line (codes "text " ++ decimal len)) }
 {
     out.extend_from_slice(b"text ")?;
-    push_decimal(out, len as u64)?;
+    push_decimal(out, len as u128)?;
     out.push(b'\n')?;
     Ok(())
 }
@@ -102,7 +102,7 @@ fn push_reduced(out: &mut Vec<u8>, reduced: Reduced) -> Result<(), AllocError>
     push_padding(out, spaces, zeros)?;
     push_core(out, core)?;
     out.push(b' ')?;
-    push_decimal(out, u64::from(trail))
+    push_decimal(out, u128::from(trail))
 }
 
 // The padding before a core.
@@ -111,9 +111,9 @@ fn push_padding(out: &mut Vec<u8>, spaces: u16, zeros: u16) -> Result<(), AllocE
         out.new.items
         ≡ out.old.items ++ (decimal spaces ++ codes " " ++ decimal zeros ++ codes " ")) }
 {
-    push_decimal(out, u64::from(spaces))?;
+    push_decimal(out, u128::from(spaces))?;
     out.push(b' ')?;
-    push_decimal(out, u64::from(zeros))?;
+    push_decimal(out, u128::from(zeros))?;
     out.push(b' ')?;
     Ok(())
 }
@@ -125,12 +125,4 @@ fn push_core(out: &mut Vec<u8>, core: Core) -> Result<(), AllocError>
         Core::Normal(normal) => out.extend_from_slice(&spell(&normal.directive())),
         Core::Silent => out.extend_from_slice(b"%.0s"),
     }
-}
-
-/// Puts the decimal digits of a number after what `out` has.
-pub(crate) fn push_decimal(out: &mut Vec<u8>, number: u64) -> Result<(), AllocError>
-    ensures { IfOk result (λ _. out.new.items ≡ out.old.items ++ decimal number) }
-{
-    let mut digits = Buffer::new();
-    out.extend_from_slice(digits.format(number).as_bytes())
 }

@@ -6,6 +6,7 @@ ghost use Rattle.fmtcanon.specs.ArgumentLines.{HasArgumentLines, argument_line, 
 ghost use Rattle.pf_text.specs.Signatures.{TakesTypes, types_of};
 ghost use Rattle.fmtcanon.specs.TypeLines.{HasTypeLines, type_line, type_name};
 
+use crate::lines::push_line;
 use crate::outcome::Fault;
 use pf_posix::{ArgumentType, arguments_vec};
 use pf_text::{Signature, check, signature};
@@ -37,8 +38,7 @@ fn lines_of_types(alloc: Global, types: &[ArgType]) -> Result<Vec<u8>, AllocErro
 {
     let mut out = Vec::new(alloc);
     for arg_type in types {
-        out.extend_from_slice(type_name(*arg_type).as_bytes())?;
-        out.push(b'\n')?;
+        push_line(&mut out, type_name(*arg_type))?;
     }
     Ok(out)
 }
@@ -73,8 +73,7 @@ fn lines_of_arguments(alloc: Global, types: &[ArgumentType]) -> Result<Vec<u8>, 
 {
     let mut out = Vec::new(alloc);
     for argument_type in types {
-        out.extend_from_slice(argument_name(*argument_type).as_bytes())?;
-        out.push(b'\n')?;
+        push_line(&mut out, argument_name(*argument_type))?;
     }
     Ok(out)
 }

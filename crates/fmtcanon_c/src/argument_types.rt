@@ -25,17 +25,10 @@ pub extern "C" fn fmtcanon_types(
     ensures { InModel model (λ m. PutsTypes m text.now out.old error.old result out.new error.new)
         result ((out.new ≡ out.old) × (error.new ≡ error.old)) }
 {
-    match model_of(model) {
-        Some(model) => put_types(alloc, model, text, out, error),
-        None => NO_MODEL,
-    }
-}
-
-// Puts the codes of the types. Up to `ROOM` of them wait on the stack until the format is known to be
-// accepted.
-fn put_types(alloc: Global, model: Model, text: &[u8], out: &mut [u8], error: &mut CError) -> i64
-    ensures { PutsTypes model text.now out.old error.old result out.new error.new }
-{
+    let Some(model) = model_of(model) else {
+        return NO_MODEL;
+    };
+    // Up to `ROOM` types wait on the stack until the format is known to be accepted.
     let mut types = [ArgType::Int; ROOM];
     match known_types(model, text, &mut types) {
         Some(count) => put_codes(out, &types[..count]),
@@ -75,23 +68,9 @@ pub extern "C" fn fmtcanon_arguments(
         (λ m. PutsArguments m text.now out.old error.old result out.new error.new)
         result ((out.new ≡ out.old) × (error.new ≡ error.old)) }
 {
-    match model_of(model) {
-        Some(model) => put_arguments(alloc, model, text, out, error),
-        None => NO_MODEL,
-    }
-}
-
-// Puts the numbers of the types. Up to `ROOM` of them wait on the stack until the format is known to be
-// accepted.
-fn put_arguments(
-    alloc: Global,
-    model: Model,
-    text: &[u8],
-    out: &mut [u8],
-    error: &mut CError,
-) -> i64
-    ensures { PutsArguments model text.now out.old error.old result out.new error.new }
-{
+    let Some(model) = model_of(model) else {
+        return NO_MODEL;
+    };
     let mut types = [ArgumentType::Profile(ArgType::Int); ROOM];
     match arguments(model, text, &mut types) {
         Ok(count) => {

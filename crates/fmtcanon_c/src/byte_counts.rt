@@ -36,15 +36,9 @@ pub extern "C" fn fmtcanon_bounds(
     ensures { InModel model (λ m. PutsBounds m text.now out.old error.old result out.new error.new)
         result ((out.new ≡ out.old) × (error.new ≡ error.old)) }
 {
-    match model_of(model) {
-        Some(model) => put_bounds(model, text, out, error),
-        None => NO_MODEL,
-    }
-}
-
-fn put_bounds(model: Model, text: &[u8], out: &mut CBounds, error: &mut CError) -> i64
-    ensures { PutsBounds model text.now out.old error.old result out.new error.new }
-{
+    let Some(model) = model_of(model) else {
+        return NO_MODEL;
+    };
     match bounds(model, text) {
         Ok(found) => {
             *out = CBounds {

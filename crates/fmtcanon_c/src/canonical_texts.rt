@@ -32,15 +32,9 @@ pub extern "C" fn fmtcanon_is_canonical(model: i32, text: &[u8], error: &mut CEr
     ensures { InModel model (λ m. AnswersCanonical m text.now error.old result error.new)
         result (error.new ≡ error.old) }
 {
-    match model_of(model) {
-        Some(model) => is_canonical_in(model, text, error),
-        None => NO_MODEL,
-    }
-}
-
-fn is_canonical_in(model: Model, text: &[u8], error: &mut CError) -> i64
-    ensures { AnswersCanonical model text.now error.old result error.new }
-{
+    let Some(model) = model_of(model) else {
+        return NO_MODEL;
+    };
     match is_canonical(model, text) {
         Ok(true) => 1,
         Ok(false) => 0,
@@ -62,21 +56,9 @@ pub extern "C" fn fmtcanon_canonical(
         (λ m. PutsCanonical m text.now out.old error.old result out.new error.new)
         result ((out.new ≡ out.old) × (error.new ≡ error.old)) }
 {
-    match model_of(model) {
-        Some(model) => put_canonical(alloc, model, text, out, error),
-        None => NO_MODEL,
-    }
-}
-
-fn put_canonical(
-    alloc: Global,
-    model: Model,
-    text: &[u8],
-    out: &mut [u8],
-    error: &mut CError,
-) -> i64
-    ensures { PutsCanonical model text.now out.old error.old result out.new error.new }
-{
+    let Some(model) = model_of(model) else {
+        return NO_MODEL;
+    };
     let front = VerbatimFront::of(model, text);
     if front.is_all(text) {
         put_string(out, text);
@@ -140,10 +122,10 @@ pub extern "C" fn fmtcanon_canonical_length(model: i32, text: &[u8], error: &mut
     ensures { InModel model (λ m. AnswersLength (IsCanonicalFor m text.now) (IsRefusedAt text.now) error.old result error.new)
         result (error.new ≡ error.old) }
 {
-    match model_of(model) {
-        Some(model) => length_answer(canonical_len(model, text), error),
-        None => NO_MODEL,
-    }
+    let Some(model) = model_of(model) else {
+        return NO_MODEL;
+    };
+    length_answer(canonical_len(model, text), error)
 }
 
 /// Puts the canonical text of a format of the whole language and a NUL into a buffer that has room for
@@ -160,21 +142,9 @@ pub extern "C" fn fmtcanon_whole_canonical(
         (λ m. PutsWholeCanonical m text.now out.old error.old result out.new error.new)
         result ((out.new ≡ out.old) × (error.new ≡ error.old)) }
 {
-    match model_of(model) {
-        Some(model) => put_whole_canonical(alloc, model, text, out, error),
-        None => NO_MODEL,
-    }
-}
-
-fn put_whole_canonical(
-    alloc: Global,
-    model: Model,
-    text: &[u8],
-    out: &mut [u8],
-    error: &mut CError,
-) -> i64
-    ensures { PutsWholeCanonical model text.now out.old error.old result out.new error.new }
-{
+    let Some(model) = model_of(model) else {
+        return NO_MODEL;
+    };
     match pf_whole::canonical(alloc, model, text) {
         Ok(canonical) => {
             put_string(out, &canonical);
@@ -196,10 +166,10 @@ pub extern "C" fn fmtcanon_whole_canonical_length(
     ensures { InModel model (λ m. AnswersLength (IsWholeCanonicalFor m text.now) (IsWholeRefusedAt m text.now) error.old result error.new)
         result (error.new ≡ error.old) }
 {
-    match model_of(model) {
-        Some(model) => length_answer(pf_whole::canonical_len(model, text), error),
-        None => NO_MODEL,
-    }
+    let Some(model) = model_of(model) else {
+        return NO_MODEL;
+    };
+    length_answer(pf_whole::canonical_len(model, text), error)
 }
 
 // Returns the answer of a length that was found, or the code of a refusal.

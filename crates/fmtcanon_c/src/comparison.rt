@@ -44,25 +44,9 @@ pub extern "C" fn fmtcanon_compare(
         result ((out.new ≡ out.old) × (comparison.new ≡ comparison.old)
         × (error.new ≡ error.old)) }
 {
-    match model_of(model) {
-        Some(model) => compare_in(alloc, model, first, second, out, comparison, error),
-        None => NO_MODEL,
-    }
-}
-
-fn compare_in(
-    alloc: Global,
-    model: Model,
-    first: &[u8],
-    second: &[u8],
-    out: &mut [u8],
-    comparison: &mut CComparison,
-    error: &mut CError,
-) -> i64
-    ensures { PutsComparison (IsProfileVerdict model first.now second.now)
-        (FaultForCompare model first.now second.now) out.old comparison.old error.old result
-        out.new comparison.new error.new }
-{
+    let Some(model) = model_of(model) else {
+        return NO_MODEL;
+    };
     match pf_compare::compare(alloc, model, first, second) {
         Ok(found) => {
             let renderings = u32::from(found.renderings);
@@ -95,25 +79,9 @@ pub extern "C" fn fmtcanon_whole_compare(
         result ((out.new ≡ out.old) × (comparison.new ≡ comparison.old)
         × (error.new ≡ error.old)) }
 {
-    match model_of(model) {
-        Some(model) => whole_compare_in(alloc, model, first, second, out, comparison, error),
-        None => NO_MODEL,
-    }
-}
-
-fn whole_compare_in(
-    alloc: Global,
-    model: Model,
-    first: &[u8],
-    second: &[u8],
-    out: &mut [u8],
-    comparison: &mut CComparison,
-    error: &mut CError,
-) -> i64
-    ensures { PutsComparison (IsUncountedVerdict model first.now second.now)
-        (FaultForWholeCompare model first.now second.now) out.old comparison.old error.old result
-        out.new comparison.new error.new }
-{
+    let Some(model) = model_of(model) else {
+        return NO_MODEL;
+    };
     match pf_whole::compare(alloc, model, first, second) {
         Ok(verdict) => put_verdict(alloc, &verdict, 0, out, comparison),
         Err(fault) => fault_code(error, fault),

@@ -45,21 +45,9 @@ pub extern "C" fn fmtcanon_directives(
         (λ m. PutsDirectives m text.now out.old error.old result out.new error.new)
         result ((out.new ≡ out.old) × (error.new ≡ error.old)) }
 {
-    match model_of(model) {
-        Some(model) => put_directives(alloc, model, text, out, error),
-        None => NO_MODEL,
-    }
-}
-
-fn put_directives(
-    alloc: Global,
-    model: Model,
-    text: &[u8],
-    out: &mut [CDirective],
-    error: &mut CError,
-) -> i64
-    ensures { PutsDirectives model text.now out.old error.old result out.new error.new }
-{
+    let Some(model) = model_of(model) else {
+        return NO_MODEL;
+    };
     match directives_vec(alloc, model, text) {
         Ok(directives) => put_codes(out, directives.as_slice()),
         Err(TextFault::Refused(refusal)) => put_refusal(error, Side::First, refusal),

@@ -131,21 +131,9 @@ fn are_related(
         (λ m. AnswersRelation relation m first.now second.now error.old result error.new)
         result (error.new ≡ error.old) }
 {
-    match model_of(model) {
-        Some(model) => are_related_in(relation, model, first, second, error),
-        None => NO_MODEL,
-    }
-}
-
-fn are_related_in(
-    relation: Relation,
-    model: Model,
-    first: &[u8],
-    second: &[u8],
-    error: &mut CError,
-) -> i64
-    ensures { AnswersRelation relation model first.now second.now error.old result error.new }
-{
+    let Some(model) = model_of(model) else {
+        return NO_MODEL;
+    };
     match relates(relation, model, first, second) {
         Ok(true) => 1,
         Ok(false) => 0,

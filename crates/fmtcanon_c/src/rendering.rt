@@ -25,21 +25,9 @@ pub extern "C" fn fmtcanon_render(
         (λ m. PutsPrinted m text.now args.now out.old error.old result out.new error.new)
         result ((out.new ≡ out.old) × (error.new ≡ error.old)) }
 {
-    match model_of(model) {
-        Some(model) => put_printed(model, text, args, out, error),
-        None => NO_MODEL,
-    }
-}
-
-fn put_printed(
-    model: Model,
-    text: &[u8],
-    args: &[CArgument<'_>],
-    out: &mut [u8],
-    error: &mut CError,
-) -> i64
-    ensures { PutsPrinted model text.now args.now out.old error.old result out.new error.new }
-{
+    let Some(model) = model_of(model) else {
+        return NO_MODEL;
+    };
     match render_ended(model, text, args, out) {
         Ok(len) => len as i64,
         Err(RenderVecFault::Refused(refusal)) => put_refusal(error, Side::First, refusal),
