@@ -5,3 +5,4 @@ mod HeaderLemmas
 mod EndedLemmas
 mod PassedLemmas
 mod AnswerLemmas
+mod ModelAnswers

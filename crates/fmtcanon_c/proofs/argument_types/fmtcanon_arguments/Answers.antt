@@ -1,11 +1,27 @@
-use Rattle.std.proofs.Common.{◌≡◌, ◌∙◌, ap, inl, sym, arith, to_z, of_z}
-use Rattle.std.specs.Int.{w32, w64}
+use Rattle.std.proofs.Common.{◌≡◌, ◌∙◌, ap, arith, inl, length, map, of_z, pos, refl, take, to_z}
+use Rattle.std.specs.Int.{w64}
 use Rattle.std.proofs.lemmas.Int.{ints}
-use Rattle.fmtcanon_c.specs.Models.{model_of}
+use Rattle.pf_posix.specs.TypeNumbers.{number_of_type}
+use Rattle.fmtcanon_c.specs.Buffers.{put}
+use Rattle.fmtcanon_c.proofs.ModelAnswers.{in_model}
+use Rattle.fmtcanon_c.proofs.RelationLemmas.{taken_types}
 use Rattle.fmtcanon_c.proofs.argument_types.fmtcanon_arguments.Goals as goal
 
-pub returns-in-Some : goal.returns-in-Some
-returns-in-Some c =
-    let number : c.args.model ≡ to_z w32 (of_z w32 c.args.model) = omega (arith, ints) in
-    let code : to_z w64 (of_z w64 c.put_arguments.result) ≡ c.put_arguments.result = omega (arith, ints) in
-    rw code (inl (c.in-Some.model, ap model_of number ∙ sym c.in-Some.ensures, c.put_arguments.ensures))
+pub returns-then-count : goal.returns-then-count
+returns-then-count c =
+    let code : to_z w64 (of_z w64 c.put_many_arguments.result) ≡ c.put_many_arguments.result = omega (arith, ints) in
+    rw code (in_model c.args.model _ _ _ c.in-Some.model c.ranges.model c.in-Some.ensures c.put_many_arguments.ensures)
+
+pub returns-else-count : goal.returns-else-count
+returns-else-count c =
+    let h = c.in-Ok.ensures.types in
+    let code : to_z w64 (of_z w64 c.put_codes.result) ≡ c.put_codes.result = omega (arith, ints) in
+    let listed : take c.in-Ok.count c.arguments.new.out ≡ h.types =
+    taken_types c.in-Some.model c.args.text.now _ c.arguments.new.out c.in-Ok.count h (omega (arith, h.count_is, c.if-count.false)) in
+    rw code (in_model c.args.model _ _ _ c.in-Some.model c.ranges.model c.in-Some.ensures (inl (
+      h.types,
+      h.accepted,
+      c.put_codes.ensures.count ∙ ap (λ types. pos (length types)) listed,
+      c.put_codes.ensures.put ∙ ap (λ types. put (map number_of_type types) c.args.out.now) listed,
+      refl,
+    )))

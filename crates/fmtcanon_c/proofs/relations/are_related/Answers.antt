@@ -1,11 +1,22 @@
-use Rattle.std.proofs.Common.{◌≡◌, ◌∙◌, ap, inl, sym, arith, to_z, of_z}
-use Rattle.std.specs.Int.{w32, w64}
+use Rattle.std.proofs.Common.{◌≡◌, ◌∙◌, arith, inl, inr, of_z, refl, sym, to_z}
+use Rattle.std.specs.Int.{w64}
+use Rattle.std.proofs.lemmas.Bool.{false≢true}
 use Rattle.std.proofs.lemmas.Int.{ints}
-use Rattle.fmtcanon_c.specs.Models.{model_of}
+use Rattle.fmtcanon_c.proofs.ModelAnswers.{in_model}
 use Rattle.fmtcanon_c.proofs.relations.are_related.Goals as goal
 
-pub returns-in-Some : goal.returns-in-Some
-returns-in-Some c =
-    let number : c.args.model ≡ to_z w32 (of_z w32 c.args.model) = omega (arith, ints) in
-    let code : to_z w64 (of_z w64 c.are_related_in.result) ≡ c.are_related_in.result = omega (arith, ints) in
-    rw code (inl (c.in-Some.model, ap model_of number ∙ sym c.in-Some.ensures, c.are_related_in.ensures))
+pub returns-in-Ok-false : goal.returns-in-Ok-false
+returns-in-Ok-false c =
+    let h = c.in-Ok-false.ensures in
+    in_model c.args.model _ _ _ c.in-Some.model c.ranges.model c.in-Some.ensures
+    (inl (h.0, inr (λ so. false≢true (sym c.in-Ok-false.field-0-test ∙ h.1.1 so), refl), refl))
+
+pub returns-in-Err : goal.returns-in-Err
+returns-in-Err c =
+    let put = c.put_refusal in
+    let code : to_z w64 (of_z w64 put.result) ≡ put.result = omega (arith, ints) in
+    rw code (in_model c.args.model _ _ _ c.in-Some.model c.ranges.model c.in-Some.ensures (inr (
+      (c.in-Err.side, c.in-Err.refusal),
+      c.in-Err.ensures,
+      record { at_is = put.ensures.at; code_is = put.ensures.code; kind_is = put.ensures.kind; side_is = put.ensures.side },
+    )))
