@@ -14,7 +14,7 @@ pub fn notation_of(inner: &ArgMatches<'_>) -> Notation
 }
 
 /// Returns the first of two values if an option without a value is given, otherwise the second.
-pub fn if_set<T: Copy>(inner: &ArgMatches<'_>, id: &str, given: T, missing: T) -> T
+pub(crate) fn if_set<T: Copy>(inner: &ArgMatches<'_>, id: &str, given: T, missing: T) -> T
     ensures { result ≡ (if is_set id.now (rows_in inner.now) then given else missing) }
 {
     if is_set(inner, id) { given } else { missing }

@@ -134,14 +134,24 @@ pub fn question_of(name: &str, inner: &ArgMatches<'_>) -> Option<RecordQuestion>
 fn about_types(inner: &ArgMatches<'_>) -> FormatQuestion
     ensures { IsAskedOfOne (codes "types") (rows_in inner.now) result }
 {
-    if_set(inner, "whole", FormatQuestion::WholeTypes, FormatQuestion::Types)
+    if_set(
+        inner,
+        "whole",
+        FormatQuestion::WholeTypes,
+        FormatQuestion::Types,
+    )
 }
 
 // What the command about canonical texts asks: in the profile, or in the whole language.
 fn about_canonical(inner: &ArgMatches<'_>) -> FormatQuestion
     ensures { IsAskedOfOne (codes "canon") (rows_in inner.now) result }
 {
-    if_set(inner, "whole", FormatQuestion::WholeCanonical, FormatQuestion::Canonical)
+    if_set(
+        inner,
+        "whole",
+        FormatQuestion::WholeCanonical,
+        FormatQuestion::Canonical,
+    )
 }
 
 // The question of the command about the arguments of two formats: whether the second takes just the
