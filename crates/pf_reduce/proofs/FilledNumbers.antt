@@ -1,12 +1,8 @@
 -- Unsigned numbers in a field that the flag `0` fills.
 use Rattle.std.proofs.Common.{◌≡◌, ◌-◌, ◌≤◌, true, false, None, refl, sym, ◌∙◌, subst, arith}
-use Rattle.pf_values.specs.declared.conversions.Conv.{Conv}
-use Rattle.pf_values.specs.declared.conversions.Conv.TheVariants.{D, C, S}
 use Rattle.pf_values.specs.declared.flags.Flag.TheVariants.{Zero}
 use Rattle.pf_values.specs.declared.models.Model.{Model}
-use Rattle.pf_values.specs.meaning.DataModel.{most_digits}
 use Rattle.pf_values.specs.meaning.Conversions.{is_signed, is_text}
-use Rattle.pf_values.specs.meaning.DataModel.{Bits, B8, B16, B32, B64}
 use Rattle.pf_values.specs.meaning.Defined.{IsDefined}
 use Rattle.pf_values.specs.meaning.Flags.{has, no_flags, with_flag}
 use Rattle.pf_values.specs.meaning.Normal.{IsNormal, digits_at_most}
@@ -17,16 +13,6 @@ use Rattle.pf_reduce.specs.Cores.{IsReducedAs, kept_precision}
 use Rattle.pf_reduce.specs.Padded.{HasNoIdleWidth, padding_of}
 use Rattle.pf_reduce.proofs.OwnCores.{unprefixed_form}
 use Rattle.pf_reduce.proofs.UnsignedReductions.{unprefixed_by}
-
--- each number has a digit
-some_digit : (conv : Conv) (b : Bits) → is_text conv ≡ false → 1 ≤ most_digits conv b
-some_digit C b e = cc
-some_digit S b e = cc
-some_digit D B8 e = omega arith
-some_digit conv B8 e = omega arith
-some_digit conv B16 e = omega arith
-some_digit conv B32 e = omega arith
-some_digit conv B64 e = omega arith
 
 module _ (model : Model) (s : Specification) (defined : IsDefined s) (text : is_text s.conv ≡ false) where
   abbrev whole : Padding

@@ -12,7 +12,7 @@ use Rattle.pf_values.specs.meaning.Conversions.{is_signed}
 use Rattle.pf_values.specs.meaning.DataModel.{Bits, B8, B16, B32, B64, bits_under, kept_length, most_digits}
 use Rattle.pf_values.specs.meaning.Defined.{IsDefined}
 use Rattle.pf_values.specs.meaning.Flags.{has, no_flags, with_flag}
-use Rattle.pf_values.specs.meaning.Normal.{IsNormal, digits_at_most}
+use Rattle.pf_values.specs.meaning.Normal.{IsNormal, digits_at_most, longest, sign_len}
 use Rattle.pf_values.specs.meaning.Printing.{is_negative, is_zero_filled}
 use Rattle.pf_values.specs.meaning.Specification.{Specification, width_of}
 use Rattle.pf_values.specs.meaning.Text.{Text}
@@ -22,13 +22,28 @@ use Rattle.pf_values.proofs.DefinedLemmas.{effective_limit, width_limit}
 use Rattle.pf_reduce.specs.declared.padding.Padding.{Padding}
 use Rattle.pf_reduce.specs.declared.signs.Sign.{Sign}
 use Rattle.pf_reduce.specs.declared.signs.Sign.TheVariants as signs
-use Rattle.pf_reduce.specs.Cores.{IsReducedAs, core_of_parts, kept_precision}
+use Rattle.pf_reduce.specs.Cores.{IsReducedAs, core_of_parts, kept_precision, padded_core, with_side}
+use Rattle.pf_reduce.specs.Reducing.{itself}
 use Rattle.pf_reduce.specs.Padded.{HasNoIdleWidth, IsNarrowedTo, IsRightIfUnseen, padding_of, with_padding}
 use Rattle.pf_reduce.specs.Signs.{sign_flags, sign_length, sign_of, sign_text}
 use Rattle.pf_reduce.proofs.Carried.{Reduction, made}
 use Rattle.pf_reduce.proofs.CarriedIntegers.{width_is}
 use Rattle.pf_reduce.proofs.Narrowing.{narrowed, not_wider, right_justify_if_unseen, without_idle}
 use Rattle.pf_reduce.proofs.NormalCores.{kept_signed, normal_signed, some_width, width_within}
+use Rattle.pf_reduce.proofs.OwnCores.{
+  no_plus_is,
+  own_field,
+  own_filled_signed,
+  own_number,
+  own_side,
+  seen_sign,
+  sign_len_is,
+  signed_flags,
+  signed_form,
+  signed_number,
+  space_is,
+  unfilled_precision,
+}
 use Rattle.pf_reduce.proofs.Precisions.{filled_right}
 use Rattle.pf_reduce.proofs.SignLemmas.{none_for, space_for}
 use Rattle.pf_reduce.proofs.SignedNumbers.{signed_filled, signed_least, signed_most, signed_reduced, signed_text, unseen_signed_side}
@@ -59,11 +74,8 @@ pub record ReplacesSign (p : Padding) (sign : Sign) (longest precision digits : 
       (sign_text new negative ++ number)
   pub space : p.left ≡ false → p.width ≡ 1 + longest → new ≡ signs.Space → digits ≤ precision
   pub none : p.left ≡ false → p.width ≡ 1 + longest → new ≡ signs.None → precision < digits
-
-no_other : (sign : Sign) → sign ≢ signs.Plus → (sign ≡ signs.Space) ⊎ (sign ≡ signs.None)
-no_other signs.None h = inr refl
-no_other signs.Plus h = absurd (h refl)
-no_other signs.Space h = inl refl
+  pub kept : (p.left ≡ false → sign ≡ signs.Space → p.width ≢ 1 + longest)
+      → (p.left ≡ false → sign ≡ signs.None → digits ≤ precision → p.width ≢ 1 + longest) → new ≡ sign
 
 module _ (p : Padding) (longest precision digits : ℕ) where
   -- there is no such field
@@ -74,38 +86,43 @@ module _ (p : Padding) (longest precision digits : ℕ) where
       same = λ negative number few. refl;
       space = λ right wide is. elim elsewhere [ inl left ↦ absurd (cc) | inr other ↦ absurd (other wide) ];
       none = λ right wide is. elim elsewhere [ inl left ↦ absurd (cc) | inr other ↦ absurd (other wide) ];
+      kept = λ spaced bare. refl;
     },
   )
 
-  space_or_none : (sign : Sign) → sign ≢ signs.Plus → p.left ≡ false → longest < p.width → (new : Sign) × ReplacesSign p sign longest precision digits new
-  space_or_none sign other right room = elim (cases_lt precision digits) [
+  space_or_none : (sign : Sign) → (sign ≡ signs.Space) ⊎ (sign ≡ signs.None) → p.left ≡ false → p.width ≡ 1 + longest
+      → (new : Sign) × ReplacesSign p sign longest precision digits new
+  space_or_none sign one right wide = elim (cases_lt precision digits) [
     | inl fewer ↦ (
       signs.None,
       record {
-        same = λ negative number few. none_for sign p negative number (no_other sign other) right (omega (arith, few, room));
+        same = λ negative number few. none_for sign p negative number one right (omega (arith, few, wide));
         space = λ right wide is. cc;
         none = λ right wide is. fewer;
+        kept = λ spaced bare. elim one [ inl e ↦ absurd (spaced right e wide) | inr e ↦ sym e ];
       },
     )
     | inr enough ↦ (
       signs.Space,
       record {
-        same = λ negative number few. space_for sign p negative number (no_other sign other) right (omega (arith, few, room));
+        same = λ negative number few. space_for sign p negative number one right (omega (arith, few, wide));
         space = λ right wide is. enough;
         none = λ right wide is. cc;
+        kept = λ spaced bare. elim one [ inl e ↦ sym e | inr e ↦ absurd (bare right e enough wide) ];
       },
     )
   ]
 
-  in_its_field : (sign : Sign) → p.left ≡ false → longest < p.width → (new : Sign) × ReplacesSign p sign longest precision digits new
-  in_its_field signs.None right room = space_or_none signs.None (λ e. cc) right room
-  in_its_field signs.Plus right room = (signs.Plus, record { same = λ negative number few. refl; space = λ right wide is. cc; none = λ right wide is. cc })
-  in_its_field signs.Space right room = space_or_none signs.Space (λ e. cc) right room
+  in_its_field : (sign : Sign) → p.left ≡ false → p.width ≡ 1 + longest → (new : Sign) × ReplacesSign p sign longest precision digits new
+  in_its_field signs.None right wide = space_or_none signs.None (inr refl) right wide
+  in_its_field signs.Plus right wide =
+      (signs.Plus, record { same = λ negative number few. refl; space = λ right wide is. cc; none = λ right wide is. cc; kept = λ spaced bare. refl })
+  in_its_field signs.Space right wide = space_or_none signs.Space (inl refl) right wide
 
-  by_side : (sign : Sign) (left : Bool) → p.left ≡ left → (new : Sign) × ReplacesSign p sign longest precision digits new
-  by_side sign true left = kept_sign sign (inl left)
-  by_side sign false right = elim (cases_lt longest p.width) [
-    | inl room ↦ in_its_field sign right room
+  by_side : (sign : Sign) (left : Bool) → p.left ≡ left → p.width ≤ 1 + longest → (new : Sign) × ReplacesSign p sign longest precision digits new
+  by_side sign true left most = kept_sign sign (inl left)
+  by_side sign false right most = elim (cases_lt longest p.width) [
+    | inl room ↦ in_its_field sign right (omega (arith, room, most))
     | inr few ↦ kept_sign sign (inr (λ e. absurd (omega (arith, few, e))))
   ]
 
@@ -145,7 +162,43 @@ module _ (model : Model) (s : Specification) (defined : IsDefined s) (signed : i
       → IsReducedAs model s (padding_of s) (with_flag no_flags Zero) None
   signed_filled_by all none wide =
       let normal = normal_filled model s (padding_of s) signed (width_limit s defined) (filled_right s all) wide in
-      record { normal = normal; reduced = signed_filled model s signed all none (refl, normal) }
+      record { normal = normal; reduced = signed_filled model s signed all none (refl, normal); kept = λ h. own_filled_signed model s h signed none all }
+
+  -- none of the steps changes a normal directive
+  signed_own : (sign new : Sign) (p d most : ℕ) (a b c q : Padding) → sign ≡ sign_of s.flags
+      → (is_zero_filled s ≡ true → (1 ≤ sign_length sign) ⊎ (width_of s ≤ 1)) → p ≡ effective_precision s (sign_length sign) → d ≡ digits_at_most model s
+      → IsNarrowedTo (padding_of s) (1 + max p d) a → HasNoIdleWidth a (sign_length sign + p) b → ReplacesSign b sign (max p d) p d new
+      → HasNoIdleWidth b (sign_length new + p) c
+      → (new ≡ signs.Plus → most ≡ 0) → (new ≢ signs.Plus → p ≡ 0 → most ≡ sign_length new + 1) → (1 ≤ p → most ≡ 0) → IsRightIfUnseen c most q
+      → IsNormal model s → padded_core model s q (sign_flags new) (kept_precision p) ≡ itself model s
+  signed_own sign new p d most a b c q sign_is idle p_is d_is narrow field replaced again plus none some right h =
+      let w = width_of s in
+      let len : sign_length sign ≡ sign_len s = ap sign_length sign_is ∙ sym (sign_len_is s) in
+      let forms = signed_form model s (sign_length sign) h signed len idle in
+      let form = forms.0 in
+      let own = p_is ∙ unfilled_precision s _ forms.1 in
+      let few = form.most in
+      let more : 0 < w → sign_length sign + p < w = λ any. let least = form.least any in omega (arith, least, own, len) in
+      let width : b.width ≡ w = own_field w (1 + max p d) (sign_length sign + p) _ _ narrow.width (omega (arith, few, d_is, own)) more field.idle field.kept in
+      let left : b.left ≡ has s.flags Minus = field.left ∙ narrow.left in
+      let full : 1 + max p d ≡ 1 + longest model s = omega (arith, own, d_is) in
+      let kept : new ≡ sign = replaced.kept
+      (λ r is wide. form.right_space (sym left ∙ r) (space_is s (sym sign_is ∙ is)) (sym width ∙ wide ∙ full))
+      (λ r is enough wide. form.right_bare (sym left ∙ r) (sym len ∙ ap sign_length is) (omega (arith, enough, d_is, own)) (sym width ∙ wide ∙ full)) in
+      let last : c.width ≡ w = own_field w w (sign_length new + p) b.width _ (omega (arith, width)) (omega arith) (rw kept more) again.idle again.kept in
+      let side : c.left ≡ has s.flags Minus = again.left ∙ left in
+      let seen : c.left ≡ true → most < c.width = λ e.
+      let l = form.left (sym side ∙ e) in
+      let least = seen_sign sign p w most (
+        l.0,
+        λ other zero. let m = l.1 (no_plus_is s (λ is. other (sign_is ∙ is))) (sym own ∙ zero) in
+            omega (arith, m, len),
+      ) (λ is. plus (kept ∙ is)) (λ other zero. none (λ is. other (sym kept ∙ is)) zero ∙ ap (λ u. sign_length u + 1) kept) some in
+      omega (arith, last, least) in
+      own_number model s q (sign_flags new) p h (signed_number s.conv signed) (ap (λ u. with_side (has s.flags Minus) (sign_flags u)) (kept ∙ sign_is)
+      ∙ signed_flags model s h signed form.one_sign forms.1) own
+      (omega (arith, right.constant, again.constant, field.constant, narrow.constant, few, d_is, own)) (right.width ∙ last)
+      (own_side _ _ _ most right.wide right.right seen ∙ side)
 
   pub signed_by : (sign new : Sign) (p d most : ℕ) (a b c q : Padding) → sign ≡ sign_of s.flags
       → (is_zero_filled s ≡ true → (1 ≤ sign_length sign) ⊎ (width_of s ≤ 1)) → p ≡ effective_precision s (sign_length sign) → d ≡ digits_at_most model s
@@ -190,6 +243,7 @@ module _ (model : Model) (s : Specification) (defined : IsDefined s) (signed : i
             ∙ replaced.same (is_negative v) number (omega (arith, len, count, d_is))
             ∙ again.same after (signed_least new p v)
             ∙ right.same after (unseen_signed_side new c.width most p v plus none some));
+        kept = signed_own sign new p d most a b c q sign_is idle p_is d_is narrow field replaced again plus none some right;
       }
 
   unfilled_field : (is_zero_filled s ≡ true → (1 ≤ sign_length (sign_of s.flags)) ⊎ (width_of s ≤ 1)) → Reduction model s
@@ -199,7 +253,7 @@ module _ (model : Model) (s : Specification) (defined : IsDefined s) (signed : i
       let d : ℕ = digits_at_most model s in
       let (a, narrow) = narrowed (has s.flags Minus) (width_of s) (1 + max p d) in
       let (b, field) = without_idle a (sign_length sign + p) in
-      let (new, replaced) = by_side b (max p d) p d sign b.left refl in
+      let (new, replaced) = by_side b (max p d) p d sign b.left refl (let less = (not_wider a _ b field).0 in omega (arith, narrow.width, less)) in
       let (c, again) = without_idle b (sign_length new + p) in
       let (most, unseen) = unseen_up_to new p in
       let (q, right) = right_justify_if_unseen c most in

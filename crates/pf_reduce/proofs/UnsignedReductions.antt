@@ -21,7 +21,7 @@ use Rattle.pf_values.specs.meaning.Conversions.{
 }
 use Rattle.pf_values.specs.meaning.Defined.{IsDefined}
 use Rattle.pf_values.specs.meaning.Flags.{has, no_flags, with_flag}
-use Rattle.pf_values.specs.meaning.Normal.{IsNormal, digits_at_most}
+use Rattle.pf_values.specs.meaning.Normal.{IsNormal, IsNormalOctal, digits_at_most, precision_of}
 use Rattle.pf_values.specs.meaning.Printing.{is_zero_filled}
 use Rattle.pf_values.specs.meaning.Specification.{Specification, width_of}
 use Rattle.pf_values.specs.meaning.Text.{zero_digit}
@@ -30,12 +30,30 @@ use Rattle.pf_values.proofs.DefinedLemmas.{effective_limit, none_broken, width_l
 use Rattle.pf_values.proofs.Printed.{count_of}
 use Rattle.pf_values.proofs.PrintsOnce.{value_text}
 use Rattle.pf_reduce.specs.declared.padding.Padding.{Padding}
-use Rattle.pf_reduce.specs.Cores.{IsReducedAs, core_of_parts, kept_precision}
+use Rattle.pf_reduce.specs.Cores.{IsReducedAs, core_of_parts, kept_precision, padded_core}
 use Rattle.pf_reduce.specs.Padded.{HasNoIdleWidth, IsNarrowedTo, HasHoistedZeros, IsRightIfUnseen, constants, padding_of, with_padding}
 use Rattle.pf_reduce.specs.Prefixes.{is_prefixed, puts_prefix}
+use Rattle.pf_reduce.specs.Reducing.{itself}
 use Rattle.pf_reduce.proofs.Carried.{Reduction, made}
 use Rattle.pf_reduce.proofs.Narrowing.{narrowed, not_wider, hoist_zeros, right_justify_if_unseen, without_idle}
 use Rattle.pf_reduce.proofs.NormalForms.{normal_filled, normal_octal, normal_prefixed, normal_unprefixed}
+use Rattle.pf_reduce.proofs.OwnCores.{
+  alt_flags,
+  bare_flags,
+  beyond,
+  octal_form,
+  own_field,
+  own_filled_prefixed,
+  own_number,
+  own_side,
+  prefixed_form,
+  prefixed_number,
+  prefixed_unsigned,
+  seen_before,
+  seen_from,
+  unfilled_precision,
+  unprefixed_form,
+}
 use Rattle.pf_reduce.proofs.PrefixedNumbers.{prefixed_filled, prefixed_reduced, unseen_side}
 use Rattle.pf_reduce.proofs.Precisions.{filled_right}
 use Rattle.pf_reduce.proofs.UnprefixedNumbers.{
@@ -71,8 +89,9 @@ module _ (model : Model) (s : Specification) (defined : IsDefined s) (text : is_
       → HasHoistedZeros b z c → IsRightIfUnseen c 1 q
       → ((v : ℤ) → count_of (base_of s.conv) (nat_abs v) ≤ digits_at_most model s → with_padding (padding_of s) (value_text s v) ≡ with_padding b
       (replicate z zero_digit ++ digits_text s.conv (p - z) (nat_abs v)))
+      → (IsNormal model s → padded_core model s q no_flags (kept_precision (p - z)) ≡ itself model s)
       → IsReducedAs model s q no_flags (kept_precision (p - z))
-  digits_by p z b c q few fewer constant narrow wide least past right same =
+  digits_by p z b c q few fewer constant narrow wide least past right same kept =
       let w = width_limit s defined in
       let normal : IsNormal model (core_of_parts model s q no_flags (kept_precision (p - z))) =
       normal_unprefixed model s q (p - z) text sign (omega (arith, right.width, past.width, narrow, w), omega (arith, few)) fewer
@@ -83,7 +102,28 @@ module _ (model : Model) (s : Specification) (defined : IsDefined s) (text : is_
         normal = normal;
         reduced = digits_reduced model s q (p - z) text sign (refl, normal) (omega (arith, right.constant, past.constant, constant))
             (λ v count. same v count ∙ past.same _ ∙ right.same _ (one_or_none _ _));
+        kept = kept;
       }
+
+  -- none of the steps changes a normal directive
+  unprefixed_own : has s.flags Alt ≡ false → (p d z : ℕ) (a b c q : Padding) → p ≡ effective_precision s 0 → d ≡ digits_at_most model s → z ≡ p - d
+      → IsNarrowedTo (padding_of s) (max p d) a → HasNoIdleWidth a p b → HasHoistedZeros b z c → IsRightIfUnseen c 1 q
+      → IsNormal model s → padded_core model s q no_flags (kept_precision (p - z)) ≡ itself model s
+  unprefixed_own alt p d z a b c q p_is d_is z_is narrow field past right h =
+      let form = unprefixed_form model s h text sign alt in
+      let own = p_is ∙ unfilled_precision s 0 form.not_filled in
+      let most = form.most in
+      let fits = form.precision in
+      let none : z ≡ 0 = omega (arith, z_is, d_is, own, fits) in
+      let in_field : b.width ≡ width_of s = own_field (width_of s) (max p d) p _ _ narrow.width (omega (arith, d_is, most))
+      (λ some. let least = form.least some in omega (arith, own, least)) field.idle field.kept in
+      let width : c.width ≡ width_of s = omega (arith, past.width, none, in_field) in
+      let left : c.left ≡ has s.flags Minus = past.left ∙ field.left ∙ narrow.left in
+      let seen : c.left ≡ true → 1 < c.width = λ e. let least = beyond (precision_of s) (width_of s) (form.left (sym left ∙ e)) form.least in
+      omega (arith, width, least) in
+      own_number model s q no_flags (p - z) h text (bare_flags model s h sign alt form.not_filled) (omega (arith, none, own))
+      (omega (arith, right.constant, past.constant, field.constant, narrow.constant, none, most, d_is))
+      (right.width ∙ width) (own_side _ _ _ 1 right.wide right.right seen ∙ left)
 
   pub unprefixed_by : has s.flags Alt ≡ false → (p d z : ℕ) (a b c q : Padding) → p ≡ effective_precision s 0 → d ≡ digits_at_most model s → z ≡ p - d
       → IsNarrowedTo (padding_of s) (max p d) a → HasNoIdleWidth a p b → HasHoistedZeros b z c → IsRightIfUnseen c 1 q
@@ -103,6 +143,7 @@ module _ (model : Model) (s : Specification) (defined : IsDefined s) (text : is_
       ∙ narrow.same body (omega (arith, len, count, d_is))
       ∙ field.same body (omega (arith, len))
       ∙ ap (with_padding b) (split_zeros s.conv p z n _ (rw z_is (beyond_most p d (count_of (base_of s.conv) n) (omega (arith, count, d_is))))))
+      (unprefixed_own alt p d z a b c q p_is d_is z_is narrow field past right)
 
   unprefixed : has s.flags Alt ≡ false → Reduction model s
   unprefixed alt =
@@ -130,6 +171,28 @@ module _ (model : Model) (s : Specification) (defined : IsDefined s) (raises : i
       ∙ narrow.same (octal_text p n) (omega (arith, len, count, d_is))
       ∙ field.same (octal_text p n) (omega (arith, len))
 
+  -- a normal directive keeps its field, on the right
+  module _ (h : IsNormal model s) where
+    form : IsNormalOctal model s
+    form = octal_form model s h e alt
+
+    own : p ≡ precision_of s
+    own = let given = unfilled_precision s 0 form.not_filled in let some = form.some_digit in omega (arith, p_is, given, some)
+
+    width : b.width ≡ width_of s
+    width = let most = form.most in let least = form.least in own_field (width_of s) (max p (d + 1)) p _ _ narrow.width
+        (omega (arith, d_is, most)) (λ some. omega (arith, own, least)) field.idle field.kept
+
+    left : b.left ≡ has s.flags Minus
+    left = field.left ∙ narrow.left
+
+    own_octal : padded_core model s b (with_flag no_flags Alt) (kept_precision p) ≡ itself model s
+    own_octal = let most = form.most in own_number model s b (with_flag no_flags Alt) p h (ap prints_text e)
+        (alt_flags model s h (ap prints_signed e) alt form.not_filled) own (omega (arith, field.constant, narrow.constant, most, d_is)) width left
+
+    not_hoisted : (b.left ≡ true) ⊎ (b.width ≡ 0) → ⊥
+    not_hoisted no_spaces = let least = form.least in seen_before _ _ no_spaces (left ∙ form.right) (omega (arith, width, least))
+
   -- spaces come before the first 0, which the core prints
   pub octal_after_spaces : b.left ≡ false → 0 < b.width → IsReducedAs model s b (with_flag no_flags Alt) (kept_precision p)
   octal_after_spaces right some =
@@ -141,12 +204,12 @@ module _ (model : Model) (s : Specification) (defined : IsDefined s) (raises : i
       let normal : IsNormal model (core_of_parts model s b (with_flag no_flags Alt) (kept_precision p)) =
       normal_octal model s b p raises (omega (arith, wider, narrow.width, w), omega (arith, p_is, few)) right (omega (arith, p_is))
       (omega (arith, least, wider, narrow.width, d_is)) least (omega (arith, least, wider, narrow.width, d_is)) in
-      record { normal = normal; reduced = octal_reduced model s b p e alt (refl, normal) (omega (arith, field.constant, narrow.constant, w)) in_field }
+      record { normal = normal; reduced = octal_reduced model s b p e alt (refl, normal) (omega (arith, field.constant, narrow.constant, w)) in_field; kept = own_octal }
 
   -- otherwise that is constant
-  pub octal_after_hoisted : (z : ℕ) (c q : Padding) → z ≡ 1 + (p - 1 - d) → HasHoistedZeros b z c → IsRightIfUnseen c 1 q
+  pub octal_after_hoisted : (b.left ≡ true) ⊎ (b.width ≡ 0) → (z : ℕ) (c q : Padding) → z ≡ 1 + (p - 1 - d) → HasHoistedZeros b z c → IsRightIfUnseen c 1 q
       → IsReducedAs model s q no_flags (kept_precision (p - z))
-  octal_after_hoisted z c q z_is past right =
+  octal_after_hoisted no_spaces z c q z_is past right =
       let w = width_limit s defined in
       let few = effective_limit s 0 defined in
       let left = not_wider a p b field in
@@ -157,13 +220,14 @@ module _ (model : Model) (s : Specification) (defined : IsDefined s) (raises : i
       (λ some. let least = left.1 (omega (arith, some)) in omega (arith, wider, narrow.width, z_is, least, some)) past right (λ v count.
       let fewer = octal_count model s e (nat_abs v) count in
       in_field v fewer ∙ ap (with_padding b) (octal_split s.conv e p d z (nat_abs v) (omega (arith, p_is)) z_is (omega (arith, fewer, d_is))))
+      (λ h. absurd (not_hoisted h no_spaces))
 
   past_zeros_of : (b.left ≡ true) ⊎ (b.width ≡ 0) → Reduction model s
   past_zeros_of no_spaces =
       let z : ℕ = 1 + (p - 1 - d) in
       let past = hoist_zeros b z (elim no_spaces [ inl l ↦ inl l | inr none ↦ inr (inl none) ]) in
       let (q, right) = right_justify_if_unseen (record b { zeros = b.zeros + z; width = b.width - z }) 1 in
-      made model s q no_flags (kept_precision (p - z)) (octal_after_hoisted z _ q refl past right)
+      made model s q no_flags (kept_precision (p - z)) (octal_after_hoisted no_spaces z _ q refl past right)
 
   by_side : (left : Bool) → b.left ≡ left → Reduction model s
   by_side true l = past_zeros_of (inl l)
@@ -190,7 +254,26 @@ module _ (model : Model) (s : Specification) (defined : IsDefined s) (form : is_
   pub prefixed_filled_by : is_zero_filled s ≡ true → 2 ≤ width_of s → IsReducedAs model s (padding_of s) (with_flag (with_flag no_flags Alt) Zero) None
   prefixed_filled_by all wide =
       let normal = normal_filled model s (padding_of s) form (width_limit s defined) (filled_right s all) wide in
-      record { normal = normal; reduced = prefixed_filled model s form alt all (refl, normal) }
+      record { normal = normal; reduced = prefixed_filled model s form alt all (refl, normal); kept = λ h. own_filled_prefixed model s h form alt all }
+
+  -- none of the steps changes a normal directive
+  prefixed_own : (p d most : ℕ) (a b q : Padding) → (is_zero_filled s ≡ true → (1 ≤ 0) ⊎ (width_of s ≤ 1)) → p ≡ effective_precision s 0
+      → d ≡ digits_at_most model s → (p ≡ 0 → most ≡ 3) → (1 ≤ p → most ≡ 0)
+      → IsNarrowedTo (padding_of s) (2 + max p d) a → HasNoIdleWidth a p b → IsRightIfUnseen b most q
+      → IsNormal model s → padded_core model s q (with_flag no_flags Alt) (kept_precision p) ≡ itself model s
+  prefixed_own p d most a b q idle p_is d_is none some narrow field right h =
+      let forms = prefixed_form model s h form alt idle in
+      let own = p_is ∙ unfilled_precision s 0 forms.1 in
+      let few = forms.0.most in
+      let width : b.width ≡ width_of s = own_field (width_of s) (2 + max p d) p _ _ narrow.width (omega (arith, d_is, few, own))
+      (λ any. let least = forms.0.least any in omega (arith, own, least)) field.idle field.kept in
+      let left : b.left ≡ has s.flags Minus = field.left ∙ narrow.left in
+      let seen : b.left ≡ true → most < b.width = λ e.
+      let l = forms.0.left (sym left ∙ e) in
+      let least = seen_from p (width_of s) 3 most (l.0, λ zero. l.1 (sym own ∙ zero)) none some in omega (arith, width, least) in
+      own_number model s q (with_flag no_flags Alt) p h (prefixed_number s.conv form) (alt_flags model s h (prefixed_unsigned s.conv form) alt forms.1) own
+      (omega (arith, right.constant, field.constant, narrow.constant, few, d_is, own)) (right.width ∙ width)
+      (own_side _ _ _ most right.wide right.right seen ∙ left)
 
   pub prefixed_by : (p d most : ℕ) (a b q : Padding) → (is_zero_filled s ≡ true → (1 ≤ 0) ⊎ (width_of s ≤ 1)) → p ≡ effective_precision s 0
       → d ≡ digits_at_most model s → (p ≡ 0 → most ≡ 3) → (1 ≤ p → most ≡ 0)
@@ -210,6 +293,7 @@ module _ (model : Model) (s : Specification) (defined : IsDefined s) (form : is_
         normal = normal;
         reduced = prefixed_reduced model s form alt q p idle p_is (refl, normal) (omega (arith, right.constant, field.constant, narrow.constant, w)) (λ body is.
             narrow.same body (omega (arith, is.most, d_is)) ∙ field.same body is.least ∙ right.same body (unseen_side b.width most p body none some is.some));
+        kept = prefixed_own p d most a b q idle p_is d_is none some narrow field right;
       }
 
   unfilled_field : (is_zero_filled s ≡ true → (1 ≤ 0) ⊎ (width_of s ≤ 1)) → Reduction model s

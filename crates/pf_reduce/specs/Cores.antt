@@ -1,5 +1,5 @@
 -- Directives made of parts as a normal directive writes them. This project's own.
-use Rattle.std.specs.Prelude.{if◌then◌else◌, Bool, ℕ, zero, suc, Option, Some, None}
+use Rattle.std.specs.Prelude.{◌≡◌, if◌then◌else◌, Bool, ℕ, zero, suc, Option, Some, None}
 use Rattle.pf_values.specs.declared.flags.Flag.TheVariants.{Minus}
 use Rattle.pf_values.specs.declared.flags.FlagSet.{FlagSet}
 use Rattle.pf_values.specs.declared.models.Model.{Model}
@@ -12,7 +12,7 @@ use Rattle.pf_values.specs.Directives.{specification_of}
 use Rattle.pf_reduce.specs.declared.padding.Padding.{Padding}
 use Rattle.pf_reduce.specs.declared.results.Core.TheVariants.{Normal}
 use Rattle.pf_reduce.specs.declared.results.Reduced.{Reduced}
-use Rattle.pf_reduce.specs.Reducing.{IsReducedTo}
+use Rattle.pf_reduce.specs.Reducing.{IsReducedTo, itself}
 
 -- a precision of 1 counts as no precision (C11 7.21.6.1 p8)
 abbrev pub kept_precision : ℕ → Option ℕ
@@ -42,7 +42,8 @@ padded_core model s p flags precision = record {
   trail = p.trail;
 }
 
--- such a directive is normal, and the other is reduced to it
+-- such a directive is normal, and the other is reduced to it; if that is normal, it is the other itself
 pub record IsReducedAs (model : Model) (s : Specification) (p : Padding) (flags : FlagSet) (precision : Option ℕ) : Type 0 where
   pub normal : IsNormal model (core_of_parts model s p flags precision)
   pub reduced : IsReducedTo model s (padded_core model s p flags precision)
+  pub kept : IsNormal model s → padded_core model s p flags precision ≡ itself model s

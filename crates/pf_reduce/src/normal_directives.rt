@@ -2,7 +2,7 @@
 ghost use Rattle.std.specs.Prelude.{◌≡◌};
 ghost use Rattle.pf_values.specs.meaning.Normal.{IsNormal};
 ghost use Rattle.pf_reduce.specs.Cores.{IsReducedAs, padded_core, core_of_parts, kept_precision};
-ghost use Rattle.pf_reduce.specs.Reducing.{IsNormalCore, IsReducedTo};
+ghost use Rattle.pf_reduce.specs.Reducing.{IsNormalCore, IsReducedTo, itself};
 
 use crate::padding::Padding;
 use crate::results::{Core, Normal, Reduced};
@@ -47,6 +47,7 @@ pub(crate) fn reduced_core(
     requires { IsReducedAs model directive.now padding flags precision }
     ensures value { result ≡ padded_core model directive.now padding flags precision }
     ensures same { IsReducedTo model directive.now result }
+    ensures kept { IsNormal model directive.now → result ≡ itself model directive.now }
 {
     padded_core(model, padding, directive, flags, precision)
 }
