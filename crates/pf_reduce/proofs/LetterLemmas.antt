@@ -1,5 +1,5 @@
 -- Directives that are reduced to themselves with other letters, or with a precision in place of a width.
-use Rattle.std.proofs.Common.{◌≡◌, ◌≢◌, ℕ, zero, suc, ◌+◌, ◌≤◌, max, Bool, true, false, Option, Some, None, ◌++◌, refl, sym, ap, ◌∙◌, subst, arith, rules, ℤ}
+use Rattle.std.proofs.Common.{◌≡◌, ◌≢◌, ℕ, zero, suc, ◌+◌, ◌≤◌, max, Bool, true, false, Option, Some, None, ◌++◌, refl, sym, ap, ◌∙◌, subst, arith, rules, ℤ, inl, inr}
 use Rattle.std.specs.Prelude.{MatchBool, nat_abs, unwrap_or}
 use Rattle.std.proofs.lemmas.List.{append-nil}
 use Rattle.pf_values.specs.declared.bases.Alternative.{Alternative}
@@ -34,18 +34,12 @@ use Rattle.pf_reduce.proofs.Carried.{Carries, prints_reduced}
 use Rattle.pf_reduce.proofs.CarriedIntegers.{carries, kept_bits, kept_kind, kept_sign, kept_text, kept_type}
 use Rattle.pf_reduce.proofs.FilledNumbers.{filled_not_normal, filled_reduced}
 use Rattle.pf_reduce.proofs.Narrowing.{no_width}
+use Rattle.pf_reduce.proofs.TextCores.{no_length}
 
--- a byte or a string has no length modifier
-no_length-char : (s : Specification) → refused_as s ≡ None → s.conv ≡ C → s.length ≡ lengths.None
-no_length-char s allowed is = search rules
-
-no_length-string : (s : Specification) → refused_as s ≡ None → s.conv ≡ S → s.length ≡ lengths.None
-no_length-string s allowed is = search rules
-
--- so the letters of a normal one are its own
+-- a byte or a string has no length modifier, so the letters of a normal one are its own
 own_letters : (model : Model) (s : Specification) (conv : Conv) → refused_as s ≡ None → s.conv ≡ conv → is_text conv ≡ true → kept_letters model s ≡ s
-own_letters model s C allowed is e = rw (no_length-char s allowed is, is) refl
-own_letters model s S allowed is e = rw (no_length-string s allowed is, is) refl
+own_letters model s C allowed is e = rw (no_length s allowed (inl is), is) refl
+own_letters model s S allowed is e = rw (no_length s allowed (inr is), is) refl
 own_letters model s D allowed is e = cc
 own_letters model s _ allowed is e = cc
 

@@ -26,10 +26,10 @@ use Rattle.pf_reduce.proofs.NormalCores.{no_precision_1, precision_within, some_
 use Rattle.pf_reduce.proofs.Precisions.{written_is}
 
 -- flags with which no sign is printed
-record HasNoSign (flags : FlagSet) : Type 0 where
-  group : has flags Group ≡ false
-  plus : has flags Plus ≡ false
-  space : has flags Space ≡ false
+pub record HasNoSign (flags : FlagSet) : Type 0 where
+  pub group : has flags Group ≡ false
+  pub plus : has flags Plus ≡ false
+  pub space : has flags Space ≡ false
 
 -- `u o x X b`
 pub record IsUnsigned (conv : Conv) : Type 0 where
@@ -75,7 +75,7 @@ module _ (model : Model) (s : Specification) (p : Padding) (flags : FlagSet) (pr
         form = subst (λ c. HasNormalForm model (kind_of c) core) (sym conv) form;
       }
 
-bare_flags : (left : Bool) → HasNoSign (with_side left no_flags)
+pub bare_flags : (left : Bool) → HasNoSign (with_side left no_flags)
 bare_flags true = record { group = refl; plus = refl; space = refl }
 bare_flags false = record { group = refl; plus = refl; space = refl }
 
@@ -127,7 +127,7 @@ unsigned_of : (conv : Conv) (raises : is_octal conv ≡ true) → IsUnsigned con
 unsigned_of O e = record { text = refl; sign = refl }
 unsigned_of _ e = cc
 
-unsigned_with_prefix : (conv : Conv) → is_prefixed conv ≡ true → IsUnsigned conv
+pub unsigned_with_prefix : (conv : Conv) → is_prefixed conv ≡ true → IsUnsigned conv
 unsigned_with_prefix X e = record { text = refl; sign = refl }
 unsigned_with_prefix UpperX e = record { text = refl; sign = refl }
 unsigned_with_prefix B e = record { text = refl; sign = refl }
@@ -143,7 +143,7 @@ prefixed_alternative UpperX e = refl
 prefixed_alternative B e = refl
 prefixed_alternative _ e = cc
 
-side_flags : (left : Bool) (flags : FlagSet) → (has flags Minus ≡ false)
+pub side_flags : (left : Bool) (flags : FlagSet) → (has flags Minus ≡ false)
     → (has (with_side left flags) Minus ≡ left) × (has (with_side left flags) Alt ≡ has flags Alt) × (has (with_side left flags) Zero ≡ has flags Zero)
 side_flags true flags e = (refl, refl, refl)
 side_flags false flags e = (e, refl, refl)

@@ -29,6 +29,7 @@ use Rattle.pf_reduce.specs.declared.signs.Sign.TheVariants as signs
 use Rattle.pf_reduce.specs.Signs.{sign_flags, sign_length, sign_of}
 use Rattle.pf_reduce.specs.Prefixes.{is_prefixed, puts_prefix}
 use Rattle.pf_reduce.specs.Reducing.{itself}
+use Rattle.pf_reduce.proofs.NormalForms.{unsigned_with_prefix}
 
 -- the parts, written as a core writes them
 own_width : (w : Option ℕ) → w ≢ Some 0 → width_given (Some (unwrap_or w 0)) ≡ w
@@ -98,25 +99,37 @@ own_side true after w most wide right seen = right (seen refl)
 own_side false true w most wide right seen = sym (wide refl).0
 own_side false false w most wide right seen = refl
 
--- without flags but the side
-side_alone : (left : Bool) → with_side left no_flags ≡ record { minus = left; plus = false; space = false; alt = false; zero = false; group = false }
-side_alone true = refl
-side_alone false = refl
+-- the flags of a directive, as its side and other flags
+abbrev set_of : Bool → Bool → Bool → Bool → Bool → Bool → FlagSet
+set_of m p s a z g = record { minus = m; plus = p; space = s; alt = a; zero = z; group = g }
 
-pub bare : (m p s a z g : Bool) → p ≡ false → s ≡ false → a ≡ false → z ≡ false → g ≡ false
-    → with_side m no_flags ≡ record { minus = m; plus = p; space = s; alt = a; zero = z; group = g }
-bare m p s a z g hp hs ha hz hg = rw (hp, hs, ha, hz, hg) (side_alone m)
+same_set : (a b c d e f g h i j k l : Bool) → a ≡ g → b ≡ h → c ≡ i → d ≡ j → e ≡ k → f ≡ l → set_of a b c d e f ≡ set_of g h i j k l
+same_set a b c d e f g h i j k l p q r s t u = rw (p, q, r, s, t, u) refl
+
+pub on_side : (left : Bool) (flags f : FlagSet) → left ≡ f.minus → flags.minus ≡ false → flags.plus ≡ f.plus → flags.space ≡ f.space → flags.alt ≡ f.alt
+    → flags.zero ≡ f.zero → flags.group ≡ f.group → with_side left flags ≡ f
+on_side true flags f m right p s a z g = same_set _ _ _ _ _ _ _ _ _ _ _ _ m p s a z g
+on_side false flags f m right p s a z g = same_set _ _ _ _ _ _ _ _ _ _ _ _ (right ∙ m) p s a z g
 
 false_else : (b : Bool) → (b ≡ true → false ≡ true) → b ≡ false
 false_else true h = sym (h refl)
 false_else false h = refl
 
-pub bare_flags : (model : Model) (s : Specification) → IsNormal model s → is_signed s.conv ≡ false → has s.flags Alt ≡ false → has s.flags Zero ≡ false
-    → with_side (has s.flags Minus) no_flags ≡ s.flags
-bare_flags model s h signed alt unfilled =
-    let f = s.flags in
-    bare f.minus f.plus f.space f.alt f.zero f.group (false_else f.plus (λ e. sym signed ∙ h.no_plus e))
-    (false_else f.space (λ e. sym signed ∙ h.no_space e)) alt unfilled h.no_group
+-- those of a number without a sign
+module _ (model : Model) (s : Specification) (h : IsNormal model s) (signed : is_signed s.conv ≡ false) where
+  no_sign_flags : (flags : FlagSet) → flags.minus ≡ false → flags.plus ≡ false → flags.space ≡ false → flags.alt ≡ has s.flags Alt → flags.zero ≡ has s.flags Zero
+      → flags.group ≡ false → with_side (has s.flags Minus) flags ≡ s.flags
+  no_sign_flags flags right p b a z g = on_side _ flags s.flags refl right (p ∙ sym (false_else s.flags.plus (λ e. sym signed ∙ h.no_plus e)))
+      (b ∙ sym (false_else s.flags.space (λ e. sym signed ∙ h.no_space e))) a z (g ∙ sym h.no_group)
+
+  pub bare_flags : has s.flags Alt ≡ false → has s.flags Zero ≡ false → with_side (has s.flags Minus) no_flags ≡ s.flags
+  bare_flags alt unfilled = no_sign_flags no_flags refl refl refl (sym alt) (sym unfilled) refl
+
+  pub alt_flags : has s.flags Alt ≡ true → has s.flags Zero ≡ false → with_side (has s.flags Minus) (with_flag no_flags Alt) ≡ s.flags
+  alt_flags alt unfilled = no_sign_flags (with_flag no_flags Alt) refl refl refl (sym alt) (sym unfilled) refl
+
+  filled_alt_flags : has s.flags Alt ≡ true → has s.flags Zero ≡ true → with_side (has s.flags Minus) (with_flag (with_flag no_flags Alt) Zero) ≡ s.flags
+  filled_alt_flags alt filled = no_sign_flags (with_flag (with_flag no_flags Alt) Zero) refl refl refl (sym alt) (sym filled) refl
 
 -- digits alone
 raised_without : (alt : Bool) (P Q : Type 0) → alt ≡ false → MatchBool alt P Q → Q
@@ -157,23 +170,6 @@ pub octal_form : (model : Model) (s : Specification) → IsNormal model s → ki
 octal_form model s h is alt = octal_under model s (has s.flags Alt) alt (IsNormalOctal model s) (IsNormalUnprefixed model s)
     (subst (λ k. HasNormalForm model k s) is h.form)
 
--- with `#`, and the side
-alt_side : (left : Bool) → with_side left (with_flag no_flags Alt) ≡ record
-    { minus = left; plus = false; space = false; alt = true; zero = false; group = false }
-alt_side true = refl
-alt_side false = refl
-
-with_alt : (m p s a z g : Bool) → p ≡ false → s ≡ false → a ≡ true → z ≡ false → g ≡ false
-    → with_side m (with_flag no_flags Alt) ≡ record { minus = m; plus = p; space = s; alt = a; zero = z; group = g }
-with_alt m p s a z g hp hs ha hz hg = rw (hp, hs, ha, hz, hg) (alt_side m)
-
-pub alt_flags : (model : Model) (s : Specification) → IsNormal model s → is_signed s.conv ≡ false → has s.flags Alt ≡ true → has s.flags Zero ≡ false
-    → with_side (has s.flags Minus) (with_flag no_flags Alt) ≡ s.flags
-alt_flags model s h signed alt unfilled =
-    let f = s.flags in
-    with_alt f.minus f.plus f.space f.alt f.zero f.group (false_else f.plus (λ e. sym signed ∙ h.no_plus e))
-    (false_else f.space (λ e. sym signed ∙ h.no_space e)) alt unfilled h.no_group
-
 -- digits after a prefix
 prefixed_under : (model : Model) (s : Specification) (a : Alternative) (alt : Bool) → has s.flags Alt ≡ alt → puts_prefix a ≡ true → alt ≡ true
     → HasUnsignedForm model a s → HasPrefixedForm model true (has s.flags Zero) s
@@ -201,23 +197,11 @@ pub prefixed_form : (model : Model) (s : Specification) → IsNormal model s →
     → (is_zero_filled s ≡ true → (1 ≤ 0) ⊎ (width_of s ≤ 1)) → IsNormalPrefixed model s × (has s.flags Zero ≡ false)
 prefixed_form model s h form alt idle = unfilled_from model s (has s.flags Zero) refl idle (prefixed_kind model s (kind_of s.conv) form alt h.form)
 
-no_sign_kind : (k : Kind) → puts_prefix (alternative_under k) ≡ true → prints_signed k ≡ false
-no_sign_kind kinds.Signed e = absurd (different e)
-no_sign_kind (kinds.Unsigned base capitals) e = refl
-no_sign_kind kinds.Char e = refl
-no_sign_kind kinds.String e = refl
-
-no_text_kind : (k : Kind) → puts_prefix (alternative_under k) ≡ true → prints_text k ≡ false
-no_text_kind kinds.Signed e = refl
-no_text_kind (kinds.Unsigned base capitals) e = refl
-no_text_kind kinds.Char e = absurd (different e)
-no_text_kind kinds.String e = absurd (different e)
-
 pub prefixed_unsigned : (conv : Conv) → is_prefixed conv ≡ true → is_signed conv ≡ false
-prefixed_unsigned conv e = no_sign_kind (kind_of conv) e
+prefixed_unsigned conv e = (unsigned_with_prefix conv e).sign
 
 pub prefixed_number : (conv : Conv) → is_prefixed conv ≡ true → is_text conv ≡ false
-prefixed_number conv e = no_text_kind (kind_of conv) e
+prefixed_number conv e = (unsigned_with_prefix conv e).text
 
 -- what a directive that is filled with zeros has
 filled_parts : (zeros minus : Bool) (p : Option ℕ) → (zeros && not minus && is_none p) ≡ true → (zeros ≡ true) × (minus ≡ false) × (p ≡ None)
@@ -226,19 +210,13 @@ filled_parts true false (Some p) e = absurd (different e)
 filled_parts true true p e = absurd (different e)
 filled_parts false minus p e = absurd (different e)
 
-filled_flags : (m p s a z g : Bool) → m ≡ false → p ≡ false → s ≡ false → a ≡ true → z ≡ true → g ≡ false
-    → with_side m (with_flag (with_flag no_flags Alt) Zero) ≡ record { minus = m; plus = p; space = s; alt = a; zero = z; group = g }
-filled_flags m p s a z g hm hp hs ha hz hg = rw (hm, hp, hs, ha, hz, hg) refl
-
 pub own_filled_prefixed : (model : Model) (s : Specification) → IsNormal model s → is_prefixed s.conv ≡ true → has s.flags Alt ≡ true
     → is_zero_filled s ≡ true → padded_core model s (padding_of s) (with_flag (with_flag no_flags Alt) Zero) None ≡ itself model s
 own_filled_prefixed model s h form alt fill =
     let f = s.flags in
     let parts = filled_parts f.zero f.minus s.precision fill in
     let signed = prefixed_unsigned s.conv form in
-    own_core model s (padding_of s) (with_flag (with_flag no_flags Alt) Zero) None h
-    (filled_flags f.minus f.plus f.space f.alt f.zero f.group parts.1 (false_else f.plus (λ e. sym signed ∙ h.no_plus e))
-    (false_else f.space (λ e. sym signed ∙ h.no_space e)) alt parts.0 h.no_group) (sym parts.2) refl refl refl
+    own_core model s (padding_of s) (with_flag (with_flag no_flags Alt) Zero) None h (filled_alt_flags model s h signed alt parts.0) (sym parts.2) refl refl refl
 
 -- the side is seen
 pub seen_from : (p w least unseen : ℕ) → (0 < w) × (p ≡ 0 → least < w) → (p ≡ 0 → unseen ≡ least) → (1 ≤ p → unseen ≡ 0) → unseen < w
@@ -307,38 +285,24 @@ signed_text kinds.String e = absurd (different e)
 pub signed_number : (conv : Conv) → is_signed conv ≡ true → is_text conv ≡ false
 signed_number conv e = signed_text (kind_of conv) e
 
-sign_side : (m p s : Bool) → (p ≡ true → s ≡ false) → with_side m
-    (sign_flags (if p then signs.Plus else (if s then signs.Space else signs.None))) ≡ record
-    { minus = m; plus = p; space = s; alt = false; zero = false; group = false }
-sign_side true true true h = absurd (different (sym (h refl)))
-sign_side false true true h = absurd (different (sym (h refl)))
-sign_side true true false h = refl
-sign_side true false true h = refl
-sign_side true false false h = refl
-sign_side false true false h = refl
-sign_side false false true h = refl
-sign_side false false false h = refl
-
-with_sign : (m p s a z g : Bool) → (p ≡ true → s ≡ false) → a ≡ false → z ≡ false → g ≡ false
-    → with_side m (sign_flags (if p then signs.Plus else (if s then signs.Space else signs.None))) ≡ record
-    { minus = m; plus = p; space = s; alt = a; zero = z; group = g }
-with_sign m p s a z g one ha hz hg = rw (ha, hz, hg) (sign_side m p s one)
+sign_flags_are : (p s : Bool) → (p ≡ true → s ≡ false)
+    → sign_flags (if p then signs.Plus else (if s then signs.Space else signs.None)) ≡ set_of false p s false false false
+sign_flags_are true true h = absurd (different (sym (h refl)))
+sign_flags_are true false h = refl
+sign_flags_are false true h = refl
+sign_flags_are false false h = refl
 
 pub signed_flags : (model : Model) (s : Specification) → IsNormal model s → is_signed s.conv ≡ true → (has s.flags Plus ≡ true → has s.flags Space ≡ false)
     → has s.flags Zero ≡ false → with_side (has s.flags Minus) (sign_flags (sign_of s.flags)) ≡ s.flags
 signed_flags model s h signed one unfilled =
-    let f = s.flags in
-    with_sign f.minus f.plus f.space f.alt f.zero f.group one (signed_no_alt s h.defined.allowed signed) unfilled h.no_group
+    rw (sign_flags_are s.flags.plus s.flags.space one)
+    (on_side _ _ s.flags refl refl refl refl (sym (signed_no_alt s h.defined.allowed signed)) (sym unfilled) (sym h.no_group))
 
 no_sign_under : (plus space : Bool) → sign_length (if plus then signs.Plus else (if space then signs.Space else signs.None)) ≡ 0
     → (plus ≡ false) × (space ≡ false)
 no_sign_under true space e = cc
 no_sign_under false true e = cc
 no_sign_under false false e = (refl, refl)
-
-zeros_alone : (m p s a z g : Bool) → m ≡ false → p ≡ false → s ≡ false → a ≡ false → z ≡ true → g ≡ false
-    → with_side m (with_flag no_flags Zero) ≡ record { minus = m; plus = p; space = s; alt = a; zero = z; group = g }
-zeros_alone m p s a z g hm hp hs ha hz hg = rw (hm, hp, hs, ha, hz, hg) refl
 
 pub own_filled_signed : (model : Model) (s : Specification) → IsNormal model s → is_signed s.conv ≡ true → sign_length (sign_of s.flags) ≡ 0
     → is_zero_filled s ≡ true → padded_core model s (padding_of s) (with_flag no_flags Zero) None ≡ itself model s
@@ -347,8 +311,8 @@ own_filled_signed model s h signed none fill =
     let parts = filled_parts f.zero f.minus s.precision fill in
     let no_sign = no_sign_under f.plus f.space none in
     own_core model s (padding_of s) (with_flag no_flags Zero) None h
-    (zeros_alone f.minus f.plus f.space f.alt f.zero f.group parts.1 no_sign.0 no_sign.1 (signed_no_alt s h.defined.allowed signed) parts.0 h.no_group)
-    (sym parts.2) refl refl refl
+    (on_side _ (with_flag no_flags Zero) s.flags refl refl (sym no_sign.0) (sym no_sign.1) (sym (signed_no_alt s h.defined.allowed signed)) (sym parts.0)
+    (sym h.no_group)) (sym parts.2) refl refl refl
 
 -- the side of a sign is seen
 pub seen_sign : (sign : Sign) (p w unseen : ℕ) → (0 < w) × (sign ≢ signs.Plus → p ≡ 0 → sign_length sign + 1 < w) → (sign ≡ signs.Plus → unseen ≡ 0)

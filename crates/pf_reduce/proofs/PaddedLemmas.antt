@@ -19,7 +19,7 @@ use Rattle.pf_reduce.specs.Cores.{IsReducedAs, padded_core, with_side}
 use Rattle.pf_reduce.specs.Padded.{HasNoIdleWidth, IsNarrowedTo, IsRightIfUnseen, padding_of}
 use Rattle.pf_reduce.specs.Reducing.{IsReduction}
 use Rattle.pf_reduce.proofs.Narrowing.{cut_on_the_left, cut_on_the_right}
-use Rattle.pf_reduce.proofs.OwnCores.{bare, signed_form, unprefixed_form}
+use Rattle.pf_reduce.proofs.OwnCores.{on_side, signed_form, unprefixed_form}
 use Rattle.pf_reduce.proofs.SignedReductions.{signed_by}
 use Rattle.pf_reduce.proofs.UnsignedReductions.{unprefixed_by}
 
@@ -68,7 +68,7 @@ module _ (model : Model) (s : Specification) (parts : HasPlainParts s) (text : i
   one = rw (unfilled, none) refl
 
   pub flags_are : with_side (has s.flags Minus) no_flags ≡ s.flags
-  flags_are = bare s.flags.minus s.flags.plus s.flags.space s.flags.alt s.flags.zero s.flags.group parts.no_plus parts.no_space parts.no_alt unfilled parts.no_group
+  flags_are = on_side _ no_flags s.flags refl refl (sym parts.no_plus) (sym parts.no_space) (sym parts.no_alt) (sym unfilled) (sym parts.no_group)
 
   core_is : 0 < most → padded_core model s field no_flags None ≡ within_spaces model s most
   core_is some = rw (flags_are, width_is, given_is most some, none) refl

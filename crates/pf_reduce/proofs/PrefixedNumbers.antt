@@ -74,30 +74,22 @@ prefix_of_two Decimal capitals e = cc
 prefix_of_two Hexadecimal true e = refl
 prefix_of_two Hexadecimal false e = refl
 
+with_prefix : (base : Base) (capitals : Bool) → alternative_of base ≡ Prefixed → 2 ≤ number_of base → HasPrefix (kinds.Unsigned base capitals)
+with_prefix base capitals e two = record {
+  raised = rw e refl;
+  sign = refl;
+  text = refl;
+  base = two;
+  prefix = λ s v a. rw e (prefix_is (prefix_of base capitals) (nat_abs v) (has s.flags Alt) (prefix_of_two base capitals e) a);
+  one_prefix = λ s t v a b. rw (e, a, b) refl;
+}
+
 prefixed_under : (base : Base) (capitals : Bool) → puts_prefix (alternative_of base) ≡ true
     → HasPrefix (kinds.Unsigned base capitals)
-prefixed_under Binary capitals e = record {
-  raised = refl;
-  sign = refl;
-  text = refl;
-  base = omega arith;
-  prefix = λ s v a.
-      let two = prefix_of_two Binary capitals refl in
-      prefix_is (prefix_of Binary capitals) (nat_abs v) (has s.flags Alt) two a;
-  one_prefix = λ s t v a b. rw (a, b) refl;
-}
+prefixed_under Binary capitals e = with_prefix Binary capitals refl (omega arith)
 prefixed_under Octal capitals e = cc
 prefixed_under Decimal capitals e = cc
-prefixed_under Hexadecimal capitals e = record {
-  raised = refl;
-  sign = refl;
-  text = refl;
-  base = omega arith;
-  prefix = λ s v a.
-      let two = prefix_of_two Hexadecimal capitals refl in
-      prefix_is (prefix_of Hexadecimal capitals) (nat_abs v) (has s.flags Alt) two a;
-  one_prefix = λ s t v a b. rw (a, b) refl;
-}
+prefixed_under Hexadecimal capitals e = with_prefix Hexadecimal capitals refl (omega arith)
 
 prefixed_kind : (k : Kind) → puts_prefix (alternative_under k) ≡ true → HasPrefix k
 prefixed_kind kinds.Signed e = cc

@@ -58,7 +58,8 @@ use Rattle.pf_reduce.proofs.Carried.{Carries, Reduction, prints_reduced}
 use Rattle.pf_reduce.proofs.CarriedIntegers.{field-padded, kept_kind, kept_type, padded-made, width_is}
 use Rattle.pf_reduce.proofs.Narrowing.{narrowed, right_justify_if_unseen, without_idle}
 use Rattle.pf_reduce.proofs.NormalCores.{some_width, width_within}
-use Rattle.pf_reduce.proofs.TextCores.{normal_string}
+use Rattle.pf_reduce.proofs.NormalForms.{bare_flags, side_flags}
+use Rattle.pf_reduce.proofs.TextCores.{no_length, normal_string}
 use Rattle.pf_reduce.proofs.UnprefixedNumbers.{one_or_none}
 
 -- what each text that the core prints is in the directive's field
@@ -91,13 +92,10 @@ text_reduced model s p precision k e normal few same =
     )
 
 -- a byte
-no_length : (s : Specification) → refused_as s ≡ None → s.conv ≡ C → s.length ≡ lengths.None
-no_length s allowed is = search rules
-
 normal_char : (model : Model) (s : Specification) (p : Padding) → IsDefined s → s.conv ≡ C → p.width ≡ 0 → p.left ≡ false
     → IsNormal model (core_of_parts model s p no_flags None)
 normal_char model s p defined is none right =
-    let length = no_length s defined.allowed is in
+    let length = no_length s defined.allowed (inl is) in
     rw (is, length, none, right) (record {
       defined = record { width = some_width 0; allowed = refl };
       no_group = refl;
@@ -136,26 +134,19 @@ char_reduction model s defined is =
 made_string : (model : Model) (left : Bool) (w : ℕ) (precision : Option ℕ) → w ≤ MAX_NUMBER → is_above_limit precision ≡ false → precision ≢ Some 0
     → IfSome precision (λ most. w ≤ most) → (left ≡ true → 1 < w)
     → IsNormal model (specification_of (with_side left no_flags) (Some w) precision lengths.None S)
-made_string model true w precision few small some most left = record {
-  defined = record { width = some_width w; allowed = rw (width_within w few, small) refl };
-  no_group = refl;
-  length = refl;
-  conv = refl;
-  no_plus = λ e. cc;
-  no_space = λ e. cc;
-  precision = λ e. refl;
-  form = record { shows_some = some; width = rw (width_is w) most; left = λ l. rw (width_is w) (left l) };
-}
-made_string model false w precision few small some most left = record {
-  defined = record { width = some_width w; allowed = rw (width_within w few, small) refl };
-  no_group = refl;
-  length = refl;
-  conv = refl;
-  no_plus = λ e. cc;
-  no_space = λ e. cc;
-  precision = λ e. refl;
-  form = record { shows_some = some; width = rw (width_is w) most; left = λ l. cc };
-}
+made_string model left w precision few small some most wide =
+    let none = bare_flags left in
+    let side = side_flags left no_flags refl in
+    record {
+      defined = record { width = some_width w; allowed = rw (width_within w few, small, side.1, side.2, none.group) refl };
+      no_group = none.group;
+      length = refl;
+      conv = refl;
+      no_plus = λ e. absurd (let no = none.plus in cc);
+      no_space = λ e. absurd (let no = none.space in cc);
+      precision = λ e. refl;
+      form = record { shows_some = some; width = rw (width_is w) most; left = λ l. rw (width_is w) (wide (sym side.0 ∙ l)) };
+    }
 
 printed_string : (model : Model) (s t : Specification) (argument : Argument) (body : Text) → t.precision ≡ s.precision
     → PrintsKind model kinds.String t argument body → PrintsKind model kinds.String s argument body
