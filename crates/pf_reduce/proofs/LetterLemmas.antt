@@ -1,5 +1,5 @@
 -- Directives that are reduced to themselves with other letters, or with a precision in place of a width.
-use Rattle.std.proofs.Common.{◌≡◌, ◌≢◌, ℕ, zero, suc, ◌+◌, ◌≤◌, max, Bool, true, false, Option, Some, None, ◌++◌, refl, sym, ap, ◌∙◌, subst, arith, rules, ℤ, inl, inr}
+use Rattle.std.proofs.Common.{◌≡◌, ◌≢◌, ℕ, zero, suc, ◌+◌, ◌≤◌, max, Bool, true, false, Option, Some, None, ◌++◌, refl, sym, ap, ◌∙◌, subst, arith, ℤ, inl, inr}
 use Rattle.std.specs.Prelude.{MatchBool, nat_abs, unwrap_or}
 use Rattle.std.proofs.lemmas.List.{append-nil}
 use Rattle.pf_values.specs.declared.bases.Alternative.{Alternative}
@@ -11,7 +11,6 @@ use Rattle.pf_values.specs.declared.conversions.Kind.TheVariants as kinds
 use Rattle.pf_values.specs.declared.flags.Flag.TheVariants.{Zero}
 use Rattle.pf_values.specs.declared.flags.FlagSet.{FlagSet}
 use Rattle.pf_values.specs.declared.lengths.Length.{Length}
-use Rattle.pf_values.specs.declared.lengths.Length.TheVariants as lengths
 use Rattle.pf_values.specs.declared.models.Model.{Model}
 use Rattle.pf_values.specs.meaning.Bases.{alternative_of}
 use Rattle.pf_values.specs.meaning.Conversions.{is_signed, is_text, kept_conv, kind_of}

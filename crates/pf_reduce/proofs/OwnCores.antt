@@ -26,7 +26,7 @@ use Rattle.pf_reduce.specs.Cores.{kept_precision, padded_core, with_side}
 use Rattle.pf_reduce.specs.Padded.{constants, padding_of}
 use Rattle.pf_reduce.specs.declared.signs.Sign.{Sign}
 use Rattle.pf_reduce.specs.declared.signs.Sign.TheVariants as signs
-use Rattle.pf_reduce.specs.Signs.{sign_flags, sign_length, sign_of}
+use Rattle.pf_reduce.specs.Signs.{sign_flags, sign_length, sign_of, unseen_signed_width, unseen_width}
 use Rattle.pf_reduce.specs.Prefixes.{is_prefixed, puts_prefix}
 use Rattle.pf_reduce.specs.Reducing.{itself}
 use Rattle.pf_reduce.proofs.NormalForms.{unsigned_with_prefix}
@@ -219,9 +219,9 @@ own_filled_prefixed model s h form alt fill =
     own_core model s (padding_of s) (with_flag (with_flag no_flags Alt) Zero) None h (filled_alt_flags model s h signed alt parts.0) (sym parts.2) refl refl refl
 
 -- the side is seen
-pub seen_from : (p w least unseen : ℕ) → (0 < w) × (p ≡ 0 → least < w) → (p ≡ 0 → unseen ≡ least) → (1 ≤ p → unseen ≡ 0) → unseen < w
-seen_from zero w least unseen h none some = let e = none refl in let l = h.1 refl in omega (arith, e, l)
-seen_from (suc p) w least unseen h none some = let e = some (omega arith) in omega (arith, e, h.0)
+pub seen_from : (p w least : ℕ) → (0 < w) × (p ≡ 0 → least < w) → unseen_width p least < w
+seen_from zero w least h = h.1 refl
+seen_from (suc p) w least h = h.0
 
 -- digits after a sign
 sign_len_under : (plus space : Bool) → (if plus || space then 1 else 0) ≡ sign_length (if plus then signs.Plus else (if space then signs.Space else signs.None))
@@ -315,10 +315,9 @@ own_filled_signed model s h signed none fill =
     (sym h.no_group)) (sym parts.2) refl refl refl
 
 -- the side of a sign is seen
-pub seen_sign : (sign : Sign) (p w unseen : ℕ) → (0 < w) × (sign ≢ signs.Plus → p ≡ 0 → sign_length sign + 1 < w) → (sign ≡ signs.Plus → unseen ≡ 0)
-    → (sign ≢ signs.Plus → p ≡ 0 → unseen ≡ sign_length sign + 1) → (1 ≤ p → unseen ≡ 0) → unseen < w
-seen_sign signs.Plus p w unseen h plus none some = let e = plus refl in omega (arith, e, h.0)
-seen_sign signs.Space zero w unseen h plus none some = let e = none (λ x. cc) refl in let l = h.1 (λ x. cc) refl in omega (arith, e, l)
-seen_sign signs.None zero w unseen h plus none some = let e = none (λ x. cc) refl in let l = h.1 (λ x. cc) refl in omega (arith, e, l)
-seen_sign signs.Space (suc p) w unseen h plus none some = let e = some (omega arith) in omega (arith, e, h.0)
-seen_sign signs.None (suc p) w unseen h plus none some = let e = some (omega arith) in omega (arith, e, h.0)
+pub seen_sign : (sign : Sign) (p w : ℕ) → (0 < w) × (sign ≢ signs.Plus → p ≡ 0 → sign_length sign + 1 < w) → unseen_signed_width p sign < w
+seen_sign signs.Plus p w h = h.0
+seen_sign signs.Space zero w h = h.1 (λ x. cc) refl
+seen_sign signs.None zero w h = h.1 (λ x. cc) refl
+seen_sign signs.Space (suc p) w h = h.0
+seen_sign signs.None (suc p) w h = h.0

@@ -79,12 +79,11 @@ module _ (model : Model) (s : Specification) (parts : HasPlainParts s) (text : i
   signed_padded : is_signed s.conv ≡ true → most ≡ 1 + digits_at_most model s → IsReducedAs model s field no_flags None
   signed_padded signed most_is =
       let full : most ≡ 1 + max 1 (digits_at_most model s) = omega (arith, most_is, two) in
-      signed_by model s parts.defined signed signs.None signs.None 1 (digits_at_most model s) 0 field field field field (rw (parts.no_plus, parts.no_space) refl)
+      signed_by model s parts.defined signed signs.None signs.None 1 (digits_at_most model s) field field field field (rw (parts.no_plus, parts.no_space) refl)
       (λ e. absurd (let filled : is_zero_filled s ≡ false = rw unfilled refl in cc)) (sym one) refl
       (subst (λ n. IsNarrowedTo (padding_of s) n field) full (cut_is (has s.flags Minus) (width_of s) most)) (kept_width 1 (omega (arith, most_is, two)))
       (record { same = λ negative number few. refl; space = λ r w e. absurd (cc); none = λ r w e. omega (arith, two); kept = λ spaced bare. refl })
-      (kept_width 1 (omega (arith, most_is, two))) (λ e. absurd (cc)) (λ other zero. absurd (omega (arith, zero))) (λ some. refl)
-      (seen 0 (omega (arith, most_is)))
+      (kept_width 1 (omega (arith, most_is, two))) (seen 0 (omega (arith, most_is)))
 
   unsigned_padded : is_signed s.conv ≡ false → most ≡ digits_at_most model s → IsReducedAs model s field no_flags None
   unsigned_padded unsigned most_is =

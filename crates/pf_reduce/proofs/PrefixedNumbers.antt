@@ -40,6 +40,7 @@ use Rattle.pf_reduce.specs.declared.padding.Padding.{Padding}
 use Rattle.pf_reduce.specs.Cores.{padded_core, core_of_parts, kept_precision}
 use Rattle.pf_reduce.specs.Padded.{IsUnseen, constants, with_padding, padding_of}
 use Rattle.pf_reduce.specs.Reducing.{IsNormalCore, IsReducedTo}
+use Rattle.pf_reduce.specs.Signs.{unseen_width}
 use Rattle.pf_reduce.proofs.CarriedIntegers.{integer_reduced, kept_kind, width_is}
 use Rattle.pf_reduce.proofs.UnprefixedNumbers.{digits_text, length-digits_text, natural_is}
 use Rattle.pf_reduce.proofs.Precisions.{PrintsLike, alt_kept, core_text, effective, filled_right, same_filled, same_number}
@@ -175,10 +176,9 @@ module _ (model : Model) (s : Specification) (form : is_prefixed s.conv ≡ true
       ap (with_padding (padding_of s)) (sym (same_filled s t v (like s form alt t v refl (rw right refl)) (width_is (width_of s)) all (rw right refl))))
 
 -- with precision 0 the side isn't seen up to a width of 3
-pub unseen_side : (w most precision : ℕ) (body : Text) → (precision ≡ 0 → most ≡ 3) → (1 ≤ precision → most ≡ 0)
-    → (precision ≡ 0 → (body ≡ []) ⊎ (3 ≤ length body)) → w ≤ most → IsUnseen w body
-unseen_side w most zero body none some h small = elim (h refl) [
+pub unseen_side : (w precision : ℕ) (body : Text) → (precision ≡ 0 → (body ≡ []) ⊎ (3 ≤ length body)) → w ≤ unseen_width precision 3 → IsUnseen w body
+unseen_side w zero body h small = elim (h refl) [
   | inl empty ↦ inr (rw empty refl)
-  | inr long ↦ let m = none refl in inl (omega arith)
+  | inr long ↦ inl (omega (arith, small, long))
 ]
-unseen_side w most (suc precision) body none some h small = let m = some (omega arith) in inl (omega arith)
+unseen_side w (suc precision) body h small = inl (omega (arith, small))

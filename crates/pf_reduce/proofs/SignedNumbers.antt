@@ -47,7 +47,7 @@ use Rattle.pf_reduce.specs.declared.signs.Sign.TheVariants as signs
 use Rattle.pf_reduce.specs.Cores.{padded_core, core_of_parts, with_side, kept_precision}
 use Rattle.pf_reduce.specs.Padded.{IsUnseen, constants, with_padding, padding_of}
 use Rattle.pf_reduce.specs.Reducing.{IsNormalCore, IsReducedTo}
-use Rattle.pf_reduce.specs.Signs.{sign_flags, sign_length, sign_of, sign_text}
+use Rattle.pf_reduce.specs.Signs.{sign_flags, sign_length, sign_of, sign_text, unseen_signed_width}
 use Rattle.pf_reduce.proofs.CarriedIntegers.{integer_reduced, kept_kind, kept_sign, width_is}
 use Rattle.pf_reduce.proofs.UnprefixedNumbers.{
   digits_text,
@@ -219,9 +219,9 @@ unseen_at_0 signs.Plus w (pos zero) e h = absurd (e refl)
 unseen_at_0 sign w (pos (suc k)) e h = let some = longer sign (pos (suc k)) (omega arith) in inl (omega arith)
 unseen_at_0 sign w (negsuc k) e h = let some = longer sign (negsuc k) (omega arith) in inl (omega arith)
 
-pub unseen_signed_side : (sign : Sign) (w most precision : ℕ) (v : ℤ) → (sign ≡ signs.Plus → most ≡ 0)
-    → (sign ≢ signs.Plus → precision ≡ 0 → most ≡ sign_length sign + 1) → (1 ≤ precision → most ≡ 0) → w ≤ most → IsUnseen w (signed_text sign precision v)
-unseen_signed_side signs.Plus w most precision v plus none some h = let m = plus refl in inl (omega arith)
-unseen_signed_side sign w most (suc precision) v plus none some h = let m = some (omega arith) in inl (omega arith)
-unseen_signed_side signs.None w most zero v plus none some h = unseen_at_0 signs.None w v (λ e. cc) (omega (arith, none (λ e. cc) refl))
-unseen_signed_side signs.Space w most zero v plus none some h = unseen_at_0 signs.Space w v (λ e. cc) (omega (arith, none (λ e. cc) refl))
+pub unseen_signed_side : (sign : Sign) (w precision : ℕ) (v : ℤ) → w ≤ unseen_signed_width precision sign → IsUnseen w (signed_text sign precision v)
+unseen_signed_side signs.Plus w precision v h = inl (omega arith)
+unseen_signed_side signs.None w (suc precision) v h = inl (omega arith)
+unseen_signed_side signs.Space w (suc precision) v h = inl (omega arith)
+unseen_signed_side signs.None w zero v h = unseen_at_0 signs.None w v (λ e. cc) h
+unseen_signed_side signs.Space w zero v h = unseen_at_0 signs.Space w v (λ e. cc) h

@@ -25,7 +25,7 @@ use Rattle.pf_reduce.specs.declared.signs.Sign.TheVariants as signs
 use Rattle.pf_reduce.specs.Cores.{IsReducedAs, core_of_parts, kept_precision, padded_core, with_side}
 use Rattle.pf_reduce.specs.Reducing.{itself}
 use Rattle.pf_reduce.specs.Padded.{HasNoIdleWidth, IsNarrowedTo, IsRightIfUnseen, padding_of, with_padding}
-use Rattle.pf_reduce.specs.Signs.{sign_flags, sign_length, sign_of, sign_text}
+use Rattle.pf_reduce.specs.Signs.{sign_flags, sign_length, sign_of, sign_text, unseen_signed_width}
 use Rattle.pf_reduce.proofs.Carried.{Reduction, made}
 use Rattle.pf_reduce.proofs.CarriedIntegers.{width_is}
 use Rattle.pf_reduce.proofs.Narrowing.{narrowed, not_wider, right_justify_if_unseen, without_idle}
@@ -126,17 +126,11 @@ module _ (p : Padding) (longest precision digits : ℕ) where
     | inr few ↦ kept_sign sign (inr (λ e. absurd (omega (arith, few, e))))
   ]
 
--- up to which width the side makes no visible difference
-record IsUnseenUpTo (sign : Sign) (precision most : ℕ) : Type 0 where
-  plus : sign ≡ signs.Plus → most ≡ 0
-  none : sign ≢ signs.Plus → precision ≡ 0 → most ≡ sign_length sign + 1
-  some : 1 ≤ precision → most ≡ 0
-
-unseen_up_to : (sign : Sign) (precision : ℕ) → (most : ℕ) × IsUnseenUpTo sign precision most
-unseen_up_to signs.Plus precision = (0, record { plus = λ e. refl; none = λ other. absurd (other refl); some = λ h. refl })
-unseen_up_to sign (suc precision) = (0, record { plus = λ e. refl; none = λ other e. cc; some = λ h. refl })
-unseen_up_to signs.None zero = (1, record { plus = λ e. cc; none = λ other e. refl; some = λ h. absurd (omega (arith, h)) })
-unseen_up_to signs.Space zero = (2, record { plus = λ e. cc; none = λ other e. refl; some = λ h. absurd (omega (arith, h)) })
+-- the width up to which the side isn't seen
+unseen_at_zero : (sign : Sign) (precision : ℕ) → sign ≢ signs.Plus → precision ≡ 0 → unseen_signed_width precision sign ≡ sign_length sign + 1
+unseen_at_zero signs.None precision other empty = rw empty refl
+unseen_at_zero signs.Plus precision other empty = absurd (other refl)
+unseen_at_zero signs.Space precision other empty = rw empty refl
 
 three_digits : (conv : Conv) (b : Bits) → is_signed conv ≡ true → 3 ≤ most_digits conv b
 three_digits D B8 e = omega arith
@@ -149,12 +143,12 @@ three_digits I B32 e = omega arith
 three_digits I B64 e = omega arith
 three_digits _ b e = cc
 
-at_most_two : (sign : Sign) (precision most : ℕ) → (sign ≡ signs.Plus → most ≡ 0) → (sign ≢ signs.Plus → precision ≡ 0 → most ≡ sign_length sign + 1)
-    → (1 ≤ precision → most ≡ 0) → most ≤ 2
-at_most_two sign (suc precision) most plus none some = omega (arith, some (omega arith))
-at_most_two signs.Plus zero most plus none some = omega (arith, plus refl)
-at_most_two signs.None zero most plus none some = omega (arith, none (λ e. cc) refl)
-at_most_two signs.Space zero most plus none some = omega (arith, none (λ e. cc) refl)
+at_most_two : (sign : Sign) (precision : ℕ) → unseen_signed_width precision sign ≤ 2
+at_most_two signs.Plus precision = omega arith
+at_most_two signs.None zero = omega arith
+at_most_two signs.Space zero = omega arith
+at_most_two signs.None (suc precision) = omega arith
+at_most_two signs.Space (suc precision) = omega arith
 
 module _ (model : Model) (s : Specification) (defined : IsDefined s) (signed : is_signed s.conv ≡ true) where
   -- the flag `0` is kept in a field of two bytes or more, where there is no sign
@@ -165,13 +159,12 @@ module _ (model : Model) (s : Specification) (defined : IsDefined s) (signed : i
       record { normal = normal; reduced = signed_filled model s signed all none (refl, normal); kept = λ h. own_filled_signed model s h signed none all }
 
   -- none of the steps changes a normal directive
-  signed_own : (sign new : Sign) (p d most : ℕ) (a b c q : Padding) → sign ≡ sign_of s.flags
+  signed_own : (sign new : Sign) (p d : ℕ) (a b c q : Padding) → sign ≡ sign_of s.flags
       → (is_zero_filled s ≡ true → (1 ≤ sign_length sign) ⊎ (width_of s ≤ 1)) → p ≡ effective_precision s (sign_length sign) → d ≡ digits_at_most model s
       → IsNarrowedTo (padding_of s) (1 + max p d) a → HasNoIdleWidth a (sign_length sign + p) b → ReplacesSign b sign (max p d) p d new
-      → HasNoIdleWidth b (sign_length new + p) c
-      → (new ≡ signs.Plus → most ≡ 0) → (new ≢ signs.Plus → p ≡ 0 → most ≡ sign_length new + 1) → (1 ≤ p → most ≡ 0) → IsRightIfUnseen c most q
+      → HasNoIdleWidth b (sign_length new + p) c → IsRightIfUnseen c (unseen_signed_width p new) q
       → IsNormal model s → padded_core model s q (sign_flags new) (kept_precision p) ≡ itself model s
-  signed_own sign new p d most a b c q sign_is idle p_is d_is narrow field replaced again plus none some right h =
+  signed_own sign new p d a b c q sign_is idle p_is d_is narrow field replaced again right h =
       let w = width_of s in
       let len : sign_length sign ≡ sign_len s = ap sign_length sign_is ∙ sym (sign_len_is s) in
       let forms = signed_form model s (sign_length sign) h signed len idle in
@@ -187,30 +180,29 @@ module _ (model : Model) (s : Specification) (defined : IsDefined s) (signed : i
       (λ r is enough wide. form.right_bare (sym left ∙ r) (sym len ∙ ap sign_length is) (omega (arith, enough, d_is, own)) (sym width ∙ wide ∙ full)) in
       let last : c.width ≡ w = own_field w w (sign_length new + p) b.width _ (omega (arith, width)) (omega arith) (rw kept more) again.idle again.kept in
       let side : c.left ≡ has s.flags Minus = again.left ∙ left in
-      let seen : c.left ≡ true → most < c.width = λ e.
+      let seen : c.left ≡ true → unseen_signed_width p new < c.width = λ e.
       let l = form.left (sym side ∙ e) in
-      let least = seen_sign sign p w most (
+      let least = seen_sign sign p w (
         l.0,
         λ other zero. let m = l.1 (no_plus_is s (λ is. other (sign_is ∙ is))) (sym own ∙ zero) in
             omega (arith, m, len),
-      ) (λ is. plus (kept ∙ is)) (λ other zero. none (λ is. other (sym kept ∙ is)) zero ∙ ap (λ u. sign_length u + 1) kept) some in
-      omega (arith, last, least) in
+      ) in
+      rw (kept, last) least in
       own_number model s q (sign_flags new) p h (signed_number s.conv signed) (ap (λ u. with_side (has s.flags Minus) (sign_flags u)) (kept ∙ sign_is)
       ∙ signed_flags model s h signed form.one_sign forms.1) own
       (omega (arith, right.constant, again.constant, field.constant, narrow.constant, few, d_is, own)) (right.width ∙ last)
-      (own_side _ _ _ most right.wide right.right seen ∙ side)
+      (own_side _ _ _ (unseen_signed_width p new) right.wide right.right seen ∙ side)
 
-  pub signed_by : (sign new : Sign) (p d most : ℕ) (a b c q : Padding) → sign ≡ sign_of s.flags
+  pub signed_by : (sign new : Sign) (p d : ℕ) (a b c q : Padding) → sign ≡ sign_of s.flags
       → (is_zero_filled s ≡ true → (1 ≤ sign_length sign) ⊎ (width_of s ≤ 1)) → p ≡ effective_precision s (sign_length sign) → d ≡ digits_at_most model s
       → IsNarrowedTo (padding_of s) (1 + max p d) a → HasNoIdleWidth a (sign_length sign + p) b → ReplacesSign b sign (max p d) p d new
-      → HasNoIdleWidth b (sign_length new + p) c
-      → (new ≡ signs.Plus → most ≡ 0) → (new ≢ signs.Plus → p ≡ 0 → most ≡ sign_length new + 1) → (1 ≤ p → most ≡ 0) → IsRightIfUnseen c most q
+      → HasNoIdleWidth b (sign_length new + p) c → IsRightIfUnseen c (unseen_signed_width p new) q
       → IsReducedAs model s q (sign_flags new) (kept_precision p)
-  signed_by sign new p d most a b c q sign_is idle p_is d_is narrow field replaced again plus none some right =
+  signed_by sign new p d a b c q sign_is idle p_is d_is narrow field replaced again right =
       let three = three_digits s.conv (bits_under model s.length) signed in
       let w = width_limit s defined in
       let few = effective_limit s (sign_length sign) defined in
-      let small = at_most_two new p most plus none some in
+      let small = at_most_two new p in
       let wider = (not_wider a (sign_length sign + p) b field).0 in
       let left = not_wider b (sign_length new + p) c again in
       let wider_again = left.0 in
@@ -227,7 +219,7 @@ module _ (model : Model) (s : Specification) (defined : IsDefined s) (signed : i
       (λ r is wide. let at = on_the_right r (omega (arith, wide, d_is)) in let enough = replaced.space at.0 at.1 is in let one = ap sign_length is in
       let least = left.1 (omega (arith, right.width, wide)) in omega (arith, right.width, wide, enough, one, least, d_is))
       (λ r is enough wide. let at = on_the_right r (omega (arith, wide, d_is)) in let fewer = replaced.none at.0 at.1 is in omega (arith, enough, fewer, d_is))
-      (λ l. let wide = (right.wide l).1 in (omega (arith, right.width, wide), λ other zero. let at = none other zero in omega (arith, right.width, wide, at)))
+      (λ l. let wide = (right.wide l).1 in (omega (arith, right.width, wide), λ other zero. let at = unseen_at_zero new p other zero in omega (arith, right.width, wide, at)))
       in
       record {
         normal = normal;
@@ -242,8 +234,8 @@ module _ (model : Model) (s : Specification) (defined : IsDefined s) (signed : i
             ∙ field.same before (signed_least sign p v)
             ∙ replaced.same (is_negative v) number (omega (arith, len, count, d_is))
             ∙ again.same after (signed_least new p v)
-            ∙ right.same after (unseen_signed_side new c.width most p v plus none some));
-        kept = signed_own sign new p d most a b c q sign_is idle p_is d_is narrow field replaced again plus none some right;
+            ∙ right.same after (unseen_signed_side new c.width p v));
+        kept = signed_own sign new p d a b c q sign_is idle p_is d_is narrow field replaced again right;
       }
 
   unfilled_field : (is_zero_filled s ≡ true → (1 ≤ sign_length (sign_of s.flags)) ⊎ (width_of s ≤ 1)) → Reduction model s
@@ -255,10 +247,8 @@ module _ (model : Model) (s : Specification) (defined : IsDefined s) (signed : i
       let (b, field) = without_idle a (sign_length sign + p) in
       let (new, replaced) = by_side b (max p d) p d sign b.left refl (let less = (not_wider a _ b field).0 in omega (arith, narrow.width, less)) in
       let (c, again) = without_idle b (sign_length new + p) in
-      let (most, unseen) = unseen_up_to new p in
-      let (q, right) = right_justify_if_unseen c most in
-      made model s q (sign_flags new) (kept_precision p) (signed_by sign new p d most a b c q refl idle refl refl narrow field replaced again unseen.plus
-      unseen.none unseen.some right)
+      let (q, right) = right_justify_if_unseen c (unseen_signed_width p new) in
+      made model s q (sign_flags new) (kept_precision p) (signed_by sign new p d a b c q refl idle refl refl narrow field replaced again right)
 
   by_fill : (filled : Bool) → is_zero_filled s ≡ filled → Reduction model s
   by_fill true all = elim (cases_lt 0 (sign_length (sign_of s.flags))) [

@@ -1,33 +1,5 @@
 -- Each directive that prints a byte or a string has a reduction.
-use Rattle.std.proofs.Common.{
-  ◌≡◌,
-  ◌≢◌,
-  ℕ,
-  zero,
-  suc,
-  ◌-◌,
-  ◌<◌,
-  ◌≤◌,
-  Bool,
-  true,
-  false,
-  Option,
-  Some,
-  None,
-  [],
-  ◌++◌,
-  length,
-  take,
-  replicate,
-  refl,
-  sym,
-  ap,
-  ◌∙◌,
-  subst,
-  arith,
-  rules,
-  inl,
-}
+use Rattle.std.proofs.Common.{◌≡◌, ◌≢◌, ℕ, zero, suc, ◌-◌, ◌<◌, ◌≤◌, Bool, true, false, Option, Some, None, [], ◌++◌, length, take, replicate, refl, sym, ap, ◌∙◌, subst, arith, inl}
 use Rattle.std.specs.Prelude.{IfSome}
 use Rattle.std.proofs.lemmas.List.{append-nil, length-take}
 use Rattle.pf_values.specs.declared.conversions.Conv.TheVariants.{C, S}
@@ -39,7 +11,7 @@ use Rattle.pf_values.specs.declared.limits.TheConstants.{MAX_NUMBER}
 use Rattle.pf_values.specs.declared.models.Model.{Model}
 use Rattle.pf_values.specs.meaning.Arguments.{Argument, Number, String}
 use Rattle.pf_values.specs.meaning.Conversions.{kind_of}
-use Rattle.pf_values.specs.meaning.Defined.{IsDefined, is_above_limit, refused_as}
+use Rattle.pf_values.specs.meaning.Defined.{IsDefined, is_above_limit}
 use Rattle.pf_values.specs.meaning.Flags.{has, no_flags}
 use Rattle.pf_values.specs.meaning.Normal.{IsNormal, silent}
 use Rattle.pf_values.specs.meaning.DataModel.{arg_type}

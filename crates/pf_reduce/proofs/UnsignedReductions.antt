@@ -1,5 +1,5 @@
 -- Each directive that prints a number without a sign has a reduction.
-use Rattle.std.proofs.Common.{◌≡◌, ℕ, ℤ, zero, suc, ◌+◌, ◌-◌, ◌<◌, ◌≤◌, max, Bool, true, false, None, replicate, refl, ap, ◌∙◌, arith, inl, inr, ◌++◌, sym}
+use Rattle.std.proofs.Common.{◌≡◌, ℕ, ℤ, ◌+◌, ◌-◌, ◌<◌, ◌≤◌, max, Bool, true, false, None, replicate, refl, ap, ◌∙◌, arith, inl, inr, ◌++◌, sym}
 use Rattle.std.specs.Prelude.{nat_abs, not, ◌&&◌, ◌⊎◌}
 use Rattle.std.proofs.lemmas.Bool.{cases_lt}
 use Rattle.pf_values.specs.declared.flags.Flag.TheVariants.{Alt, Minus, Zero}
@@ -34,6 +34,7 @@ use Rattle.pf_reduce.specs.Cores.{IsReducedAs, core_of_parts, kept_precision, pa
 use Rattle.pf_reduce.specs.Padded.{HasNoIdleWidth, IsNarrowedTo, HasHoistedZeros, IsRightIfUnseen, constants, padding_of, with_padding}
 use Rattle.pf_reduce.specs.Prefixes.{is_prefixed, puts_prefix}
 use Rattle.pf_reduce.specs.Reducing.{itself}
+use Rattle.pf_reduce.specs.Signs.{unseen_width}
 use Rattle.pf_reduce.proofs.Carried.{Reduction, made}
 use Rattle.pf_reduce.proofs.Narrowing.{narrowed, not_wider, hoist_zeros, right_justify_if_unseen, without_idle}
 use Rattle.pf_reduce.proofs.NormalForms.{normal_filled, normal_octal, normal_prefixed, normal_unprefixed}
@@ -173,25 +174,25 @@ module _ (model : Model) (s : Specification) (defined : IsDefined s) (raises : i
 
   -- a normal directive keeps its field, on the right
   module _ (h : IsNormal model s) where
-    form : IsNormalOctal model s
-    form = octal_form model s h e alt
+    octal_is : IsNormalOctal model s
+    octal_is = octal_form model s h e alt
 
-    own : p ≡ precision_of s
-    own = let given = unfilled_precision s 0 form.not_filled in let some = form.some_digit in omega (arith, p_is, given, some)
+    precision_own : p ≡ precision_of s
+    precision_own = let given = unfilled_precision s 0 octal_is.not_filled in let some = octal_is.some_digit in omega (arith, p_is, given, some)
 
-    width : b.width ≡ width_of s
-    width = let most = form.most in let least = form.least in own_field (width_of s) (max p (d + 1)) p _ _ narrow.width
-        (omega (arith, d_is, most)) (λ some. omega (arith, own, least)) field.idle field.kept
+    width_own : b.width ≡ width_of s
+    width_own = let most = octal_is.most in let least = octal_is.least in own_field (width_of s) (max p (d + 1)) p _ _ narrow.width
+        (omega (arith, d_is, most)) (λ some. omega (arith, precision_own, least)) field.idle field.kept
 
-    left : b.left ≡ has s.flags Minus
-    left = field.left ∙ narrow.left
+    side_own : b.left ≡ has s.flags Minus
+    side_own = field.left ∙ narrow.left
 
     own_octal : padded_core model s b (with_flag no_flags Alt) (kept_precision p) ≡ itself model s
-    own_octal = let most = form.most in own_number model s b (with_flag no_flags Alt) p h (ap prints_text e)
-        (alt_flags model s h (ap prints_signed e) alt form.not_filled) own (omega (arith, field.constant, narrow.constant, most, d_is)) width left
+    own_octal = let most = octal_is.most in own_number model s b (with_flag no_flags Alt) p h (ap prints_text e)
+        (alt_flags model s h (ap prints_signed e) alt octal_is.not_filled) precision_own (omega (arith, field.constant, narrow.constant, most, d_is)) width_own side_own
 
     not_hoisted : (b.left ≡ true) ⊎ (b.width ≡ 0) → ⊥
-    not_hoisted no_spaces = let least = form.least in seen_before _ _ no_spaces (left ∙ form.right) (omega (arith, width, least))
+    not_hoisted no_spaces = let least = octal_is.least in seen_before _ _ no_spaces (side_own ∙ octal_is.right) (omega (arith, width_own, least))
 
   -- spaces come before the first 0, which the core prints
   pub octal_after_spaces : b.left ≡ false → 0 < b.width → IsReducedAs model s b (with_flag no_flags Alt) (kept_precision p)
@@ -245,10 +246,6 @@ raised model s defined raises alt =
     by_side model s defined raises alt p d a b refl refl narrow field b.left refl
 
 -- digits after a prefix
-unseen_up_to : (precision least : ℕ) → (most : ℕ) × (precision ≡ 0 → most ≡ least) × (1 ≤ precision → most ≡ 0)
-unseen_up_to zero least = (least, λ e. refl, λ some. absurd (omega (arith, some)))
-unseen_up_to (suc precision) least = (0, λ e. cc, λ some. refl)
-
 module _ (model : Model) (s : Specification) (defined : IsDefined s) (form : is_prefixed s.conv ≡ true) (alt : has s.flags Alt ≡ true) where
   -- the flag `0` is kept in a field of two bytes or more
   pub prefixed_filled_by : is_zero_filled s ≡ true → 2 ≤ width_of s → IsReducedAs model s (padding_of s) (with_flag (with_flag no_flags Alt) Zero) None
@@ -257,29 +254,27 @@ module _ (model : Model) (s : Specification) (defined : IsDefined s) (form : is_
       record { normal = normal; reduced = prefixed_filled model s form alt all (refl, normal); kept = λ h. own_filled_prefixed model s h form alt all }
 
   -- none of the steps changes a normal directive
-  prefixed_own : (p d most : ℕ) (a b q : Padding) → (is_zero_filled s ≡ true → (1 ≤ 0) ⊎ (width_of s ≤ 1)) → p ≡ effective_precision s 0
-      → d ≡ digits_at_most model s → (p ≡ 0 → most ≡ 3) → (1 ≤ p → most ≡ 0)
-      → IsNarrowedTo (padding_of s) (2 + max p d) a → HasNoIdleWidth a p b → IsRightIfUnseen b most q
+  prefixed_own : (p d : ℕ) (a b q : Padding) → (is_zero_filled s ≡ true → (1 ≤ 0) ⊎ (width_of s ≤ 1)) → p ≡ effective_precision s 0
+      → d ≡ digits_at_most model s → IsNarrowedTo (padding_of s) (2 + max p d) a → HasNoIdleWidth a p b → IsRightIfUnseen b (unseen_width p 3) q
       → IsNormal model s → padded_core model s q (with_flag no_flags Alt) (kept_precision p) ≡ itself model s
-  prefixed_own p d most a b q idle p_is d_is none some narrow field right h =
+  prefixed_own p d a b q idle p_is d_is narrow field right h =
       let forms = prefixed_form model s h form alt idle in
       let own = p_is ∙ unfilled_precision s 0 forms.1 in
       let few = forms.0.most in
       let width : b.width ≡ width_of s = own_field (width_of s) (2 + max p d) p _ _ narrow.width (omega (arith, d_is, few, own))
       (λ any. let least = forms.0.least any in omega (arith, own, least)) field.idle field.kept in
       let left : b.left ≡ has s.flags Minus = field.left ∙ narrow.left in
-      let seen : b.left ≡ true → most < b.width = λ e.
+      let seen : b.left ≡ true → unseen_width p 3 < b.width = λ e.
       let l = forms.0.left (sym left ∙ e) in
-      let least = seen_from p (width_of s) 3 most (l.0, λ zero. l.1 (sym own ∙ zero)) none some in omega (arith, width, least) in
+      let least = seen_from p (width_of s) 3 (l.0, λ zero. l.1 (sym own ∙ zero)) in omega (arith, width, least) in
       own_number model s q (with_flag no_flags Alt) p h (prefixed_number s.conv form) (alt_flags model s h (prefixed_unsigned s.conv form) alt forms.1) own
       (omega (arith, right.constant, field.constant, narrow.constant, few, d_is, own)) (right.width ∙ width)
-      (own_side _ _ _ most right.wide right.right seen ∙ left)
+      (own_side _ _ _ (unseen_width p 3) right.wide right.right seen ∙ left)
 
-  pub prefixed_by : (p d most : ℕ) (a b q : Padding) → (is_zero_filled s ≡ true → (1 ≤ 0) ⊎ (width_of s ≤ 1)) → p ≡ effective_precision s 0
-      → d ≡ digits_at_most model s → (p ≡ 0 → most ≡ 3) → (1 ≤ p → most ≡ 0)
-      → IsNarrowedTo (padding_of s) (2 + max p d) a → HasNoIdleWidth a p b → IsRightIfUnseen b most q
+  pub prefixed_by : (p d : ℕ) (a b q : Padding) → (is_zero_filled s ≡ true → (1 ≤ 0) ⊎ (width_of s ≤ 1)) → p ≡ effective_precision s 0
+      → d ≡ digits_at_most model s → IsNarrowedTo (padding_of s) (2 + max p d) a → HasNoIdleWidth a p b → IsRightIfUnseen b (unseen_width p 3) q
       → IsReducedAs model s q (with_flag no_flags Alt) (kept_precision p)
-  prefixed_by p d most a b q idle p_is d_is none some narrow field right =
+  prefixed_by p d a b q idle p_is d_is narrow field right =
       let w = width_limit s defined in
       let few = effective_limit s 0 defined in
       let left = not_wider a p b field in
@@ -288,12 +283,12 @@ module _ (model : Model) (s : Specification) (defined : IsDefined s) (form : is_
       normal_prefixed model s q p form (omega (arith, right.width, wider, narrow.width, w), omega (arith, p_is, few))
       (λ some. let least = left.1 (omega (arith, right.width, some)) in omega (arith, right.width, least))
       (omega (arith, right.width, wider, narrow.width, d_is))
-      (λ l. let wide = (right.wide l).1 in (omega (arith, right.width, wide), λ zero. let three = none zero in omega (arith, right.width, wide, three))) in
+      (λ l. let wide = (right.wide l).1 in (omega (arith, right.width, wide), λ zero. let three : 3 < b.width = rw zero at wide in omega (arith, right.width, three))) in
       record {
         normal = normal;
         reduced = prefixed_reduced model s form alt q p idle p_is (refl, normal) (omega (arith, right.constant, field.constant, narrow.constant, w)) (λ body is.
-            narrow.same body (omega (arith, is.most, d_is)) ∙ field.same body is.least ∙ right.same body (unseen_side b.width most p body none some is.some));
-        kept = prefixed_own p d most a b q idle p_is d_is none some narrow field right;
+            narrow.same body (omega (arith, is.most, d_is)) ∙ field.same body is.least ∙ right.same body (unseen_side b.width p body is.some));
+        kept = prefixed_own p d a b q idle p_is d_is narrow field right;
       }
 
   unfilled_field : (is_zero_filled s ≡ true → (1 ≤ 0) ⊎ (width_of s ≤ 1)) → Reduction model s
@@ -302,9 +297,8 @@ module _ (model : Model) (s : Specification) (defined : IsDefined s) (form : is_
       let d : ℕ = digits_at_most model s in
       let (a, narrow) = narrowed (has s.flags Minus) (width_of s) (2 + max p d) in
       let (b, field) = without_idle a p in
-      let (most, none, some) = unseen_up_to p 3 in
-      let (q, right) = right_justify_if_unseen b most in
-      made model s q (with_flag no_flags Alt) (kept_precision p) (prefixed_by p d most a b q idle refl refl none some narrow field right)
+      let (q, right) = right_justify_if_unseen b (unseen_width p 3) in
+      made model s q (with_flag no_flags Alt) (kept_precision p) (prefixed_by p d a b q idle refl refl narrow field right)
 
   by_fill : (filled : Bool) → is_zero_filled s ≡ filled → Reduction model s
   by_fill true all = elim (cases_lt 1 (width_of s)) [

@@ -1,5 +1,5 @@
 -- The sign of a number.
-use Rattle.std.specs.Prelude.{if◌then◌else◌, Bool, true, false, ℕ, [], codes}
+use Rattle.std.specs.Prelude.{if◌then◌else◌, zero, suc, Bool, true, false, ℕ, [], codes}
 use Rattle.pf_values.specs.declared.flags.Flag.TheVariants.{Plus, Space}
 use Rattle.pf_values.specs.declared.flags.FlagSet.{FlagSet}
 use Rattle.pf_values.specs.meaning.Flags.{has, no_flags, with_flag}
@@ -30,3 +30,15 @@ sign_text sign true = codes "-"
 sign_text signs.None false = []
 sign_text signs.Plus false = codes "+"
 sign_text signs.Space false = codes " "
+
+-- The largest width at which the side makes no visible difference to a number: with precision 0 it prints only spaces,
+-- or at least so many bytes, and otherwise it fills such a width.
+abbrev pub unseen_width : ℕ → ℕ → ℕ
+unseen_width zero least = least
+unseen_width (suc precision) least = 0
+
+-- that of a number with a sign; with precision 0 the value 0 prints its `+`, if it has one
+abbrev pub unseen_signed_width : ℕ → Sign → ℕ
+unseen_signed_width precision signs.None = unseen_width precision 1
+unseen_signed_width precision signs.Plus = 0
+unseen_signed_width precision signs.Space = unseen_width precision 2

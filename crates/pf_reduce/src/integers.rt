@@ -18,7 +18,7 @@ ghost use Rattle.pf_values.specs.meaning.Text.{Text};
 ghost use Rattle.pf_reduce.specs.declared.signs.Sign.TheVariants as signs;
 ghost use Rattle.pf_reduce.specs.Padded.{with_padding};
 ghost use Rattle.pf_reduce.specs.Reducing.{IsReducedTo, itself};
-ghost use Rattle.pf_reduce.specs.Signs.{sign_length, sign_text};
+ghost use Rattle.pf_reduce.specs.Signs.{sign_text, unseen_signed_width, unseen_width};
 
 use crate::normal_directives::{kept_precision, reduced_core};
 use crate::numbers::{max_digits, width};
@@ -183,21 +183,22 @@ fn sign_in_field(sign: Sign, padding: Padding, precision: u16, digits: u16) -> S
 // The largest width at which the side makes no visible difference: with precision 0 the value 0
 // prints only spaces, and any other value at least `least` bytes.
 fn unseen_width(precision: u16, least: u16) -> u16
-    ensures none { precision ≡ 0 → result ≡ least }
-    ensures some { 1 ≤ precision → result ≡ 0 }
+    ensures { result ≡ unseen_width precision least }
 {
-    if precision == 0 { least } else { 0 }
+    match precision {
+        0 => least,
+        _ => 0,
+    }
 }
 
 // The largest width at which the side of a signed number makes no visible difference. The value 0
 // prints its `+`, if it has one.
 fn unseen_signed_width(precision: u16, sign: Sign) -> u16
-    ensures plus { sign ≡ signs.Plus → result ≡ 0 }
-    ensures none { sign ≢ signs.Plus → precision ≡ 0 → result ≡ sign_length sign + 1 }
-    ensures some { 1 ≤ precision → result ≡ 0 }
+    ensures { result ≡ unseen_signed_width precision sign }
 {
     match sign {
+        Sign::None => unseen_width(precision, 1),
         Sign::Plus => 0,
-        Sign::Space | Sign::None => unseen_width(precision, sign.len() + 1),
+        Sign::Space => unseen_width(precision, 2),
     }
 }

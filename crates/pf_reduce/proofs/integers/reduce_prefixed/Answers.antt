@@ -15,7 +15,7 @@ pub reduced_core-requires-2 : goal.reduced_core-requires-2
 reduced_core-requires-2 c =
     let flags : c.with-alt.result ≡ with_flag no_flags Alt = c.with-alt.ensures ∙ ap (λ f. with_flag f Alt) c.empty-2.ensures in
     rw (flags, c.kept_precision.ensures) (prefixed_by c.args.model c.args.directive.now c.of-2.ensures.defined c.requires.prefixed c.requires.alt
-    c.effective_precision-precision.result c.max_digits.result c.unseen_width.result _ _ c.right_justify_if_unseen-padding.result
-    (c.keeps_zeros.ensures.idle c.if-keeps_zeros.false) c.effective_precision-precision.ensures.value c.max_digits.ensures.value c.unseen_width.ensures.none
-    c.unseen_width.ensures.some
-    (rw (c.of-2.ensures.value, c.max.ensures) at c.with_width_at_most.ensures) c.without_idle_width.ensures c.right_justify_if_unseen-padding.ensures)
+    c.effective_precision-precision.result c.max_digits.result _ _ c.right_justify_if_unseen-padding.result
+    (c.keeps_zeros.ensures.idle c.if-keeps_zeros.false) c.effective_precision-precision.ensures.value c.max_digits.ensures.value
+    (rw (c.of-2.ensures.value, c.max.ensures) at c.with_width_at_most.ensures) c.without_idle_width.ensures
+    (rw c.unseen_width.ensures at c.right_justify_if_unseen-padding.ensures))
