@@ -1,6 +1,6 @@
 -- The parts of a normal spelling are their own normal parts. If a directive is defined and opaque, so
 -- are its normal parts, and they take arguments of the same types.
-use Rattle.std.proofs.Common.{◌≡◌, ℕ, Bool, true, false, refl, ap, ◌∙◌}
+use Rattle.std.proofs.Common.{◌≡◌, ℕ, Bool, true, false, refl, ap, ◌∙◌, arith}
 use Rattle.std.specs.Prelude.{Option, Some, None, is_some, not, ◌&&◌, ◌||◌, ◌==◌, if◌then◌else◌}
 use Rattle.pf_values.specs.declared.conversions.Conv.TheVariants as convs
 use Rattle.pf_values.specs.declared.conversions.Kind.{Kind}
@@ -46,28 +46,10 @@ pub record SameConversion (before after : Conversion) : Type 0 where
 pub same_conversion : (conversion : Conversion) → SameConversion conversion (kept_conversion conversion)
 same_conversion (Profile convs.D) = record
     { again = refl; integer = refl; sign = refl; general = refl; meant = refl; alt = refl; zero_flag = refl; precision = refl; count = refl }
-same_conversion (Profile _) = record {
-  again = refl;
-  integer = refl;
-  sign = refl;
-  general = refl;
-  meant = refl;
-  alt = refl;
-  zero_flag = refl;
-  precision = refl;
-  count = refl;
-}
-same_conversion _ = record {
-  again = refl;
-  integer = refl;
-  sign = refl;
-  general = refl;
-  meant = refl;
-  alt = refl;
-  zero_flag = refl;
-  precision = refl;
-  count = refl;
-}
+same_conversion (Profile _) = record
+    { again = refl; integer = refl; sign = refl; general = refl; meant = refl; alt = refl; zero_flag = refl; precision = refl; count = refl }
+same_conversion _ = record
+    { again = refl; integer = refl; sign = refl; general = refl; meant = refl; alt = refl; zero_flag = refl; precision = refl; count = refl }
 
 -- modifiers
 kept_again : (model : Model) (length : Length) → kept_length model (kept_length model length) ≡ kept_length model length
@@ -161,25 +143,14 @@ precision_for a b (Some (Fetched number)) h g = refl
 
 -- flags
 both_again : (a b : Bool) → ((a && b) && b) ≡ (a && b)
-both_again true true = refl
-both_again true false = refl
-both_again false b = refl
+both_again a b = grind arith
 
 space_again : (s p k : Bool) → ((s && not p && k) && not (p && k) && k) ≡ (s && not p && k)
-space_again true true true = refl
-space_again true true false = refl
-space_again true false true = refl
-space_again true false false = refl
-space_again false p k = refl
+space_again s p k = grind arith
 
 zero_again : (z w m i g h : Bool) → (g ≡ false → h ≡ false)
     → ((z && w && not m && not (i && g)) && w && not (m && w) && not (i && h)) ≡ (z && w && not m && not (i && g))
-zero_again false w m i g h e = refl
-zero_again true false m i g h e = refl
-zero_again true true true i g h e = refl
-zero_again true true false false g h e = refl
-zero_again true true false true true h e = refl
-zero_again true true false true false h e = let same = e refl in rw same refl
+zero_again z w m i g h e = grind arith
 
 abbrev set_of : Bool → Bool → Bool → Bool → Bool → Bool → FlagSet
 set_of a b c d e f = record { minus = a; plus = b; space = c; alt = d; zero = e; group = f }
@@ -236,9 +207,7 @@ outside_again model Pointer modifier e = refl
 outside_again model Count modifier e = refl
 
 one_of : (a b c d : Bool) → (a || b || c) ≡ true → (c ≡ true → d ≡ true) → (a || b || d) ≡ true
-one_of true b c d e h = refl
-one_of false true c d e h = refl
-one_of false false c d e h = h e
+one_of a b c d e h = grind arith
 
 pub opaque_again : (model : Model) (s : PosixSpecification) → is_opaque s ≡ true → is_opaque (normal_parts model s) ≡ true
 opaque_again model s e =
@@ -263,28 +232,11 @@ modifier_stands model Count (Integer length) e = refl
 modifier_stands model Count LongDouble e = cc
 
 pub less : (z w m i t : Bool) → (z && not t) ≡ false → ((z && w && m && i) && not t) ≡ false
-less false w m i t e = refl
-less true w m i true e = go w m i where
-  go : (w m i : Bool) → ((w && m && i) && false) ≡ false
-  go true true true = refl
-  go true true false = refl
-  go true false i = refl
-  go false m i = refl
-less true w m i false e = cc
+less z w m i t e = grind arith
 
 pub fewer_some : (p q t : Bool) → (p ≡ false → q ≡ false) → (p && not t) ≡ false → (q && not t) ≡ false
-fewer_some true true t h e = e
-fewer_some true false t h e = refl
-fewer_some false q t h e = let no = h refl in rw no refl
+fewer_some p q t h e = grind arith
 
 pub no_flags_left : (m p s a z g w q r : Bool) (x n y u v k : Bool) → (q ≡ false → r ≡ false) → ((m || p || s || a || z || g) || w || q) ≡ false
     → (((m && w) || (p && x) || (s && n && y) || a || (z && u && v && k) || false) || w || r) ≡ false
-no_flags_left false false false false false false false false r x n y u v k h e = h refl
-no_flags_left true p s a z g w q r x n y u v k h e = cc
-no_flags_left false true s a z g w q r x n y u v k h e = cc
-no_flags_left false false true a z g w q r x n y u v k h e = cc
-no_flags_left false false false true z g w q r x n y u v k h e = cc
-no_flags_left false false false false true g w q r x n y u v k h e = cc
-no_flags_left false false false false false true w q r x n y u v k h e = cc
-no_flags_left false false false false false false true q r x n y u v k h e = cc
-no_flags_left false false false false false false false true r x n y u v k h e = cc
+no_flags_left m p s a z g w q r x n y u v k h e = grind arith
