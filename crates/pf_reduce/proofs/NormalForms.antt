@@ -76,16 +76,13 @@ module _ (model : Model) (s : Specification) (p : Padding) (flags : FlagSet) (pr
       }
 
 pub bare_flags : (left : Bool) → HasNoSign (with_side left no_flags)
-bare_flags true = record { group = refl; plus = refl; space = refl }
-bare_flags false = record { group = refl; plus = refl; space = refl }
+bare_flags left = grind arith
 
 alt_flags : (left : Bool) → HasNoSign (with_side left (with_flag no_flags Alt))
-alt_flags true = record { group = refl; plus = refl; space = refl }
-alt_flags false = record { group = refl; plus = refl; space = refl }
+alt_flags left = grind arith
 
 filled_flags : (left : Bool) → HasNoSign (with_side left (with_flag (with_flag no_flags Alt) Zero))
-filled_flags true = record { group = refl; plus = refl; space = refl }
-filled_flags false = record { group = refl; plus = refl; space = refl }
+filled_flags left = grind arith
 
 -- which forms they have
 raised_form : (model : Model) (s : Specification) (alt : Bool) → has s.flags Alt ≡ alt → MatchBool alt (IsNormalOctal model s) (IsNormalUnprefixed model s)
@@ -145,8 +142,7 @@ prefixed_alternative _ e = cc
 
 pub side_flags : (left : Bool) (flags : FlagSet) → (has flags Minus ≡ false)
     → (has (with_side left flags) Minus ≡ left) × (has (with_side left flags) Alt ≡ has flags Alt) × (has (with_side left flags) Zero ≡ has flags Zero)
-side_flags true flags e = (refl, refl, refl)
-side_flags false flags e = (e, refl, refl)
+side_flags left flags e = grind arith
 
 module _ (model : Model) (s : Specification) (p : Padding) (precision : ℕ) where
   -- digits alone

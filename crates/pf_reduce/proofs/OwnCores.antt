@@ -95,9 +95,7 @@ seen_before left w (inr none) right some = omega (arith, none, some)
 -- so does the side, where the width is seen
 pub own_side : (before after : Bool) (w most : ℕ) → (after ≡ true → (before ≡ true) × (most < w))
     → (most < w → after ≡ before) → (before ≡ true → most < w) → after ≡ before
-own_side true after w most wide right seen = right (seen refl)
-own_side false true w most wide right seen = sym (wide refl).0
-own_side false false w most wide right seen = refl
+own_side before after w most wide right seen = grind arith
 
 -- the flags of a directive, as its side and other flags
 abbrev set_of : Bool → Bool → Bool → Bool → Bool → Bool → FlagSet
@@ -112,8 +110,7 @@ on_side true flags f m right p s a z g = same_set _ _ _ _ _ _ _ _ _ _ _ _ m p s 
 on_side false flags f m right p s a z g = same_set _ _ _ _ _ _ _ _ _ _ _ _ (right ∙ m) p s a z g
 
 false_else : (b : Bool) → (b ≡ true → false ≡ true) → b ≡ false
-false_else true h = sym (h refl)
-false_else false h = refl
+false_else b h = grind arith
 
 -- those of a number without a sign
 module _ (model : Model) (s : Specification) (h : IsNormal model s) (signed : is_signed s.conv ≡ false) where
@@ -205,10 +202,7 @@ prefixed_number conv e = (unsigned_with_prefix conv e).text
 
 -- what a directive that is filled with zeros has
 filled_parts : (zeros minus : Bool) (p : Option ℕ) → (zeros && not minus && is_none p) ≡ true → (zeros ≡ true) × (minus ≡ false) × (p ≡ None)
-filled_parts true false None e = (refl, refl, refl)
-filled_parts true false (Some p) e = absurd (different e)
-filled_parts true true p e = absurd (different e)
-filled_parts false minus p e = absurd (different e)
+filled_parts zeros minus p e = grind arith
 
 pub own_filled_prefixed : (model : Model) (s : Specification) → IsNormal model s → is_prefixed s.conv ≡ true → has s.flags Alt ≡ true
     → is_zero_filled s ≡ true → padded_core model s (padding_of s) (with_flag (with_flag no_flags Alt) Zero) None ≡ itself model s
@@ -225,24 +219,19 @@ seen_from (suc p) w least h = h.0
 
 -- digits after a sign
 sign_len_under : (plus space : Bool) → (if plus || space then 1 else 0) ≡ sign_length (if plus then signs.Plus else (if space then signs.Space else signs.None))
-sign_len_under true space = refl
-sign_len_under false true = refl
-sign_len_under false false = refl
+sign_len_under plus space = grind arith
 
 pub sign_len_is : (s : Specification) → sign_len s ≡ sign_length (sign_of s.flags)
 sign_len_is s = sign_len_under (has s.flags Plus) (has s.flags Space)
 
 space_under : (plus space : Bool) → (if plus then signs.Plus else (if space then signs.Space else signs.None)) ≡ signs.Space → space ≡ true
-space_under plus true e = refl
-space_under true false e = cc
-space_under false false e = cc
+space_under plus space e = grind arith
 
 pub space_is : (s : Specification) → sign_of s.flags ≡ signs.Space → has s.flags Space ≡ true
 space_is s e = space_under (has s.flags Plus) (has s.flags Space) e
 
 no_plus_under : (plus space : Bool) → (if plus then signs.Plus else (if space then signs.Space else signs.None)) ≢ signs.Plus → plus ≡ false
-no_plus_under true space h = absurd (h refl)
-no_plus_under false space h = refl
+no_plus_under plus space h = grind arith
 
 pub no_plus_is : (s : Specification) → sign_of s.flags ≢ signs.Plus → has s.flags Plus ≡ false
 no_plus_is s h = no_plus_under (has s.flags Plus) (has s.flags Space) h
@@ -287,10 +276,7 @@ signed_number conv e = signed_text (kind_of conv) e
 
 sign_flags_are : (p s : Bool) → (p ≡ true → s ≡ false)
     → sign_flags (if p then signs.Plus else (if s then signs.Space else signs.None)) ≡ set_of false p s false false false
-sign_flags_are true true h = absurd (different (sym (h refl)))
-sign_flags_are true false h = refl
-sign_flags_are false true h = refl
-sign_flags_are false false h = refl
+sign_flags_are p s h = grind arith
 
 pub signed_flags : (model : Model) (s : Specification) → IsNormal model s → is_signed s.conv ≡ true → (has s.flags Plus ≡ true → has s.flags Space ≡ false)
     → has s.flags Zero ≡ false → with_side (has s.flags Minus) (sign_flags (sign_of s.flags)) ≡ s.flags
@@ -300,9 +286,7 @@ signed_flags model s h signed one unfilled =
 
 no_sign_under : (plus space : Bool) → sign_length (if plus then signs.Plus else (if space then signs.Space else signs.None)) ≡ 0
     → (plus ≡ false) × (space ≡ false)
-no_sign_under true space e = cc
-no_sign_under false true e = cc
-no_sign_under false false e = (refl, refl)
+no_sign_under plus space e = grind arith
 
 pub own_filled_signed : (model : Model) (s : Specification) → IsNormal model s → is_signed s.conv ≡ true → sign_length (sign_of s.flags) ≡ 0
     → is_zero_filled s ≡ true → padded_core model s (padding_of s) (with_flag no_flags Zero) None ≡ itself model s

@@ -73,14 +73,11 @@ same_filled s t v h width all all_t =
     ∙ sym (filled_text s v all)
 
 right_of : (a b c : Bool) → (a && not b && c) ≡ true → b ≡ false
-right_of a false c h = refl
-right_of true true c h = cc
-right_of false true c h = cc
+right_of a b c h = grind arith
 
 -- a directive that is filled with zeros is right-justified
 pub filled_right : (s : Specification) → is_zero_filled s ≡ true → has s.flags Minus ≡ false
 filled_right s h = right_of (has s.flags Zero) (has s.flags Minus) _ h
 
 pub alt_kept : (left : Bool) → has (with_side left (with_flag no_flags Alt)) Alt ≡ true
-alt_kept true = refl
-alt_kept false = refl
+alt_kept left = grind arith

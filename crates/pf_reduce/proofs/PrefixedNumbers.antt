@@ -51,9 +51,7 @@ IsPrefix n t = ((n ≡ 0) × (t ≡ [])) ⊎ ((1 ≤ n) × (length t ≡ 2))
 
 prefix_is : (letters : Text) (n : ℕ) (alt : Bool) → length letters ≡ 2 → alt ≡ true
     → IsPrefix n (if alt && not (is_zero n) then letters else [])
-prefix_is letters zero true two e = inl (refl, refl)
-prefix_is letters (suc n) true two e = inr (omega arith, two)
-prefix_is letters n false two e = cc
+prefix_is letters n alt two e = grind arith
 
 -- what is known of a kind of numbers that have a prefix under `#`
 pub record HasPrefix (k : Kind) : Type 0 where

@@ -69,12 +69,7 @@ signed_kind kinds.String e = cc
 
 sign_under : (negative plus spaced : Bool) → (if negative then codes "-" else (if plus then codes "+" else (if spaced then codes " " else [])))
     ≡ sign_text (if plus then signs.Plus else (if spaced then signs.Space else signs.None)) negative
-sign_under true true spaced = refl
-sign_under true false true = refl
-sign_under true false false = refl
-sign_under false true spaced = refl
-sign_under false false true = refl
-sign_under false false false = refl
+sign_under negative plus spaced = grind arith
 
 sign-is : (s : Specification) (v : ℤ) → sign s v ≡ sign_text (sign_of s.flags) (is_negative v)
 sign-is s v = sign_under (is_negative v) (has s.flags Plus) (has s.flags Space)
@@ -102,11 +97,7 @@ number_text-signed s precision v signed =
     ∙ ap (λ t. t ++ digits_text D precision n) (front-is s v signed)
 
 sign_some : (sign : Sign) (negative : Bool) → 1 ≤ sign_length sign → length (sign_text sign negative) ≡ sign_length sign
-sign_some signs.None negative h = absurd (omega arith)
-sign_some signs.Plus true h = refl
-sign_some signs.Plus false h = refl
-sign_some signs.Space true h = refl
-sign_some signs.Space false h = refl
+sign_some sign negative h = grind arith
 
 -- each number has the sign's length, or the field has no room for zeros
 zeros_by_precision : (s : Specification) (v : ℤ) → is_signed s.conv ≡ true → (1 ≤ sign_length (sign_of s.flags)) ⊎ (width_of s ≤ 1)
@@ -120,12 +111,7 @@ signed_value : (s : Specification) (v : ℤ) → is_signed s.conv ≡ true → (
 signed_value s v signed h = effective s v _ (λ filled. zeros_by_precision s v signed (h filled)) ∙ number_text-signed s _ v signed
 
 sign_kept : (left : Bool) (sign : Sign) → sign_of (with_side left (sign_flags sign)) ≡ sign
-sign_kept true signs.None = refl
-sign_kept true signs.Plus = refl
-sign_kept true signs.Space = refl
-sign_kept false signs.None = refl
-sign_kept false signs.Plus = refl
-sign_kept false signs.Space = refl
+sign_kept left sign = grind arith
 
 no_other_flag : (sign : Sign) → (has (sign_flags sign) Zero ≡ false) × (has (sign_flags sign) Minus ≡ false)
 no_other_flag signs.None = (refl, refl)
@@ -179,12 +165,7 @@ module _ (model : Model) (s : Specification) (signed : is_signed s.conv ≡ true
       ap (with_padding (padding_of s)) (sym (same_filled s t v like (width_is (width_of s)) all (rw right refl))))
 
 sign_lengths : (sign : Sign) (negative : Bool) → (sign_length sign ≤ length (sign_text sign negative)) × (length (sign_text sign negative) ≤ 1)
-sign_lengths signs.None true = (omega arith, omega arith)
-sign_lengths signs.Plus true = (omega arith, omega arith)
-sign_lengths signs.Space true = (omega arith, omega arith)
-sign_lengths signs.None false = (omega arith, omega arith)
-sign_lengths signs.Plus false = (omega arith, omega arith)
-sign_lengths signs.Space false = (omega arith, omega arith)
+sign_lengths sign negative = grind arith
 
 -- how long a signed number is
 pub signed_least : (sign : Sign) (precision : ℕ) (v : ℤ) → sign_length sign + precision ≤ length (signed_text sign precision v)

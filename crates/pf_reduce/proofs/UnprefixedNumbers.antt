@@ -79,8 +79,7 @@ pub natural_is : (conv : Conv) (alt : Bool) (n : ℕ) → (is_octal conv && alt)
 natural_is conv alt n e = rw e refl
 
 not_from_zero : (octal alt : Bool) → alt ≡ false → (octal && alt) ≡ false
-not_from_zero true alt e = e
-not_from_zero false alt e = refl
+not_from_zero octal alt e = grind arith
 
 number_text-plain : (s : Specification) (precision : ℕ) (v : ℤ) → is_signed s.conv ≡ false
     → has s.flags Alt ≡ false → number_text s precision v ≡ digits_text s.conv precision (nat_abs v)
@@ -96,8 +95,7 @@ pub same_digits : (c d : Conv) (precision n : ℕ) → kind_of c ≡ kind_of d
 same_digits c d precision n e = rw e refl
 
 no_alt : (left : Bool) → has (with_side left no_flags) Alt ≡ false
-no_alt true = refl
-no_alt false = refl
+no_alt left = grind arith
 
 -- Digits alone are left.
 pub digits_reduced : (model : Model) (s : Specification) (p : Padding) (precision : ℕ) → is_text s.conv ≡ false → is_signed s.conv ≡ false
