@@ -64,24 +64,17 @@ precision_within (suc zero) h = refl
 precision_within (suc (suc p)) h = grind (arith, nat_tests)
 
 pub some_width : (w : ℕ) → width_given (Some w) ≢ Some 0
-some_width zero e = cc
-some_width (suc w) e = cc
+some_width w e = grind arith
 
 pub no_precision_1 : (p : ℕ) → kept_precision p ≢ Some 1
-no_precision_1 zero e = cc
-no_precision_1 (suc zero) e = cc
-no_precision_1 (suc (suc p)) e = cc
+no_precision_1 p e = grind arith
 
 pub kept_signed : (conv : Conv) → is_signed conv ≡ true → kept_conv conv ≡ D
-kept_signed D e = refl
-kept_signed I e = refl
-kept_signed _ e = cc
+kept_signed conv e = grind arith
 
 digits_signed : (conv : Conv) → is_signed conv ≡ true
     → (b : Bits) → most_digits conv b ≡ most_digits D b
-digits_signed D e b = refl
-digits_signed I e b = refl
-digits_signed _ e b = cc
+digits_signed conv e b = grind arith
 
 -- such a directive, of the letters that are kept
 module _ (model : Model) (p : Padding) (sign : Sign) (precision : ℕ) (length : Length)

@@ -37,8 +37,7 @@ pub record IsUnsigned (conv : Conv) : Type 0 where
   pub sign : is_signed conv ≡ false
 
 kept_unsigned : (conv : Conv) → is_signed conv ≡ false → kept_conv conv ≡ conv
-kept_unsigned I h = cc
-kept_unsigned _ h = refl
+kept_unsigned conv h = grind arith
 
 allowed : (conv : Conv) (flags : FlagSet) (w : ℕ) (precision : Option ℕ) (length : Length) → IsUnsigned conv
     → (has_alternative_form conv ≡ false → has flags Alt ≡ false) → has flags Group ≡ false
@@ -121,24 +120,16 @@ core_digits model s p flags precision sign = ap (λ b. most_digits (kept_conv s.
     ∙ ap (λ c. most_digits c (bits_under model s.length)) (kept_unsigned s.conv sign)
 
 unsigned_of : (conv : Conv) (raises : is_octal conv ≡ true) → IsUnsigned conv
-unsigned_of O e = record { text = refl; sign = refl }
-unsigned_of _ e = cc
+unsigned_of conv e = grind arith
 
 pub unsigned_with_prefix : (conv : Conv) → is_prefixed conv ≡ true → IsUnsigned conv
-unsigned_with_prefix X e = record { text = refl; sign = refl }
-unsigned_with_prefix UpperX e = record { text = refl; sign = refl }
-unsigned_with_prefix B e = record { text = refl; sign = refl }
-unsigned_with_prefix _ e = cc
+unsigned_with_prefix conv e = grind arith
 
 octal_alternative : (conv : Conv) → is_octal conv ≡ true → has_alternative_form conv ≡ true
-octal_alternative O e = refl
-octal_alternative _ e = cc
+octal_alternative conv e = grind arith
 
 prefixed_alternative : (conv : Conv) → is_prefixed conv ≡ true → has_alternative_form conv ≡ true
-prefixed_alternative X e = refl
-prefixed_alternative UpperX e = refl
-prefixed_alternative B e = refl
-prefixed_alternative _ e = cc
+prefixed_alternative conv e = grind arith
 
 pub side_flags : (left : Bool) (flags : FlagSet) → (has flags Minus ≡ false)
     → (has (with_side left flags) Minus ≡ left) × (has (with_side left flags) Alt ≡ has flags Alt) × (has (with_side left flags) Zero ≡ has flags Zero)

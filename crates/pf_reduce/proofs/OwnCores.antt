@@ -33,15 +33,10 @@ use Rattle.pf_reduce.proofs.NormalForms.{unsigned_with_prefix}
 
 -- the parts, written as a core writes them
 own_width : (w : Option ℕ) → w ≢ Some 0 → width_given (Some (unwrap_or w 0)) ≡ w
-own_width None h = refl
-own_width (Some zero) h = absurd (h refl)
-own_width (Some (suc w)) h = refl
+own_width w h = grind arith
 
 own_precision : (p : Option ℕ) → p ≢ Some 1 → kept_precision (unwrap_or p 1) ≡ p
-own_precision None h = refl
-own_precision (Some zero) h = refl
-own_precision (Some (suc zero)) h = absurd (h refl)
-own_precision (Some (suc (suc p))) h = refl
+own_precision p h = grind arith
 
 pub own_core : (model : Model) (s : Specification) (q : Padding) (flags : FlagSet) (precision : Option ℕ)
     → IsNormal model s → with_side (has s.flags Minus) flags ≡ s.flags → precision ≡ s.precision
@@ -57,15 +52,11 @@ different : false ≡ true → ⊥
 different e = cc
 
 too_narrow : (w sign : ℕ) → (1 ≤ sign) ⊎ (w ≤ 1) → sign ≡ 0 → 2 ≤ w → ⊥
-too_narrow w sign (inl some) none wide = omega (arith, some, none)
-too_narrow w sign (inr narrow) none wide = omega (arith, narrow, wide)
+too_narrow w sign h none wide = grind arith
 
 -- a number's
 text_no_string : (k : Kind) → prints_text k ≡ false → prints_string k ≡ false
-text_no_string kinds.Signed e = refl
-text_no_string (kinds.Unsigned base capitals) e = refl
-text_no_string kinds.Char e = refl
-text_no_string kinds.String e = cc
+text_no_string k e = grind arith
 
 pub own_number : (model : Model) (s : Specification) (q : Padding) (flags : FlagSet) (p : ℕ)
     → IsNormal model s → is_text s.conv ≡ false → with_side (has s.flags Minus) flags ≡ s.flags
@@ -254,9 +245,7 @@ signed_form model s len h signed len_is idle = unfilled_signed model s (has s.fl
     (signed_kind model s (kind_of s.conv) signed h.form)
 
 signed_conv : (conv : Conv) → is_signed conv ≡ true → (conv ≡ D) ⊎ (conv ≡ I)
-signed_conv D e = inl refl
-signed_conv I e = inr refl
-signed_conv _ e = cc
+signed_conv conv e = grind arith
 
 no_alt_with : (s : Specification) → refused_as s ≡ None → (s.conv ≡ D) ⊎ (s.conv ≡ I) → has s.flags Alt ≡ false
 no_alt_with s allowed (inl is) = search rules
@@ -266,10 +255,7 @@ signed_no_alt : (s : Specification) → refused_as s ≡ None → is_signed s.co
 signed_no_alt s allowed signed = no_alt_with s allowed (signed_conv s.conv signed)
 
 signed_text : (k : Kind) → prints_signed k ≡ true → prints_text k ≡ false
-signed_text kinds.Signed e = refl
-signed_text (kinds.Unsigned base capitals) e = refl
-signed_text kinds.Char e = absurd (different e)
-signed_text kinds.String e = absurd (different e)
+signed_text k e = grind arith
 
 pub signed_number : (conv : Conv) → is_signed conv ≡ true → is_text conv ≡ false
 signed_number conv e = signed_text (kind_of conv) e
@@ -300,8 +286,4 @@ own_filled_signed model s h signed none fill =
 
 -- the side of a sign is seen
 pub seen_sign : (sign : Sign) (p w : ℕ) → (0 < w) × (sign ≢ signs.Plus → p ≡ 0 → sign_length sign + 1 < w) → unseen_signed_width p sign < w
-seen_sign signs.Plus p w h = h.0
-seen_sign signs.Space zero w h = h.1 (λ x. cc) refl
-seen_sign signs.None zero w h = h.1 (λ x. cc) refl
-seen_sign signs.Space (suc p) w h = h.0
-seen_sign signs.None (suc p) w h = h.0
+seen_sign sign p w h = grind arith

@@ -25,12 +25,7 @@ use Rattle.pf_reduce.proofs.UnsignedReductions.{unprefixed_by}
 
 -- each number has two digits
 two_digits : (conv : Conv) (b : Bits) → is_text conv ≡ false → 2 ≤ most_digits conv b
-two_digits C b e = cc
-two_digits S b e = cc
-two_digits conv B8 e = omega arith
-two_digits conv B16 e = omega arith
-two_digits conv B32 e = omega arith
-two_digits conv B64 e = omega arith
+two_digits conv b text = grind arith
 
 given_is : (n : ℕ) → 0 < n → width_given (Some n) ≡ Some n
 given_is zero some = absurd (omega (arith, some))

@@ -66,12 +66,7 @@ pub record HasPrefix (k : Kind) : Type 0 where
 
 prefix_of_two : (base : Base) (capitals : Bool) → alternative_of base ≡ Prefixed
     → length (prefix_of base capitals) ≡ 2
-prefix_of_two Binary true e = refl
-prefix_of_two Binary false e = refl
-prefix_of_two Octal capitals e = cc
-prefix_of_two Decimal capitals e = cc
-prefix_of_two Hexadecimal true e = refl
-prefix_of_two Hexadecimal false e = refl
+prefix_of_two base capitals e = grind arith
 
 with_prefix : (base : Base) (capitals : Bool) → alternative_of base ≡ Prefixed → 2 ≤ number_of base → HasPrefix (kinds.Unsigned base capitals)
 with_prefix base capitals e two = record {

@@ -62,10 +62,7 @@ abbrev pub signed_text : Sign → ℕ → ℤ → Text
 signed_text sign precision v = sign_text sign (is_negative v) ++ digits_text D precision (nat_abs v)
 
 signed_kind : (k : Kind) → prints_signed k ≡ true → k ≡ kinds.Signed
-signed_kind kinds.Signed e = refl
-signed_kind (kinds.Unsigned base capitals) e = cc
-signed_kind kinds.Char e = cc
-signed_kind kinds.String e = cc
+signed_kind k e = grind arith
 
 sign_under : (negative plus spaced : Bool) → (if negative then codes "-" else (if plus then codes "+" else (if spaced then codes " " else [])))
     ≡ sign_text (if plus then signs.Plus else (if spaced then signs.Space else signs.None)) negative

@@ -128,27 +128,13 @@ module _ (p : Padding) (longest precision digits : ℕ) where
 
 -- the width up to which the side isn't seen
 unseen_at_zero : (sign : Sign) (precision : ℕ) → sign ≢ signs.Plus → precision ≡ 0 → unseen_signed_width precision sign ≡ sign_length sign + 1
-unseen_at_zero signs.None precision other empty = rw empty refl
-unseen_at_zero signs.Plus precision other empty = absurd (other refl)
-unseen_at_zero signs.Space precision other empty = rw empty refl
+unseen_at_zero sign precision other empty = grind arith
 
 three_digits : (conv : Conv) (b : Bits) → is_signed conv ≡ true → 3 ≤ most_digits conv b
-three_digits D B8 e = omega arith
-three_digits D B16 e = omega arith
-three_digits D B32 e = omega arith
-three_digits D B64 e = omega arith
-three_digits I B8 e = omega arith
-three_digits I B16 e = omega arith
-three_digits I B32 e = omega arith
-three_digits I B64 e = omega arith
-three_digits _ b e = cc
+three_digits conv b e = grind arith
 
 at_most_two : (sign : Sign) (precision : ℕ) → unseen_signed_width precision sign ≤ 2
-at_most_two signs.Plus precision = omega arith
-at_most_two signs.None zero = omega arith
-at_most_two signs.Space zero = omega arith
-at_most_two signs.None (suc precision) = omega arith
-at_most_two signs.Space (suc precision) = omega arith
+at_most_two sign precision = grind arith
 
 module _ (model : Model) (s : Specification) (defined : IsDefined s) (signed : is_signed s.conv ≡ true) where
   -- the flag `0` is kept in a field of two bytes or more, where there is no sign

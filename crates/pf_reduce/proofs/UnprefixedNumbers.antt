@@ -147,8 +147,7 @@ abbrev pub IsOctal : Conv → Type 0
 IsOctal conv = kind_of conv ≡ kinds.Unsigned Octal false
 
 pub octal : (conv : Conv) → is_octal conv ≡ true → IsOctal conv
-octal O e = refl
-octal _ e = cc
+octal conv e = grind arith
 
 number_text-octal : (s : Specification) (precision : ℕ) (v : ℤ) → IsOctal s.conv
     → has s.flags Alt ≡ true → number_text s precision v ≡ octal_text precision (nat_abs v)
