@@ -1,5 +1,5 @@
 -- Integers: one equation on the value is enough.
-use Rattle.std.proofs.Common.{◌≡◌, ℕ, zero, suc, ◌≤◌, Bool, true, false, refl, sym, ap, ◌∙◌, ℤ}
+use Rattle.std.proofs.Common.{arith, ◌≡◌, ℕ, zero, suc, ◌≤◌, Bool, true, false, refl, sym, ap, ◌∙◌, ℤ}
 use Rattle.std.specs.Prelude.{Option, Some, unwrap_or}
 use Rattle.std.proofs.lemmas.List.{append-nil}
 use Rattle.pf_values.specs.declared.conversions.Conv.{Conv}
@@ -37,24 +37,15 @@ use Rattle.pf_reduce.proofs.Carried.{Carries, prints_reduced}
 
 under_number : (model : Model) (k : Kind) → prints_text k ≡ false → (s : Specification) (n : ℤ) (body : Text)
     → PrintsKind model k s (Number n) body → PrintsNumber model s n body
-under_number model kinds.Signed e s n body h = h
-under_number model (kinds.Unsigned base capitals) e s n body h = h
-under_number model kinds.Char e s n body h = cc
-under_number model kinds.String e s n body h = cc
+under_number model k e s n body h = grind arith
 
 number_under : (model : Model) (k : Kind) → prints_text k ≡ false → (s : Specification) (n : ℤ) (body : Text)
     → PrintsNumber model s n body → PrintsKind model k s (Number n) body
-number_under model kinds.Signed e s n body h = h
-number_under model (kinds.Unsigned base capitals) e s n body h = h
-number_under model kinds.Char e s n body h = cc
-number_under model kinds.String e s n body h = cc
+number_under model k e s n body h = grind arith
 
 no_string_under : (model : Model) (k : Kind) → prints_text k ≡ false → (s : Specification) (t body : Text)
     → PrintsKind model k s (String t) body → ⊥
-no_string_under model kinds.Signed e s t body h = h
-no_string_under model (kinds.Unsigned base capitals) e s t body h = h
-no_string_under model kinds.Char e s t body h = cc
-no_string_under model kinds.String e s t body h = cc
+no_string_under model k e s t body h = grind arith
 
 -- a value that a directive may print
 abbrev pub IsValueOf : Model → Specification → ℤ → Type 0
@@ -105,8 +96,7 @@ width_is zero = refl
 width_is (suc w) = refl
 
 minus_is : (left : Bool) (flags : FlagSet) → has flags Minus ≡ false → has (with_side left flags) Minus ≡ left
-minus_is true flags h = refl
-minus_is false flags h = h
+minus_is left flags h = grind arith
 
 -- the field of a directive, and that of a core within its padding
 pub field-padded : (s : Specification) (body : Text) → field s body ≡ with_padding (padding_of s) body

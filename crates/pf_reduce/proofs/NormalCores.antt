@@ -37,31 +37,13 @@ record HasSignFlags (left : Bool) (sign : Sign) (s : Specification) : Type 0 whe
 
 sign_flags_are : (left : Bool) (sign : Sign) (s : Specification)
     → s.flags ≡ with_side left (sign_flags sign) → HasSignFlags left sign s
-sign_flags_are true signs.None s e = rw e (record {
-  minus = refl;
-  no_zero = refl;
-  no_alt = refl;
-  no_group = refl;
-  one_sign = λ h. refl;
-  len = refl;
-  space = λ h. cc;
-  none = λ h. refl;
-  no_plus = λ h. λ g. cc;
-})
-sign_flags_are true signs.Plus s e = search rules
-sign_flags_are true signs.Space s e = search rules
-sign_flags_are false signs.None s e = search rules
-sign_flags_are false signs.Plus s e = search rules
-sign_flags_are false signs.Space s e = search rules
+sign_flags_are left sign s e = grind arith
 
 pub width_within : (w : ℕ) → w ≤ MAX_NUMBER → is_above_limit (width_given (Some w)) ≡ false
-width_within zero h = refl
-width_within (suc w) h = grind (arith, nat_tests)
+width_within w h = grind (arith, nat_tests)
 
 pub precision_within : (p : ℕ) → p ≤ MAX_NUMBER → is_above_limit (kept_precision p) ≡ false
-precision_within zero h = grind (arith, nat_tests)
-precision_within (suc zero) h = refl
-precision_within (suc (suc p)) h = grind (arith, nat_tests)
+precision_within p h = grind (arith, nat_tests)
 
 pub some_width : (w : ℕ) → width_given (Some w) ≢ Some 0
 some_width w e = grind arith

@@ -34,9 +34,7 @@ pub effective : (s : Specification) (v : ℤ) (sign : ℕ) → (is_zero_filled s
 effective s v sign h = value_text-is s v ∙ effective_under (is_zero_filled s) s v sign h
 
 pub written_is : (p : ℕ) → unwrap_or (kept_precision p) 1 ≡ p
-written_is zero = refl
-written_is (suc zero) = refl
-written_is (suc (suc p)) = refl
+written_is p = grind arith
 
 unfilled : (left : Bool) (flags : FlagSet) (b : Bool) → has flags Zero ≡ false
     → (has (with_side left flags) Zero && not (has (with_side left flags) Minus) && b) ≡ false

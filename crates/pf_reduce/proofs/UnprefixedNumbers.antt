@@ -59,16 +59,11 @@ length-digits_text conv precision n =
 
 no_prefix_under : (form : Alternative) (base : Base) (capitals : Bool) (s : Specification) (v : ℤ)
     → has s.flags Alt ≡ false → prefix_under form base capitals s v ≡ []
-no_prefix_under Undefined base capitals s v alt = refl
-no_prefix_under Raised base capitals s v alt = refl
-no_prefix_under Prefixed base capitals s v alt = rw alt refl
+no_prefix_under form base capitals s v alt = grind arith
 
 no_front : (k : Kind) (s : Specification) (v : ℤ) → prints_signed k ≡ false
     → has s.flags Alt ≡ false → front_under k s v ≡ []
-no_front kinds.Signed s v sign alt = cc
-no_front (kinds.Unsigned base capitals) s v sign alt = no_prefix_under (alternative_of base) base capitals s v alt
-no_front kinds.Char s v sign alt = refl
-no_front kinds.String s v sign alt = refl
+no_front k s v sign alt = grind arith
 
 pub no_prefix : (s : Specification) (v : ℤ) → is_signed s.conv ≡ false
     → has s.flags Alt ≡ false → sign_or_prefix s v ≡ []
