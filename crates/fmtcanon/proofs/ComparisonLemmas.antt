@@ -11,14 +11,10 @@ use Rattle.fmtcanon.specs.Lines.{line}
 use Rattle.fmtcanon.specs.Models.{model_name}
 
 with_same : (ending : Ending) → ending ≡ ending_with ending endings.Same
-with_same endings.Same = refl
-with_same endings.Done = refl
-with_same endings.Different = refl
+with_same ending = grind arith
 
 with_more : (a b c : Ending) → ending_with (ending_with a b) c ≡ ending_with a (ending_with b c)
-with_more endings.Same b c = refl
-with_more endings.Done b c = refl
-with_more endings.Different b c = refl
+with_more a b c = grind arith
 
 -- one more verdict
 module _ (IsIn : Model → Text → Ending → Type 0) (model : Model) (lines : Text) (ends : Ending) (answer : IsIn model lines ends) where

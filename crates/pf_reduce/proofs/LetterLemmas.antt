@@ -66,9 +66,7 @@ kept_conv_twice _ = refl
 precision_kept : (model : Model) (f : FlagSet) (w p : Option ℕ) (l : Length) (conv : Conv) (v : ℤ) (filled : Bool)
     → precision_under filled (record { flags = f; width = w; precision = p; length = l; conv = conv }) v
     ≡ precision_under filled (record { flags = f; width = w; precision = p; length = kept_length model l; conv = kept_conv conv }) v
-precision_kept model f w p l I v true = refl
-precision_kept model f w p l _ v true = refl
-precision_kept model f w p l _ v false = refl
+precision_kept model f w p l conv v filled = grind arith
 
 value_kept : (model : Model) (f : FlagSet) (w p : Option ℕ) (l : Length) (conv : Conv) (v : ℤ)
     → value_text (record { flags = f; width = w; precision = p; length = l; conv = conv }) v
@@ -203,10 +201,7 @@ module _ (model : Model) (s : Specification) where
     no_field = record (padding_of s) { width = 0 }
 
     written : (w : Option ℕ) → 2 ≤ unwrap_or w 0 → kept_precision (unwrap_or w 0) ≡ w
-    written None some = absurd (omega (arith, some))
-    written (Some zero) some = absurd (omega (arith, some))
-    written (Some (suc zero)) some = absurd (omega (arith, some))
-    written (Some (suc (suc w))) some = refl
+    written w some = grind arith
 
     -- a precision does what the flag `0` does in a field
     pub filled_change : is_text s.conv ≡ false → is_signed s.conv ≡ false → s.flags ≡ with_flag no_flags Zero → s.precision ≡ None

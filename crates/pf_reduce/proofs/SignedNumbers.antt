@@ -111,14 +111,10 @@ sign_kept : (left : Bool) (sign : Sign) → sign_of (with_side left (sign_flags 
 sign_kept left sign = grind arith
 
 no_other_flag : (sign : Sign) → (has (sign_flags sign) Zero ≡ false) × (has (sign_flags sign) Minus ≡ false)
-no_other_flag signs.None = (refl, refl)
-no_other_flag signs.Plus = (refl, refl)
-no_other_flag signs.Space = (refl, refl)
+no_other_flag sign = grind arith
 
 no_sign : (sign : Sign) → sign_length sign ≡ 0 → sign ≡ signs.None
-no_sign signs.None h = refl
-no_sign signs.Plus h = absurd (omega arith)
-no_sign signs.Space h = absurd (omega arith)
+no_sign sign none = grind arith
 
 module _ (model : Model) (s : Specification) (signed : is_signed s.conv ≡ true) where
   pub signed_reduced : (p : Padding) (sign : Sign) (precision : ℕ) → (is_zero_filled s ≡ true → (1 ≤ sign_length (sign_of s.flags)) ⊎ (width_of s ≤ 1))

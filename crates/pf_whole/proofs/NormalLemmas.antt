@@ -44,12 +44,7 @@ pub record SameConversion (before after : Conversion) : Type 0 where
   pub count : is_count after ≡ is_count before
 
 pub same_conversion : (conversion : Conversion) → SameConversion conversion (kept_conversion conversion)
-same_conversion (Profile convs.D) = record
-    { again = refl; integer = refl; sign = refl; general = refl; meant = refl; alt = refl; zero_flag = refl; precision = refl; count = refl }
-same_conversion (Profile _) = record
-    { again = refl; integer = refl; sign = refl; general = refl; meant = refl; alt = refl; zero_flag = refl; precision = refl; count = refl }
-same_conversion _ = record
-    { again = refl; integer = refl; sign = refl; general = refl; meant = refl; alt = refl; zero_flag = refl; precision = refl; count = refl }
+same_conversion conversion = grind arith
 
 -- modifiers
 kept_again : (model : Model) (length : Length) → kept_length model (kept_length model length) ≡ kept_length model length
@@ -75,12 +70,7 @@ modifier_again model Count modifier = integer_again model modifier
 
 -- types
 counted_again : (model : Model) (length : Length) → counted_type model (kept_length model length) ≡ counted_type model length
-counted_again Lp64 lengths.Hh = refl
-counted_again Lp64 _ = refl
-counted_again Ilp32 lengths.Hh = refl
-counted_again Ilp32 _ = refl
-counted_again Llp64 lengths.Hh = refl
-counted_again Llp64 _ = refl
+counted_again model length = grind arith
 
 kind_again : (model : Model) (kind : Kind) (modifier : Modifier)
     → kind_type model kind (integer_length (if prints_text kind then modifier else integer_modifier model modifier))
@@ -114,10 +104,7 @@ pub record SamePrecision (conversion : Conversion) (before after : Option Amount
   pub fetched : star_fetches after ≡ star_fetches before
 
 general_means : (conversion : Conversion) → is_general conversion ≡ true → meant_precision conversion ≡ Some 6
-general_means (Float floats.G) e = refl
-general_means (Float floats.UpperG) e = refl
-general_means (Float _) e = cc
-general_means _ e = cc
+general_means conversion e = grind arith
 
 given_same : (conversion : Conversion) (n : ℕ) → SamePrecision conversion (Some (Given n)) (given_precision conversion n)
 given_same conversion n = go (is_amount (meant_precision conversion) n) (is_general conversion && n == 0) refl refl where

@@ -1,5 +1,5 @@
 -- Where no fault is found, a required argument of the subcommand has a value.
-use Rattle.std.proofs.Common.{◌≡◌, ◌∙◌, ◌+◌, ◌++◌, ◌&&◌, ◌||◌, ℕ, List, [], ◌∷◌, Bool, cond, true, false, not, Option, Some, None, is_some, refl, sym, ap, ap₂}
+use Rattle.std.proofs.Common.{arith, ◌≡◌, ◌∙◌, ◌+◌, ◌++◌, ◌&&◌, ◌||◌, ℕ, List, [], ◌∷◌, Bool, cond, true, false, not, Option, Some, None, is_some, refl, sym, ap, ap₂}
 use Rattle.std.proofs.Common.{find, drop, length, min, nat_lt, option_map, unwrap_or, zero, suc}
 use Rattle.std.specs.Prelude.{encode_utf8, option_and_then, slice_get}
 use Rattle.std.specs.List.{fold, list_all, list_any}
@@ -59,8 +59,7 @@ found_passes p test (x ∷ xs) e = go (test x) (found_passes p test xs (both _ _
     go false rest = rest
 
 implied : (a b : Bool) → (not a || b) ≡ true → a ≡ true → b ≡ true
-implied true b e h = e
-implied false b e h = absurd (cc)
+implied a b e g = grind arith
 
 -- ---- rows
 
@@ -87,12 +86,10 @@ longer true [] ys e = absurd (cc)
 longer true (x ∷ xs) ys e = refl
 
 alone : (b : Bool) → b ≡ true → (b && true) ≡ true
-alone true e = refl
-alone false e = e
+alone b e = grind arith
 
 filled : (b : Bool) → (not b || true) ≡ true
-filled true = refl
-filled false = refl
+filled b = grind arith
 
 module _ (id : Text) where
   with_values_has : (key : Text) (how : Reading) (s : ValueSource) (values : List Text) (rows : List Row)
@@ -315,15 +312,11 @@ module _ (id : Text) (s : Shape) (wants : list_all (wants_value id) s.rules ≡ 
 
 -- the last checks miss no argument
 unmet : (help sub missing : Bool) → check_kinds help sub missing ≡ [] → missing ≡ false
-unmet true sub missing e = absurd (cc)
-unmet false true missing e = absurd (cc)
-unmet false false true e = absurd (cc)
-unmet false false false e = refl
+unmet help sub missing e = grind arith
 
 -- with no subcommand below, nothing lifts what is required
 negated : (negates missing : Bool) → (not (negates && false) && missing) ≡ false → missing ≡ false
-negated true missing e = e
-negated false missing e = e
+negated negates missing e = grind arith
 
 -- what is required is given
 required_is_given : (id : Text) (rows : List Row) (rules : List Rule) → list_any (λ a. a.required && not (is_given a.id rows)) rules ≡ false
@@ -386,13 +379,10 @@ required_has_value a words name id rows requires no_fault asked =
         (found_passes (requires_value name id) _ (built a).subs requires) e asked
 
 asked_for : (has required : Bool) → (not has && required) ≡ false → required ≡ true → has ≡ true
-asked_for true required none e = refl
-asked_for false required none e = absurd (cc)
+asked_for has required e g = grind arith
 
 wanted : (help sub missing : Bool) → check_kinds help sub missing ≡ [] → sub ≡ false
-wanted true sub missing e = absurd (cc)
-wanted false true missing e = absurd (cc)
-wanted false false missing e = refl
+wanted help sub missing e = grind arith
 
 -- where no fault is found, a subcommand that is required is named
 pub required_is_named : (a : App) (words : List Text) → (built a).top.subcommand_required ≡ true → fault_of a words ≡ []
