@@ -1,4 +1,4 @@
--- What a call answers in the data model with a number.
+-- The result of a call in the data model with a number.
 use Rattle.std.proofs.Common.{◌≡◌, ◌∙◌, ℤ, Some, ap, of_z, subst, to_z}
 use Rattle.std.specs.Int.{w32}
 use Rattle.std.specs.Prelude.{FitsSigned, MatchOption}

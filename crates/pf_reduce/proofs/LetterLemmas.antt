@@ -1,5 +1,5 @@
 -- Directives that are reduced to themselves with other letters, or with a precision in place of a width.
-use Rattle.std.proofs.Common.{◌≡◌, ◌≢◌, ℕ, zero, suc, ◌+◌, ◌≤◌, max, Bool, true, false, Option, Some, None, ◌++◌, refl, sym, ap, ◌∙◌, subst, arith, ℤ, inl, inr}
+use Rattle.std.proofs.Common.{◌≡◌, ◌≢◌, ℕ, ◌+◌, ◌≤◌, max, Bool, true, false, Option, None, ◌++◌, refl, sym, ap, ◌∙◌, subst, arith, ℤ, inl, inr}
 use Rattle.std.specs.Prelude.{MatchBool, nat_abs, unwrap_or}
 use Rattle.std.proofs.lemmas.List.{append-nil}
 use Rattle.pf_values.specs.declared.bases.Alternative.{Alternative}

@@ -3,7 +3,7 @@ use Rattle.std.proofs.Common.{◌≡◌, ◌≢◌, ℕ, ◌+◌, ◌<◌, ◌�
 use Rattle.std.specs.Prelude.{MatchBool}
 use Rattle.pf_values.specs.declared.bases.Alternative.TheVariants.{Raised, Prefixed}
 use Rattle.pf_values.specs.declared.conversions.Conv.{Conv}
-use Rattle.pf_values.specs.declared.conversions.Conv.TheVariants.{I, U, O, X, UpperX, B}
+use Rattle.pf_values.specs.declared.conversions.Conv.TheVariants.{U, O, X, UpperX, B}
 use Rattle.pf_values.specs.declared.flags.Flag.TheVariants.{Alt, Group, Minus, Plus, Space, Zero}
 use Rattle.pf_values.specs.declared.flags.FlagSet.{FlagSet}
 use Rattle.pf_values.specs.declared.lengths.Length.{Length}

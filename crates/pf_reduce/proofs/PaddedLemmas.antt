@@ -2,11 +2,10 @@
 use Rattle.std.proofs.Common.{◌≡◌, ℕ, zero, suc, ◌+◌, ◌-◌, ◌<◌, ◌≤◌, max, min, Bool, true, false, Some, None, refl, sym, ap, ◌∙◌, subst, arith}
 use Rattle.std.specs.Prelude.{if◌then◌else◌}
 use Rattle.pf_values.specs.declared.conversions.Conv.{Conv}
-use Rattle.pf_values.specs.declared.conversions.Conv.TheVariants.{C, S}
 use Rattle.pf_values.specs.declared.flags.Flag.TheVariants.{Minus, Zero}
 use Rattle.pf_values.specs.declared.models.Model.{Model}
 use Rattle.pf_values.specs.meaning.Conversions.{is_signed, is_text}
-use Rattle.pf_values.specs.meaning.DataModel.{Bits, B8, B16, B32, B64, bits_under, most_digits}
+use Rattle.pf_values.specs.meaning.DataModel.{Bits, bits_under, most_digits}
 use Rattle.pf_values.specs.meaning.Flags.{has, no_flags}
 use Rattle.pf_values.specs.meaning.Normal.{IsNormal, digits_at_most, sign_len}
 use Rattle.pf_values.specs.meaning.Printing.{is_zero_filled}

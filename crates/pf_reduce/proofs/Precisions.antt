@@ -1,5 +1,5 @@
 -- The precision with which a directive prints, and with which a core does.
-use Rattle.std.proofs.Common.{◌≡◌, ℕ, zero, suc, ◌-◌, ◌≤◌, max, Bool, true, false, ◌++◌, length, refl, sym, ap, ◌∙◌, arith, inl, inr, ℤ}
+use Rattle.std.proofs.Common.{◌≡◌, ℕ, ◌-◌, ◌≤◌, max, Bool, true, false, ◌++◌, length, refl, sym, ap, ◌∙◌, arith, inl, inr, ℤ}
 use Rattle.std.specs.Prelude.{nat_abs, not, ◌&&◌, ◌⊎◌, if◌then◌else◌, unwrap_or}
 use Rattle.std.proofs.lemmas.Bool.Decides.{nat_tests}
 use Rattle.pf_values.specs.declared.flags.Flag.TheVariants.{Alt, Minus, Zero}

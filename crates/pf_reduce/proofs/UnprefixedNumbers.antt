@@ -5,9 +5,6 @@ use Rattle.std.specs.Prelude.{nat_abs, ◌&&◌}
 use Rattle.std.specs.Fmt.{digit_glyph}
 use Rattle.std.specs.Int.Digits.{digits_of}
 use Rattle.std.proofs.lemmas.List.{replicate-append-replicate}
-use Rattle.pf_values.specs.declared.bases.Alternative.{Alternative}
-use Rattle.pf_values.specs.declared.bases.Alternative.TheVariants.{Undefined, Raised, Prefixed}
-use Rattle.pf_values.specs.declared.bases.Base.{Base}
 use Rattle.pf_values.specs.declared.bases.Base.TheVariants.{Octal}
 use Rattle.pf_values.specs.declared.conversions.Conv.{Conv}
 use Rattle.pf_values.specs.declared.conversions.Conv.TheVariants.{O}
@@ -16,7 +13,7 @@ use Rattle.pf_values.specs.declared.conversions.Kind.TheVariants as kinds
 use Rattle.pf_values.specs.declared.flags.Flag.TheVariants.{Alt}
 use Rattle.pf_values.specs.declared.limits.TheConstants.{MAX_NUMBER}
 use Rattle.pf_values.specs.declared.models.Model.{Model}
-use Rattle.pf_values.specs.meaning.Bases.{alternative_of, number_of}
+use Rattle.pf_values.specs.meaning.Bases.{number_of}
 use Rattle.pf_values.specs.meaning.Conversions.{
   base_of,
   base_under,
@@ -32,7 +29,7 @@ use Rattle.pf_values.specs.meaning.DataModel.{bits_under}
 use Rattle.pf_values.specs.meaning.Flags.{has, no_flags, with_flag}
 use Rattle.pf_values.specs.meaning.Normal.{digits_at_most}
 use Rattle.pf_values.specs.Directives.{effective_precision}
-use Rattle.pf_values.specs.meaning.Printing.{front_under, prefix_under, sign_or_prefix}
+use Rattle.pf_values.specs.meaning.Printing.{front_under, sign_or_prefix}
 use Rattle.pf_values.specs.meaning.Specification.{Specification}
 use Rattle.pf_values.specs.meaning.Text.{Text, zero_digit}
 use Rattle.pf_values.proofs.Counts.{count-le}
@@ -56,10 +53,6 @@ pub length-digits_text : (conv : Conv) (precision n : ℕ)
 length-digits_text conv precision n =
     let zeros = precision - count_of (base_of conv) n in
     omega (arith, length-zero_digits (base_of conv) (is_upper conv) zeros n)
-
-no_prefix_under : (form : Alternative) (base : Base) (capitals : Bool) (s : Specification) (v : ℤ)
-    → has s.flags Alt ≡ false → prefix_under form base capitals s v ≡ []
-no_prefix_under form base capitals s v alt = grind arith
 
 no_front : (k : Kind) (s : Specification) (v : ℤ) → prints_signed k ≡ false
     → has s.flags Alt ≡ false → front_under k s v ≡ []

@@ -32,7 +32,7 @@ sign_text signs.Plus false = codes "+"
 sign_text signs.Space false = codes " "
 
 -- The largest width at which the side makes no visible difference to a number: with precision 0 it prints only spaces,
--- or at least so many bytes, and otherwise it fills such a width.
+-- or at least `least` bytes, and otherwise it fills such a width.
 abbrev pub unseen_width : ℕ → ℕ → ℕ
 unseen_width zero least = least
 unseen_width (suc precision) least = 0

@@ -134,7 +134,7 @@ pub(crate) fn is_normal_unprefixed(model: Model, directive: &Directive) -> bool
     has_digits(model, directive, width)
 }
 
-// Whether the number may have so many digits. All may have one.
+// Whether the count is not above the most digits. Every number has a digit.
 #[inline(always)]
 fn has_digits(model: Model, directive: &Directive, count: u16) -> bool
     requires { is_text directive.now.conv ≡ false }

@@ -2,15 +2,12 @@
 -- are its normal parts, and they take arguments of the same types.
 use Rattle.std.proofs.Common.{◌≡◌, ℕ, Bool, true, false, refl, ap, ◌∙◌, arith}
 use Rattle.std.specs.Prelude.{Option, Some, None, is_some, not, ◌&&◌, ◌||◌, ◌==◌, if◌then◌else◌}
-use Rattle.pf_values.specs.declared.conversions.Conv.TheVariants as convs
 use Rattle.pf_values.specs.declared.conversions.Kind.{Kind}
 use Rattle.pf_values.specs.declared.conversions.Kind.TheVariants as kinds
 use Rattle.pf_values.specs.declared.flags.FlagSet.{FlagSet}
 use Rattle.pf_values.specs.declared.flags.Flag.TheVariants.{Minus, Plus, Space, Zero}
 use Rattle.pf_values.specs.declared.lengths.Length.{Length}
-use Rattle.pf_values.specs.declared.lengths.Length.TheVariants as lengths
 use Rattle.pf_values.specs.declared.models.Model.{Model}
-use Rattle.pf_values.specs.declared.models.Model.TheVariants.{Lp64, Ilp32, Llp64}
 use Rattle.pf_values.specs.meaning.Conversions.{is_text, kept_conv, kind_of, prints_text}
 use Rattle.pf_values.specs.meaning.DataModel.{kept_length}
 use Rattle.pf_values.specs.meaning.Flags.{has}
@@ -19,7 +16,6 @@ use Rattle.pf_values.proofs.DataModelLemmas.{kept_row}
 use Rattle.pf_reduce.proofs.CarriedIntegers.{kept_kind}
 use Rattle.pf_posix.specs.declared.conversions.Conversion.{Conversion}
 use Rattle.pf_posix.specs.declared.conversions.Conversion.TheVariants.{Profile, Float, UpperC, UpperS, Pointer, Count}
-use Rattle.pf_posix.specs.declared.conversions.Floating.TheVariants as floats
 use Rattle.pf_posix.specs.declared.conversions.Modifier.{Modifier}
 use Rattle.pf_posix.specs.declared.conversions.Modifier.TheVariants.{Integer, LongDouble}
 use Rattle.pf_posix.specs.Defined.{is_count, takes_alt, takes_modifier, takes_precision, takes_zero}
