@@ -102,23 +102,11 @@ refusal_within Unnumbered model bytes refusal h = unnumbered_within model bytes 
 
 format_of_bytes : (language : Language) (model : Model) (bytes : Text) (fault : Fault)
     → IsFormatFault language model bytes fault → IsOfBytes bytes fault
-format_of_bytes language model bytes (Refused None refusal) h = refusal_within language model bytes refusal h
-format_of_bytes language model bytes (Refused (Some side) refusal) h = h
-format_of_bytes language model bytes (BadLiteral side refusal) h = h
-format_of_bytes language model bytes (BadWord index) h = tt
-format_of_bytes language model bytes (WrongCount wanted given) h = tt
-format_of_bytes language model bytes (WrongType index) h = tt
-format_of_bytes language model bytes Memory h = tt
+format_of_bytes language model bytes fault h = grind (arith, refusal_within)
 
 arguments_of_bytes : (model : Model) (words : List Text) (bytes : Text) (fault : Fault)
     → IsArgumentFault model bytes words fault → IsOfBytes bytes fault
-arguments_of_bytes model words bytes (Refused None refusal) h = refused_within bytes refusal.kind refusal.at h
-arguments_of_bytes model words bytes (Refused (Some side) refusal) h = h
-arguments_of_bytes model words bytes (BadLiteral side refusal) h = h
-arguments_of_bytes model words bytes (BadWord index) h = tt
-arguments_of_bytes model words bytes (WrongCount wanted given) h = tt
-arguments_of_bytes model words bytes (WrongType index) h = tt
-arguments_of_bytes model words bytes Memory h = tt
+arguments_of_bytes model words bytes fault h = grind (arith, refused_within)
 
 -- no fault of a question about bytes is one of literals
 pub one_of_bytes : (question : OneQuestion) (model : Model) (bytes : Text) (fault : Fault)
