@@ -13,7 +13,7 @@ use Rattle.pf_values.specs.meaning.DataModel.{kept_length}
 use Rattle.pf_values.specs.meaning.Flags.{has}
 use Rattle.pf_values.specs.meaning.Lengths.{is_absent, is_long}
 use Rattle.pf_values.proofs.DataModelLemmas.{kept_row}
-use Rattle.pf_reduce.proofs.CarriedIntegers.{kept_kind}
+use Rattle.pf_reduce.proofs.CarriedIntegers.{kept_kind, kept_text}
 use Rattle.pf_posix.specs.declared.conversions.Conversion.{Conversion}
 use Rattle.pf_posix.specs.declared.conversions.Conversion.TheVariants.{Profile, Float, UpperC, UpperS, Pointer, Count}
 use Rattle.pf_posix.specs.declared.conversions.Modifier.{Modifier}
@@ -52,17 +52,7 @@ integer_again model LongDouble = refl
 
 modifier_again : (model : Model) (conversion : Conversion) (modifier : Modifier)
     → kept_modifier model (kept_conversion conversion) (kept_modifier model conversion modifier) ≡ kept_modifier model conversion modifier
-modifier_again model (Profile conv) modifier = go (is_text conv) refl where
-  go : (b : Bool) → is_text conv ≡ b → (if is_text (kept_conv conv) then (if b then modifier else integer_modifier model modifier) else integer_modifier model
-      (if b then modifier else integer_modifier model modifier)) ≡ (if b then modifier else integer_modifier model modifier)
-  go true e = let same : is_text (kept_conv conv) ≡ true = ap prints_text (kept_kind conv) ∙ e in rw same refl
-  go false e = let same : is_text (kept_conv conv) ≡ false = ap prints_text (kept_kind conv) ∙ e in rw same (integer_again model modifier)
-modifier_again model (Float floating) (Integer length) = refl
-modifier_again model (Float floating) LongDouble = refl
-modifier_again model UpperC modifier = refl
-modifier_again model UpperS modifier = refl
-modifier_again model Pointer modifier = refl
-modifier_again model Count modifier = integer_again model modifier
+modifier_again model conversion modifier = grind (arith, integer_again, kept_text)
 
 -- types
 counted_again : (model : Model) (length : Length) → counted_type model (kept_length model length) ≡ counted_type model length
@@ -71,25 +61,11 @@ counted_again model length = grind arith
 kind_again : (model : Model) (kind : Kind) (modifier : Modifier)
     → kind_type model kind (integer_length (if prints_text kind then modifier else integer_modifier model modifier))
     ≡ kind_type model kind (integer_length modifier)
-kind_again model kinds.Signed (Integer length) = ap (λ row. widened row.signed) (kept_row model length)
-kind_again model kinds.Signed LongDouble = refl
-kind_again model (kinds.Unsigned base capitals) (Integer length) = ap (λ row. widened row.unsigned) (kept_row model length)
-kind_again model (kinds.Unsigned base capitals) LongDouble = refl
-kind_again model kinds.Char modifier = refl
-kind_again model kinds.String modifier = refl
+kind_again model kind modifier = grind (arith, kept_row)
 
 type_again : (model : Model) (conversion : Conversion) (modifier : Modifier)
     → conversion_type model (kept_modifier model conversion modifier) (kept_conversion conversion) ≡ conversion_type model modifier conversion
-type_again model (Profile conv) modifier =
-    ap (λ kind. kind_type model kind (integer_length (if prints_text (kind_of conv) then modifier else integer_modifier model modifier))) (kept_kind conv)
-    ∙ kind_again model (kind_of conv) modifier
-type_again model (Float floating) (Integer length) = refl
-type_again model (Float floating) LongDouble = refl
-type_again model UpperC modifier = refl
-type_again model UpperS modifier = refl
-type_again model Pointer modifier = refl
-type_again model Count (Integer length) = counted_again model length
-type_again model Count LongDouble = refl
+type_again model conversion modifier = grind (arith, kind_again, kept_kind, counted_again)
 
 -- precisions
 pub record SamePrecision (conversion : Conversion) (before after : Option Amount) : Type 0 where
@@ -120,9 +96,7 @@ precision_same conversion (Some (Fetched number)) = record { again = refl; given
 
 precision_for : (a b : Conversion) (precision : Option Amount) → meant_precision a ≡ meant_precision b → is_general a ≡ is_general b
     → normal_precision a precision ≡ normal_precision b precision
-precision_for a b None h g = refl
-precision_for a b (Some (Given n)) h g = rw (h, g) refl
-precision_for a b (Some (Fetched number)) h g = refl
+precision_for a b precision h g = grind arith
 
 -- flags
 both_again : (a b : Bool) → ((a && b) && b) ≡ (a && b)
@@ -178,16 +152,7 @@ types_again model s =
 -- opaque
 outside_again : (model : Model) (conversion : Conversion) (modifier : Modifier) → is_outside conversion modifier ≡ true
     → is_outside (kept_conversion conversion) (kept_modifier model conversion modifier) ≡ true
-outside_again model (Profile conv) modifier e = go (is_text conv) refl e where
-  go : (b : Bool) → is_text conv ≡ b → (b && is_long (integer_length modifier)) ≡ true
-      → (is_text (kept_conv conv) && is_long (integer_length (if b then modifier else integer_modifier model modifier))) ≡ true
-  go true h e = let same : is_text (kept_conv conv) ≡ true = ap prints_text (kept_kind conv) ∙ h in rw same e
-  go false h e = cc
-outside_again model (Float floating) modifier e = refl
-outside_again model UpperC modifier e = refl
-outside_again model UpperS modifier e = refl
-outside_again model Pointer modifier e = refl
-outside_again model Count modifier e = refl
+outside_again model conversion modifier e = grind (arith, kept_text)
 
 one_of : (a b c d : Bool) → (a || b || c) ≡ true → (c ≡ true → d ≡ true) → (a || b || d) ≡ true
 one_of a b c d e h = grind arith
@@ -200,19 +165,7 @@ opaque_again model s e =
 
 pub modifier_stands : (model : Model) (conversion : Conversion) (modifier : Modifier) → not (takes_modifier conversion modifier) ≡ false
     → not (takes_modifier (kept_conversion conversion) (kept_modifier model conversion modifier)) ≡ false
-modifier_stands model (Profile conv) LongDouble e = cc
-modifier_stands model (Profile conv) (Integer length) e = go (is_text conv) refl e where
-  go : (b : Bool) → is_text conv ≡ b → not (not b || is_absent length || is_long length) ≡ false
-      → not (takes_modifier (Profile (kept_conv conv)) (if b then Integer length else Integer (kept_length model length))) ≡ false
-  go true h e = let same : is_text (kept_conv conv) ≡ true = ap prints_text (kept_kind conv) ∙ h in rw same e
-  go false h e = let same : is_text (kept_conv conv) ≡ false = ap prints_text (kept_kind conv) ∙ h in rw same refl
-modifier_stands model (Float floating) (Integer length) e = refl
-modifier_stands model (Float floating) LongDouble e = refl
-modifier_stands model UpperC modifier e = refl
-modifier_stands model UpperS modifier e = refl
-modifier_stands model Pointer modifier e = e
-modifier_stands model Count (Integer length) e = refl
-modifier_stands model Count LongDouble e = cc
+modifier_stands model conversion modifier e = grind (arith, kept_text)
 
 pub less : (z w m i t : Bool) → (z && not t) ≡ false → ((z && w && m && i) && not t) ≡ false
 less z w m i t e = grind arith
