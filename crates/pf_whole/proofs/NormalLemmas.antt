@@ -47,8 +47,7 @@ kept_again : (model : Model) (length : Length) → kept_length model (kept_lengt
 kept_again model length = ap (λ row. row.kept) (kept_row model length)
 
 integer_again : (model : Model) (modifier : Modifier) → integer_modifier model (integer_modifier model modifier) ≡ integer_modifier model modifier
-integer_again model (Integer length) = ap Integer (kept_again model length)
-integer_again model LongDouble = refl
+integer_again model modifier = grind (arith, kept_again)
 
 modifier_again : (model : Model) (conversion : Conversion) (modifier : Modifier)
     → kept_modifier model (kept_conversion conversion) (kept_modifier model conversion modifier) ≡ kept_modifier model conversion modifier
@@ -79,20 +78,10 @@ general_means : (conversion : Conversion) → is_general conversion ≡ true →
 general_means conversion e = grind arith
 
 given_same : (conversion : Conversion) (n : ℕ) → SamePrecision conversion (Some (Given n)) (given_precision conversion n)
-given_same conversion n = go (is_amount (meant_precision conversion) n) (is_general conversion && n == 0) refl refl where
-  go : (b c : Bool) → is_amount (meant_precision conversion) n ≡ b → (is_general conversion && n == 0) ≡ c
-      → SamePrecision conversion (Some (Given n)) (if b then None else (if c then Some (Given 1) else Some (Given n)))
-  go true c h g = record { again = refl; given = λ e. cc; star = refl; some = λ e. cc; fetched = refl }
-  go false true h g = record { again = one (is_general conversion) refl g; given = λ e. cc; star = refl; some = λ e. cc; fetched = refl } where
-    one : (d : Bool) → is_general conversion ≡ d → (is_general conversion && n == 0) ≡ true → given_precision conversion 1 ≡ Some (Given 1)
-    one true e g = let meant = general_means conversion e in rw (meant, e) refl
-    one false e g = let no : (false && n == 0) ≡ true = rw e at g in cc
-  go false false h g = record { again = rw (h, g) refl; given = λ e. e; star = refl; some = λ e. e; fetched = refl }
+given_same conversion n = grind (arith, general_means)
 
 pub precision_same : (conversion : Conversion) (precision : Option Amount) → SamePrecision conversion precision (normal_precision conversion precision)
-precision_same conversion None = record { again = refl; given = λ e. e; star = refl; some = λ e. e; fetched = refl }
-precision_same conversion (Some (Given n)) = given_same conversion n
-precision_same conversion (Some (Fetched number)) = record { again = refl; given = λ e. e; star = refl; some = λ e. e; fetched = refl }
+precision_same conversion precision = grind (arith, given_same)
 
 precision_for : (a b : Conversion) (precision : Option Amount) → meant_precision a ≡ meant_precision b → is_general a ≡ is_general b
     → normal_precision a precision ≡ normal_precision b precision
@@ -154,14 +143,8 @@ outside_again : (model : Model) (conversion : Conversion) (modifier : Modifier) 
     → is_outside (kept_conversion conversion) (kept_modifier model conversion modifier) ≡ true
 outside_again model conversion modifier e = grind (arith, kept_text)
 
-one_of : (a b c d : Bool) → (a || b || c) ≡ true → (c ≡ true → d ≡ true) → (a || b || d) ≡ true
-one_of a b c d e h = grind arith
-
 pub opaque_again : (model : Model) (s : PosixSpecification) → is_opaque s ≡ true → is_opaque (normal_parts model s) ≡ true
-opaque_again model s e =
-    let precision = precision_same s.conversion s.precision in
-    ap (λ b. is_star s.width || b || is_outside (kept_conversion s.conversion) (kept_modifier model s.conversion s.modifier)) precision.star
-    ∙ one_of (is_star s.width) (is_star s.precision) (is_outside s.conversion s.modifier) _ e (outside_again model s.conversion s.modifier)
+opaque_again model s e = grind (arith, precision_same, outside_again)
 
 pub modifier_stands : (model : Model) (conversion : Conversion) (modifier : Modifier) → not (takes_modifier conversion modifier) ≡ false
     → not (takes_modifier (kept_conversion conversion) (kept_modifier model conversion modifier)) ≡ false
@@ -172,7 +155,3 @@ less z w m i t e = grind arith
 
 pub fewer_some : (p q t : Bool) → (p ≡ false → q ≡ false) → (p && not t) ≡ false → (q && not t) ≡ false
 fewer_some p q t h e = grind arith
-
-pub no_flags_left : (m p s a z g w q r : Bool) (x n y u v k : Bool) → (q ≡ false → r ≡ false) → ((m || p || s || a || z || g) || w || q) ≡ false
-    → (((m && w) || (p && x) || (s && n && y) || a || (z && u && v && k) || false) || w || r) ≡ false
-no_flags_left m p s a z g w q r x n y u v k h e = grind arith

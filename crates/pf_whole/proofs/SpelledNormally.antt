@@ -51,13 +51,7 @@ few_of t (Some (Given n)) h = h.1
 few_of t (Some (Fetched number)) h = h.1.numbering
 
 few_kept : (conversion : Conversion) (precision : Option Amount) → IsFew precision → IsFew (normal_precision conversion precision)
-few_kept conversion None h = tt
-few_kept conversion (Some (Given n)) h = go (is_amount (meant_precision conversion) n) (is_general conversion && n == 0) where
-  go : (b c : Bool) → IsFew (if b then None else (if c then Some (Given 1) else Some (Given n)))
-  go true c = tt
-  go false true = omega arith
-  go false false = h
-few_kept conversion (Some (Fetched number)) h = h
+few_kept conversion precision h = grind arith
 
 precision_here : (precision : Option Amount) → IsFew precision → SpellsPosixPrecision (posix_precision_spelled precision) None precision
 precision_here None h = refl
@@ -91,15 +85,7 @@ spelled_normally model t s h =
 
 counted : (model : Model) (s : PosixSpecification) → (is_count s.conversion && (has_any_flag s.flags || is_some s.width || is_some s.precision)) ≡ false
     → (is_count s.conversion && (has_any_flag (kept_flags s) || is_some s.width || is_some (normal_precision s.conversion s.precision))) ≡ false
-counted model s e = go (is_count s.conversion) e where
-  go : (b : Bool) → (b && (has_any_flag s.flags || is_some s.width || is_some s.precision)) ≡ false
-      → (b && (has_any_flag (kept_flags s) || is_some s.width || is_some (normal_precision s.conversion s.precision))) ≡ false
-  go true e = no_flags_left (has s.flags Minus) (has s.flags Plus) (has s.flags Space) (has s.flags Alt) (has s.flags Zero) (has s.flags Group)
-      (is_some s.width) (is_some s.precision) (is_some (normal_precision s.conversion s.precision))
-      (keeps_sign s.conversion) (not (has s.flags Plus)) (keeps_sign s.conversion) (is_some s.width) (not (has s.flags Minus))
-      (not (is_integer s.conversion && is_given s.precision))
-      (precision_same s.conversion s.precision).some e
-  go false e = refl
+counted model s e = grind (arith, precision_same)
 
 defined_normally : (model : Model) (s : PosixSpecification) → IsPosixDefined s → IsPosixDefined (normal_parts model s)
 defined_normally model s h =
