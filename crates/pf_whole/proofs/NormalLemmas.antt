@@ -1,30 +1,26 @@
 -- The parts of a normal spelling are their own normal parts. If a directive is defined and opaque, so
 -- are its normal parts, and they take arguments of the same types.
 use Rattle.std.proofs.Common.{◌≡◌, ℕ, Bool, true, false, refl, ap, ◌∙◌, arith}
-use Rattle.std.specs.Prelude.{Option, Some, None, is_some, not, ◌&&◌, ◌||◌, ◌==◌, if◌then◌else◌}
+use Rattle.std.specs.Prelude.{Option, Some, is_some, not, ◌&&◌, if◌then◌else◌}
 use Rattle.pf_values.specs.declared.conversions.Kind.{Kind}
-use Rattle.pf_values.specs.declared.conversions.Kind.TheVariants as kinds
 use Rattle.pf_values.specs.declared.flags.FlagSet.{FlagSet}
 use Rattle.pf_values.specs.declared.flags.Flag.TheVariants.{Minus, Plus, Space, Zero}
 use Rattle.pf_values.specs.declared.lengths.Length.{Length}
 use Rattle.pf_values.specs.declared.models.Model.{Model}
-use Rattle.pf_values.specs.meaning.Conversions.{is_text, kept_conv, kind_of, prints_text}
+use Rattle.pf_values.specs.meaning.Conversions.{prints_text}
 use Rattle.pf_values.specs.meaning.DataModel.{kept_length}
 use Rattle.pf_values.specs.meaning.Flags.{has}
-use Rattle.pf_values.specs.meaning.Lengths.{is_absent, is_long}
 use Rattle.pf_values.proofs.DataModelLemmas.{kept_row}
 use Rattle.pf_reduce.proofs.CarriedIntegers.{kept_kind, kept_text}
 use Rattle.pf_posix.specs.declared.conversions.Conversion.{Conversion}
-use Rattle.pf_posix.specs.declared.conversions.Conversion.TheVariants.{Profile, Float, UpperC, UpperS, Pointer, Count}
 use Rattle.pf_posix.specs.declared.conversions.Modifier.{Modifier}
-use Rattle.pf_posix.specs.declared.conversions.Modifier.TheVariants.{Integer, LongDouble}
 use Rattle.pf_posix.specs.Defined.{is_count, takes_alt, takes_modifier, takes_precision, takes_zero}
-use Rattle.pf_posix.specs.Specifications.{Amount, Given, Fetched, PosixSpecification}
-use Rattle.pf_posix.specs.Types.{conversion_type, counted_type, integer_length, kind_type, star_fetches, widened}
+use Rattle.pf_posix.specs.Specifications.{Amount, Given, PosixSpecification}
+use Rattle.pf_posix.specs.Types.{conversion_type, counted_type, integer_length, kind_type, star_fetches}
 use Rattle.pf_posix.specs.Opaque.{is_opaque, is_outside, is_star}
 use Rattle.pf_posix.specs.Stretches.{types_of_opaque}
 use Rattle.pf_posix.proofs.SpecificationsOnce.{same_fields}
-use Rattle.pf_whole.specs.meaning.NormalSpellings.{given_precision, integer_modifier, is_amount, is_general, is_given, is_integer, keeps_sign, kept_conversion}
+use Rattle.pf_whole.specs.meaning.NormalSpellings.{given_precision, integer_modifier, is_general, is_given, is_integer, keeps_sign, kept_conversion}
 use Rattle.pf_whole.specs.meaning.NormalSpellings.{kept_flags, kept_modifier, normal_precision, meant_precision, normal_parts}
 
 -- conversions

@@ -1,8 +1,8 @@
 -- A normal spelling spells the normal parts.
-use Rattle.std.proofs.Common.{◌≡◌, ℕ, ◌≤◌, Bool, true, false, [], ◌∷◌, ◌++◌, map, refl, sym, ap, ◌∙◌, arith, subst}
-use Rattle.std.specs.Prelude.{Option, Some, None, is_some, not, ◌&&◌, ◌||◌, ◌==◌, filter, if◌then◌else◌, ⊤}
+use Rattle.std.proofs.Common.{◌≡◌, ℕ, ◌≤◌, false, [], ◌∷◌, ◌++◌, map, refl, sym, ap, ◌∙◌, arith, subst}
+use Rattle.std.specs.Prelude.{Option, Some, None, is_some, not, ◌&&◌, ◌||◌, filter, ⊤}
 use Rattle.std.specs.Int.Digits.{digits_of}
-use Rattle.pf_values.specs.declared.flags.Flag.TheVariants.{Minus, Plus, Space, Alt, Zero, Group}
+use Rattle.pf_values.specs.declared.flags.Flag.TheVariants.{Minus, Alt, Zero}
 use Rattle.pf_values.specs.declared.limits.TheConstants.{MAX_NUMBER}
 use Rattle.pf_values.specs.declared.models.Model.{Model}
 use Rattle.pf_values.specs.meaning.Flags.{all_flags, flag_byte, has}
@@ -16,10 +16,10 @@ use Rattle.pf_posix.specs.Spelling.{SpellsPosition, SpellsPosix, SpellsPosixPrec
 use Rattle.pf_posix.specs.Opaque.{SpellsOpaque}
 use Rattle.pf_posix.proofs.DefinedLemmas.{is_defined, no_reason}
 use Rattle.pf_posix.proofs.SpecificationsOnce.{HasParts, no_number, parts_of}
-use Rattle.pf_whole.specs.meaning.NormalSpellings.{is_amount, is_general, is_given, is_integer, keeps_sign, kept_conversion, kept_flags, kept_modifier}
-use Rattle.pf_whole.specs.meaning.NormalSpellings.{normal_precision, meant_precision, normal_parts, normal_spelling, posix_precision_spelled}
+use Rattle.pf_whole.specs.meaning.NormalSpellings.{is_given, is_integer, kept_conversion, kept_flags, kept_modifier}
+use Rattle.pf_whole.specs.meaning.NormalSpellings.{normal_precision, normal_parts, normal_spelling, posix_precision_spelled}
 use Rattle.pf_whole.specs.meaning.NormalSpellings.{posix_width_spelled}
-use Rattle.pf_whole.proofs.NormalLemmas.{fewer_some, less, modifier_stands, no_flags_left, opaque_again, precision_same, same_conversion}
+use Rattle.pf_whole.proofs.NormalLemmas.{fewer_some, less, modifier_stands, opaque_again, precision_same, same_conversion}
 
 none_placed : (number : Option ℕ) → number ≡ None → SpellsPosition [] number
 none_placed None e = refl
