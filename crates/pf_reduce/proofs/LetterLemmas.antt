@@ -37,26 +37,13 @@ use Rattle.pf_reduce.proofs.TextCores.{no_length}
 
 -- a byte or a string has no length modifier, so the letters of a normal one are its own
 own_letters : (model : Model) (s : Specification) (conv : Conv) → refused_as s ≡ None → s.conv ≡ conv → is_text conv ≡ true → kept_letters model s ≡ s
-own_letters model s C allowed is e = rw (no_length s allowed (inl is), is) refl
-own_letters model s S allowed is e = rw (no_length s allowed (inr is), is) refl
-own_letters model s D allowed is e = cc
-own_letters model s _ allowed is e = cc
+own_letters model s conv allowed is e = grind (arith, no_length)
 
 -- the letters of a normal directive change nothing that is refused
 refused_kept : (model : Model) (f : FlagSet) (w p : Option ℕ) (l : Length) (conv : Conv)
     → refused_as (record { flags = f; width = w; precision = p; length = l; conv = conv }) ≡ None
     → refused_as (record { flags = f; width = w; precision = p; length = kept_length model l; conv = kept_conv conv }) ≡ None
-refused_kept model f w p l D h = h
-refused_kept model f w p l I h = h
-refused_kept model f w p l U h = h
-refused_kept model f w p l O h = h
-refused_kept model f w p l X h = h
-refused_kept model f w p l UpperX h = h
-refused_kept model f w p l B h = h
-refused_kept model f w p l C h = let s : Specification = record { flags = f; width = w; precision = p; length = l; conv = C } in
-    subst (λ d. refused_as d ≡ None) (sym (own_letters model s C h refl refl)) h
-refused_kept model f w p l S h = let s : Specification = record { flags = f; width = w; precision = p; length = l; conv = S } in
-    subst (λ d. refused_as d ≡ None) (sym (own_letters model s S h refl refl)) h
+refused_kept model f w p l conv h = grind (arith, own_letters)
 
 kept_conv_twice : (conv : Conv) → kept_conv (kept_conv conv) ≡ kept_conv conv
 kept_conv_twice I = refl
@@ -86,63 +73,33 @@ module _ (model : Model) (s : Specification) where
 
   -- the form depends on the letters only by the most digits
   string_kept : IsNormalString s → IsNormalString kept
-  string_kept h = record { shows_some = h.shows_some; width = h.width; left = h.left }
+  string_kept h = grind arith
 
   filled_kept : IsNormalFilled s → IsNormalFilled kept
-  filled_kept h = record { right = h.right; no_precision = h.no_precision; width = h.width }
+  filled_kept h = grind arith
 
   unprefixed_kept : IsNormalUnprefixed model s → IsNormalUnprefixed model kept
-  unprefixed_kept h = record {
-    not_filled = h.not_filled;
-    precision = subst (λ d. precision_of s ≤ d) same_digits h.precision;
-    least = h.least;
-    most = subst (λ d. width_of s ≤ d) same_digits h.most;
-    left = h.left;
-  }
+  unprefixed_kept h = grind (arith, same_digits)
 
   octal_kept : IsNormalOctal model s → IsNormalOctal model kept
-  octal_kept h = record {
-    right = h.right;
-    not_filled = h.not_filled;
-    some_digit = h.some_digit;
-    precision = subst (λ d. precision_of s ≤ d) same_digits h.precision;
-    least = h.least;
-    most = subst (λ d. width_of s ≤ d + 1) same_digits h.most;
-  }
+  octal_kept h = grind (arith, same_digits)
 
   prefixed_kept : IsNormalPrefixed model s → IsNormalPrefixed model kept
-  prefixed_kept h = record {
-    least = h.least;
-    most = subst (λ d. width_of s ≤ 2 + max (precision_of s) d) same_digits h.most;
-    left = h.left;
-  }
+  prefixed_kept h = grind (arith, same_digits)
 
   signed_kept : IsNormalSigned model s → IsNormalSigned model kept
-  signed_kept h = record {
-    one_sign = h.one_sign;
-    least = h.least;
-    most = subst (λ d. width_of s ≤ 1 + max (precision_of s) d) same_digits h.most;
-    right_space = λ r is. subst (λ d. width_of s ≢ 1 + max (precision_of s) d) same_digits (h.right_space r is);
-    right_bare = λ r none few. subst (λ d. width_of s ≢ 1 + max (precision_of s) d) same_digits
-        (h.right_bare r none (subst (λ d. d ≤ precision_of s) (sym same_digits) few));
-    left = h.left;
-  }
+  signed_kept h = grind (arith, same_digits)
 
   prefixed_form_kept : (alt fill : Bool) → HasPrefixedForm model alt fill s → HasPrefixedForm model alt fill kept
-  prefixed_form_kept true true h = filled_kept h
-  prefixed_form_kept true false h = prefixed_kept h
-  prefixed_form_kept false true h = unprefixed_kept h
-  prefixed_form_kept false false h = unprefixed_kept h
+  prefixed_form_kept alt fill h = grind (arith, filled_kept, prefixed_kept, unprefixed_kept)
 
   raised_form_kept : (alt : Bool) → MatchBool alt (IsNormalOctal model s) (IsNormalUnprefixed model s)
       → MatchBool alt (IsNormalOctal model kept) (IsNormalUnprefixed model kept)
-  raised_form_kept true h = octal_kept h
-  raised_form_kept false h = unprefixed_kept h
+  raised_form_kept alt h = grind (arith, octal_kept, unprefixed_kept)
 
   signed_form_kept : (fill : Bool) → MatchBool fill (IsNormalFilled s × (sign_len s ≡ 0)) (IsNormalSigned model s)
       → MatchBool fill (IsNormalFilled kept × (sign_len kept ≡ 0)) (IsNormalSigned model kept)
-  signed_form_kept true h = (filled_kept h.0, h.1)
-  signed_form_kept false h = signed_kept h
+  signed_form_kept fill h = grind (arith, filled_kept, signed_kept)
 
   unsigned_form_kept : (a : Alternative) → HasUnsignedForm model a s → HasUnsignedForm model a kept
   unsigned_form_kept Undefined h = unprefixed_kept h
