@@ -5,7 +5,6 @@ use Rattle.std.proofs.lemmas.List.{append-nil}
 use Rattle.pf_values.specs.declared.conversions.Conv.{Conv}
 use Rattle.pf_values.specs.declared.conversions.Conv.TheVariants.{I}
 use Rattle.pf_values.specs.declared.conversions.Kind.{Kind}
-use Rattle.pf_values.specs.declared.conversions.Kind.TheVariants as kinds
 use Rattle.pf_values.specs.declared.flags.Flag.TheVariants.{Minus}
 use Rattle.pf_values.specs.declared.flags.FlagSet.{FlagSet}
 use Rattle.pf_values.specs.declared.lengths.Length.{Length}
@@ -71,10 +70,7 @@ kept_kind _ = refl
 
 kept_type_of : (model : Model) (k : Kind) (length : Length)
     → type_of_kind model k (kept_length model length) ≡ type_of_kind model k length
-kept_type_of model kinds.Signed length = ap (λ r. r.signed) (kept_row model length)
-kept_type_of model (kinds.Unsigned base capitals) length = ap (λ r. r.unsigned) (kept_row model length)
-kept_type_of model kinds.Char length = refl
-kept_type_of model kinds.String length = refl
+kept_type_of model k length = grind (arith, kept_row)
 
 pub kept_type : (model : Model) (conv : Conv) (length : Length)
     → type_under model (kept_conv conv) (kept_length model length) ≡ type_under model conv length

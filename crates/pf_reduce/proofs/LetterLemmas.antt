@@ -1,23 +1,20 @@
 -- Directives that are reduced to themselves with other letters, or with a precision in place of a width.
-use Rattle.std.proofs.Common.{◌≡◌, ◌≢◌, ℕ, ◌+◌, ◌≤◌, max, Bool, true, false, Option, None, ◌++◌, refl, sym, ap, ◌∙◌, subst, arith, ℤ, inl, inr}
+use Rattle.std.proofs.Common.{◌≡◌, ◌≢◌, ℕ, ◌≤◌, Bool, true, false, Option, None, ◌++◌, refl, sym, ap, ◌∙◌, subst, arith, ℤ}
 use Rattle.std.specs.Prelude.{MatchBool, nat_abs, unwrap_or}
 use Rattle.std.proofs.lemmas.List.{append-nil}
 use Rattle.pf_values.specs.declared.bases.Alternative.{Alternative}
-use Rattle.pf_values.specs.declared.bases.Alternative.TheVariants.{Undefined, Raised, Prefixed}
 use Rattle.pf_values.specs.declared.conversions.Conv.{Conv}
-use Rattle.pf_values.specs.declared.conversions.Conv.TheVariants.{D, I, U, O, X, UpperX, B, C, S}
+use Rattle.pf_values.specs.declared.conversions.Conv.TheVariants.{I}
 use Rattle.pf_values.specs.declared.conversions.Kind.{Kind}
-use Rattle.pf_values.specs.declared.conversions.Kind.TheVariants as kinds
 use Rattle.pf_values.specs.declared.flags.Flag.TheVariants.{Zero}
 use Rattle.pf_values.specs.declared.flags.FlagSet.{FlagSet}
 use Rattle.pf_values.specs.declared.lengths.Length.{Length}
 use Rattle.pf_values.specs.declared.models.Model.{Model}
-use Rattle.pf_values.specs.meaning.Bases.{alternative_of}
 use Rattle.pf_values.specs.meaning.Conversions.{is_signed, is_text, kept_conv, kind_of}
 use Rattle.pf_values.specs.meaning.DataModel.{bits_under, kept_length, most_digits, most_digits_of}
 use Rattle.pf_values.specs.meaning.Defined.{refused_as}
 use Rattle.pf_values.specs.meaning.Flags.{no_flags, with_flag}
-use Rattle.pf_values.specs.meaning.Normal.{HasNormalForm, HasPrefixedForm, HasUnsignedForm, IsNormal, digits_at_most, precision_of, sign_len, silent}
+use Rattle.pf_values.specs.meaning.Normal.{HasNormalForm, HasPrefixedForm, HasUnsignedForm, IsNormal, digits_at_most, sign_len, silent}
 use Rattle.pf_values.specs.meaning.Normal.{IsNormalFilled, IsNormalOctal, IsNormalPrefixed, IsNormalSigned, IsNormalString, IsNormalUnprefixed}
 use Rattle.pf_values.specs.meaning.Printing.{Prints, field, is_zero_filled, sign_or_prefix}
 use Rattle.pf_values.specs.meaning.Specification.{Specification, width_of}
@@ -102,15 +99,10 @@ module _ (model : Model) (s : Specification) where
   signed_form_kept fill h = grind (arith, filled_kept, signed_kept)
 
   unsigned_form_kept : (a : Alternative) → HasUnsignedForm model a s → HasUnsignedForm model a kept
-  unsigned_form_kept Undefined h = unprefixed_kept h
-  unsigned_form_kept Raised h = raised_form_kept _ h
-  unsigned_form_kept Prefixed h = prefixed_form_kept _ _ h
+  unsigned_form_kept a h = grind (arith, unprefixed_kept, raised_form_kept, prefixed_form_kept)
 
   form_kept : (k : Kind) → HasNormalForm model k s → HasNormalForm model k kept
-  form_kept kinds.Signed h = signed_form_kept _ h
-  form_kept (kinds.Unsigned base capitals) h = unsigned_form_kept (alternative_of base) h
-  form_kept kinds.Char h = h
-  form_kept kinds.String h = string_kept h
+  form_kept k h = grind (arith, signed_form_kept, unsigned_form_kept, string_kept)
 
   module _ (parts : HasPlainParts s) where
     letters_normal : HasNormalForm model (kind_of s.conv) s → IsNormal model kept

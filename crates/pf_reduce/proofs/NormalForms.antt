@@ -1,9 +1,7 @@
 -- Cores without a sign that are normal, in each data model.
 use Rattle.std.proofs.Common.{◌≡◌, ◌≢◌, ℕ, ◌+◌, ◌<◌, ◌≤◌, max, Bool, true, false, Option, Some, None, refl, sym, ap, ◌∙◌, subst, arith}
-use Rattle.std.specs.Prelude.{MatchBool}
-use Rattle.pf_values.specs.declared.bases.Alternative.TheVariants.{Raised, Prefixed}
+use Rattle.pf_values.specs.declared.bases.Alternative.TheVariants.{Prefixed}
 use Rattle.pf_values.specs.declared.conversions.Conv.{Conv}
-use Rattle.pf_values.specs.declared.conversions.Conv.TheVariants.{U, O, X, UpperX, B}
 use Rattle.pf_values.specs.declared.flags.Flag.TheVariants.{Alt, Group, Minus, Plus, Space, Zero}
 use Rattle.pf_values.specs.declared.flags.FlagSet.{FlagSet}
 use Rattle.pf_values.specs.declared.lengths.Length.{Length}
@@ -42,12 +40,7 @@ kept_unsigned conv h = grind arith
 allowed : (conv : Conv) (flags : FlagSet) (w : ℕ) (precision : Option ℕ) (length : Length) → IsUnsigned conv
     → (has_alternative_form conv ≡ false → has flags Alt ≡ false) → has flags Group ≡ false
     → w ≤ MAX_NUMBER → is_above_limit precision ≡ false → refused_as (specification_of flags (Some w) precision length conv) ≡ None
-allowed U flags w precision length is alt group few small = rw (width_within w few, small, alt refl) refl
-allowed O flags w precision length is alt group few small = rw (width_within w few, small, group) refl
-allowed X flags w precision length is alt group few small = rw (width_within w few, small, group) refl
-allowed UpperX flags w precision length is alt group few small = rw (width_within w few, small, group) refl
-allowed B flags w precision length is alt group few small = rw (width_within w few, small, group) refl
-allowed _ flags w precision length is alt group few small = let t = is.text in let s = is.sign in cc
+allowed conv flags w precision length is alt group few small = grind (arith, width_within)
 
 -- a core of an unsigned conversion, by its form
 module _ (model : Model) (s : Specification) (p : Padding) (flags : FlagSet) (precision : Option ℕ) (is : IsUnsigned s.conv) where
@@ -84,34 +77,21 @@ filled_flags : (left : Bool) → HasNoSign (with_side left (with_flag (with_flag
 filled_flags left = grind arith
 
 -- which forms they have
-raised_form : (model : Model) (s : Specification) (alt : Bool) → has s.flags Alt ≡ alt → MatchBool alt (IsNormalOctal model s) (IsNormalUnprefixed model s)
-    → HasUnsignedForm model Raised s
-raised_form model s alt e h = subst (λ a. MatchBool a (IsNormalOctal model s) (IsNormalUnprefixed model s)) (sym e) h
-
 prefixed_form : (model : Model) (s : Specification) (alt zero : Bool) → has s.flags Alt ≡ alt → has s.flags Zero ≡ zero → HasPrefixedForm model alt zero s
     → HasUnsignedForm model Prefixed s
 prefixed_form model s alt zero e f h = subst (λ a. HasPrefixedForm model a (has s.flags Zero) s) (sym e) (subst (λ z. HasPrefixedForm model alt z s) (sym f) h)
 
 has_unprefixed : (model : Model) (conv : Conv) (s : Specification) → IsUnsigned conv → has s.flags Alt ≡ false → IsNormalUnprefixed model s
     → HasNormalForm model (kind_of conv) s
-has_unprefixed model U s is alt h = h
-has_unprefixed model O s is alt h = raised_form model s false alt h
-has_unprefixed model X s is alt h = prefixed_form model s false false alt h.not_filled h
-has_unprefixed model UpperX s is alt h = prefixed_form model s false false alt h.not_filled h
-has_unprefixed model B s is alt h = prefixed_form model s false false alt h.not_filled h
-has_unprefixed model _ s is alt h = let t = is.text in let n = is.sign in cc
+has_unprefixed model conv s is alt h = grind arith
 
 has_octal : (model : Model) (conv : Conv) (s : Specification) → is_octal conv ≡ true → has s.flags Alt ≡ true → IsNormalOctal model s
     → HasNormalForm model (kind_of conv) s
-has_octal model O s is alt h = raised_form model s true alt h
-has_octal model _ s is alt h = cc
+has_octal model conv s is alt h = grind arith
 
 has_prefixed : (model : Model) (conv : Conv) (s : Specification) (zero : Bool) → is_prefixed conv ≡ true → has s.flags Alt ≡ true → has s.flags Zero ≡ zero
     → HasPrefixedForm model true zero s → HasNormalForm model (kind_of conv) s
-has_prefixed model X s zero is alt e h = prefixed_form model s true zero alt e h
-has_prefixed model UpperX s zero is alt e h = prefixed_form model s true zero alt e h
-has_prefixed model B s zero is alt e h = prefixed_form model s true zero alt e h
-has_prefixed model _ s zero is alt e h = cc
+has_prefixed model conv s zero is alt e h = grind arith
 
 -- the numbers of such a core
 core_digits : (model : Model) (s : Specification) (p : Padding) (flags : FlagSet) (precision : Option ℕ) → is_signed s.conv ≡ false

@@ -1,16 +1,14 @@
 -- A normal directive is its own core: each step of a reduction leaves its parts as they are.
-use Rattle.std.proofs.Common.{◌≡◌, ◌≢◌, ℕ, zero, suc, ◌+◌, ◌<◌, ◌≤◌, min, Bool, true, false, Option, Some, None, refl, sym, ap, ◌∙◌, subst, arith, rules, inl}
+use Rattle.std.proofs.Common.{◌≡◌, ◌≢◌, ℕ, ◌+◌, ◌<◌, ◌≤◌, min, Bool, true, false, Option, Some, None, refl, sym, ap, ◌∙◌, arith, rules, inl}
 use Rattle.std.proofs.Common.{inr}
 use Rattle.std.specs.Prelude.{if◌then◌else◌, ◌⊎◌, ◌&&◌, ◌||◌, MatchBool, is_none, not, unwrap_or}
 use Rattle.pf_values.specs.declared.bases.Alternative.{Alternative}
-use Rattle.pf_values.specs.declared.bases.Alternative.TheVariants.{Undefined, Raised, Prefixed}
 use Rattle.pf_values.specs.declared.bases.Base.TheVariants.{Octal}
 use Rattle.pf_values.specs.declared.conversions.Kind.{Kind}
 use Rattle.pf_values.specs.declared.conversions.Kind.TheVariants as kinds
 use Rattle.pf_values.specs.declared.flags.Flag.TheVariants.{Alt, Minus, Plus, Space, Zero}
 use Rattle.pf_values.specs.declared.flags.FlagSet.{FlagSet}
 use Rattle.pf_values.specs.declared.models.Model.{Model}
-use Rattle.pf_values.specs.meaning.Bases.{alternative_of}
 use Rattle.pf_values.specs.meaning.Conversions.{alternative_under, is_signed, is_text, kind_of, prints_signed, prints_string, prints_text}
 use Rattle.pf_values.specs.meaning.Flags.{has, no_flags, with_flag}
 use Rattle.pf_values.specs.meaning.Normal.{HasNormalForm, HasPrefixedForm, HasSignedForm, HasUnsignedForm, IsNormal, IsNormalFilled, IsNormalOctal}
@@ -72,16 +70,11 @@ unfilled_precision s front h = rw h refl
 -- the width stays if it is at most this many bytes, and is idle only if it is missing
 pub own_field : (w most least a b : ℕ) → a ≡ min w most → w ≤ most → (0 < w → least < w)
     → (a ≤ least → b ≡ 0) → (least < a → b ≡ a) → b ≡ w
-own_field zero most least a b e few more idle kept = idle (omega (arith, e))
-own_field (suc w) most least a b e few more idle kept =
-    let least_is = more (omega arith) in
-    let same : a ≡ suc w = omega (arith, e, few) in
-    kept (omega (arith, same, least_is)) ∙ same
+own_field w most least a b e few more idle kept = grind arith
 
 -- spaces come before what is right-justified in a field
 pub seen_before : (left : Bool) (w : ℕ) → (left ≡ true) ⊎ (w ≡ 0) → left ≡ false → 0 < w → ⊥
-seen_before left w (inl at_left) right some = different (sym right ∙ at_left)
-seen_before left w (inr none) right some = omega (arith, none, some)
+seen_before left w h right some = grind arith
 
 -- so does the side, where the width is seen
 pub own_side : (before after : Bool) (w most : ℕ) → (after ≡ true → (before ≡ true) × (most < w))
@@ -120,57 +113,33 @@ module _ (model : Model) (s : Specification) (h : IsNormal model s) (signed : is
   filled_alt_flags alt filled = no_sign_flags (with_flag (with_flag no_flags Alt) Zero) refl refl refl (sym alt) (sym filled) refl
 
 -- digits alone
-raised_without : (alt : Bool) (P Q : Type 0) → alt ≡ false → MatchBool alt P Q → Q
-raised_without true P Q e h = absurd (different (sym e))
-raised_without false P Q e h = h
-
-prefixed_without : (model : Model) (s : Specification) (alt fill : Bool) → alt ≡ false → HasPrefixedForm model alt fill s → IsNormalUnprefixed model s
-prefixed_without model s true fill e h = absurd (different (sym e))
-prefixed_without model s false fill e h = h
-
 unprefixed_under : (model : Model) (s : Specification) (a : Alternative) → has s.flags Alt ≡ false → HasUnsignedForm model a s → IsNormalUnprefixed model s
-unprefixed_under model s Undefined alt h = h
-unprefixed_under model s Raised alt h = raised_without (has s.flags Alt) (IsNormalOctal model s) (IsNormalUnprefixed model s) alt h
-unprefixed_under model s Prefixed alt h = prefixed_without model s (has s.flags Alt) (has s.flags Zero) alt h
+unprefixed_under model s a alt h = grind arith
 
 unprefixed_kind : (model : Model) (s : Specification) (k : Kind) → prints_text k ≡ false → prints_signed k ≡ false → has s.flags Alt ≡ false
     → HasNormalForm model k s → IsNormalUnprefixed model s
-unprefixed_kind model s kinds.Signed text signed alt h = absurd (different (sym signed))
-unprefixed_kind model s (kinds.Unsigned base capitals) text signed alt h = unprefixed_under model s (alternative_of base) alt h
-unprefixed_kind model s kinds.Char text signed alt h = absurd (different (sym text))
-unprefixed_kind model s kinds.String text signed alt h = absurd (different (sym text))
+unprefixed_kind model s k text signed alt h = grind (arith, unprefixed_under)
 
 pub unprefixed_form : (model : Model) (s : Specification) → IsNormal model s → is_text s.conv ≡ false → is_signed s.conv ≡ false → has s.flags Alt ≡ false
     → IsNormalUnprefixed model s
 unprefixed_form model s h text signed alt = unprefixed_kind model s (kind_of s.conv) text signed alt h.form
 
 pub beyond : (p w : ℕ) → (0 < w) × (p ≡ 0 → 1 < w) → (0 < w → p < w) → 1 < w
-beyond zero w h more = h.1 refl
-beyond (suc p) w h more = let m = more h.0 in omega (arith, m)
+beyond p w h more = grind arith
 
 -- `o` with `#`
-octal_under : (model : Model) (s : Specification) (alt : Bool) → alt ≡ true → (P Q : Type 0) → MatchBool alt P Q → P
-octal_under model s true e P Q h = h
-octal_under model s false e P Q h = absurd (different e)
-
 pub octal_form : (model : Model) (s : Specification) → IsNormal model s → kind_of s.conv ≡ kinds.Unsigned Octal false → has s.flags Alt ≡ true
     → IsNormalOctal model s
-octal_form model s h is alt = octal_under model s (has s.flags Alt) alt (IsNormalOctal model s) (IsNormalUnprefixed model s)
-    (subst (λ k. HasNormalForm model k s) is h.form)
+octal_form model s h is alt = grind arith
 
 -- digits after a prefix
 prefixed_under : (model : Model) (s : Specification) (a : Alternative) (alt : Bool) → has s.flags Alt ≡ alt → puts_prefix a ≡ true → alt ≡ true
     → HasUnsignedForm model a s → HasPrefixedForm model true (has s.flags Zero) s
-prefixed_under model s Undefined alt is e on h = absurd (different e)
-prefixed_under model s Raised alt is e on h = absurd (different e)
-prefixed_under model s Prefixed alt is e on h = subst (λ b. HasPrefixedForm model b (has s.flags Zero) s) (is ∙ on) h
+prefixed_under model s a alt is e on h = grind arith
 
 prefixed_kind : (model : Model) (s : Specification) (k : Kind) → puts_prefix (alternative_under k) ≡ true → has s.flags Alt ≡ true → HasNormalForm model k s
     → HasPrefixedForm model true (has s.flags Zero) s
-prefixed_kind model s kinds.Signed e alt h = absurd (different e)
-prefixed_kind model s (kinds.Unsigned base capitals) e alt h = prefixed_under model s (alternative_of base) true alt e refl h
-prefixed_kind model s kinds.Char e alt h = absurd (different e)
-prefixed_kind model s kinds.String e alt h = absurd (different e)
+prefixed_kind model s k e alt h = grind (arith, prefixed_under)
 
 -- a filled one keeps its zeros
 filled : (s : Specification) → IsNormalFilled s → has s.flags Zero ≡ true → is_zero_filled s ≡ true
@@ -178,8 +147,7 @@ filled s h zeros = rw (zeros, h.right, h.no_precision) refl
 
 unfilled_from : (model : Model) (s : Specification) (fill : Bool) → has s.flags Zero ≡ fill → (is_zero_filled s ≡ true → (1 ≤ 0) ⊎ (width_of s ≤ 1))
     → HasPrefixedForm model true fill s → IsNormalPrefixed model s × (has s.flags Zero ≡ false)
-unfilled_from model s true is idle h = absurd (too_narrow (width_of s) 0 (idle (filled s h is)) refl h.width)
-unfilled_from model s false is idle h = (h, is)
+unfilled_from model s fill is idle h = grind (arith, filled, too_narrow)
 
 pub prefixed_form : (model : Model) (s : Specification) → IsNormal model s → is_prefixed s.conv ≡ true → has s.flags Alt ≡ true
     → (is_zero_filled s ≡ true → (1 ≤ 0) ⊎ (width_of s ≤ 1)) → IsNormalPrefixed model s × (has s.flags Zero ≡ false)
@@ -205,8 +173,7 @@ own_filled_prefixed model s h form alt fill =
 
 -- the side is seen
 pub seen_from : (p w least : ℕ) → (0 < w) × (p ≡ 0 → least < w) → unseen_width p least < w
-seen_from zero w least h = h.1 refl
-seen_from (suc p) w least h = h.0
+seen_from p w least h = grind arith
 
 -- digits after a sign
 sign_len_under : (plus space : Bool) → (if plus || space then 1 else 0) ≡ sign_length (if plus then signs.Plus else (if space then signs.Space else signs.None))
@@ -228,16 +195,12 @@ pub no_plus_is : (s : Specification) → sign_of s.flags ≢ signs.Plus → has 
 no_plus_is s h = no_plus_under (has s.flags Plus) (has s.flags Space) h
 
 signed_kind : (model : Model) (s : Specification) (k : Kind) → prints_signed k ≡ true → HasNormalForm model k s → HasSignedForm model s
-signed_kind model s kinds.Signed e h = h
-signed_kind model s (kinds.Unsigned base capitals) e h = absurd (different e)
-signed_kind model s kinds.Char e h = absurd (different e)
-signed_kind model s kinds.String e h = absurd (different e)
+signed_kind model s k e h = grind arith
 
 unfilled_signed : (model : Model) (s : Specification) (fill : Bool) (len : ℕ) → has s.flags Zero ≡ fill → len ≡ sign_len s
     → (is_zero_filled s ≡ true → (1 ≤ len) ⊎ (width_of s ≤ 1)) → MatchBool fill (IsNormalFilled s × (sign_len s ≡ 0)) (IsNormalSigned model s)
     → IsNormalSigned model s × (has s.flags Zero ≡ false)
-unfilled_signed model s true len is len_is idle h = absurd (too_narrow (width_of s) len (idle (filled s h.0 is)) (len_is ∙ h.1) h.0.width)
-unfilled_signed model s false len is len_is idle h = (h, is)
+unfilled_signed model s fill len is len_is idle h = grind (arith, filled, too_narrow)
 
 pub signed_form : (model : Model) (s : Specification) (len : ℕ) → IsNormal model s → is_signed s.conv ≡ true → len ≡ sign_len s
     → (is_zero_filled s ≡ true → (1 ≤ len) ⊎ (width_of s ≤ 1)) → IsNormalSigned model s × (has s.flags Zero ≡ false)

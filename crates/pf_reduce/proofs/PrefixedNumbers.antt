@@ -4,7 +4,6 @@ use Rattle.std.specs.Prelude.{None, nat_abs, not, ◌&&◌, ◌⊎◌, if◌then
 use Rattle.std.proofs.lemmas.List.{length-append}
 use Rattle.pf_values.specs.declared.bases.Alternative.TheVariants.{Prefixed}
 use Rattle.pf_values.specs.declared.bases.Base.{Base}
-use Rattle.pf_values.specs.declared.bases.Base.TheVariants.{Binary, Octal, Decimal, Hexadecimal}
 use Rattle.pf_values.specs.declared.conversions.Conv.{Conv}
 use Rattle.pf_values.specs.declared.conversions.Kind.{Kind}
 use Rattle.pf_values.specs.declared.conversions.Kind.TheVariants as kinds
@@ -80,16 +79,10 @@ with_prefix base capitals e two = record {
 
 prefixed_under : (base : Base) (capitals : Bool) → puts_prefix (alternative_of base) ≡ true
     → HasPrefix (kinds.Unsigned base capitals)
-prefixed_under Binary capitals e = with_prefix Binary capitals refl (omega arith)
-prefixed_under Octal capitals e = cc
-prefixed_under Decimal capitals e = cc
-prefixed_under Hexadecimal capitals e = with_prefix Hexadecimal capitals refl (omega arith)
+prefixed_under base capitals e = grind (arith, with_prefix)
 
 prefixed_kind : (k : Kind) → puts_prefix (alternative_under k) ≡ true → HasPrefix k
-prefixed_kind kinds.Signed e = cc
-prefixed_kind (kinds.Unsigned base capitals) e = prefixed_under base capitals e
-prefixed_kind kinds.Char e = cc
-prefixed_kind kinds.String e = cc
+prefixed_kind k e = grind (arith, prefixed_under)
 
 -- how long it is, and that it is empty only with precision 0
 pub record IsPrefixed (precision digits : ℕ) (body : Text) : Type 0 where

@@ -99,9 +99,7 @@ sign_some sign negative h = grind arith
 -- each number has the sign's length, or the field has no room for zeros
 zeros_by_precision : (s : Specification) (v : ℤ) → is_signed s.conv ≡ true → (1 ≤ sign_length (sign_of s.flags)) ⊎ (width_of s ≤ 1)
     → (length (sign_or_prefix s v) ≡ sign_length (sign_of s.flags)) ⊎ (width_of s ≤ 1)
-zeros_by_precision s v signed (inl some) =
-    inl (ap length (front-is s v signed) ∙ sign_some (sign_of s.flags) (is_negative v) some)
-zeros_by_precision s v signed (inr narrow) = inr narrow
+zeros_by_precision s v signed h = grind (arith, front-is, sign_some)
 
 signed_value : (s : Specification) (v : ℤ) → is_signed s.conv ≡ true → (is_zero_filled s ≡ true → (1 ≤ sign_length (sign_of s.flags)) ⊎ (width_of s ≤ 1))
     → value_text s v ≡ signed_text (sign_of s.flags) (effective_precision s (sign_length (sign_of s.flags))) v
@@ -194,8 +192,4 @@ unseen_at_0 sign w (pos (suc k)) e h = let some = longer sign (pos (suc k)) (ome
 unseen_at_0 sign w (negsuc k) e h = let some = longer sign (negsuc k) (omega arith) in inl (omega arith)
 
 pub unseen_signed_side : (sign : Sign) (w precision : ℕ) (v : ℤ) → w ≤ unseen_signed_width precision sign → IsUnseen w (signed_text sign precision v)
-unseen_signed_side signs.Plus w precision v h = inl (omega arith)
-unseen_signed_side signs.None w (suc precision) v h = inl (omega arith)
-unseen_signed_side signs.Space w (suc precision) v h = inl (omega arith)
-unseen_signed_side signs.None w zero v h = unseen_at_0 signs.None w v (λ e. cc) h
-unseen_signed_side signs.Space w zero v h = unseen_at_0 signs.Space w v (λ e. cc) h
+unseen_signed_side sign w precision v h = grind (arith, unseen_at_0)

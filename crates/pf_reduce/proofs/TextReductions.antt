@@ -9,7 +9,7 @@ use Rattle.pf_values.specs.declared.flags.Flag.TheVariants.{Minus}
 use Rattle.pf_values.specs.declared.lengths.Length.TheVariants as lengths
 use Rattle.pf_values.specs.declared.limits.TheConstants.{MAX_NUMBER}
 use Rattle.pf_values.specs.declared.models.Model.{Model}
-use Rattle.pf_values.specs.meaning.Arguments.{Argument, Number, String}
+use Rattle.pf_values.specs.meaning.Arguments.{Argument}
 use Rattle.pf_values.specs.meaning.Conversions.{kind_of}
 use Rattle.pf_values.specs.meaning.Defined.{IsDefined, is_above_limit}
 use Rattle.pf_values.specs.meaning.Flags.{has, no_flags}
@@ -66,23 +66,11 @@ text_reduced model s p precision k e normal few same =
 -- a byte
 normal_char : (model : Model) (s : Specification) (p : Padding) → IsDefined s → s.conv ≡ C → p.width ≡ 0 → p.left ≡ false
     → IsNormal model (core_of_parts model s p no_flags None)
-normal_char model s p defined is none right =
-    let length = no_length s defined.allowed (inl is) in
-    rw (is, length, none, right) (record {
-      defined = record { width = some_width 0; allowed = refl };
-      no_group = refl;
-      length = refl;
-      conv = refl;
-      no_plus = λ e. cc;
-      no_space = λ e. cc;
-      precision = λ e. cc;
-      form = (refl, refl, refl);
-    })
+normal_char model s p defined is none right = grind (arith, no_length, some_width)
 
 one_byte : (model : Model) (s t : Specification) (argument : Argument) (body : Text) → PrintsKind model kinds.Char t argument body
     → PrintsKind model kinds.Char s argument body × (length body ≡ 1)
-one_byte model s t (Number n) body h = (h, ap length h.2)
-one_byte model s t (String bytes) body h = absurd h
+one_byte model s t argument body h = grind arith
 
 pub char_reduction : (model : Model) (s : Specification) → IsDefined s → s.conv ≡ C → Reduction model s
 char_reduction model s defined is =
@@ -123,8 +111,7 @@ made_string model left w precision few small some most wide =
 printed_string : (model : Model) (s t : Specification) (argument : Argument) (body : Text) → t.precision ≡ s.precision
     → PrintsKind model kinds.String t argument body → PrintsKind model kinds.String s argument body
     × ((bytes : Text) × (body ≡ printed_front s.precision bytes))
-printed_string model s t (String bytes) body e h = let same = h ∙ ap (λ o. printed_front o bytes) e in (same, (bytes, same))
-printed_string model s t (Number n) body e h = absurd h
+printed_string model s t argument body e h = grind arith
 
 -- a narrower field
 module _ (model : Model) (s : Specification) (defined : IsDefined s) (is : s.conv ≡ S) where

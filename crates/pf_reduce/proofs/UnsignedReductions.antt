@@ -77,10 +77,7 @@ use Rattle.pf_reduce.proofs.UnprefixedNumbers.{
 
 -- zeros are constant only where no width is left
 apart : (left : Bool) (w p d a : ℕ) → a ≤ max p d → (a ≤ p → w ≡ 0) → (left ≡ true) ⊎ (w ≡ 0) ⊎ (p - d ≡ 0)
-apart left w p d a few idle = elim (cases_lt d p) [
-  | inl more ↦ inr (inl (idle (omega (arith, few, more))))
-  | inr most ↦ inr (inr (omega (arith, most)))
-]
+apart left w p d a few idle = grind arith
 
 -- digits alone, by the steps that narrow the field
 module _ (model : Model) (s : Specification) (defined : IsDefined s) (text : is_text s.conv ≡ false) (sign : is_signed s.conv ≡ false) where
