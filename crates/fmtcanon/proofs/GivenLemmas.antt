@@ -119,42 +119,9 @@ module _ (Needs : PairQuestion → Model → Text → Text → Type 0) (question
   -- the refusal of the first of two formats, at the offset in the text
   pub first_refused : (fault reported : Fault) → IsRefusalOfFirst (language_of question) model first_bytes fault → IsFaultInText first fault reported
       → IsGivenPairFault Needs question model first second reported
-  first_refused (Refused None refusal) reported h is = absurd h
-  first_refused (Refused (Some sides.First) refusal) reported h (at, is, of_offset) =
-      subst (IsGivenPairFault Needs question model first second) (sym is) (record {
-        bytes = first_bytes;
-        gives = g;
-        at = refusal.at;
-        holds = h;
-        offset_is = of_offset first_bytes g (refusal_within (language_of question) model first_bytes refusal h);
-      })
-  first_refused (Refused (Some sides.Second) refusal) reported h is = absurd h
-  first_refused (BadLiteral side refusal) reported h is = absurd h
-  first_refused (BadWord index) reported h is = absurd h
-  first_refused (WrongCount wanted given) reported h is = absurd h
-  first_refused (WrongType index) reported h is = absurd h
-  first_refused Memory reported h is = absurd h
+  first_refused fault reported h is = grind (arith, refusal_within)
 
   -- why two formats have no answer
   pub pair_fault : (second_bytes : Text) → IsFormat second second_bytes → (fault reported : Fault) → IsPairFault Needs question model first_bytes second_bytes fault
       → IsFaultInTexts first second (side_of fault) fault reported → IsGivenPairFault Needs question model first second reported
-  pair_fault second_bytes h (Refused None refusal) reported hinders is = absurd hinders
-  pair_fault second_bytes h (Refused (Some sides.First) refusal) reported hinders is =
-      first_refused (Refused (Some sides.First) refusal) reported hinders is
-  pair_fault second_bytes h (Refused (Some sides.Second) refusal) reported hinders (at, is, of_offset) =
-      subst (IsGivenPairFault Needs question model first second) (sym is) (
-        (first_bytes, g, hinders.0),
-        record {
-          bytes = second_bytes;
-          gives = h;
-          at = refusal.at;
-          holds = hinders.1;
-          offset_is = of_offset second_bytes h (refusal_within (language_of question) model second_bytes refusal hinders.1);
-        },
-      )
-  pair_fault second_bytes h (BadLiteral side refusal) reported hinders is = absurd hinders
-  pair_fault second_bytes h (BadWord index) reported hinders is = absurd hinders
-  pair_fault second_bytes h (WrongCount wanted given) reported hinders is = absurd hinders
-  pair_fault second_bytes h (WrongType index) reported hinders is = absurd hinders
-  pair_fault second_bytes h Memory reported hinders is =
-      subst (IsGivenPairFault Needs question model first second) (sym is) (inr (inr (first_bytes, g, (second_bytes, h, hinders))))
+  pair_fault second_bytes h fault reported hinders is = grind (arith, refusal_within, first_refused)

@@ -75,14 +75,7 @@ short_unsigned (pos n) k b h = omega (arith, ints, h.0, h.1)
 short_unsigned (negsuc n) k b h = absurd (omega (arith, ints, h.0))
 
 short_of : (sign : Bool) (bits : Bits) (n : ℤ) → FitsIn sign (bit_count bits) n → IsShort n
-short_of true B8 n h = short_signed n (2 ^ 7) (omega arith) h
-short_of true B16 n h = short_signed n (2 ^ 15) (omega arith) h
-short_of true B32 n h = short_signed n (2 ^ 31) (omega arith) h
-short_of true B64 n h = short_signed n (2 ^ 63) (omega arith) h
-short_of false B8 n h = short_unsigned n (2 ^ 8) (omega arith) h
-short_of false B16 n h = short_unsigned n (2 ^ 16) (omega arith) h
-short_of false B32 n h = short_unsigned n (2 ^ 32) (omega arith) h
-short_of false B64 n h = short_unsigned n (2 ^ 64) (omega arith) h
+short_of sign bits n h = grind (arith, short_signed, short_unsigned)
 
 pub word_is_read : (model : Model) → PrintedWordIsRead model
 word_is_read model (Number n) Int h = number_spells n (short_of true (type_bits model Int) n h)

@@ -142,10 +142,7 @@ same_normal n m e f =
     same
 
 same_core : (model : Model) (c d : Core) → IsNormalCore model c → IsNormalCore model d → core_of c ≡ core_of d → c ≡ d
-same_core model (Normal n) (Normal m) h g e = ap Normal (same_normal n m (h.0 ∙ sym g.0) e)
-same_core model (Normal n) Silent h g e = absurd (silent_not_normal model (subst (IsNormal model) e h.1))
-same_core model Silent (Normal m) h g e = absurd (silent_not_normal model (subst (IsNormal model) (sym e) g.1))
-same_core model Silent Silent h g e = refl
+same_core model c d h g e = grind (arith, same_normal, silent_not_normal)
 
 abbrev whole : ℕ → ℕ → Core → ℕ → Reduced
 whole spaces zeros core trail = record { spaces = spaces; zeros = zeros; core = core; trail = trail }
