@@ -1,7 +1,6 @@
 -- What holds of the bytes of a format that is given.
-use Rattle.std.proofs.Common.{◌≡◌, ℕ, ◌≤◌, List, ◌∷◌, ◌++◌, Option, None, Some, ap, arith, inr, length, length-append, map, subst, sym, unwrap_or}
+use Rattle.std.proofs.Common.{◌≡◌, ℕ, ◌≤◌, List, ◌∷◌, ◌++◌, Option, None, Some, ap, arith, length, length-append, map, subst, sym, unwrap_or}
 use Rattle.std.specs.Prelude.{MatchOption, ⊤}
-use Rattle.pf_text.specs.declared.refusals.Side.TheVariants as sides
 use Rattle.pf_literals.specs.Answers.{HasNoOffset, IsOffsetOf}
 use Rattle.pf_literals.specs.Sources.{IsSourceOf}
 use Rattle.pf_literals.proofs.HasOffsetLemmas.{has_offset}
@@ -82,16 +81,7 @@ IsOfBytes bytes Memory = ⊤
 pub given_fault : (IsFault : Text → Fault → Type 0) (given : GivenFormat) (bytes : Text) (fault reported : Fault)
     → ((f : Fault) → IsFault bytes f → IsOfBytes bytes f)
     → IsFormat given bytes → IsFault bytes fault → IsFaultInText given fault reported → IsGivenFault IsFault given reported
-given_fault IsFault given bytes (Refused None refusal) reported of gives h (at, is, of_offset) =
-    let offset_is = of_offset bytes gives (of (Refused None refusal) h) in
-    subst (IsGivenFault IsFault given) (sym is)
-    (record { bytes = bytes; gives = gives; at = refusal.at; holds = h; offset_is = offset_is })
-given_fault IsFault given bytes (Refused (Some side) refusal) reported of gives h is = absurd (of (Refused (Some side) refusal) h)
-given_fault IsFault given bytes (BadLiteral side refusal) reported of gives h is = absurd (of (BadLiteral side refusal) h)
-given_fault IsFault given bytes (BadWord index) reported of gives h is = subst (IsGivenFault IsFault given) (sym is) (bytes, gives, h)
-given_fault IsFault given bytes (WrongCount wanted had) reported of gives h is = subst (IsGivenFault IsFault given) (sym is) (bytes, gives, h)
-given_fault IsFault given bytes (WrongType index) reported of gives h is = subst (IsGivenFault IsFault given) (sym is) (bytes, gives, h)
-given_fault IsFault given bytes Memory reported of gives h is = subst (IsGivenFault IsFault given) (sym is) (inr (bytes, gives, h))
+given_fault IsFault given bytes fault reported of gives h is = grind arith
 
 -- in each language a refusal is within the bytes
 refusal_within : (language : Language) (model : Model) (bytes : Text) (refusal : Refusal)

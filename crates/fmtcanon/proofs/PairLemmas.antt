@@ -1,5 +1,5 @@
 -- Questions about two formats, in one data model after the other.
-use Rattle.std.proofs.Common.{◌≡◌, List, [], ◌∷◌, inl, inr, refl, sym, subst, Result, Ok, Err}
+use Rattle.std.proofs.Common.{arith, ◌≡◌, List, [], ◌∷◌, inl, inr, refl, sym, subst, Result, Ok, Err}
 use Rattle.std.specs.Prelude.{MatchOption, MatchResult, Option, None, Some}
 use Rattle.pf_text.specs.declared.refusals.Side.TheVariants as sides
 use Rattle.pf_literals.specs.declared.faults.LiteralFault.{LiteralFault}
@@ -20,7 +20,6 @@ use Rattle.fmtcanon.specs.declared.formats.GivenFormat.{GivenFormat}
 use Rattle.fmtcanon.specs.declared.models.Models.{Models}
 use Rattle.fmtcanon.specs.declared.models.Models.TheVariants.{All, Both, One}
 use Rattle.fmtcanon.specs.declared.outcome.Fault.{Fault}
-use Rattle.fmtcanon.specs.declared.outcome.Fault.TheVariants.{Refused, BadLiteral, BadWord, WrongCount, WrongType, Memory}
 use Rattle.fmtcanon.specs.declared.questions.PairQuestion.{PairQuestion}
 use Rattle.fmtcanon.specs.declared.questions.PairQuestion.TheVariants.{Fits, FitsFewer, Same, WholeSame}
 use Rattle.fmtcanon.proofs.GivenLemmas.{pair_fault}
@@ -46,13 +45,7 @@ needed_accepts WholeSame model first second h = (h.0, h.1)
 
 pub several_fault : (question : PairQuestion) (model : Model) (first second : Text) (fault : Fault)
     → IsPairFault NeedsMemory question model first second fault → IsPairFault AcceptsBoth question model first second fault
-several_fault question model first second (Refused None refusal) h = absurd h
-several_fault question model first second (Refused (Some side) refusal) h = h
-several_fault question model first second (BadLiteral side refusal) h = absurd h
-several_fault question model first second (BadWord index) h = absurd h
-several_fault question model first second (WrongCount wanted given) h = absurd h
-several_fault question model first second (WrongType index) h = absurd h
-several_fault question model first second Memory h = needed_accepts question model first second h
+several_fault question model first second fault h = grind (arith, needed_accepts)
 
 -- one data model
 pub one_model : {X : Type 0} (Says : X → Type 0) (question : PairQuestion) (model : Model) (first second : Text) (result : Result X Fault)
