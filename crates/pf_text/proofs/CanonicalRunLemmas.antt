@@ -1,23 +1,18 @@
 -- Items that are spelled as the canonical text spells them.
-use Rattle.std.proofs.Common.{◌≡◌, ◌≢◌, ℕ, zero, suc, ◌+◌, ◌-◌, ◌*◌, ◌<◌, ◌≤◌, min, true, false, Bool, List, [], ◌∷◌, ◌++◌, length, map, take, drop, None}
-use Rattle.std.proofs.Common.{refl, sym, ap, ap₂, ◌∙◌, subst, arith, inl, inr, get_or}
-use Rattle.std.specs.Prelude.{flat_map, IsFalse, MatchBool, ◌==◌, ◌⊎◌, if◌then◌else◌}
-use Rattle.std.specs.Fmt.{digits}
+use Rattle.std.proofs.Common.{◌≡◌, ◌≢◌, ℕ, zero, suc, ◌+◌, ◌≤◌, true, false, Bool, List, [], ◌∷◌, ◌++◌, length, map, take, drop, None}
+use Rattle.std.proofs.Common.{refl, sym, ap, ap₂, ◌∙◌, subst, arith, get_or}
+use Rattle.std.specs.Prelude.{flat_map, IsFalse, MatchBool, ◌==◌, if◌then◌else◌}
 use Rattle.std.specs.List.{AllByRecursion}
-use Rattle.std.proofs.Math.ListN.{drop_of_length-le}
 use Rattle.std.proofs.Math.Seq.{take-add}
-use Rattle.std.proofs.lemmas.Bool.{cases_lt}
 use Rattle.std.proofs.lemmas.Bool.Decides.{nat_tests}
 use Rattle.std.proofs.lemmas.Grind.{flat_map-append}
-use Rattle.std.proofs.lemmas.List.{append_assoc, append-nil, drop-take, length-drop, length-take, get_or-drop, get_or-take, length-append, length-take-le}
-use Rattle.std.proofs.lemmas.List.{replicate-append-replicate, take-append-drop, take-append-le}
+use Rattle.std.proofs.lemmas.List.{append_assoc, append-nil}
+use Rattle.std.proofs.lemmas.List.{take-append-drop, take-append-le}
 use Rattle.pf_values.specs.declared.models.Model.{Model}
-use Rattle.memchr.specs.Find.{is_byte2}
 use Rattle.pf_values.specs.declared.conversions.Conv.{Conv}
 use Rattle.pf_values.specs.declared.conversions.Conv.TheVariants.{D, I, U, O, X, UpperX, B, C, S}
 use Rattle.pf_values.specs.declared.lengths.Length.{Length}
 use Rattle.pf_values.specs.declared.lengths.Length.TheVariants as lengths
-use Rattle.pf_values.specs.declared.limits.TheConstants.{MAX_TEXT_LEN}
 use Rattle.pf_values.specs.meaning.Canonical.{item_spelling}
 use Rattle.pf_values.specs.meaning.Conversions.{conv_letter, kept_conv, kind_of}
 use Rattle.pf_values.specs.meaning.Bits.{by_bits}
@@ -28,17 +23,13 @@ use Rattle.pf_values.specs.meaning.Flags.{has, no_flags, with_flag}
 use Rattle.pf_values.specs.meaning.Lengths.{length_letters}
 use Rattle.pf_values.specs.meaning.Items.{Item, Byte, Directive, IsReadAs, Reads}
 use Rattle.pf_values.specs.meaning.Normal.{HasNormalForm, IsNormal, IsNormalUnprefixed, IsNormalPrefixed, IsNormalSigned, IsNormalString, digits_at_most}
-use Rattle.pf_values.specs.meaning.Normal.{silent}
 use Rattle.pf_values.specs.meaning.Specification.{Specification}
 use Rattle.pf_values.specs.meaning.Spelling.{spelling_of}
 use Rattle.pf_values.specs.meaning.Text.{Text, percent}
-use Rattle.pf_text.specs.History.{EndsRun, IsAfter, IsLiteral}
-use Rattle.pf_text.specs.CanonicalRuns.{IsCanonicalItem, IsCanonicalRun, BeginsSilent, PassesCanonicalRun, alternative_bytes, has_canonical_parts}
-use Rattle.pf_text.specs.CanonicalRuns.{is_kept_modifier, is_kept_number, silents}
-use Rattle.pf_text.specs.declared.scanner.Scanner.{Scanner}
-use Rattle.pf_text.proofs.LiteralLemmas.{after_read, or_full, stops}
+use Rattle.pf_text.specs.History.{IsLiteral}
+use Rattle.pf_text.specs.CanonicalRuns.{IsCanonicalItem, IsCanonicalRun, alternative_bytes, has_canonical_parts}
+use Rattle.pf_text.specs.CanonicalRuns.{is_kept_modifier, is_kept_number}
 use Rattle.pf_text.proofs.ReadBack.{spelled_read}
-use Rattle.pf_text.proofs.Texts.{Reads-push}
 
 -- a byte that is written as it is
 pub run_written : (byte : ℕ) → IsLiteral byte → item_spelling (Byte byte) ≡ byte ∷ []
@@ -48,13 +39,6 @@ pub literal_written : (bytes : Text) → AllByRecursion IsLiteral bytes → flat
 literal_written [] h = refl
 literal_written (byte ∷ bytes) h = ap (λ t. t ++ flat_map item_spelling (map Byte bytes)) (run_written byte h.0)
     ∙ ap (λ t. byte ∷ t) (literal_written bytes h.1)
-
-literals_some : (model : Model) (bytes : Text) → AllByRecursion IsLiteral bytes → AllByRecursion (IsCanonicalItem model) (map Byte bytes)
-literals_some model [] h = tt
-literals_some model (byte ∷ bytes) h = (h.0.1, literals_some model bytes h.1)
-
-pub literals_are_canonical : (model : Model) (bytes : Text) → AllByRecursion IsLiteral bytes → IsCanonicalRun model bytes (map Byte bytes)
-literals_are_canonical model bytes h = record { canonical = literals_some model bytes h; whole = sym (literal_written bytes h) }
 
 -- a directive of `#` or nothing, a modifier and a conversion
 abbrev pub parts : Bool → Length → Conv → Specification
@@ -269,102 +253,5 @@ Reads-append t u (item ∷ a) b h g = (h.0, h.1 ++ u, h.2, Reads-append h.1 u a 
 pub Reads-canonical : (model : Model) (t u : Text) (items more : List Item) → Reads t items → IsCanonicalRun model u more → Reads (t ++ u) (items ++ more)
 Reads-canonical model t u items more h g = Reads-append t u items more h (subst (λ v. Reads v more) (sym g.whole) (all_read model more g.canonical))
 
--- no literal byte follows such items
-ends_here : (t rest : Text) → (length t ≡ MAX_TEXT_LEN) ⊎ (0 < length rest → is_byte2 percent 0 (get_or rest 0 0) ≡ true) → EndsRun t rest
-ends_here t [] h = tt
-ends_here t (b ∷ rest) (inl full) = inr (inr full)
-ends_here t (b ∷ rest) (inr ends) = or_full b (length t ≡ MAX_TEXT_LEN) (stops b (ends (omega arith)))
-
 pub take_front : (n m : ℕ) (bytes : Text) → n ≤ length (take m bytes) → take n (take m bytes) ≡ take n bytes
 take_front n m bytes few = sym (take-append-le n (take m bytes) (drop m bytes) few) ∙ ap (take n) (take-append-drop m bytes)
-
--- what begins the rest of a front begins the rest of the text
-still_silent : (n m : ℕ) (text : Text) → 4 ≤ m → BeginsSilent (drop n text) → BeginsSilent (drop n (take (n + m) text))
-still_silent n m text some h =
-    let rest = drop n text in
-    let few : 4 ≤ length (take m rest) = omega (arith, some, h.0, length-take m rest) in
-    subst BeginsSilent (sym (drop-take n m text)) (few, take_front 4 m rest few ∙ h.1)
-
--- the run, or what of it the limit leaves
-module _ (scanner : Scanner) (t text : Text) (items : List Item) (n most room : ℕ) (h : IsAfter scanner t items) (reads : Reads t items)
-    (full : room ≡ MAX_TEXT_LEN - scanner.offset) (least : most ≡ min (length text) room) where
-  front_len : length (take most text) ≡ most
-  front_len = length-take-le most text (omega (arith, least))
-
-  module _ (within : n ≤ length (take most text)) where
-    taken : take n (take most text) ≡ take n text
-    taken = take_front n most text within
-
-    long : length (take n text) ≡ n
-    long = length-take-le n text (omega (arith, least, within, front_len))
-
-    canonical_run_ends : (n < length (take most text) → is_byte2 percent 0 (get_or (take most text) n 0) ≡ true) → EndsRun (t ++ take n text) (drop n text)
-    canonical_run_ends ends = elim (cases_lt n most) [
-      | inl less ↦
-          let place : n + 0 ≡ n = omega arith in
-          let here : get_or (take most text) n 0 ≡ get_or (drop n text) 0 0 = get_or-take most text n 0 less ∙ ap (λ k. get_or text k 0) (sym place)
-          ∙ sym (get_or-drop n text 0 0) in
-          ends_here (t ++ take n text) (drop n text) (inr (λ some. ap (is_byte2 percent 0) (sym here) ∙ ends (omega (arith, front_len, less))))
-      | inr all ↦ elim (cases_lt n (length text)) [
-        | inl cut ↦ ends_here (t ++ take n text) (drop n text) (inl (omega
-            (arith, length-append t (take n text), long, h.offset, h.limit, least, full, within, front_len, cut, all)))
-        | inr whole ↦ subst (EndsRun (t ++ take n text)) (sym (drop_of_length-le text whole)) tt
-      ]
-    ]
-
-    -- the reader has taken them
-    pub read_passed : (more : List Item) → Reads (t ++ take n text) (items ++ more)
-        → IsAfter (record scanner { offset = scanner.offset + n }) (t ++ take n text) (items ++ more)
-    read_passed more now =
-        subst (λ k. IsAfter (record scanner { offset = scanner.offset + k }) (t ++ take n text) (items ++ more)) long
-        (after_read scanner t (take n text) items more h reads now (omega
-        (arith, length-append t (take n text), long, h.offset, h.limit, least, full, within, front_len)))
-
-    pub run_passed : {model : Model} (more : List Item) → IsCanonicalRun model (take n (take most text)) more
-        → (n < length (take most text) → is_byte2 percent 0 (get_or (take most text) n 0) ≡ true)
-        → PassesCanonicalRun model t items text n (record scanner { offset = scanner.offset + n })
-    run_passed {model} more canonical ends =
-        let p = subst (λ u. IsCanonicalRun model u more) taken canonical in
-        let now = Reads-canonical model t (take n text) items more reads p in
-        record { more = more; canonical = p; after = read_passed more now; reads = now; longest = canonical_run_ends ends }
-
-    -- where `%.0s` follows, though it doesn't in what the limit leaves, it passes the limit
-    pub silents_end : ¬ BeginsSilent (drop n (take most text)) → BeginsSilent (drop n text) → MAX_TEXT_LEN < length (t ++ take n text) + 4
-    silents_end none begins = elim (cases_lt most (n + 4)) [
-      | inl cut ↦ elim (cases_lt most (length text)) [
-        | inl less ↦ omega (arith, less, cut, least, full, h.offset, h.limit, length-append t (take n text), long)
-        | inr whole ↦ (let rest = begins.0 in absurd (omega (arith, whole, cut, rest, length-drop n text)))
-      ]
-      | inr room ↦
-          let m = most - n in
-          let e : most ≡ n + m = omega (arith, room) in
-          absurd (none (subst (λ k. BeginsSilent (drop n (take k text))) (sym e) (still_silent n m text (omega (arith, room)) begins)))
-    ]
-
-    pub items_passed : (more : List Item) → Reads (take n (take most text)) more
-        → IsAfter (record scanner { offset = scanner.offset + n }) (t ++ take n text) (items ++ more) × Reads (t ++ take n text) (items ++ more)
-    items_passed more read =
-        let now = Reads-append t (take n text) items more reads (subst (λ u. Reads u more) taken read) in
-        (read_passed more now, now)
-
--- `%.0s`
-silent_read : IsReadAs (spelling_of silent) (Directive silent)
-silent_read = let defined : IsDefined silent = record { width = λ e. cc; allowed = refl } in (spelled_read silent defined, defined)
-
--- once more
-pub silents_more : (text : Text) (at count : ℕ) → at ≡ 4 * count → Reads (take at text) (silents count) → take 4 (drop at text) ≡ spelling_of silent
-    → Reads (take (at + 4) text) (silents (count + 1))
-silents_more text at count e reads here =
-    rw (take-add at 4 text, here, ← replicate-append-replicate count 1 (Directive silent))
-    (Reads-push (silents count) (take at text) (spelling_of silent) (Directive silent) reads silent_read)
-
-pub spelled_silent : spelling_of silent ≡ 37 ∷ 46 ∷ 48 ∷ 115 ∷ []
-unfolding digits
-spelled_silent = refl
-
--- the bytes of a text that begins so
-pub silent_bytes : (text : Text) → BeginsSilent text
-    → (get_or text 0 0 ≡ 37) × (get_or text 1 0 ≡ 46) × (get_or text 2 0 ≡ 48) × (get_or text 3 0 ≡ 115)
-silent_bytes text h =
-    let bytes = sym (first_bytes 4 text h.0) ∙ h.1 ∙ spelled_silent in
-    (ap (λ t. get_or t 0 0) bytes, ap (λ t. get_or t 1 0) bytes, ap (λ t. get_or t 2 0) bytes, ap (λ t. get_or t 3 0) bytes)

@@ -7,8 +7,7 @@ use Rattle.std.proofs.Math.ListN.{drop_of_length-le}
 use Rattle.std.proofs.lemmas.Bool.{cases_lt}
 use Rattle.std.proofs.lemmas.Bool.Decides.{nat_tests}
 use Rattle.std.proofs.lemmas.List.{append_assoc, append-nil, length-append, length-take}
-use Rattle.memchr.specs.Find.{Nowhere, is_byte2}
-use Rattle.memchr.specs.Find as find
+use Rattle.memchr.specs.Find.{is_byte2}
 use Rattle.pf_values.specs.declared.limits.TheConstants.{MAX_TEXT_LEN}
 use Rattle.pf_values.specs.meaning.Items.{Item, Byte, IsReadAs, Reads}
 use Rattle.pf_values.specs.meaning.Text.{Text}
@@ -34,11 +33,6 @@ stopped b (inr e) = grind (arith, nat_tests)
 
 pub goes_on : (b : ℕ) → (is_byte2 37 0 b ≡ true → ⊥) → IsLiteral b
 goes_on b h = (λ e. h (stopped b (inl e)), λ e. h (stopped b (inr e)))
-
-pub run_found : (text : Text) (n : ℕ) → n ≤ length text → Nowhere (find.Passes (is_byte2 37 0) text) 0 n
-    → (n < length text → find.Passes (is_byte2 37 0) text n) → IsRun text n
-run_found text n within none ended =
-    record { within = within; literal = λ k less. goes_on (get_or text k 0) (none k (omega arith) less); ends = λ less. stops (get_or text n 0) (ended less) }
 
 pub literal_take : (text : Text) (n : ℕ) → n ≤ length text → ((k : ℕ) → k < n → IsLiteral (get_or text k 0)) → AllByRecursion IsLiteral (take n text)
 literal_take text zero few h = tt

@@ -1,7 +1,6 @@
 -- What is read where a walk has come to an offset.
-use Rattle.std.proofs.Common.{◌≡◌, ℕ, ◌+◌, ◌-◌, ◌≤◌, max, List, [], ◌∷◌, ◌++◌, length, get_or, take, drop, Some, refl, sym, ap, ap₂, ◌∙◌, subst, arith, inl, inr}
+use Rattle.std.proofs.Common.{◌≡◌, ℕ, ◌+◌, ◌-◌, ◌≤◌, max, List, [], ◌∷◌, ◌++◌, length, get_or, take, drop, Some, refl, sym, ap, ap₂, ◌∙◌, subst, arith}
 use Rattle.std.specs.Prelude.{⊤}
-use Rattle.std.proofs.lemmas.Bool.{cases_lt}
 use Rattle.std.proofs.lemmas.List.{append-nil, drop-drop, drop-take, length-drop, length-take, take_all}
 use Rattle.pf_values.specs.declared.limits.TheConstants.{MAX_TEXT_LEN}
 use Rattle.pf_values.specs.declared.conversions.Conv.{Conv}
@@ -12,15 +11,14 @@ use Rattle.pf_values.specs.meaning.Items.{Directive, IsAccepted, IsReadAs, Item,
 use Rattle.pf_values.specs.meaning.Specification.{Specification}
 use Rattle.pf_values.specs.meaning.Text.{Text}
 use Rattle.pf_values.proofs.ItemTypes.{types-append}
-use Rattle.pf_text.specs.CanonicalRuns.{IsCanonicalRun}
 use Rattle.pf_text.specs.FoundDirectives.{BeginsNoItem}
 use Rattle.pf_text.specs.Letters.{conv_of}
 use Rattle.pf_text.specs.Signatures.{ReadsTyped, TakesTypes}
-use Rattle.pf_text.specs.Walks.{EndsItems, HasPassed, HasPercent, IsCanonicalEnd, IsItemsEnd, IsNormalInEach, IsPassedRun, IsPercent, IsWalk, IsWalkOver}
+use Rattle.pf_text.specs.Walks.{EndsItems, HasPassed, HasPercent, IsItemsEnd, IsPassedRun, IsPercent, IsWalk, IsWalkOver}
 use Rattle.pf_text.specs.declared.walk.Walk.{Walk}
 use Rattle.pf_text.proofs.CanonicalRunLemmas.{bare, take_front}
 use Rattle.pf_text.proofs.ItemLemmas.{one_read, read_more}
-use Rattle.pf_text.proofs.WalkLemmas.{conv_run, run_is_canonical, run_is_read, run_takes_none}
+use Rattle.pf_text.proofs.WalkLemmas.{conv_run, run_is_read, run_takes_none}
 
 -- a walk over a text, and what was read before its offset
 pub record HasRead (text : Text) (walk : Walk) : Type 0 where
@@ -165,36 +163,6 @@ module _ (passes : Item → Type 0) (text : Text) (few : length text ≤ MAX_TEX
 
   pub still_within : old.at ≤ length text → new.at ≤ length text
   still_within low = let most : new.at ≤ max old.at (length text) = subst (λ t. new.at ≤ max old.at (length t)) text_is h.within in omega (arith, low, most)
-
--- canonical items that a walk has passed
-pub canonical_between : (text : Text) (old new : Walk) → IsWalkOver text old → old.at ≤ length text → HasPassed IsNormalInEach old new
-    → IsCanonicalEnd text old.at new.at
-canonical_between text old new over low h =
-    let start = old.at in
-    let stop = new.at in
-    let text_is : new.text.now ≡ take MAX_TEXT_LEN text = h.text ∙ over.text_is in
-    let within : stop ≤ max start (length (take MAX_TEXT_LEN text)) = subst (λ u. stop ≤ max start (length u)) text_is h.within in
-    let run : IsPassedRun IsNormalInEach (take (stop - start) (drop start (take MAX_TEXT_LEN text))) h.items =
-    subst (λ u. IsPassedRun IsNormalInEach (take (stop - start) (drop start u)) h.items) text_is h.run in
-    let long = length-take MAX_TEXT_LEN text in
-    elim (cases_lt (length (take MAX_TEXT_LEN text)) stop) [
-      | inl behind ↦
-          let none : stop - start ≡ 0 = omega (arith, behind, within, h.from) in
-          record {
-            from = h.from;
-            within = omega (arith, within, low, long);
-            canonical = λ model. ([], subst (λ k. IsCanonicalRun model (take k (drop start text)) []) (sym none) (record { canonical = tt; whole = refl }));
-          }
-      | inr inside ↦ record {
-        from = h.from;
-        within = omega (arith, inside, long);
-        canonical = λ model. (
-          h.items,
-          run_is_canonical model (take (stop - start) (drop start text)) h.items
-              (subst (λ u. IsPassedRun IsNormalInEach u h.items) (part_of_front text MAX_TEXT_LEN start stop h.from inside) run),
-        );
-      }
-    ]
 
 -- a directive takes an argument of its type
 pub directive_typed : (model : Model) (t : Text) (d : Specification) (type : ArgType) → IsReadAs t (Directive d) → type ≡ arg_type model d

@@ -1,19 +1,15 @@
 -- Items that are spelled as the canonical text spells them. This project's own.
-use Rattle.std.specs.Prelude.{◌≡◌, ◌≢◌, ℕ, Bool, true, false, not, if◌then◌else◌, ◌+◌, ◌<◌, ◌≤◌, List, [], ◌∷◌, ◌++◌, ◌*◌, length, take, drop, replicate, flat_map}
+use Rattle.std.specs.Prelude.{◌≡◌, ◌≢◌, ℕ, Bool, true, false, not, if◌then◌else◌, List, [], ◌∷◌, replicate, flat_map}
 use Rattle.std.specs.List.{AllByRecursion}
 use Rattle.pf_values.specs.declared.conversions.Conv.{Conv}
 use Rattle.pf_values.specs.declared.conversions.Conv.TheVariants.{D, U, O, X, UpperX, B}
 use Rattle.pf_values.specs.declared.lengths.Length.{Length}
 use Rattle.pf_values.specs.declared.lengths.Length.TheVariants as lengths
-use Rattle.pf_values.specs.declared.limits.TheConstants.{MAX_TEXT_LEN}
 use Rattle.pf_values.specs.declared.models.Model.{Model}
 use Rattle.pf_values.specs.meaning.Canonical.{item_spelling}
-use Rattle.pf_values.specs.meaning.Items.{Item, Byte, Directive, Reads}
+use Rattle.pf_values.specs.meaning.Items.{Item, Byte, Directive}
 use Rattle.pf_values.specs.meaning.Normal.{IsNormal, silent}
-use Rattle.pf_values.specs.meaning.Spelling.{spelling_of}
 use Rattle.pf_values.specs.meaning.Text.{Text}
-use Rattle.pf_text.specs.declared.scanner.Scanner.{Scanner}
-use Rattle.pf_text.specs.History.{EndsRun, IsAfter}
 
 -- `%.0s`, `count` times
 abbrev pub silents : ℕ → List Item
@@ -55,26 +51,3 @@ has_canonical_parts alternative modifier conv =
 abbrev pub alternative_bytes : Bool → Text
 alternative_bytes true = 35 ∷ []
 alternative_bytes false = []
-
--- after a text that is read, canonical items at the front of what follows were taken, and no literal
--- byte follows
-pub record PassesCanonicalRun (model : Model) (t : Text) (items : List Item) (following : Text) (len : ℕ)
-    (new : Scanner) : Type 0 where
-  pub more : List Item
-  pub canonical : IsCanonicalRun model (take len following) more
-  pub after : IsAfter new (t ++ take len following) (items ++ more)
-  pub reads : Reads (t ++ take len following) (items ++ more)
-  pub longest : EndsRun (t ++ take len following) (drop len following)
-
--- `%.0s` begins a text
-abbrev pub BeginsSilent : Text → Type 0
-BeginsSilent t = (4 ≤ length t) × (take 4 t ≡ spelling_of silent)
-
--- after a text that is read, `count` times `%.0s` at the front of the rest were taken, and no more
--- could be
-pub record PassesSilents (t : Text) (items : List Item) (following : Text) (count : ℕ)
-    (new : Scanner) : Type 0 where
-  pub after : IsAfter new (t ++ take (4 * count) following) (items ++ silents count)
-  pub reads : Reads (t ++ take (4 * count) following) (items ++ silents count)
-  pub longest : BeginsSilent (drop (4 * count) following)
-      → MAX_TEXT_LEN < length (t ++ take (4 * count) following) + 4

@@ -6,7 +6,6 @@ use Rattle.pf_values.specs.declared.refusals.RefusalKind.{RefusalKind}
 use Rattle.pf_values.specs.declared.refusals.RefusalKind.TheVariants.{Truncated}
 use Rattle.pf_values.specs.meaning.Items.{Item, Byte, Directive, Reads}
 use Rattle.pf_values.specs.meaning.Refusals.{IsGoodFront, IsRefusedAt}
-use Rattle.pf_values.specs.meaning.Specification.{Specification}
 use Rattle.pf_values.specs.meaning.Text.{Text, percent}
 use Rattle.pf_text.specs.declared.refusals.Refusal.{Refusal}
 use Rattle.pf_text.specs.declared.scanner.Scanner.{Scanner}
@@ -91,12 +90,6 @@ pub record Passes (t : Text) (items : List Item) (following : Text) (len : ℕ)
   pub reads : Reads (t ++ take len following) (items ++ map Byte (take len following))
   pub literal : AllByRecursion IsLiteral (take len following)
   pub longest : EndsRun (t ++ take len following) (drop len following)
-
--- after a text that is read, the first `len` bytes of the rest were taken, which are a directive
-pub record TakesDirective (t : Text) (items : List Item) (following : Text) (len : ℕ)
-    (new : Scanner) (d : Specification) : Type 0 where
-  pub after : IsAfter new (t ++ take len following) (items ++ Directive d ∷ [])
-  pub reads : Reads (t ++ take len following) (items ++ Directive d ∷ [])
 
 -- whether the text so far is whole
 abbrev pub Finishes : Text → List Item → Result (Unit {0}) Refusal → Type 0

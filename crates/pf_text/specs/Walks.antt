@@ -12,7 +12,6 @@ use Rattle.pf_values.specs.meaning.Text.{Text, percent}
 use Rattle.pf_text.specs.declared.literal_runs.LiteralRuns.{LiteralRuns}
 use Rattle.pf_text.specs.declared.marks.TheConstants.{MAX_MARKED}
 use Rattle.pf_text.specs.declared.walk.Walk.{Walk}
-use Rattle.pf_text.specs.CanonicalRuns.{IsCanonicalRun}
 use Rattle.pf_text.specs.FoundDirectives.{BeginsNoItem}
 use Rattle.pf_text.specs.Marks.{AreMarksOf}
 
@@ -75,12 +74,6 @@ pub record Finds (passes : Item → Type 0) (leaves : ℕ → Type 0) (old new :
   pub passed : HasPassed passes old new
   pub stopped : IsTrue found → HasPercent new.text.now new.at × leaves (get_or new.text.now (new.at + 1) 0)
   pub ended : IsFalse found → BeginsNoItem (drop new.at new.text.now)
-
--- between two offsets there are canonical items
-pub record IsCanonicalEnd (t : Text) (start stop : ℕ) : Type 0 where
-  pub from : start ≤ stop
-  pub within : stop ≤ length t
-  pub canonical : (model : Model) → (items : List Item) × IsCanonicalRun model (take (stop - start) (drop start t)) items
 
 -- the bytes up to an offset are whole items, and aren't too many; and no item begins there that would end
 -- within the limit

@@ -12,7 +12,6 @@
 #![tactic(auto)]
 
 mod argument_types;
-mod canonical_runs;
 mod checking;
 mod known_argument_types;
 pub mod laws;
@@ -31,7 +30,6 @@ mod state;
 mod walk;
 
 pub use argument_types::signature;
-pub use canonical_runs::canonical_end;
 pub use checking::{check, is_known_accepted, items_end, items_end_from, refusal_at};
 pub use known_argument_types::known_types;
 pub use letters::{conv_of, flag_of, modifier_of};

@@ -1,18 +1,13 @@
 //! A reader of a format, byte by byte.
-ghost use Rattle.std.specs.Prelude.{◌≡◌, ◌+◌, ◌*◌, ◌≤◌, ◌<◌, false, length, List, [], ◌++◌, None, IsTrue, MatchBool, MatchOption, MatchResult, OnOk, Ok, Err, ⊤};
+ghost use Rattle.std.specs.Prelude.{◌≡◌, ◌+◌, ◌≤◌, ◌<◌, false, length, List, [], ◌++◌, IsTrue, MatchBool, MatchResult, OnOk, Ok, Err};
 ghost use Rattle.pf_values.specs.declared.limits.TheConstants.{MAX_TEXT_LEN};
 ghost use Rattle.pf_values.specs.meaning.Items.{Item, Reads};
 ghost use Rattle.pf_values.specs.meaning.Text.{Text};
-ghost use Rattle.pf_values.specs.declared.models.Model.{Model};
-ghost use Rattle.pf_text.specs.CanonicalRuns.{PassesCanonicalRun, PassesSilents};
 ghost use Rattle.pf_text.specs.Stages.{state_of};
 ghost use Rattle.pf_text.specs.States.{next};
-ghost use Rattle.pf_text.specs.History.{IsAfter, HasRefused, Feeds, Finishes, Passes, TakesDirective, offset_of, refusal_by, refused_by, refusing};
+ghost use Rattle.pf_text.specs.History.{IsAfter, HasRefused, Feeds, Finishes, offset_of, refusal_by, refused_by, refusing};
 
-use crate::canonical_runs::{canonical_run_len, count_silents};
 use crate::refusals::Refusal;
-use crate::search::literal_len;
-use crate::specification::directive_at;
 use crate::state::{Automaton, Move};
 use pf_values::limits::MAX_TEXT_LEN;
 use pf_values::{Directive, RefusalKind};
@@ -141,88 +136,6 @@ impl Scanner {
         self.automaton.is_between()
     }
 
-    /// Takes the longest run of literal bytes at the front of `text`, and returns how many there
-    /// are. One call of `feed` for each of them would do the same. Inside an item, and after a
-    /// refusal, it takes none.
-    #[inline(always)]
-    pub fn pass_literals(&mut self, text: &[u8]) -> usize
-        ensures within { result ≤ length text.now }
-        ensures passed { (t : Text) (items : List Item) → IsAfter self.old t items → Reads t items
-            → Passes t items text.now result self.new }
-        ensures between { (t : Text) (items : List Item) → IsAfter self.old t items → 0 < result
-            → Reads t items }
-        ensures idle { result ≡ 0 → self.new ≡ self.old }
-        ensures stays { (refusal : Refusal) → HasRefused self.old refusal → result ≡ 0 }
-    {
-        if !self.is_between() {
-            return 0;
-        }
-        self.take_literals(text)
-    }
-
-    /// Takes a run of literal bytes, as `pass_literals`, if the reader is between items.
-    #[inline(always)]
-    pub(crate) fn take_literals(&mut self, text: &[u8]) -> usize
-        ensures within { result ≤ length text.now }
-        ensures passed { (t : Text) (items : List Item) → IsAfter self.old t items
-            → Reads t items → Passes t items text.now result self.new }
-        ensures idle { result ≡ 0 → self.new ≡ self.old }
-    {
-        let run = literal_len(text);
-        // The offset is never above the limit, so nothing wraps.
-        let room = MAX_TEXT_LEN.wrapping_sub(self.offset);
-        let taken = (run as u64).min(room);
-        self.offset = self.offset.wrapping_add(taken);
-        taken as usize
-    }
-
-    /// Takes the canonical items at the front of `text`, and returns how many bytes they have. These
-    /// are literal bytes, `%%`, and the directives of a conversion alone that are normal, as they
-    /// then are in each data model. One call of `feed` for each byte would do the same. Inside an
-    /// item, and after a refusal, it takes none.
-    #[inline(always)]
-    pub fn pass_canonical_run(&mut self, text: &[u8]) -> usize
-        ensures within { result ≤ length text.now }
-        ensures passed { (model : Model) (t : Text) (items : List Item) → IsAfter self.old t items
-            → Reads t items → PassesCanonicalRun model t items text.now result self.new }
-        ensures between { (t : Text) (items : List Item) → IsAfter self.old t items → 0 < result
-            → Reads t items }
-        ensures idle { result ≡ 0 → self.new ≡ self.old }
-        ensures stays { (refusal : Refusal) → HasRefused self.old refusal → result ≡ 0 }
-    {
-        if !self.is_between() {
-            return 0;
-        }
-        let room = MAX_TEXT_LEN.saturating_sub(self.offset);
-        let most = (text.len() as u64).min(room);
-        let run = canonical_run_len(&text[..most as usize]);
-        self.offset += run as u64;
-        run
-    }
-
-    /// Takes the directives `%.0s` at the front of `text`, and returns how many there are. One call
-    /// of `feed` for each of their bytes would do the same. Inside an item, and after a refusal, it
-    /// takes none.
-    #[inline(always)]
-    pub fn pass_silents(&mut self, text: &[u8]) -> usize
-        ensures within { 4 * result ≤ length text.now }
-        ensures passed { (t : Text) (items : List Item) → IsAfter self.old t items → Reads t items
-            → PassesSilents t items text.now result self.new }
-        ensures between { (t : Text) (items : List Item) → IsAfter self.old t items → 0 < result
-            → Reads t items }
-        ensures idle { result ≡ 0 → self.new ≡ self.old }
-        ensures stays { (refusal : Refusal) → HasRefused self.old refusal → result ≡ 0 }
-    {
-        if !self.is_between() {
-            return 0;
-        }
-        let room = MAX_TEXT_LEN.saturating_sub(self.offset);
-        let most = (text.len() as u64).min(room);
-        let count = count_silents(&text[..most as usize]);
-        self.offset += 4 * count as u64;
-        count
-    }
-
     /// Returns whether whole items of up to `most` bytes may be taken by `pass_items`: not inside an item,
     /// after a refusal, and where the text could become too long.
     #[inline(always)]
@@ -245,43 +158,6 @@ impl Scanner {
             → IsAfter self.new (t ++ text) (items ++ more) }
     {
         self.offset = self.offset.wrapping_add(len as u64);
-    }
-
-    /// Takes a whole directive at the front of `text`, and returns how many bytes it has, too. One
-    /// call of `feed` for each of them would do the same. `None` if there is no whole and defined
-    /// directive, inside an item, and after a refusal: then it takes nothing. It may be `None` even
-    /// if there is one, and so its caller goes on with `feed`.
-    #[inline(always)]
-    pub fn pass_directive(&mut self, text: &[u8]) -> Option<(Directive, usize)>
-        ensures within { MatchOption result (self.new ≡ self.old)
-            (λ front. (0 < front.1) × (front.1 ≤ length text.now)) }
-        ensures passed { (t : Text) (items : List Item) → IsAfter self.old t items
-            → MatchOption result ⊤
-            (λ front. TakesDirective t items text.now front.1 self.new front.0) }
-        ensures stays { (refusal : Refusal) → HasRefused self.old refusal → result ≡ None }
-    {
-        if !self.is_between() {
-            return None;
-        }
-        self.take_directive(text)
-    }
-
-    /// Takes a whole directive, as `pass_directive`, if the reader is between items.
-    #[inline(always)]
-    pub(crate) fn take_directive(&mut self, text: &[u8]) -> Option<(Directive, usize)>
-        ensures within { MatchOption result (self.new ≡ self.old)
-            (λ front. (0 < front.1) × (front.1 ≤ length text.now)) }
-        ensures taken { (t : Text) (items : List Item) → IsAfter self.old t items → Reads t items
-            → MatchOption result ⊤
-            (λ front. TakesDirective t items text.now front.1 self.new front.0) }
-    {
-        let found = directive_at(text, 0)?;
-        // The offset is never above the limit, so nothing wraps.
-        if found.stop as u64 > MAX_TEXT_LEN.wrapping_sub(self.offset) {
-            return None;
-        }
-        self.offset = self.offset.wrapping_add(found.stop as u64);
-        Some((found.directive, found.stop))
     }
 
     fn refuse(&mut self, kind: RefusalKind) -> Result<Step, Refusal>

@@ -1,28 +1,10 @@
 //! Texts in memory: where a walk stops, directives and their parts at offsets, and types.
 use pf_text::{
-    Bare, Canonical, Nothing, Passed, Percents, Refusal, Scanner, Walk, canonical_end, digits_at,
+    Bare, Canonical, Nothing, Passed, Percents, Refusal, Scanner, Walk, digits_at,
     directive_at, flags_at, is_known_accepted, items_end, known_types, literal_len, modifier_at,
     number_at, refusal_at, spell, spelled_at,
 };
 use pf_values::{ArgType, Flag, Length, Model, RefusalKind};
-
-// Where the canonical run ends that begins at an offset.
-fn run_end(text: &[u8], from: usize) -> usize {
-    canonical_end(Walk::new(text), from)
-}
-
-// Eight bytes have marks, and six don't.
-#[test]
-fn canonical_runs_end(rt: HostRuntime) {
-    assert!(rt;
-        [
-            run_end(b"%da%i%s-", 0),
-            run_end(b"%da%i%s-", 5),
-            run_end(b"%d%-3d", 0),
-            run_end(b"%d%-3d", 2),
-        ] == [3, 8, 2, 2]
-    );
-}
 
 // Where a walk stops, and whether at a `%` that begins something else.
 fn stop<P: Passed>(text: &[u8]) -> (usize, bool) {
