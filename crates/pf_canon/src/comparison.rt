@@ -77,6 +77,7 @@ fn are_all(first: &[u8], second: &[u8], common: usize) -> bool
 }
 
 // Compares a text with itself: it is accepted, or refused.
+#[inline(always)]
 fn same_itself<L: Language>(model: Model, text: &[u8]) -> Result<bool, (Side, Refusal)>
     ensures { MatchResult result (AreSameIn L.has_front model text.now text.now)
         (StopsIn L.has_front L.refuses model text.now text.now) }
@@ -84,6 +85,15 @@ fn same_itself<L: Language>(model: Model, text: &[u8]) -> Result<bool, (Side, Re
     if is_known_accepted(text) {
         return Ok(true);
     }
+    same_if_accepted::<L>(model, text)
+}
+
+// The same, of a text that isn't known to be one of the profile. Never inlined, since few texts come here.
+#[inline(never)]
+fn same_if_accepted<L: Language>(model: Model, text: &[u8]) -> Result<bool, (Side, Refusal)>
+    ensures { MatchResult result (AreSameIn L.has_front model text.now text.now)
+        (StopsIn L.has_front L.refuses model text.now text.now) }
+{
     match check_from::<L>(model, text, Walk::new(text)) {
         Ok(()) => Ok(true),
         Err(refusal) => Err((Side::First, refusal)),

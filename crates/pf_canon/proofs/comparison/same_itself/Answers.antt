@@ -1,6 +1,5 @@
-use Rattle.std.proofs.Common.{[]}
 use Rattle.pf_canon.proofs.ComparisonLemmas.{told_itself}
-use Rattle.pf_canon.proofs.LanguageLemmas.{accepted_in, nothing_read}
+use Rattle.pf_canon.proofs.LanguageLemmas.{accepted_in}
 use Rattle.pf_canon.proofs.comparison.same_itself.Goals as goal
 
 pub returns-then-is_known_accepted : goal.returns-then-is_known_accepted
@@ -8,18 +7,3 @@ returns-then-is_known_accepted g c =
     let (canonical, h) = accepted_in g.L.Language.has_front c.args.model (g.met.L.Language.has_none c.args.model) c.args.text.now
     (c.is_known_accepted.ensures c.if-is_known_accepted.true) in
     told_itself g.L.Language.has_front c.args.model c.args.text.now canonical h
-
-pub check_from-requires-clause-written : goal.check_from-requires-clause-written
-check_from-requires-clause-written g c =
-    ([], 0, nothing_read g.L.Language.has_front c.args.model (g.met.L.Language.has_none c.args.model) c.args.text.now c.new.result.at c.new.ensures.at)
-
-pub returns-in-Ok : goal.returns-in-Ok
-returns-in-Ok g c =
-    let (canonical, h) = c.in-Ok.ensures [] 0
-    (nothing_read g.L.Language.has_front c.args.model (g.met.L.Language.has_none c.args.model) c.args.text.now c.new.result.at c.new.ensures.at) in
-    told_itself g.L.Language.has_front c.args.model c.args.text.now canonical h
-
-pub returns-in-Err : goal.returns-in-Err
-returns-in-Err g c =
-    c.in-Err.ensures [] 0
-    (nothing_read g.L.Language.has_front c.args.model (g.met.L.Language.has_none c.args.model) c.args.text.now c.new.result.at c.new.ensures.at)
