@@ -1,8 +1,8 @@
 //! Texts in memory: where a walk stops, directives and their parts at offsets, and types.
 use pf_text::{
-    Bare, Canonical, Nothing, Passed, Percents, Refusal, Scanner, Walk, digits_at,
-    directive_at, flags_at, is_known_accepted, items_end, known_types, literal_len, modifier_at,
-    number_at, refusal_at, spell, spelled_at,
+    Bare, Canonical, Nothing, Passed, Percents, Refusal, Scanner, Walk, digits_at, directive_at,
+    flags_at, is_known_accepted, items_end, known_types, literal_len, modifier_at, number_at,
+    refusal_at, spell, spelled_at,
 };
 use pf_values::{ArgType, Flag, Length, Model, RefusalKind};
 
