@@ -6,7 +6,6 @@ ghost use Rattle.fmtcanon_c.specs.Models.{InModel};
 use crate::interface::{CError, NO_MODEL, model_of, put_refusal};
 use pf_bounds::bounds;
 use pf_text::Side;
-use pf_values::Model;
 
 /// `FMTCANON_UNBOUNDED`
 pub(crate) const UNBOUNDED: u64 = 18_446_744_073_709_551_615;

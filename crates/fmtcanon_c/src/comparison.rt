@@ -8,7 +8,6 @@ ghost use Rattle.fmtcanon_c.specs.Words.{ended_words, word_or_any};
 
 use crate::interface::{CError, NO_MEMORY, NO_MODEL, model_of, put_bytes, put_refusal};
 use pf_compare::{CompareFault, OwnedArg};
-use pf_values::Model;
 use pf_whole::WholeVerdict;
 use std::alloc::{AllocError, Global};
 

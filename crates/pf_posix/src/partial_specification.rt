@@ -1,9 +1,8 @@
 //! The parts of a specification before its length modifier.
 ghost use Rattle.std.specs.Prelude.{◌≡◌, true};
-ghost use Rattle.pf_values.specs.meaning.Flags.{with_flag};
 ghost use Rattle.pf_posix.specs.States.{parts_at, with_width};
 
-use pf_values::{Flag, FlagSet};
+use pf_values::FlagSet;
 
 /// Whether a number or a `*` is for the width or for the precision.
 #[derive(Clone, Copy, Debug, PartialEq, Eq)]
@@ -49,19 +48,6 @@ impl PartialSpecification {
             flags: FlagSet::empty(),
             width: false,
             precision: false,
-        }
-    }
-
-    /// These parts with one flag more.
-    #[inline(always)]
-    pub(crate) fn with_flag(self, flag: Flag) -> PartialSpecification
-        ensures { result ≡ record self { flags = with_flag self.flags flag } }
-    {
-        PartialSpecification {
-            position: self.position,
-            flags: self.flags.with(flag),
-            width: self.width,
-            precision: self.precision,
         }
     }
 
