@@ -87,10 +87,11 @@ $(C)/libfmtcanon.a: $(C)/fmtcanon.o
 	rm -f $@
 	$(CROSS)ar rcs $@ $<
 
+# Its other names are hard links: `rt ci` refuses a tree with symbolic ones.
 $(SHARED): $(C)/fmtcanon.o
 	$(CC) -shared -Wl,-soname,$(SONAME) -Wl,-z,defs -Wl,-z,text -Wl,-z,relro -Wl,-z,now $(LDFLAGS) -o $@ $<
-	ln -sf libfmtcanon.so.$(VERSION) $(C)/$(SONAME)
-	ln -sf $(SONAME) $(C)/libfmtcanon.so
+	ln -f $@ $(C)/$(SONAME)
+	ln -f $@ $(C)/libfmtcanon.so
 
 # The library as Rattle's own compiler builds it, to compare what the two answer.
 $(C)/second.a: library
