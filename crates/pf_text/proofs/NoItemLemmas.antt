@@ -1,12 +1,13 @@
 -- Where no item begins.
 use Rattle.std.proofs.Common.{◌≡◌, ◌≢◌, ℕ, ◌+◌, ◌<◌, ◌≤◌, Bool, true, false, [], ◌∷◌, ◌++◌, drop, get_or, length, refl, sym, ap, ◌∙◌, subst, arith, inl, inr}
 use Rattle.std.specs.Prelude.{MatchBool, ◌⊎◌, ◌==◌}
+use Rattle.std.proofs.lemmas.Bool.{cases_lt}
 use Rattle.std.proofs.lemmas.List.{drop_all, drop_more}
 use Rattle.memchr.specs.Find.{Passes, is_byte2}
 use Rattle.pf_values.specs.meaning.Items.{Byte, Directive}
 use Rattle.pf_values.specs.meaning.Text.{Text, percent}
 use Rattle.pf_text.specs.FoundDirectives.{BeginsNoDirective, BeginsNoItem}
-use Rattle.pf_text.specs.Walks.{HasPercent}
+use Rattle.pf_text.specs.Walks.{BeginsNothing, HasPercent}
 use Rattle.pf_text.proofs.FoundLemmas.{none_at_end}
 use Rattle.pf_text.proofs.NoDirectiveLemmas.{other_begins}
 use Rattle.pf_text.proofs.LiteralLemmas.{stops}
@@ -62,12 +63,23 @@ module _ (t : Text) (at : ℕ) where
       (none_of (drop (at + 1) t) (get_or t at 0) (subst BeginsNoDirective (drop_more t at 0 some) (none_at_end t at over)) (inl e)
       (λ rest p. λ two. (let no : [] ≡ percent ∷ rest = sym last ∙ two in cc)))
 
-  -- either
-  pub none_at_stop : at < length t → Passes (is_byte2 37 0) t at → (length t ≤ at + 1) ⊎ (get_or t at 0 ≢ percent) → BeginsNoItem (drop at t)
-  none_at_stop some passes short = go (stops (get_or t at 0) passes) short where
-    go : (get_or t at 0 ≡ 37) ⊎ (get_or t at 0 ≡ 0) → (length t ≤ at + 1) ⊎ (get_or t at 0 ≢ percent) → BeginsNoItem (drop at t)
-    go (inr e) short = none_at_nul some e
-    go (inl e) (inl over) = none_at_last some over e
+  -- any of these
+  pub no_item : BeginsNothing t at → BeginsNoItem (drop at t)
+  no_item h = elim (cases_lt at (length t)) [
+    | inl some ↦ go some h
+    | inr over ↦ none_past over
+  ] where
+    go : at < length t → BeginsNothing t at → BeginsNoItem (drop at t)
+    go some (inl over) = none_past over
+    go some (inr (inl e)) = none_at_nul some e
+    go some (inr (inr last)) = none_at_last some last.0 last.1
+
+  -- where a run of literal bytes ends, but not at a `%` before another byte
+  pub nothing_at_stop : Passes (is_byte2 37 0) t at → (length t ≤ at + 1) ⊎ (get_or t at 0 ≢ percent) → BeginsNothing t at
+  nothing_at_stop passes short = go (stops (get_or t at 0) passes) short where
+    go : (get_or t at 0 ≡ 37) ⊎ (get_or t at 0 ≡ 0) → (length t ≤ at + 1) ⊎ (get_or t at 0 ≢ percent) → BeginsNothing t at
+    go (inr e) short = inr (inl e)
+    go (inl e) (inl over) = inr (inr (over, e))
     go (inl e) (inr other) = absurd (other e)
 
   -- a `%` before another byte, where no directive begins

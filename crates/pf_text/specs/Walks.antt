@@ -1,5 +1,5 @@
 -- The walk over the items of a text in memory. This project's own.
-use Rattle.std.specs.Prelude.{◌≡◌, ◌≢◌, ℕ, Bool, ◌+◌, ◌-◌, ◌<◌, ◌≤◌, List, drop, flat_map, get_or, length, max, take, Option, Some, None, IfSome, IsFalse, IsTrue, ⊤}
+use Rattle.std.specs.Prelude.{◌≡◌, ◌≢◌, ℕ, Bool, ◌+◌, ◌-◌, ◌<◌, ◌≤◌, List, drop, flat_map, get_or, length, max, take, Option, Some, None, IfSome, IsFalse, IsTrue, ⊤, ◌⊎◌}
 use Rattle.std.specs.List.{AllByRecursion}
 use Rattle.memchr.specs.Find.{Nowhere, Passes, is_byte2}
 use Rattle.pf_values.specs.declared.limits.TheConstants.{MAX_TEXT_LEN}
@@ -49,6 +49,11 @@ IsNormalInEach (Directive s) = (model : Model) → IsNormal model s
 abbrev pub HasPercent : Text → ℕ → Type 0
 HasPercent t at = (at + 1 < length t) × (get_or t at 0 ≡ percent)
 
+-- no item of any language begins at an offset: the text ends there, or has a NUL or its last byte, a `%`
+abbrev pub BeginsNothing : Text → ℕ → Type 0
+BeginsNothing t at = (length t ≤ at) ⊎ (get_or t at 0 ≡ 0)
+    ⊎ ((length t ≤ at + 1) × (get_or t at 0 ≡ percent))
+
 -- the text of a walk isn't too long, and its runs are the text's
 pub record IsWalk (walk : Walk) : Type 0 where
   pub few : length walk.text.now ≤ MAX_TEXT_LEN
@@ -73,7 +78,7 @@ pub record Finds (passes : Item → Type 0) (leaves : ℕ → Type 0) (old new :
     (found : Bool) : Type 0 where
   pub passed : HasPassed passes old new
   pub stopped : IsTrue found → HasPercent new.text.now new.at × leaves (get_or new.text.now (new.at + 1) 0)
-  pub ended : IsFalse found → BeginsNoItem (drop new.at new.text.now)
+  pub ended : IsFalse found → BeginsNothing new.text.now new.at
 
 -- the bytes up to an offset are whole items, and aren't too many; and no item begins there that would end
 -- within the limit

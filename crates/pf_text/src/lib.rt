@@ -43,4 +43,4 @@ pub use specification::{
     FoundDirective, digits_at, directive_at, flags_at, modifier_at, number_at, spelled_at,
 };
 pub use spelling::{Spelling, push_flags, spell};
-pub use walk::Walk;
+pub use walk::{Walk, within_limit};

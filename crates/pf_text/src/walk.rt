@@ -71,9 +71,9 @@ impl<'a> Walk<'a> {
     }
 }
 
-/// The front of a text that is as long as a format may be.
+/// Returns the front of a text that is as long as a format may be.
 #[inline(always)]
-pub(crate) fn within_limit(text: &[u8]) -> &[u8]
+pub fn within_limit(text: &[u8]) -> &[u8]
     ensures { result.now ≡ take LIMIT text.now }
 {
     if text.len() as u64 > MAX_TEXT_LEN {

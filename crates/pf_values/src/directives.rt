@@ -18,10 +18,10 @@ use crate::data_model::length_row;
 use crate::flags::{Flag, FlagSet};
 use crate::lengths::Length;
 use crate::limits::MAX_NUMBER;
-use crate::models::Model as DataModel;
+use crate::models::Model;
 use crate::refusals::RefusalKind;
 use crate::types::ArgType;
-use std::marker::Model;
+use std::marker;
 
 /// A conversion specification that the standard defines, with numbers within the limits.
 #[derive(Clone, Copy, Debug, PartialEq, Eq)]
@@ -33,7 +33,7 @@ pub struct Directive {
     conv: Conv,
 }
 
-impl Model for Directive {
+impl marker::Model for Directive {
     ghost use Rattle.pf_values.specs.meaning.Specification.{Specification};
     ghost use Rattle.pf_values.specs.meaning.Defined.{IsDefined};
 
@@ -186,14 +186,14 @@ impl Directive {
 
     /// Returns the type of the argument that it takes in this data model (C11 7.21.6.1, paragraphs
     /// 7 and 8).
-    pub fn arg_type(&self, model: DataModel) -> ArgType
+    pub fn arg_type(&self, model: Model) -> ArgType
         ensures { result ≡ arg_type model self.now }
     {
         self.conv.arg_type(model, self.length)
     }
 
     /// Returns the bits of the value that it prints; 0 for `c` and `s`.
-    pub fn bits(&self, model: DataModel) -> u8
+    pub fn bits(&self, model: Model) -> u8
         ensures { result ≡ value_bits model self.now }
     {
         if self.conv.kind().is_text() {
@@ -204,7 +204,7 @@ impl Directive {
 
     /// Returns the most digits that its value has, the sign not counted; 0 for `c` and `s`.
     #[inline(always)]
-    pub fn max_digits(&self, model: DataModel) -> u8
+    pub fn max_digits(&self, model: Model) -> u8
         ensures { result ≡ digits_at_most model self.now }
     {
         let bits = length_row(model, self.length).bits;

@@ -2,7 +2,7 @@ use Rattle.std.proofs.Common.{◌≡◌, ◌∙◌, ◌≤◌, ◌-◌, List, dr
 use Rattle.pf_values.specs.meaning.Items.{Item, Reads}
 use Rattle.pf_text.specs.FoundDirectives.{BeginsNoDirective}
 use Rattle.pf_text.specs.Walks.{EndsItems}
-use Rattle.pf_text.proofs.NoItemLemmas.{none_at_percent}
+use Rattle.pf_text.proofs.NoItemLemmas.{no_item, none_at_percent}
 use Rattle.pf_text.proofs.ReadingLemmas.{ends_items, passed_from, read_from, read_nothing}
 use Rattle.pf_text.proofs.checking.items_end_from.Goals as goal
 
@@ -33,4 +33,4 @@ loop-walk-preserved c =
 
 pub returns : goal.returns
 returns c = ends_items c.args.walk c.find.new.self
-    (passed_from _ c.args.walk c.loop-walk.walk c.find.new.self c.loop-walk.invariant c.find.ensures.passed) (c.find.ensures.ended c.loop-walk-test.false)
+    (passed_from _ c.args.walk c.loop-walk.walk c.find.new.self c.loop-walk.invariant c.find.ensures.passed) (no_item c.find.new.self.text.now c.find.new.self.at (c.find.ensures.ended c.loop-walk-test.false))

@@ -1,5 +1,6 @@
 use Rattle.std.proofs.Common.{◌≤◌, ◌-◌, ◌∷◌, [], arith, drop, length, subst, sym, take}
 use Rattle.pf_text.specs.Signatures.{ReadsTyped}
+use Rattle.pf_text.proofs.NoItemLemmas.{no_item}
 use Rattle.pf_text.proofs.ReadingLemmas.{HasTyped, typed_all, typed_item, typed_none, typed_passed_too}
 use Rattle.pf_text.proofs.known_argument_types.known_types.Goals as goal
 
@@ -27,4 +28,4 @@ pub returns-then-walk-text : goal.returns-then-walk-text
 returns-then-walk-text c =
     let found = take c.loop-model.count c.loop-model.types in
     let now = typed_passed_too c.args.model c.args.text.now c.loop-model.walk c.find.new.self found c.loop-model.invariant.typed c.find.ensures.passed in
-    (c.loop-model.invariant.room, typed_all c.args.model c.args.text.now c.find.new.self found now (c.find.ensures.ended c.loop-model-test.false) c.if-walk-text.true)
+    (c.loop-model.invariant.room, typed_all c.args.model c.args.text.now c.find.new.self found now (no_item c.find.new.self.text.now c.find.new.self.at (c.find.ensures.ended c.loop-model-test.false)) c.if-walk-text.true)

@@ -1,7 +1,7 @@
 use Rattle.std.proofs.Common.{◌+◌, ◌≡◌, ◌∙◌, ap, arith, inr, refl, subst, sym}
 use Rattle.std.proofs.lemmas.List.{get_or-drop, length-drop, take_rest}
 use Rattle.memchr.specs.Find.{Passes, is_byte2}
-use Rattle.pf_text.proofs.NoItemLemmas.{none_at_stop}
+use Rattle.pf_text.proofs.NoItemLemmas.{no_item, nothing_at_stop}
 use Rattle.pf_text.proofs.PieceLemmas.{literal_piece}
 use Rattle.pf_text.proofs.pieces.literal_at.Goals as goal
 
@@ -14,7 +14,7 @@ returns-then-stop-at c =
     let ended = rw take_rest at c.literal_len.ensures.ended in
     let passes : Passes (is_byte2 37 0) text at = subst (Passes (is_byte2 37 0) text) place
     (ap (is_byte2 37 0) (sym (get_or-drop at text n 0)) ∙ ended (omega (arith, place, c.requires.within, length-drop at text))) in
-    none_at_stop text at c.requires.within passes (inr c.requires.other)
+    no_item text at (nothing_at_stop text at passes (inr c.requires.other))
 
 pub returns : goal.returns
 returns c =

@@ -1,5 +1,5 @@
 use Rattle.std.proofs.Common.{arith, inl, inr, length, refl}
-use Rattle.pf_text.proofs.NoItemLemmas.{none_at_stop, none_past}
+use Rattle.pf_text.proofs.NoItemLemmas.{nothing_at_stop}
 use Rattle.pf_text.proofs.WalkLemmas.{passed_literals, passed_more, passed_none, passed_to}
 use Rattle.pf_text.proofs.walk.Walk.find.Goals as goal
 
@@ -16,21 +16,21 @@ returns-in_default g c =
       passed = passed_literals g.P.Passed.passes c.args.self.now here c.loop-self.invariant (length here.text.now)
           (omega (arith, c.loop-self-test.true)) (omega arith) c.in_default.ensures;
       stopped = λ never. absurd (cc);
-      ended = λ e. none_past here.text.now (length here.text.now) (omega arith);
+      ended = λ e. inl (omega arith);
     }
 
 pub returns-then-offset-self : goal.returns-then-offset-self
 returns-then-offset-self g c = record {
   passed = passed_to g.P.Passed.passes c.args.self.now c.loop-self.self c.loop-self.invariant c.in-Some.offset c.in-Some.ensures;
   stopped = λ never. absurd (cc);
-  ended = λ e. none_at_stop c.loop-self.self.text.now c.in-Some.offset c.in-Some.ensures.1 c.in-Some.ensures.3 (inl (omega (arith, c.if-offset-self.true)));
+  ended = λ e. nothing_at_stop c.loop-self.self.text.now c.in-Some.offset c.in-Some.ensures.3 (inl (omega (arith, c.if-offset-self.true)));
 }
 
 pub returns-then-self-offset-ne37 : goal.returns-then-self-offset-ne37
 returns-then-self-offset-ne37 g c = record {
   passed = passed_to g.P.Passed.passes c.args.self.now c.loop-self.self c.loop-self.invariant c.in-Some.offset c.in-Some.ensures;
   stopped = λ never. absurd (cc);
-  ended = λ e. none_at_stop c.loop-self.self.text.now c.in-Some.offset c.in-Some.ensures.1 c.in-Some.ensures.3 (inr c.if-self-offset-ne37.true);
+  ended = λ e. nothing_at_stop c.loop-self.self.text.now c.in-Some.offset c.in-Some.ensures.3 (inr c.if-self-offset-ne37.true);
 }
 
 pub returns-then-len-eq0 : goal.returns-then-len-eq0
@@ -49,5 +49,5 @@ pub returns : goal.returns
 returns g c = record {
   passed = c.loop-self.invariant;
   stopped = λ never. absurd (cc);
-  ended = λ e. none_past c.loop-self.self.text.now c.loop-self.self.at (omega (arith, c.loop-self-test.false));
+  ended = λ e. inl (omega (arith, c.loop-self-test.false));
 }
