@@ -11,7 +11,7 @@ use Rattle.pf_text.specs.declared.walk.Walk.{Walk}
 use Rattle.pf_values.specs.declared.limits.TheConstants.{MAX_TEXT_LEN}
 use Rattle.pf_text.specs.FoundDirectives.{BeginsNoDirective, BeginsNoItem, IsFoundAt}
 use Rattle.pf_text.specs.declared.specification.FoundDirective.{FoundDirective}
-use Rattle.pf_text.proofs.NoItemLemmas.{none_at_percent}
+use Rattle.pf_text.proofs.NoItemLemmas.{no_item as none_there, none_at_percent}
 use Rattle.pf_text.proofs.ReadingLemmas.{part_of_front}
 use Rattle.pf_text.proofs.CanonicalRunLemmas.{take_front}
 use Rattle.pf_canon.specs.ChangedDirectives.{PutsFront, between}
@@ -169,7 +169,7 @@ pub run_next : (passes : Item → Type 0) (leaves : ℕ → Type 0) (old new : W
     → BeginsNoItem (drop new.at old.text.now) ⊎ (HasPercent old.text.now new.at × leaves (get_or old.text.now (new.at + 1) 0))
 run_next passes leaves old new true h =
     inr (subst (λ t. HasPercent t new.at × leaves (get_or t (new.at + 1) 0)) h.passed.text (h.stopped refl))
-run_next passes leaves old new false h = inl (subst (λ t. BeginsNoItem (drop new.at t)) h.passed.text (h.ended refl))
+run_next passes leaves old new false h = inl (subst (λ t. BeginsNoItem (drop new.at t)) h.passed.text (none_there new.text.now new.at (h.ended refl)))
 
 -- a part of a text isn't too long if that isn't
 pub between_short : (t : Text) (start stop : ℕ) → length t ≤ MAX_TEXT_LEN → length (between start stop t) ≤ MAX_TEXT_LEN

@@ -16,8 +16,8 @@ use crate::sink::ByteCount;
 use pf_text::{Canonical, FoundDirective, Percents, Refusal, Spelling, Walk, directive_at};
 use pf_values::Model;
 
-/// Where the reading of a text stands: up to this offset it is whole items, and this number of silent
-/// directives aren't written yet.
+/// A place up to which a text is read: before this offset it is whole items, and this number of silent
+/// directives isn't written yet.
 #[derive(Clone, Copy, Debug)]
 pub(crate) struct Place {
     at: usize,
@@ -137,7 +137,7 @@ impl<'a> CanonicalSlices<'a> {
         }
     }
 
-    // Takes the verbatim bytes that come; or if there are none, an item, or the end.
+    // Takes the verbatim bytes that come next. If there are none, it takes an item, or the end.
     fn take<L: Language>(&mut self)
         requires slices { AreSlices L.has_front L.refuses self.old }
         requires open { self.old.end ≡ None }
@@ -157,7 +157,7 @@ impl<'a> CanonicalSlices<'a> {
         }
     }
 
-    // Takes the verbatim bytes that come, if there are any.
+    // Takes the verbatim bytes that come next, and returns whether there are any.
     #[inline(always)]
     fn take_verbatim<L: Language>(&mut self) -> bool
         requires slices { AreSlices L.has_front L.refuses self.old }
@@ -181,8 +181,8 @@ impl<'a> CanonicalSlices<'a> {
         true
     }
 
-    // Where the verbatim bytes end that come: after silent directives that are held they are literal bytes and
-    // `%%` alone.
+    // Returns where the next verbatim bytes end: after silent directives that are held these are literal bytes
+    // and `%%` alone.
     #[inline(always)]
     fn verbatim_end(&self) -> usize
         requires walk { IsWalk self.now.walk }

@@ -88,7 +88,7 @@ fn same_itself<L: Language>(model: Model, text: &[u8]) -> Result<bool, (Side, Re
     same_if_accepted::<L>(model, text)
 }
 
-// The same, of a text that isn't known to be one of the profile. Never inlined, since few texts come here.
+// Compares a text that isn't known to be one of the profile with itself. Never inlined, since few texts come here.
 #[inline(never)]
 fn same_if_accepted<L: Language>(model: Model, text: &[u8]) -> Result<bool, (Side, Refusal)>
     ensures { MatchResult result (AreSameIn L.has_front model text.now text.now)

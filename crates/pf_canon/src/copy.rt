@@ -179,30 +179,17 @@ impl<W: Write> Sink for Gathered<'_, '_, W> {
         if self.has_failed {
             return;
         }
-        match gather(self.writer, self.buffer, bytes, self.count) {
+        // The count stays as it is while there is room, so it isn't read or written here.
+        if self.buffer.try_extend_from_slice(bytes).is_ok() {
+            return;
+        }
+        match put_both(self.writer, self.buffer, bytes, self.count) {
             Ok(count) => self.count = count,
             Err(count) => {
                 self.count = count;
                 self.has_failed = true;
             }
         }
-    }
-}
-
-// Puts bytes into the buffer after others, while there is room for them.
-#[inline(always)]
-fn gather<W: Write>(
-    w: &mut Counted<W>,
-    buffer: &mut WriteBuffer,
-    bytes: &[u8],
-    count: u128,
-) -> Result<u128, u128>
-    ensures { Gathers W.contents w.old w.new buffer.old.items bytes.now count buffer.new.items
-        result }
-{
-    match buffer.try_extend_from_slice(bytes) {
-        Ok(()) => Ok(count),
-        Err(_) => put_both(w, buffer, bytes, count),
     }
 }
 

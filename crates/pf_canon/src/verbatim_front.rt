@@ -9,13 +9,13 @@ use crate::items::{put_stretch, run_end};
 use crate::languages::{Language, put_others};
 use crate::sink::Sink;
 use pf_text::{Canonical, Refusal, Walk};
-use pf_values::Model as DataModel;
+use pf_values::Model;
 
 /// The bytes at the front of a format that are verbatim, that is, their own canonical text in a data
 /// model.
 #[derive(Clone, Copy, Debug)]
 pub struct VerbatimFront<'a> {
-    model: DataModel,
+    model: Model,
     // Where it ends.
     walk: Walk<'a>,
 }
@@ -23,7 +23,7 @@ pub struct VerbatimFront<'a> {
 impl<'a> VerbatimFront<'a> {
     /// Returns the verbatim bytes at the front of a format.
     #[inline(always)]
-    pub fn of(model: DataModel, text: &'a [u8]) -> VerbatimFront<'a>
+    pub fn of(model: Model, text: &'a [u8]) -> VerbatimFront<'a>
         ensures model { front_model result ≡ model }
         ensures front { IsVerbatimFront text.now result }
     {

@@ -16,5 +16,6 @@ mod SignedReductions
 mod FilledNumbers
 mod LetterLemmas
 mod PaddedLemmas
+mod FieldLemmas
 mod TextReductions
 pub mod Reductions

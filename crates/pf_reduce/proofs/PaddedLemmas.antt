@@ -23,7 +23,7 @@ use Rattle.pf_reduce.proofs.SignedReductions.{signed_by}
 use Rattle.pf_reduce.proofs.UnsignedReductions.{unprefixed_by}
 
 -- each number has two digits
-two_digits : (conv : Conv) (b : Bits) → is_text conv ≡ false → 2 ≤ most_digits conv b
+pub two_digits : (conv : Conv) (b : Bits) → is_text conv ≡ false → 2 ≤ most_digits conv b
 two_digits conv b text = grind arith
 
 given_is : (n : ℕ) → 0 < n → width_given (Some n) ≡ Some n

@@ -1,16 +1,17 @@
 //! Directives whose canonical text is nearly their own spelling.
 ghost use Rattle.std.specs.Prelude.{◌≡◌, ◌≤◌, IfSome, IsTrue, None, false};
+ghost use Rattle.pf_values.specs.declared.conversions.Kind.TheVariants.{Signed, String};
 ghost use Rattle.pf_values.specs.declared.flags.Flag.TheVariants.{Zero};
 ghost use Rattle.pf_values.specs.meaning.Conversions.{is_signed, is_text, kind_of};
-ghost use Rattle.pf_values.specs.meaning.Flags.{no_flags, with_flag};
-ghost use Rattle.pf_values.specs.meaning.Normal.{HasNormalForm, digits_at_most};
+ghost use Rattle.pf_values.specs.meaning.Flags.{has, no_flags, with_flag};
+ghost use Rattle.pf_values.specs.meaning.Normal.{digits_at_most};
 ghost use Rattle.pf_values.specs.meaning.Specification.{width_of};
 ghost use Rattle.pf_reduce.specs.Changes.{HasPlainParts, IsChange, IsMostPrinted};
 ghost use Rattle.pf_reduce.specs.declared.changes.Change.TheVariants.{Filled};
 
 use crate::normality::{has_signed_form, is_normal_string, is_normal_unprefixed};
 use crate::numbers::{max_digits, width};
-use pf_values::{Conv, Directive, Flag, FlagSet, Kind, Model};
+use pf_values::{Directive, Flag, FlagSet, Kind, Model};
 
 /// What changes in the spelling of a directive.
 #[derive(Clone, Copy, Debug, PartialEq, Eq)]
@@ -32,46 +33,98 @@ pub fn change_of(model: Model, directive: &Directive) -> Option<Change>
     if !has_plain_parts(directive) {
         return None;
     }
-    if has_plain_form(model, directive) {
+    match directive.conv().kind() {
+        Kind::Signed => signed_change(model, directive),
+        Kind::Unsigned(_, _) => unsigned_change(model, directive),
+        Kind::Char => None,
+        Kind::String => string_change(model, directive),
+    }
+}
+
+// The change of a number with a sign. Each kind asks for its own form: one test of the form over all kinds made
+// the others slower.
+#[inline(always)]
+fn signed_change(model: Model, directive: &Directive) -> Option<Change>
+    requires parts { HasPlainParts directive.now }
+    requires kind { kind_of directive.now.conv ≡ Signed }
+    ensures { IfSome result (IsChange model directive.now) }
+{
+    if directive.flags().has(Flag::Zero) {
+        return signed_form_change(model, directive);
+    }
+    if directive.precision().is_some() {
+        return signed_form_change(model, directive);
+    }
+    field_change(model, directive)
+}
+
+// `Letters` for a number with a sign whose form is that of a normal directive.
+#[inline(always)]
+fn signed_form_change(model: Model, directive: &Directive) -> Option<Change>
+    requires parts { HasPlainParts directive.now }
+    requires kind { kind_of directive.now.conv ≡ Signed }
+    ensures { IfSome result (IsChange model directive.now) }
+{
+    if has_signed_form(model, directive) {
         return Some(Change::Letters);
     }
+    None
+}
+
+// The change of a number without a sign.
+#[inline(always)]
+fn unsigned_change(model: Model, directive: &Directive) -> Option<Change>
+    requires parts { HasPlainParts directive.now }
+    requires number { is_text directive.now.conv ≡ false }
+    requires unsigned { is_signed directive.now.conv ≡ false }
+    ensures { IfSome result (IsChange model directive.now) }
+{
+    if directive.flags().has(Flag::Zero) {
+        return filled_change(model, directive);
+    }
+    if directive.precision().is_some() {
+        return unsigned_form_change(model, directive);
+    }
+    field_change(model, directive)
+}
+
+// `Letters` for a number without a sign whose form is that of a normal directive without `#`.
+#[inline(always)]
+fn unsigned_form_change(model: Model, directive: &Directive) -> Option<Change>
+    requires parts { HasPlainParts directive.now }
+    requires number { is_text directive.now.conv ≡ false }
+    requires unsigned { is_signed directive.now.conv ≡ false }
+    ensures { IfSome result (IsChange model directive.now) }
+{
+    if is_normal_unprefixed(model, directive) {
+        return Some(Change::Letters);
+    }
+    None
+}
+
+// `Filled` for a number without a sign that has the flag `0`, if its digits can reach the width.
+#[inline(always)]
+fn filled_change(model: Model, directive: &Directive) -> Option<Change>
+    requires parts { HasPlainParts directive.now }
+    requires number { is_text directive.now.conv ≡ false }
+    requires unsigned { is_signed directive.now.conv ≡ false }
+    ensures { IfSome result (IsChange model directive.now) }
+{
     if is_filled_unsigned(model, directive) {
         return Some(Change::Filled);
     }
-    padded_change(model, directive)
+    None
 }
 
-// Whether the form is that of a normal directive without `#`.
-#[inline(always)]
-fn has_plain_form(model: Model, directive: &Directive) -> bool
-    requires { HasPlainParts directive.now }
-    ensures { IsTrue result → HasNormalForm model (kind_of directive.now.conv) directive.now }
-{
-    match directive.conv().kind() {
-        Kind::Signed => has_signed_form(model, directive),
-        Kind::Unsigned(_, _) => is_normal_unprefixed(model, directive),
-        Kind::Char => false,
-        Kind::String => is_normal_string(directive),
-    }
-}
-
-// Whether the flag `0` fills the field of an unsigned number, which the digits can reach.
+// Whether the flag `0` alone fills the field of a number without a sign, which the digits can reach.
 #[inline(always)]
 fn is_filled_unsigned(model: Model, directive: &Directive) -> bool
-    requires { HasPlainParts directive.now }
+    requires parts { HasPlainParts directive.now }
+    requires number { is_text directive.now.conv ≡ false }
+    requires unsigned { is_signed directive.now.conv ≡ false }
     ensures { IsTrue result → IsChange model directive.now Filled }
 {
-    if !is_unsigned(directive.conv()) {
-        return false;
-    }
     is_filled(model, directive)
-}
-
-#[inline(always)]
-fn is_unsigned(conv: Conv) -> bool
-    ensures { IsTrue result → (is_text conv ≡ false) × (is_signed conv ≡ false) }
-{
-    matches!(conv.kind(), Kind::Unsigned(_, _))
 }
 
 // Whether the flag `0` alone fills a field that the digits can reach.
@@ -91,38 +144,71 @@ fn is_filled(model: Model, directive: &Directive) -> bool
     2 <= width(directive) && width(directive) <= max_digits(model, directive)
 }
 
-// The change of a number whose field is wider than what it prints.
+// The change of a number with a width and a side at most. Its digits are asked for once, since that takes time, and
+// not at all where no width above 1 is given.
 #[inline(always)]
-fn padded_change(model: Model, directive: &Directive) -> Option<Change>
-    requires { HasPlainParts directive.now }
+fn field_change(model: Model, directive: &Directive) -> Option<Change>
+    requires parts { HasPlainParts directive.now }
+    requires number { is_text directive.now.conv ≡ false }
+    requires unfilled { has directive.now.flags Zero ≡ false }
+    requires precision { directive.now.precision ≡ None }
     ensures { IfSome result (IsChange model directive.now) }
 {
-    if directive.flags().has(Flag::Zero) {
-        return None;
+    let width = width(directive);
+    if width <= 1 {
+        return narrow_change(model, directive);
     }
-    if directive.precision().is_some() {
-        return None;
+    let most = most_printed(model, directive);
+    if width <= most {
+        return Some(Change::Letters);
     }
-    let most = most_printed(model, directive)?;
     if most >= 100 {
-        return None;
-    }
-    if width(directive) <= most {
         return None;
     }
     Some(Change::Padded(most))
 }
 
+// `field_change` for a width of 1 or none.
+#[inline(always)]
+fn narrow_change(model: Model, directive: &Directive) -> Option<Change>
+    requires parts { HasPlainParts directive.now }
+    requires number { is_text directive.now.conv ≡ false }
+    requires unfilled { has directive.now.flags Zero ≡ false }
+    requires precision { directive.now.precision ≡ None }
+    ensures { IfSome result (IsChange model directive.now) }
+{
+    if width(directive) > 0 {
+        return None;
+    }
+    if directive.flags().has(Flag::Minus) {
+        return None;
+    }
+    Some(Change::Letters)
+}
+
 // The most bytes that a number without flags and precision prints: its digits, and a sign if it can have one.
 #[inline(always)]
-fn most_printed(model: Model, directive: &Directive) -> Option<u16>
-    ensures { IfSome result (IsMostPrinted model directive.now) }
+fn most_printed(model: Model, directive: &Directive) -> u16
+    requires { is_text directive.now.conv ≡ false }
+    ensures { IsMostPrinted model directive.now result }
 {
     match directive.conv().kind() {
-        Kind::Signed => Some(1 + max_digits(model, directive)),
-        Kind::Unsigned(_, _) => Some(max_digits(model, directive)),
-        Kind::Char | Kind::String => None,
+        Kind::Signed => 1 + max_digits(model, directive),
+        Kind::Unsigned(_, _) | Kind::Char | Kind::String => max_digits(model, directive),
     }
+}
+
+// `Letters` for a string whose form is that of a normal directive.
+#[inline(always)]
+fn string_change(model: Model, directive: &Directive) -> Option<Change>
+    requires parts { HasPlainParts directive.now }
+    requires kind { kind_of directive.now.conv ≡ String }
+    ensures { IfSome result (IsChange model directive.now) }
+{
+    if is_normal_string(directive) {
+        return Some(Change::Letters);
+    }
+    None
 }
 
 // Whether there are no flags but `-` and `0`, and no precision of 1 for a number.

@@ -36,7 +36,7 @@ pub(crate) fn padded_core(
     }
 }
 
-/// The same, where a directive is reduced to it.
+/// Returns what `padded_core` returns, for parts to which the directive is reduced.
 pub(crate) fn reduced_core(
     model: Model,
     padding: Padding,

@@ -1,16 +1,16 @@
 //! What a directive is reduced to.
-use pf_values::{Directive, Model as DataModel};
-use std::marker::Model;
+use pf_values::{Directive, Model};
+use std::marker;
 
 /// A directive that is normal in a data model, as `IsNormal` of `pf_values` says. There is no way
 /// to make one that isn't.
 #[derive(Clone, Copy, Debug, PartialEq, Eq)]
 pub struct Normal {
-    model: DataModel,
+    model: Model,
     directive: Directive,
 }
 
-impl Model for Normal {
+impl marker::Model for Normal {
     ghost use Rattle.pf_values.specs.meaning.Normal.{IsNormal};
     ghost use Rattle.pf_reduce.specs.NormalValues.{NormalDirective};
 
@@ -51,7 +51,7 @@ impl Normal {
     ghost use Rattle.pf_values.specs.meaning.Normal.{IsNormal};
 
     /// Returns the data model in which it is normal.
-    pub fn model(&self) -> DataModel
+    pub fn model(&self) -> Model
         ensures { result ≡ self.now.model }
     {
         self.model
@@ -65,7 +65,7 @@ impl Normal {
         self.directive
     }
 
-    pub(crate) fn new(model: DataModel, directive: Directive) -> Normal
+    pub(crate) fn new(model: Model, directive: Directive) -> Normal
         requires { IsNormal model directive }
         ensures { result ≡ record { model = model; specification = directive } }
     {
