@@ -5,7 +5,7 @@ use Rattle.std.specs.List.{AllByRecursion}
 use Rattle.std.proofs.lemmas.Bool.{eqb-true, cases_eq, ne_eqb}
 use Rattle.std.proofs.lemmas.Bool.Decides.{nat_tests}
 use Rattle.pf_posix.specs.declared.fetches.Fetch.{Fetch}
-use Rattle.pf_posix.specs.declared.partial_specification.Numbering.TheVariants.{Undecided}
+use Rattle.pf_posix.specs.declared.specifications.Numbering.TheVariants.{Undecided}
 use Rattle.pf_posix.specs.declared.types.ArgumentType.{ArgumentType}
 use Rattle.pf_values.specs.declared.types.ArgType.TheVariants.{Int}
 use Rattle.pf_posix.specs.declared.types.ArgumentType.TheVariants.{Profile, Double}

@@ -15,17 +15,17 @@ use Rattle.pf_values.specs.meaning.Text.{Text}
 use Rattle.pf_posix.specs.declared.conversions.Modifier.{Modifier}
 use Rattle.pf_posix.specs.declared.conversions.Modifier.TheVariants.{Integer, LongDouble}
 use Rattle.pf_posix.specs.declared.fetches.Fetch.{Fetch}
-use Rattle.pf_posix.specs.declared.partial_specification.PartialSpecification.{PartialSpecification}
-use Rattle.pf_posix.specs.declared.partial_specification.WidthOrPrecision.{WidthOrPrecision}
-use Rattle.pf_posix.specs.declared.partial_specification.WidthOrPrecision.TheVariants.{Width, Precision}
+use Rattle.pf_posix.proofs.States.{PartialSpecification}
+use Rattle.pf_posix.proofs.States.{WidthOrPrecision}
+use Rattle.pf_posix.proofs.States.{Width, Precision}
 use Rattle.pf_posix.specs.Beginnings.{EndsInPart, EndsInStar, EndsInStarDigits, IsBegunAs, IsUndecided, TakesAmount}
-use Rattle.pf_posix.specs.Fronts.{HasNumbers, IsBefore, IsStateAfter, at_star}
+use Rattle.pf_posix.proofs.Fronts.{HasNumbers, IsBefore, IsStateAfter, at_star}
 use Rattle.pf_posix.specs.Refusals.{numbering_by}
-use Rattle.pf_posix.specs.States.{too_large}
+use Rattle.pf_posix.proofs.States.{too_large}
 use Rattle.pf_posix.proofs.StateRefusals.{numbering_in}
 use Rattle.pf_posix.specs.Specifications.{Amount, Given, Fetched, modifier_letters}
 use Rattle.pf_posix.specs.Spelling.{SpellsPosition, SpellsPositive, SpellsPosixPrecision, SpellsPosixWidth, SpellsStar, SpellsUpToFlags, SpellsUpToPrecision, SpellsUpToWidth}
-use Rattle.pf_posix.specs.Stages.{PosixState, Between, Opened, First, Flags, Digits, Star, StarDigits, Placed, Point, Modified}
+use Rattle.pf_posix.proofs.States.{PosixState, Between, Opened, First, Flags, Digits, Star, StarDigits, Placed, Point, Modified}
 use Rattle.pf_posix.specs.Types.{fetch, int_type, star_fetches}
 use Rattle.pf_posix.proofs.Judging.{IsBehind, behind_digits, behind_none, behind_point, behind_star}
 
@@ -91,7 +91,7 @@ at_numbers t parts own n = subst (λ u. EndsInPart u parts.position own) (append
 pub opening : (t : Text) → t ≡ 37 ∷ [] → SpellsUpToFlags t None no_flags
 opening t e = record { number = []; flags = []; number_is = refl; set_is = refl; whole = e }
 
-no_width : (t : Text) (position : Option ℕ) (set : FlagSet) → SpellsUpToFlags t position set → SpellsUpToWidth t position set None
+pub no_width : (t : Text) (position : Option ℕ) (set : FlagSet) → SpellsUpToFlags t position set → SpellsUpToWidth t position set None
 no_width t position set h = record { before = t; text = []; before_is = h; width_is = refl; whole = sym (append-nil t) }
 
 numbers_of : (t : Text) (position : Option ℕ) (set : FlagSet) (width : Option Amount) → SpellsUpToWidth t position set width
@@ -106,7 +106,7 @@ numbers_of t position set width h =
       own_is = sym (append-nil _);
     }
 
-to_width : (t : Text) (position : Option ℕ) (set : FlagSet) (width : Option Amount) (own : List Fetch) → SpellsUpToWidth t position set width
+pub to_width : (t : Text) (position : Option ℕ) (set : FlagSet) (width : Option Amount) (own : List Fetch) → SpellsUpToWidth t position set width
     → own ≡ star_fetches width → EndsInPart t position own
 to_width t position set width own h e = subst (EndsInPart t position) (sym e) (at_numbers t _ (star_fetches width) (numbers_of t position set width h))
 
@@ -125,7 +125,7 @@ star_part : (slot : WidthOrPrecision) (before part text : Text) (parts : Partial
 star_part slot before part text parts earlier own number h s e o = subst (EndsInPart part parts.position) (sym o)
     (behind_part slot (before ++ text) part parts (earlier ++ fetch number int_type ∷ []) e (behind_star slot before text parts earlier number h s))
 
-star_parts : (slot : WidthOrPrecision) (parts : PartialSpecification) (part : Text) (own : List Fetch) → IsStateAfter (Star slot parts) part own
+pub star_parts : (slot : WidthOrPrecision) (parts : PartialSpecification) (part : Text) (own : List Fetch) → IsStateAfter (Star slot parts) part own
     → IsBegunAs part parts.position own
 star_parts slot parts part own h = go parts.position refl where
   go : (o : Option ℕ) → parts.position ≡ o → IsBegunAs part parts.position own
@@ -139,6 +139,10 @@ star_parts slot parts part own h = go parts.position refl where
             (record { kind = too_large slot; before = h.0; before_is = before_of slot h.0 parts h.1 h.2; whole = h.3 }),
         ap is_some p,
       ))
+
+pub digits_parts : (slot : WidthOrPrecision) (parts : PartialSpecification) (n : ℕ) (part : Text) (own : List Fetch) → IsStateAfter (Digits slot parts n) part own
+    → IsBegunAs part parts.position own
+digits_parts slot parts n part own h = inl (behind_part slot (h.0 ++ h.1) part parts own h.5 (behind_digits slot h.0 h.1 parts own n h.2 h.3))
 
 pub parts_of : (state : PosixState) (part : Text) (own : List Fetch) → IsStateAfter state part own → state ≢ Between → PartsOf state part own
 parts_of Between part own h some = absurd (some refl)
@@ -164,7 +168,7 @@ parts_of (Flags parts) part own h some =
 parts_of (Digits slot parts n) part own h some =
     record {
       position = parts.position;
-      begun = inl (behind_part slot (h.0 ++ h.1) part parts own h.5 (behind_digits slot h.0 h.1 parts own n h.2 h.3));
+      begun = digits_parts slot parts n part own h;
       shown = inr refl;
     }
 parts_of (Star slot parts) part own h some = record { position = parts.position; begun = star_parts slot parts part own h; shown = inr refl }

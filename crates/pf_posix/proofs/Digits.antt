@@ -7,9 +7,9 @@ use Rattle.pf_values.specs.declared.limits.TheConstants.{MAX_NUMBER}
 use Rattle.pf_values.specs.meaning.Text.{Text}
 use Rattle.pf_text.specs.States.{is_digit}
 use Rattle.pf_text.proofs.NumberDigits.{another_digit, digit_of, digits_push, glyph_push, one_digit}
-use Rattle.pf_posix.specs.declared.partial_specification.WidthOrPrecision.{WidthOrPrecision}
-use Rattle.pf_posix.specs.declared.partial_specification.WidthOrPrecision.TheVariants.{Width, Precision}
-use Rattle.pf_posix.specs.Fronts.{SpellsDigits}
+use Rattle.pf_posix.proofs.States.{WidthOrPrecision}
+use Rattle.pf_posix.proofs.States.{Width, Precision}
+use Rattle.pf_posix.proofs.Fronts.{SpellsDigits}
 use Rattle.pf_posix.specs.Letters.{is_first_digit}
 use Rattle.pf_posix.specs.Spelling.{SpellsPositive}
 

@@ -1,4 +1,5 @@
 -- The specifications of an accepted text, one item after another.
+use Rattle.std.proofs.Common.{inl}
 use Rattle.std.proofs.Common.{◌≡◌, ◌≢◌, ℕ, ◌+◌, ◌*◌, ◌<◌, ◌≤◌, Bool, true, false, List, [], ◌∷◌, ◌++◌, length, length-append, get_or, drop, refl, sym, ap, ◌∙◌}
 use Rattle.std.proofs.Common.{arith, subst}
 use Rattle.std.specs.Prelude.{Some, None, ◌==◌, MatchBool}
@@ -17,7 +18,9 @@ use Rattle.pf_posix.specs.Directives.{HasDirectiveCount, TakesFrom, directive_be
 use Rattle.pf_posix.specs.DirectivesInText.{IsBehindItem, IsListedBehind, IsListedTo}
 use Rattle.pf_posix.specs.Items.{Byte, HasArguments, PosixItem, ReadsPosix, Specification}
 use Rattle.pf_posix.specs.Laws.{filled}
-use Rattle.pf_posix.specs.PartsInText.{BeginsNoSpecification, IsSpecificationAt, specification_read}
+use Rattle.pf_posix.specs.PartsInText.{IsSpecificationAt, specification_read}
+use Rattle.pf_posix.specs.Halts.{BeginsNoneAfter}
+use Rattle.pf_posix.specs.declared.specifications.Numbering.TheVariants.{Undecided}
 use Rattle.pf_posix.specs.Specifications.{PosixSpecification}
 use Rattle.pf_posix.specs.Spelling.{SpellsPosix}
 use Rattle.pf_posix.specs.Types.{fetches}
@@ -77,10 +80,10 @@ module _ (t : Text) (at : ℕ) (less : at < length t) where
       let no : true ≡ false = ap (λ b. b == 37) (sym second) ∙ other in cc
 
   pub some_specification : (items : List PosixItem) → ReadsPosix (drop at t) items → byte_here ≡ 37 → (get_or t (at + 1) 0 == 37) ≡ false
-      → BeginsNoSpecification (drop at t) → ⊥
+      → BeginsNoneAfter Undecided (drop at t) → ⊥
   some_specification [] reads percent other none = no_end reads
   some_specification (Byte x ∷ later) reads percent other none = no_byte x later reads percent other
-  some_specification (Specification s ∷ later) reads percent other none = none reads.0 reads.1 s reads.2.0 reads.4
+  some_specification (Specification s ∷ later) reads percent other none = none reads.0 reads.1 s reads.2.0 reads.4 (inl refl) reads.2.1
 
 -- so it is after that item
 module _ (t : Text) (at : ℕ) (less : at < length t) where

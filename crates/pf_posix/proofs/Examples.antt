@@ -16,7 +16,7 @@ use Rattle.pf_values.specs.declared.refusals.RefusalKind.TheVariants.{LengthUnde
 use Rattle.pf_posix.specs.declared.types.ArgumentType.TheVariants.{Double, PointerToLong, PointerToLongLong}
 use Rattle.pf_posix.specs.Types.{int_type}
 use Rattle.pf_posix.specs.Defined.{undefined_as}
-use Rattle.pf_posix.specs.Readings.{Refused, Takes, verdict}
+use Rattle.pf_posix.proofs.Traces.{Refused, Takes, verdict}
 use Rattle.pf_posix.specs.Refusals.{IsPosixRefusedAt}
 use Rattle.pf_posix.specs.Types.{fetch, conversion_type}
 use Rattle.pf_posix.specs.Unnumbered.{IsWholeRefusedAt}

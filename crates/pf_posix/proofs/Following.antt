@@ -12,15 +12,16 @@ use Rattle.pf_values.specs.meaning.Text.{Text}
 use Rattle.pf_posix.specs.declared.fetches.Fetch.{Fetch}
 use Rattle.pf_values.specs.declared.refusals.RefusalKind.{RefusalKind}
 use Rattle.pf_values.specs.declared.refusals.RefusalKind.TheVariants.{MissingArgument, TooLong, Truncated}
-use Rattle.pf_posix.specs.declared.partial_specification.Numbering.{Numbering}
-use Rattle.pf_posix.specs.declared.partial_specification.Numbering.TheVariants.{Undecided}
+use Rattle.pf_posix.specs.declared.specifications.Numbering.{Numbering}
+use Rattle.pf_posix.specs.declared.specifications.Numbering.TheVariants.{Undecided}
 use Rattle.pf_posix.specs.Items.{Byte, SpellsPosixItem, ReadsPosix, Specification, PosixItem, fetched}
-use Rattle.pf_posix.specs.Readings.{Refused, Takes, conflicts, trace_at_end, moved, trace_from, verdict_after, verdict}
+use Rattle.pf_posix.specs.Readings.{conflicts}
+use Rattle.pf_posix.proofs.Traces.{Refused, Takes, trace_at_end, moved, trace_from, verdict_after, verdict}
 use Rattle.pf_posix.specs.Refusals.{AreAgreed, Follows, HasGap, IsOneType, IsPosixRefusedAt, numbering_by, numbering_of}
 use Rattle.pf_posix.proofs.StateRefusals.{IsRefusedInState, IsByteRefusedIn, IsCauseIn, numbering_in}
 use Rattle.pf_posix.specs.Specifications.{PosixSpecification}
-use Rattle.pf_posix.specs.Stages.{PosixState, Between}
-use Rattle.pf_posix.specs.States.{PosixStep, posix_step}
+use Rattle.pf_posix.proofs.States.{PosixState, Between}
+use Rattle.pf_posix.proofs.States.{PosixStep, posix_step}
 use Rattle.pf_posix.specs.Types.{fetch, fetches, star_fetches, conversion_type}
 use Rattle.pf_posix.proofs.Agreeing.{agreed_clear, agreed_follows, agreed_front, all_back, all_map, conflicts_no, numbering_push}
 use Rattle.pf_posix.proofs.Reaching.{Came, came, spelled_run}
@@ -51,7 +52,7 @@ module _ (model : Model) (base : List Fetch) (rest : Text) where
       (verdict_after (base ++ p.own) (trace_from model p.numbering p.state at (t ++ rest)) ≡ verdict_after (base ++ q.own)
       (trace_from model q.numbering q.state (at + length t) rest)) × (q.numbering ≡ numbering_of (base ++ q.own))
 
-  follow : (t : Text) (at : ℕ) (p q : Stand) → p.numbering ≡ numbering_of (base ++ p.own) → run model (Ok p) t ≡ Ok q → AreAgreed (base ++ q.own)
+  pub follow : (t : Text) (at : ℕ) (p q : Stand) → p.numbering ≡ numbering_of (base ++ p.own) → run model (Ok p) t ≡ Ok q → AreAgreed (base ++ q.own)
       → at + length t ≤ MAX_TEXT_LEN → Follow t at p q
   follow [] at p q s e agreed few =
       let same : p ≡ q = cc in

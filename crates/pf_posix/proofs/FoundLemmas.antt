@@ -1,13 +1,15 @@
 -- A whole specification at a place of a text.
 use Rattle.std.proofs.Common.{◌≡◌, ℕ, ◌+◌, ◌-◌, ◌<◌, List, [], ◌∷◌, ◌++◌, drop, get_or, length, map, take, refl, sym, ap, ◌∙◌}
-use Rattle.std.proofs.Common.{arith, drop-drop, subst}
-use Rattle.std.specs.Prelude.{Option, Some, None, IsSomeAnd, is_some}
+use Rattle.std.proofs.Common.{arith, drop-drop, subst, Result, Ok, Err}
+use Rattle.std.specs.Result.{IsOkAnd}
+use Rattle.std.specs.Prelude.{Option, Some, None, is_some}
 use Rattle.std.proofs.lemmas.List.{take-append-drop}
 use Rattle.pf_values.specs.declared.flags.Flag.{Flag}
 use Rattle.pf_values.specs.declared.flags.FlagSet.{FlagSet}
 use Rattle.pf_values.specs.meaning.Flags.{flag_byte, flag_set}
 use Rattle.pf_values.specs.meaning.Text.{Text}
 use Rattle.pf_text.specs.Offsets.{EndsFlags, HasBytes}
+use Rattle.pf_text.specs.declared.refusals.Refusal.{Refusal}
 use Rattle.pf_text.proofs.SpecificationLemmas.{bytes_join, bytes_one}
 use Rattle.pf_text.proofs.WalkLemmas.{bytes_between}
 use Rattle.pf_posix.specs.declared.conversions.Conversion.{Conversion}
@@ -35,17 +37,26 @@ unnumbered_parts t read h e =
       same : (number : Option ℕ) → is_some number ≡ is_some read.position → number ≡ None
       same number f = no_number number (f ∙ ap is_some e)
 
-      width_is : (amount : Option OpaqueAmount) (text : Text) → SpellsPosixWidth text read.position (amount_at amount read.width_position)
-          → amount_of amount ≡ amount_at amount read.width_position
+      width_is : (amount : Option OpaqueAmount) (text : Text) → SpellsPosixWidth text read.position (amount_at amount read.stars.width)
+          → amount_of amount ≡ amount_at amount read.stars.width
       width_is None text w = refl
       width_is (Some (amounts.Number n)) text w = refl
-      width_is (Some amounts.Star) text w = ap (λ k. Some (Fetched k)) (sym (same read.width_position w.numbering))
+      width_is (Some amounts.Star) text w = ap (λ k. Some (Fetched k)) (sym (same read.stars.width w.numbering))
 
-      precision_is : (amount : Option OpaqueAmount) (text : Text) → SpellsPosixPrecision text read.position (amount_at amount read.precision_position)
-          → amount_of amount ≡ amount_at amount read.precision_position
+      precision_is : (amount : Option OpaqueAmount) (text : Text) → SpellsPosixPrecision text read.position (amount_at amount read.stars.precision)
+          → amount_of amount ≡ amount_at amount read.stars.precision
       precision_is None text p = refl
       precision_is (Some (amounts.Number n)) text p = refl
-      precision_is (Some amounts.Star) text p = ap (λ k. Some (Fetched k)) (sym (same read.precision_position p.1.numbering))
+      precision_is (Some amounts.Star) text p = ap (λ k. Some (Fetched k)) (sym (same read.stars.precision p.1.numbering))
+
+-- the number of the argument at a place is that of the specification
+pub position_met : (t : Text) (start : ℕ) (position : Option ℕ) (k : ℕ) → PositionIs t (start + 1) position k → (text rest : Text) (s : PosixSpecification)
+    (spelled : SpellsPosix text s) → drop start t ≡ text ++ rest
+    → (position ≡ s.position) × (drop k t ≡ map flag_byte (all_parts text s spelled).flags
+    ++ ((all_parts text s spelled).width ++ ((all_parts text s spelled).precision ++ (modifier_letters s.modifier ++ conversion_letter s.conversion ∷ rest))))
+position_met t start position k n text rest s spelled e =
+    let parts = all_parts text s spelled in
+    n parts.number _ s.position parts.number_is (after_number_outside text s parts rest) (tail_at t start 37 _ (e ∙ whole_with text s rest parts))
 
 -- a whole specification
 module _ (t : Text) (start : ℕ) (position : Option ℕ) (k : ℕ) (n : PositionIs t (start + 1) position k) (set : FlagSet) (a : ℕ)
@@ -62,43 +73,43 @@ module _ (t : Text) (start : ℕ) (position : Option ℕ) (k : ℕ) (n : Positio
     behind_number = map flag_byte parts.flags ++ (parts.width ++ (parts.precision ++ ending))
 
     position_there : (position ≡ s.position) × (drop k t ≡ behind_number)
-    position_there = n parts.number behind_number s.position parts.number_is (after_number_outside text s parts rest)
-        (tail_at t start 37 (parts.number ++ behind_number) (e ∙ whole_with text s rest parts))
+    unfolding parts
+    position_there = position_met t start position k n text rest s spelled e
 
     flags_there : drop a t ≡ parts.width ++ (parts.precision ++ ending)
     flags_there = (flags_are t k a set flags_read flags_end parts.flags (parts.width ++ (parts.precision ++ ending)) (after_flags_outside text s parts rest)
         position_there.1).1
 
-    width_there : (result : Option (Option OpaqueAmount × Option ℕ × ℕ)) → WidthIs t a position result
-        → IsSomeAnd result (λ read. (amount_at read.0 read.1 ≡ s.width) × (drop read.2 t ≡ parts.precision ++ ending))
+    width_there : (result : Result (Option OpaqueAmount × Option ℕ × ℕ) Refusal) → WidthIs t a position result
+        → IsOkAnd result (λ read. (amount_at read.0 read.1 ≡ s.width) × (drop read.2 t ≡ parts.precision ++ ending))
     width_there result h = h parts.width (parts.precision ++ ending) s.width
         (subst (λ p. SpellsPosixWidth parts.width p s.width) (sym position_there.0) parts.width_is) (after_width_outside text s parts rest) flags_there
 
-    module _ (width : Option OpaqueAmount) (width_position : Option ℕ) (b : ℕ) (w : WidthIs t a position (Some (width, width_position, b))) where
-      precision_there : (result : Option (Option OpaqueAmount × Option ℕ × ℕ)) → PrecisionIs t b position result
-          → IsSomeAnd result (λ read. (amount_at read.0 read.1 ≡ s.precision) × (drop read.2 t ≡ ending))
+    module _ (width : Option OpaqueAmount) (width_position : Option ℕ) (b : ℕ) (w : WidthIs t a position (Ok (width, width_position, b))) where
+      precision_there : (result : Result (Option OpaqueAmount × Option ℕ × ℕ) Refusal) → PrecisionIs t b position result
+          → IsOkAnd result (λ read. (amount_at read.0 read.1 ≡ s.precision) × (drop read.2 t ≡ ending))
       precision_there result h = h parts.precision ending s.precision
           (subst (λ p. SpellsPosixPrecision parts.precision p s.precision) (sym position_there.0) parts.precision_is) (after_precision_outside s rest)
-          (width_there (Some (width, width_position, b)) w).1
+          (width_there (Ok (width, width_position, b)) w).1
 
       module _ (precision : Option OpaqueAmount) (precision_position : Option ℕ) (c : ℕ)
-          (p : PrecisionIs t b position (Some (precision, precision_position, c))) (modifier : Modifier) (d : ℕ) (m : ModifierIs t c modifier d) where
-        conversion_there : (result : Option Conversion) → ConversionIs t d result → result ≡ Some s.conversion
-        conversion_there result h = h s.conversion rest (m s.modifier s.conversion rest (precision_there (Some (precision, precision_position, c)) p).1).1
+          (p : PrecisionIs t b position (Ok (precision, precision_position, c))) (modifier : Modifier) (d : ℕ) (m : ModifierIs t c modifier d) where
+        conversion_there : (result : Result Conversion Refusal) → ConversionIs t d result → result ≡ Ok s.conversion
+        conversion_there result h = h s.conversion rest (m s.modifier s.conversion rest (precision_there (Ok (precision, precision_position, c)) p).1).1
 
-  pub no_width_there : WidthIs t a position None → BeginsNoSpecification (drop start t)
-  no_width_there w text rest s spelled e = width_there text rest s spelled e None w
+  pub no_width_there : (refusal : Refusal) → WidthIs t a position (Err refusal) → BeginsNoSpecification (drop start t)
+  no_width_there refusal w text rest s spelled e = width_there text rest s spelled e (Err refusal) w
 
-  module _ (width : Option OpaqueAmount) (width_position : Option ℕ) (b : ℕ) (w : WidthIs t a position (Some (width, width_position, b))) where
-    pub no_precision_there : PrecisionIs t b position None → BeginsNoSpecification (drop start t)
-    no_precision_there p text rest s spelled e = precision_there text rest s spelled e width width_position b w None p
+  module _ (width : Option OpaqueAmount) (width_position : Option ℕ) (b : ℕ) (w : WidthIs t a position (Ok (width, width_position, b))) where
+    pub no_precision_there : (refusal : Refusal) → PrecisionIs t b position (Err refusal) → BeginsNoSpecification (drop start t)
+    no_precision_there refusal p text rest s spelled e = precision_there text rest s spelled e width width_position b w (Err refusal) p
 
     pub no_conversion_there : (precision : Option OpaqueAmount) (precision_position : Option ℕ) (c : ℕ)
-        → PrecisionIs t b position (Some (precision, precision_position, c)) → (modifier : Modifier) (d : ℕ) → ModifierIs t c modifier d → ConversionIs t d None
+        → PrecisionIs t b position (Ok (precision, precision_position, c)) → (modifier : Modifier) (d : ℕ) → ModifierIs t c modifier d → (refusal : Refusal) → ConversionIs t d (Err refusal)
         → BeginsNoSpecification (drop start t)
-    no_conversion_there precision precision_position c p modifier d m h text rest s spelled e =
-        let no : None ≡ Some s.conversion =
-        conversion_there text rest s spelled e width width_position b w precision precision_position c p modifier d m None h in cc
+    no_conversion_there precision precision_position c p modifier d m refusal h text rest s spelled e =
+        let no : Result.Err refusal ≡ Ok s.conversion =
+        conversion_there text rest s spelled e width width_position b w precision precision_position c p modifier d m (Err refusal) h in cc
 
   -- all parts were read
   module _ (less : start < length t) (percent : get_or t start 0 ≡ 37)
@@ -108,13 +119,12 @@ module _ (t : Text) (start : ℕ) (position : Option ℕ) (k : ℕ) (n : Positio
       (precision : Option OpaqueAmount) (precision_position : Option ℕ) (c : ℕ)
       (precision_read : (bytes : Text) × SpellsPosixPrecision bytes position (amount_at precision precision_position) × HasBytes t b c bytes)
       (modifier : Modifier) (d : ℕ) (modifier_read : HasBytes t c d (modifier_letters modifier)) where
-    pub specification_there : (conversion : Conversion) (read : Specification) → read ≡ record {
+    pub specification_there : (conversion : Conversion) (width_stop precision_stop : ℕ) (read : Specification) → read ≡ record {
       position = position;
       parts = record { flags = set; width = width; precision = precision; modifier = modifier; conversion = conversion };
-      width_position = width_position;
-      precision_position = precision_position;
+      stars = record { width = width_position; width_stop = width_stop; precision = precision_position; precision_stop = precision_stop };
     } → HasBytes t d (d + 1) (conversion_letter conversion ∷ []) → IsSpecificationAt t start (read, d + 1)
-    specification_there conversion read is letter_read =
+    specification_there conversion width_stop precision_stop read is letter_read =
         record {
           some = omega (arith, opened.from, numbered.from, flagged.from, wide.from, precise.from, modified.from);
           within = whole.within;
@@ -125,8 +135,7 @@ module _ (t : Text) (start : ℕ) (position : Option ℕ) (k : ℕ) (n : Positio
           made = record {
             position = position;
             parts = record { flags = set; width = width; precision = precision; modifier = modifier; conversion = conversion };
-            width_position = width_position;
-            precision_position = precision_position;
+            stars = record { width = width_position; width_stop = width_stop; precision = precision_position; precision_stop = precision_stop };
           }
 
           flags : Text

@@ -22,25 +22,26 @@ use Rattle.pf_posix.specs.declared.fetches.Fetch.{Fetch}
 use Rattle.pf_values.specs.declared.refusals.RefusalKind.{RefusalKind}
 use Rattle.pf_values.specs.declared.refusals.RefusalKind.TheVariants.{NulByte, Unexpected, BadPercent, AltUndefined, ZeroUndefined, GroupUndefined}
 use Rattle.pf_values.specs.declared.refusals.RefusalKind.TheVariants.{PrecisionUndefined, LengthUndefined, Mixed, CountUndefined}
-use Rattle.pf_posix.specs.declared.partial_specification.PartialSpecification.{PartialSpecification}
-use Rattle.pf_posix.specs.declared.partial_specification.WidthOrPrecision.{WidthOrPrecision}
-use Rattle.pf_posix.specs.declared.partial_specification.WidthOrPrecision.TheVariants.{Width, Precision}
-use Rattle.pf_posix.specs.declared.partial_specification.Numbering.{Numbering}
-use Rattle.pf_posix.specs.declared.partial_specification.Numbering.TheVariants.{Undecided, Unnumbered, Numbered}
+use Rattle.pf_posix.proofs.States.{PartialSpecification}
+use Rattle.pf_posix.proofs.States.{WidthOrPrecision}
+use Rattle.pf_posix.proofs.States.{Width, Precision}
+use Rattle.pf_posix.specs.declared.specifications.Numbering.{Numbering}
+use Rattle.pf_posix.specs.declared.specifications.Numbering.TheVariants.{Undecided, Unnumbered, Numbered}
 use Rattle.pf_posix.specs.Types.{int_type}
 use Rattle.pf_posix.specs.Defined.{IsPosixDefined, undefined_as, undefined_of}
-use Rattle.pf_posix.specs.Fronts.{HasNumbers, IsStateAfter, IsBefore, SpellsDigits, at_star}
+use Rattle.pf_posix.proofs.Fronts.{HasNumbers, IsStateAfter, IsBefore, SpellsDigits, at_star}
 use Rattle.pf_posix.specs.Items.{Byte, SpellsPosixItem}
 use Rattle.pf_posix.specs.Letters.{conversion_of, is_first_digit, length_modifier_of}
 use Rattle.pf_posix.specs.Refusals.{CompletesUndefined, Follows, numbering_by}
-use Rattle.pf_posix.specs.States.{too_large}
+use Rattle.pf_posix.proofs.States.{too_large}
 use Rattle.pf_posix.proofs.StateRefusals.{numbering_in}
 use Rattle.pf_posix.specs.Specifications.{Amount, Given, Fetched, PosixSpecification, conversion_letter, modifier_letters}
 use Rattle.pf_posix.specs.Spelling.{SpellsUpToFlags, SpellsUpToWidth, SpellsPositive, SpellsStar, SpellsPosix}
-use Rattle.pf_posix.specs.Stages.{PosixState, Between, Opened, First, Flags, Digits, Star, StarDigits, Placed, Point, Modified}
-use Rattle.pf_posix.specs.States.{PosixStep, after_amount, after_first, among_flags, after_modifier_letter, after_numbers, after_percent, after_star}
-use Rattle.pf_posix.specs.States.{dollar_after, conversion_at, conversion_by, flag_or_width, judgement, modifier_or_conversion, posix_step, parts_at, star_at}
-use Rattle.pf_posix.specs.States.{stray, with_digit, with_width}
+use Rattle.pf_posix.proofs.States.{PosixState, Between, Opened, First, Flags, Digits, Star, StarDigits, Placed, Point, Modified}
+use Rattle.pf_posix.proofs.States.{PosixStep, after_amount, after_first, among_flags, after_modifier_letter, after_numbers, after_percent, after_star}
+use Rattle.pf_posix.proofs.States.{dollar_after, conversion_at, conversion_by, flag_or_width, judgement, modifier_or_conversion, posix_step, parts_at, star_at}
+use Rattle.pf_posix.specs.Halts.{stray}
+use Rattle.pf_posix.proofs.States.{with_digit, with_width}
 use Rattle.pf_posix.specs.Types.{fetch, fetches, star_fetches, conversion_type}
 use Rattle.pf_posix.proofs.Digits.{digits_more, number_one, number_push, precision_one}
 

@@ -15,13 +15,13 @@ use Rattle.pf_text.proofs.Sound.{find_holds}
 use Rattle.pf_posix.specs.declared.conversions.Conversion.{Conversion}
 use Rattle.pf_posix.specs.declared.conversions.Modifier.{Modifier}
 use Rattle.pf_posix.specs.declared.fetches.Fetch.{Fetch}
-use Rattle.pf_posix.specs.declared.partial_specification.WidthOrPrecision.{WidthOrPrecision}
-use Rattle.pf_posix.specs.declared.partial_specification.WidthOrPrecision.TheVariants.{Width, Precision}
+use Rattle.pf_posix.proofs.States.{WidthOrPrecision}
+use Rattle.pf_posix.proofs.States.{Width, Precision}
 use Rattle.pf_posix.specs.Defined.{is_undefined_as}
 use Rattle.pf_posix.specs.Refusals.{IsPosixRefusedAt}
-use Rattle.pf_posix.specs.States.{too_large}
+use Rattle.pf_posix.proofs.States.{too_large}
 use Rattle.pf_posix.proofs.StateRefusals.{IsByteRefusedIn, IsCauseIn, IsPastPercent, IsTooLargeIn, IsWrongIn}
-use Rattle.pf_posix.specs.Stages.{PosixState, Between, Opened, First, Flags, Digits, Star as Starred, StarDigits, Placed, Point, Modified}
+use Rattle.pf_posix.proofs.States.{PosixState, Between, Opened, First, Flags, Digits, Star as Starred, StarDigits, Placed, Point, Modified}
 use Rattle.pf_posix.specs.Unnumbered.{IsWholeRefusedAt}
 use Rattle.pf_posix.proofs.RefusalWords.{by_state}
 

@@ -1,3 +1,6 @@
+pub mod States
+pub mod Fronts
+pub mod Traces
 pub mod Digits
 pub mod StateRefusals
 pub mod Judging
@@ -8,15 +11,15 @@ pub mod Soundness
 pub mod Bounds
 pub mod TypeLists
 pub mod Telling
+pub mod FrontRefusals
 pub mod WalkLemmas
 pub mod OrderLemmas
 pub mod PassedLemmas
 pub mod PlainFrontLemmas
 pub mod TableLemmas
+pub mod NumberedLemmas
 pub mod Running
 pub mod Reaching
-mod TraceLemmas
-mod LongTraces
 pub mod Following
 pub mod Unique
 pub mod BeginningStates
@@ -37,8 +40,11 @@ pub mod UnnumberedLemmas
 pub mod UnnumberedEnds
 pub mod PartLemmas
 pub mod FoundLemmas
+pub mod HaltLemmas
+pub mod ReadLemmas
 pub mod PlainLemmas
 pub mod StretchLemmas
+pub mod UnnumberedHalts
 mod KindLemmas
 mod Examples
 pub mod DirectiveTypes

@@ -1,7 +1,8 @@
 -- The parts of a specification at a place of a text, one after another.
 use Rattle.std.proofs.Common.{◌≡◌, ◌≢◌, ℕ, ◌+◌, ◌-◌, ◌*◌, ◌<◌, ◌≤◌, Bool, true, false, List, [], ◌∷◌, ◌++◌, drop, get_or, length, map, refl, sym, ap, ◌∙◌}
-use Rattle.std.proofs.Common.{arith, inl, inr, subst}
-use Rattle.std.specs.Prelude.{Option, Some, None, ◌||◌, IsSomeAnd, MatchOption, nat_lt, ◌==◌}
+use Rattle.std.proofs.Common.{arith, inl, inr, subst, Result, Ok, Err}
+use Rattle.std.specs.Result.{IsOkAnd}
+use Rattle.std.specs.Prelude.{Option, Some, None, is_some, ◌||◌, MatchOption, nat_lt, ◌==◌}
 use Rattle.std.specs.Fmt.{digit_glyph}
 use Rattle.std.specs.Int.Digits.{number_from_digits_after}
 use Rattle.std.specs.List.{AllByRecursion}
@@ -22,6 +23,7 @@ use Rattle.pf_values.proofs.Numerals.{number_after-place_sum}
 use Rattle.pf_text.specs.Letters.{flag_of}
 use Rattle.pf_text.specs.Offsets.{ContinuesNumber, EndsFlags, EndsNumber, EndsWidth, HasBytes}
 use Rattle.pf_text.specs.States.{is_digit}
+use Rattle.pf_text.specs.declared.refusals.Refusal.{Refusal}
 use Rattle.pf_text.proofs.Complete.{digit_is}
 use Rattle.pf_text.proofs.NoDirectiveLemmas.{bytes_rest, same_place}
 use Rattle.pf_text.proofs.NumberDigits.{first_above_zero}
@@ -35,7 +37,7 @@ use Rattle.pf_posix.specs.declared.opaque_directives.OpaqueAmount.TheVariants as
 use Rattle.pf_posix.specs.Letters.{conversion_of, is_first_digit, length_modifier_of}
 use Rattle.pf_posix.specs.OpaqueParts.{amount_at}
 use Rattle.pf_posix.specs.PartsInText.{BeginsOutside, ConversionIs, FlagsAre, IsAfterPoint, ModifierGoesOn}
-use Rattle.pf_posix.specs.PartsInText.{PositionIs, StarIs, WidthIs, dollar_follows, is_flag, is_precision, is_width, second_modifier}
+use Rattle.pf_posix.specs.PartsInText.{IsFirstWidth, PositionIs, StarIs, WidthIs, dollar_follows, is_flag, is_precision, is_width, second_modifier}
 use Rattle.pf_posix.specs.Specifications.{Given, Fetched, conversion_letter, modifier_letters}
 use Rattle.pf_posix.specs.Spelling.{SpellsPosition, SpellsPositive, SpellsPosixPrecision}
 use Rattle.pf_posix.proofs.Reaching.{letter_tests}
@@ -131,13 +133,13 @@ outside_precision (byte ∷ rest) o = go (is_digit byte) (byte == 42) (byte == 4
   go false false false e h = h
 
 -- what the code makes of a `*` and its number, in a width and after a point
-abbrev pub starred : Option (Option ℕ × ℕ) → Option (Option OpaqueAmount × Option ℕ × ℕ)
-starred None = None
-starred (Some read) = Some (Some amounts.Star, read.0, read.1)
+abbrev pub starred : Result (Option ℕ × ℕ) Refusal → Result (Option OpaqueAmount × Option ℕ × ℕ) Refusal
+starred (Err refusal) = Err refusal
+starred (Ok read) = Ok (Some amounts.Star, read.0, read.1)
 
-abbrev pub pointed : Option (Option ℕ × ℕ) → Option (OpaqueAmount × Option ℕ × ℕ)
-pointed None = None
-pointed (Some read) = Some (amounts.Star, read.0, read.1)
+abbrev pub pointed : Result (Option ℕ × ℕ) Refusal → Result (OpaqueAmount × Option ℕ × ℕ) Refusal
+pointed (Err refusal) = Err refusal
+pointed (Ok read) = Ok (amounts.Star, read.0, read.1)
 
 -- a number begins with a digit from 1 on, and neither it nor a star is another byte
 first_is : (d : ℕ) → 0 < d → d < 10 → is_first_digit (digit_glyph false d) ≡ true
@@ -162,6 +164,9 @@ digit_inside t at h = elim (cases_lt at (length t)) [
   | inl less ↦ less
   | inr over ↦ absurd (let no : true ≡ false = sym h ∙ ap is_digit (get_or_past t at 0 over) in cc)
 ]
+
+pub digit_no_dollar : (byte : ℕ) → is_digit byte ≡ true → (byte == 36) ≡ false
+digit_no_dollar byte d = grind (arith, nat_tests)
 
 digit_no_star : (d : ℕ) → d < 10 → (digit_glyph false d == 42) ≡ false
 digit_no_star d high = grind (arith, nat_tests)
@@ -234,25 +239,51 @@ module _ (t : Text) (start : ℕ) where
           (sym (value n ds numeral_read.numeral.1) ∙ ap (number_from_digits_after 10 0) same.0 ∙ value m es w.numeral.1, same.1)
 
   -- no number of an argument
-  no_position : ((digits rest : Text) (n : ℕ) → SpellsPositive digits n → drop start t ≡ digits ++ 36 ∷ rest → ⊥) → PositionIs t start None start
+  pub no_position : ((digits rest : Text) (n : ℕ) → SpellsPositive digits n → drop start t ≡ digits ++ 36 ∷ rest → ⊥) → PositionIs t start None start
   no_position never text rest None h o e = (refl, e ∙ ap (λ u. u ++ rest) h)
   no_position never text rest (Some n) h o e =
       absurd (never h.0 rest n h.1 (e ∙ ap (λ u. u ++ rest) h.2 ∙ append_assoc h.0 (36 ∷ []) rest))
 
+  -- digits and a `$` don't come
+  abbrev pub HasNoNumber : Type 0
+  HasNoNumber = (digits rest : Text) (n : ℕ) → SpellsPositive digits n → drop start t ≡ digits ++ 36 ∷ rest → ⊥
+
+  pub first_width : HasNoNumber → IsFirstWidth t start
+  first_width never stop n digits w h is =
+      never digits (drop (stop + 1) t) n w (bytes_rest t start stop digits h ∙ ap (λ u. digits ++ u) split) where
+        inside : stop < length t
+        inside = elim (cases_lt stop (length t)) [
+          | inl less ↦ less
+          | inr over ↦ absurd (let no : 0 ≡ 36 = sym (get_or_past t stop 0 over) ∙ is in cc)
+        ]
+
+        split : drop stop t ≡ 36 ∷ drop (stop + 1) t
+        split = drop_more t stop 0 inside ∙ ap (λ b. b ∷ drop (stop + 1) t) is
+
+  pub no_star : HasNoNumber → (k : ℕ) (position : Option ℕ) → position ≡ Some k → (refusal : Refusal) → StarIs t start position (Err refusal)
+  no_star never k position p refusal text rest None w s o e = let no : false ≡ true = s ∙ ap is_some p in cc
+  no_star never k position p refusal text rest (Some m) w s o e =
+      never w.0 rest m w.1 (e ∙ ap (λ u. u ++ rest) w.2 ∙ append_assoc w.0 (36 ∷ []) rest)
+
+  pub number_missing : (stop : ℕ) → HasBytes t start stop [] → EndsWidth None t stop → HasNoNumber
+  number_missing stop h ends digits rest n w e =
+      bool_no (positive_first digits (36 ∷ rest) n w e) (no_first_digit (subst (EndsWidth None t) (sym (same_place t start stop h)) ends))
+
   pub no_numeral : (stop : ℕ) → HasBytes t start stop [] → EndsWidth None t stop → PositionIs t start None start
-  no_numeral stop h ends =
-      let other = no_first_digit (subst (EndsWidth None t) (sym (same_place t start stop h)) ends) in
-      no_position (λ digits rest n w e. bool_no (positive_first digits (36 ∷ rest) n w e) other)
+  no_numeral stop h ends = no_position (number_missing stop h ends)
 
   module _ (n stop : ℕ) (read : HasBytes t start stop (width_spelled (Some n))) (some : Some n ≢ Some 0) (few : is_above_limit (Some n) ≡ false)
       (ends : EndsWidth (Some n) t stop) where
-    pub no_dollar : (get_or t stop 0 == 36) ≡ false → PositionIs t start None start
-    no_dollar other = no_position (λ digits rest m w e. go digits rest m w e (is_digit (get_or t stop 0)) refl) where
+    pub dollar_missing : (get_or t stop 0 == 36) ≡ false → HasNoNumber
+    dollar_missing other digits rest m w e = go digits rest m w e (is_digit (get_or t stop 0)) refl where
       go : (digits rest : Text) (m : ℕ) → SpellsPositive digits m → drop start t ≡ digits ++ 36 ∷ rest → (b : Bool) → is_digit (get_or t stop 0) ≡ b → ⊥
       go digits rest m w e true digit =
           never_longer n stop read some few ends digits (36 ∷ rest) m w refl e digit (digit_inside t stop digit)
       go digits rest m w e false digit =
           bool_no refl (tested (λ b. b == 36) t stop 36 rest false other (numeral_same n stop read some few ends digits (36 ∷ rest) m w refl e digit).1)
+
+    pub no_dollar : (get_or t stop 0 == 36) ≡ false → PositionIs t start None start
+    no_dollar other = no_position (dollar_missing other)
 
     -- a number, and `$`
     pub position_read : stop < length t → (get_or t stop 0 == 36) ≡ true
@@ -281,9 +312,15 @@ module _ (t : Text) (start : ℕ) where
           let there = numeral_same n stop read some few ends w.0 (36 ∷ rest) m w.1 refl (e ∙ ap (λ u. u ++ rest) w.2 ∙ append_assoc w.0 (36 ∷ []) rest) no_digit in
           (ap Some there.0, tail_at t stop 36 rest there.1)
 
+    pub digit_missing : is_digit (get_or t stop 0) ≡ true → HasNoNumber
+    digit_missing digit = dollar_missing (digit_no_dollar (get_or t stop 0) digit)
+
+    pub star_read : stop < length t → (get_or t stop 0 == 36) ≡ true → (position : Option ℕ) → StarIs t start position (Ok (Some n, stop + 1))
+    star_read inside dollar position text rest number w s o e = (position_read inside dollar).1 text rest number w (outside_dollar rest o) e
+
   -- no width
   pub width_none : (stop : ℕ) (position : Option ℕ) → (byte_here == 42) ≡ false → HasBytes t start stop [] → EndsWidth None t stop
-      → WidthIs t start position (Some (None, None, start))
+      → WidthIs t start position (Ok (None, None, start))
   width_none stop position star h ends text rest None w o e = (refl, e ∙ ap (λ u. u ++ rest) w)
   width_none stop position star h ends text rest (Some (Given n)) w o e =
       absurd (bool_no (positive_first text rest n w e) (no_first_digit (subst (EndsWidth None t) (sym (same_place t start stop h)) ends)))
@@ -292,7 +329,7 @@ module _ (t : Text) (start : ℕ) where
 
   module _ (position : Option ℕ) where
     -- `*`
-    pub width_star : (result : Option (Option ℕ × ℕ)) → (byte_here == 42) ≡ true → start < length t → StarIs t (start + 1) position result
+    pub width_star : (result : Result (Option ℕ × ℕ) Refusal) → (byte_here == 42) ≡ true → start < length t → StarIs t (start + 1) position result
         → WidthIs t start position (starred result)
     width_star result star less p text rest None h o e =
         let is : byte_here ≡ 42 = eqb-true byte_here 42 star in
@@ -300,11 +337,11 @@ module _ (t : Text) (start : ℕ) where
     width_star result star less p text rest (Some (Given n)) h o e =
         absurd (bool_no star (first_no_star (positive_first text rest n h e)))
     width_star result star less p text rest (Some (Fetched named)) h o e =
-        go result (p h.digits rest named h.digits_are h.numbering (outside_dollar rest o) (tail_at t start 42 (h.digits ++ rest) (e ∙ ap (λ u. u ++ rest) h.whole))) where
-          go : (result : Option (Option ℕ × ℕ)) → IsSomeAnd result (λ read. (read.0 ≡ named) × (drop read.1 t ≡ rest))
-              → IsSomeAnd (starred result) (λ read. (amount_at read.0 read.1 ≡ Some (Fetched named)) × (drop read.2 t ≡ rest))
-          go None r = r
-          go (Some read) r = (ap (λ k. Some (Fetched k)) r.0, r.1)
+        go result (p h.digits rest named h.digits_are h.numbering o (tail_at t start 42 (h.digits ++ rest) (e ∙ ap (λ u. u ++ rest) h.whole))) where
+          go : (result : Result (Option ℕ × ℕ) Refusal) → IsOkAnd result (λ read. (read.0 ≡ named) × (drop read.1 t ≡ rest))
+              → IsOkAnd (starred result) (λ read. (amount_at read.0 read.1 ≡ Some (Fetched named)) × (drop read.2 t ≡ rest))
+          go (Err refusal) r = r
+          go (Ok read) r = (ap (λ k. Some (Fetched k)) r.0, r.1)
 
     -- a number
     module _ (n stop : ℕ) (star : (byte_here == 42) ≡ false) (read : HasBytes t start stop (width_spelled (Some n))) (some : Some n ≢ Some 0)
@@ -316,8 +353,8 @@ module _ (t : Text) (start : ℕ) where
       less_here = digit_inside t start (digit_too byte_here begins_digit)
 
       -- which is no other width
-      some_width : (result : Option (Option OpaqueAmount × Option ℕ × ℕ)) → ((text rest : Text) (m : ℕ) → SpellsPositive text m → BeginsOutside is_width rest
-          → drop start t ≡ text ++ rest → IsSomeAnd result (λ read. (amount_at read.0 read.1 ≡ Some (Given m)) × (drop read.2 t ≡ rest)))
+      some_width : (result : Result (Option OpaqueAmount × Option ℕ × ℕ) Refusal) → ((text rest : Text) (m : ℕ) → SpellsPositive text m → BeginsOutside is_width rest
+          → drop start t ≡ text ++ rest → IsOkAnd result (λ read. (amount_at read.0 read.1 ≡ Some (Given m)) × (drop read.2 t ≡ rest)))
           → WidthIs t start position result
       some_width result given text rest None w o e =
           absurd (no_first is_width byte_here (drop (start + 1) t) rest o (sym (drop_more t start 0 less_here) ∙ e ∙ ap (λ u. u ++ rest) w)
@@ -326,17 +363,17 @@ module _ (t : Text) (start : ℕ) where
           let no : true ≡ false = tested (λ b. b == 42) t start 42 (w.digits ++ rest) false star (e ∙ ap (λ u. u ++ rest) w.whole) in cc
       some_width result given text rest (Some (Given m)) w o e = given text rest m w o e
 
-      pub width_over : is_digit (get_or t stop 0) ≡ true → stop < length t → WidthIs t start position None
-      width_over digit less = some_width None (λ text rest m w o e. never_longer n stop read some few ends text rest m w (outside_digit rest o) e digit less)
+      pub width_over : is_digit (get_or t stop 0) ≡ true → stop < length t → (refusal : Refusal) → WidthIs t start position (Err refusal)
+      width_over digit less refusal = some_width (Err refusal) (λ text rest m w o e. never_longer n stop read some few ends text rest m w (outside_digit rest o) e digit less)
 
-      pub width_given : is_digit (get_or t stop 0) ≡ false → WidthIs t start position (Some (Some (amounts.Number n), None, stop))
-      width_given other = some_width (Some (Some (amounts.Number n), None, stop)) (λ text rest m w o e.
+      pub width_given : is_digit (get_or t stop 0) ≡ false → WidthIs t start position (Ok (Some (amounts.Number n), None, stop))
+      width_given other = some_width (Ok (Some (amounts.Number n), None, stop)) (λ text rest m w o e.
           let same = numeral_same n stop read some few ends text rest m w (outside_digit rest o) e other in (ap (λ k. Some (Given k)) same.0, same.1))
 
     point_tail : (a b : Text) → 46 ∷ a ≡ 46 ∷ b → a ≡ b
     point_tail a b e = cc
 
-    pub point_star : (result : Option (Option ℕ × ℕ)) → (byte_here == 42) ≡ true → start < length t → StarIs t (start + 1) position result
+    pub point_star : (result : Result (Option ℕ × ℕ) Refusal) → (byte_here == 42) ≡ true → start < length t → StarIs t (start + 1) position result
         → IsAfterPoint t start position (pointed result)
     point_star result star less p text rest None h o e = cc
     point_star result star less p text rest (Some (Given n)) h o e = absurd (go h.0.0 h.0.1 (point_tail _ _ h.0.2)) where
@@ -349,12 +386,12 @@ module _ (t : Text) (start : ℕ) where
           bool_no (tested (λ b. b == 42) t start (digit_glyph false d) (map (digit_glyph false) ds ++ rest) true star (e ∙ ap (λ u. u ++ rest) w))
           (digit_no_star d l.below.0)
     point_star result star less p text rest (Some (Fetched named)) h o e =
-        go result (p h.1.digits rest named h.1.digits_are h.1.numbering (outside_dollar rest (outside_precision rest o))
+        go result (p h.1.digits rest named h.1.digits_are h.1.numbering (outside_precision rest o)
         (tail_at t start 42 (h.1.digits ++ rest) (e ∙ ap (λ u. u ++ rest) (point_tail _ _ h.2 ∙ h.1.whole)))) where
-          go : (result : Option (Option ℕ × ℕ)) → IsSomeAnd result (λ read. (read.0 ≡ named) × (drop read.1 t ≡ rest))
-              → IsSomeAnd (pointed result) (λ read. (amount_at (Some read.0) read.1 ≡ Some (Fetched named)) × (drop read.2 t ≡ rest))
-          go None r = r
-          go (Some read) r = (ap (λ k. Some (Fetched k)) r.0, r.1)
+          go : (result : Result (Option ℕ × ℕ) Refusal) → IsOkAnd result (λ read. (read.0 ≡ named) × (drop read.1 t ≡ rest))
+              → IsOkAnd (pointed result) (λ read. (amount_at (Some read.0) read.1 ≡ Some (Fetched named)) × (drop read.2 t ≡ rest))
+          go (Err refusal) r = r
+          go (Ok read) r = (ap (λ k. Some (Fetched k)) r.0, r.1)
 
     -- digits after the point
     module _ (n stop : ℕ) (star : (byte_here == 42) ≡ false) (few : n ≤ MAX_NUMBER) (read : (bytes : Text) × ContinuesNumber 0 bytes n × HasBytes t start stop bytes)
@@ -367,9 +404,9 @@ module _ (t : Text) (start : ℕ) where
             read.2,
           )
 
-      some_digits : (result : Option (OpaqueAmount × Option ℕ × ℕ)) → ((text rest : Text) (es : List ℕ) (m : ℕ) → AllByRecursion (λ d. d < 10) es
+      some_digits : (result : Result (OpaqueAmount × Option ℕ × ℕ) Refusal) → ((text rest : Text) (es : List ℕ) (m : ℕ) → AllByRecursion (λ d. d < 10) es
           → number_from_digits_after 10 0 es ≡ m → m ≤ MAX_NUMBER → BeginsOutside is_digit rest → drop start t ≡ map (digit_glyph false) es ++ rest
-          → IsSomeAnd result (λ read. (amount_at (Some read.0) read.1 ≡ Some (Given m)) × (drop read.2 t ≡ rest)))
+          → IsOkAnd result (λ read. (amount_at (Some read.0) read.1 ≡ Some (Given m)) × (drop read.2 t ≡ rest)))
           → IsAfterPoint t start position result
       some_digits result given text rest None p o e = cc
       some_digits result given text rest (Some (Fetched number)) p o e =
@@ -386,14 +423,34 @@ module _ (t : Text) (start : ℕ) where
       ends_there : EndsNumber (number_from_digits_after 10 0 read.1.digits) t stop
       ends_there = subst (λ k. EndsNumber k t stop) read.1.value ends
 
-      pub point_over : is_digit (get_or t stop 0) ≡ true → stop < length t → IsAfterPoint t start position None
-      point_over digit less = some_digits None (λ text rest es m low value small o e.
+      pub point_over : is_digit (get_or t stop 0) ≡ true → stop < length t → (refusal : Refusal) → IsAfterPoint t start position (Err refusal)
+      point_over digit less refusal = some_digits (Err refusal) (λ text rest es m low value small o e.
           no_digit_more t start stop read.1.digits es rest read.1.below low point_digits e o (omega (arith, value, small)) ends_there digit less)
 
-      pub point_given : is_digit (get_or t stop 0) ≡ false → IsAfterPoint t start position (Some (amounts.Number n, None, stop))
-      point_given other = some_digits (Some (amounts.Number n, None, stop)) (λ text rest es m low value small o e.
+      pub point_given : is_digit (get_or t stop 0) ≡ false → IsAfterPoint t start position (Ok (amounts.Number n, None, stop))
+      point_given other = some_digits (Ok (amounts.Number n, None, stop)) (λ text rest es m low value small o e.
           let same = digits_same t start stop read.1.digits es rest read.1.below low point_digits e o (omega (arith, value, small)) ends_there other in
           (ap (λ k. Some (Given k)) (read.1.value ∙ ap (number_from_digits_after 10 0) same.0 ∙ value), same.1))
+
+-- what a test says of a byte
+pub byte_is : (t : Text) (at byte : ℕ) → (get_or t at 0 == byte) ≡ true → byte ≡ get_or t at 0
+byte_is t at byte e = sym (eqb-true (get_or t at 0) byte e)
+
+-- what a test says of a number
+pub known_number : (o : Option ℕ) → is_some o ≡ true → (k : ℕ) × (o ≡ Some k)
+known_number (Some k) e = (k, refl)
+known_number None e = cc
+
+pub no_known_number : (o : Option ℕ) → is_some o ≡ false → o ≡ None
+no_known_number (Some k) e = cc
+no_known_number None e = refl
+
+-- a number that was read begins with a digit that isn't 0
+pub begins_number : (t : Text) (start stop n : ℕ) → HasBytes t start stop (width_spelled (Some n)) → Some n ≢ Some 0 → is_above_limit (Some n) ≡ false
+    → EndsWidth (Some n) t stop → is_first_digit (get_or t start 0) ≡ true
+begins_number t start stop n read some few ends =
+    positive_first t start (width_spelled (Some n)) (drop stop t) n (numeral_read t start n stop read some few ends)
+    (bytes_rest t start stop (width_spelled (Some n)) read)
 
 -- the letter before a place, and what comes after it there
 abbrev MeansSecond : Text → ℕ → Modifier → Option Modifier → Modifier → ℕ → Text → Type 0
@@ -445,6 +502,9 @@ module _ (t : Text) (start : ℕ) (first : Modifier) where
       subst (λ o. MeansSecond t start first o modifier (conversion_letter conversion) rest) s (goes_on letter modifier conversion rest f e)
 
 module _ (t : Text) (start : ℕ) where
-  pub conversion_read : (result : Option Conversion) → result ≡ conversion_of (get_or t start 0) → ConversionIs t start result
-  conversion_read result r conversion rest e = r ∙ ap conversion_of (head_at t start (conversion_letter conversion) rest e)
-      ∙ (letter_tests conversion).conversion_is
+  conversion_here : (o : Option Conversion) → o ≡ conversion_of (get_or t start 0) → (conversion : Conversion) (rest : Text)
+      → drop start t ≡ conversion_letter conversion ∷ rest → o ≡ Some conversion
+  conversion_here o r conversion rest e = r ∙ ap conversion_of (head_at t start (conversion_letter conversion) rest e) ∙ (letter_tests conversion).conversion_is
+
+  pub conversion_read : (conversion : Conversion) → Some conversion ≡ conversion_of (get_or t start 0) → ConversionIs t start (Ok conversion)
+  conversion_read conversion r other rest e = let same = conversion_here (Some conversion) r other rest e in let is : conversion ≡ other = cc in ap Ok is

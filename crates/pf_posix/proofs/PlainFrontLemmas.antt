@@ -1,9 +1,11 @@
 -- The front of a format in which no argument has a number.
-use Rattle.std.proofs.Common.{◌≡◌, ◌≢◌, ℕ, ◌+◌, ◌-◌, ◌≤◌, max, List, [], ◌∷◌, ◌++◌, length, length-append, drop, get_or, map, take, refl, sym, ap, ◌∙◌, arith, false, inl, inr}
+use Rattle.std.proofs.Common.{◌≡◌, ◌≢◌, ℕ, ◌+◌, ◌-◌, ◌≤◌, List, [], ◌∷◌, ◌++◌, length, length-append, drop, get_or, map, take, refl, sym, ap, ◌∙◌, arith, false, inl, inr}
 use Rattle.std.proofs.Common.{subst, take-add}
-use Rattle.std.specs.Prelude.{Option, Some, None, is_some, option_map}
+use Rattle.std.proofs.lemmas.Bool.{ne_eqb}
+use Rattle.pf_posix.specs.declared.specifications.Numbering.TheVariants.{Unnumbered}
+use Rattle.std.specs.Prelude.{Option, Some, None, ◌==◌, MatchResult, IfOk, Result, Ok, Err, suc, ◌<◌, option_map}
 use Rattle.std.specs.List.{AllByRecursion}
-use Rattle.std.proofs.lemmas.List.{append-nil, length-drop, length-map, length-take-le, length_push, map-append, map_push, take_all, take-append-drop}
+use Rattle.std.proofs.lemmas.List.{append-nil, length-drop, length-map, length-take-le, map-append, take_all, take-append-drop}
 use Rattle.pf_values.specs.declared.limits.TheConstants.{MAX_TEXT_LEN}
 use Rattle.pf_values.specs.declared.conversions.Conv.TheVariants.{D}
 use Rattle.pf_values.specs.declared.lengths.Length.TheVariants as lengths
@@ -15,7 +17,7 @@ use Rattle.pf_values.specs.meaning.Items.{Item, Byte, Directive}
 use Rattle.pf_values.specs.meaning.Text.{Text}
 use Rattle.pf_text.specs.FoundDirectives.{IsFoundAt}
 use Rattle.pf_text.specs.Offsets.{HasBytes}
-use Rattle.pf_text.specs.Walks.{HasPassed, HasPercent, IsPassed, IsPercent, IsWalkOver}
+use Rattle.pf_text.specs.Walks.{BeginsNothing, HasPassed, HasPercent, IsPassed, IsPercent}
 use Rattle.pf_text.specs.declared.specification.FoundDirective.{FoundDirective}
 use Rattle.pf_text.specs.declared.walk.Walk.{Walk}
 use Rattle.pf_text.proofs.SpecificationLemmas.{bytes_join, bytes_one}
@@ -25,8 +27,7 @@ use Rattle.pf_posix.specs.declared.conversions.Conversion.TheVariants.{Profile a
 use Rattle.pf_posix.specs.declared.conversions.Floating.TheVariants as floats
 use Rattle.pf_posix.specs.declared.conversions.Modifier.TheVariants.{Integer}
 use Rattle.pf_posix.specs.declared.fetches.Fetch.{Fetch}
-use Rattle.pf_posix.specs.declared.partial_specification.Numbering.TheVariants.{Undecided, Unnumbered}
-use Rattle.pf_posix.specs.declared.plain_reader.PlainFront.{PlainFront}
+use Rattle.pf_posix.specs.declared.argument_types.PlainFront.{PlainFront}
 use Rattle.pf_posix.specs.declared.specifications.Specification.{Specification as Read}
 use Rattle.pf_posix.specs.declared.types.ArgumentType.{ArgumentType}
 use Rattle.pf_posix.specs.declared.types.ArgumentType.TheVariants.{Profile}
@@ -35,24 +36,28 @@ use Rattle.pf_posix.specs.Items.{PosixItem, ReadsPosix, Specification, fetched}
 use Rattle.pf_posix.specs.Laws.{HasCount, filled}
 use Rattle.pf_posix.specs.Letters.{conversion_of}
 use Rattle.pf_posix.specs.OpaqueParts.{parts_of_opaque}
-use Rattle.pf_posix.specs.PartsInText.{IsSpecificationAt}
-use Rattle.pf_posix.specs.Plain.{HasTypeAt, IsOrderedFront, IsPlain, IsPlainFront, IsPut, IsPutAt}
-use Rattle.pf_posix.specs.Readings.{Fetches, FetchTrace, Whole, fetch_trace, trace_from, verdict_after, wanted_types}
-use Rattle.pf_posix.specs.Refusals.{numbering_of}
+use Rattle.pf_posix.specs.PartsInText.{specification_read}
+use Rattle.pf_posix.specs.Endings.{end_refusal}
+use Rattle.pf_posix.specs.Halts.{IsDefinedAt, IsRefusedIn}
+use Rattle.pf_posix.specs.declared.specifications.Numbering.{Numbering}
+use Rattle.pf_posix.specs.declared.specifications.Refused.{Refused}
+use Rattle.pf_text.specs.declared.refusals.Refusal.{Refusal}
+use Rattle.pf_text.proofs.RefusalLemmas.{take_between}
+use Rattle.pf_posix.proofs.FrontRefusals.{IsRefused, agreed_plain, end_refused, halt_refused_plain}
+use Rattle.pf_posix.specs.Plain.{HasPlainItems, HasTypeAt, IsPlain, IsPlainFront, IsPut, IsPutAt, numbering_after}
+use Rattle.pf_posix.specs.Readings.{wanted_types}
+use Rattle.pf_posix.specs.Refusals.{IsPosixRefusedAt, numbering_by, numbering_of}
 use Rattle.pf_posix.specs.Specifications.{Amount, Given, Fetched, PosixSpecification, conversion_letter, modifier_letters}
 use Rattle.pf_posix.specs.Spelling.{SpellsPosix, SpellsPosixPrecision, SpellsPosixWidth}
-use Rattle.pf_posix.specs.Stages.{Between}
 use Rattle.pf_posix.specs.Types.{conversion_type, fetch, fetches, star_fetches}
-use Rattle.pf_posix.proofs.Bounds.{all_append, bounded_at}
-use Rattle.pf_posix.proofs.Following.{reads_on}
+use Rattle.pf_posix.proofs.Bounds.{all_append}
 use Rattle.pf_posix.proofs.Judging.{byte_of_conversion}
 use Rattle.pf_posix.proofs.KeptTypes.{own_unnumbered, posix_append}
-use Rattle.pf_posix.proofs.OrderLemmas.{end_in_order, filled_none, first_in_order, next_in_order}
-use Rattle.pf_posix.proofs.FoundLemmas.{unnumbered_parts}
+use Rattle.pf_posix.proofs.OrderLemmas.{filled_none}
 use Rattle.pf_posix.proofs.Profile.{fetches_here, item_of, read_here, reads_here, whole_of}
-use Rattle.pf_posix.proofs.Soundness.{fetched_append}
-use Rattle.pf_posix.proofs.SpecificationsOnce.{all_parts, no_number}
-use Rattle.pf_posix.proofs.Unique.{types_agreed}
+use Rattle.pf_posix.proofs.Soundness.{fetched_append, reads_push}
+use Rattle.pf_posix.proofs.FoundLemmas.{unnumbered_parts}
+use Rattle.pf_posix.proofs.SpecificationsOnce.{all_parts, specification_once}
 
 -- a directive of the profile, and a conversion alone
 pub typed_profile : (model : Model) (t : Text) (at : ℕ) (found : FoundDirective) (wanted : ArgType) → IsFoundAt t at found → wanted ≡ arg_type model found.directive
@@ -132,12 +137,36 @@ typed_put model t at wanted stop old new count h puts long =
     }
 
 -- and so are those of another specification
-pub plain_there : (t : Text) (at : ℕ) (read : Read) (stop : ℕ) → IsSpecificationAt t at (read, stop) → is_some read.position ≡ false
-    → undefined_of (parts_of_opaque read.parts) ≡ None → IsPlain t at stop (parts_of_opaque read.parts)
-plain_there t at read stop h e defined =
-    let text = take (stop - at) (drop at t) in
-    let same = unnumbered_parts text read h.spelled (no_number read.position e) in
-    record { some = h.some; within = h.within; item = (subst (SpellsPosix text) (sym same) h.spelled, defined); unnumbered = refl }
+module _ (t : Text) (at : ℕ) (numbering : Numbering) (read : Read) (stop : ℕ) (h : IsDefinedAt t at numbering (read, stop)) where
+  text_of : Text
+  text_of = take (stop - at) (drop at t)
+
+  pub plain_there : read.position ≡ None → IsPlain t at stop (parts_of_opaque read.parts)
+  unfolding text_of
+  plain_there e =
+      let same = unnumbered_parts text_of read h.is.read.spelled e in
+      record {
+        some = h.is.read.some;
+        within = h.is.read.within;
+        item = (subst (SpellsPosix text_of) (sym same) h.is.read.spelled, ap undefined_of same ∙ h.defined);
+        unnumbered = refl;
+      }
+
+  -- a numbered one is the only one there
+  pub numbered_there : (n : ℕ) → read.position ≡ Some n → (found : Read × ℕ) → IsDefinedAt t at numbering found → found.0.position ≢ None
+  unfolding text_of
+  numbered_there n e found k none =
+      let same = specification_once text_of (take (found.1 - at) (drop at t)) (drop (stop - at) (drop at t)) (drop (found.1 - at) (drop at t))
+      (specification_read read) (specification_read found.0) h.is.read.spelled k.is.read.spelled
+      (take-append-drop (stop - at) (drop at t) ∙ sym (take-append-drop (found.1 - at) (drop at t))) in
+      let no : Some n ≡ None = sym e ∙ ap (λ s. s.position) same.0 ∙ none in
+      cc
+
+-- where none begins
+pub none_there : (t : Text) (at : ℕ) (numbering : Numbering) (refused : Refused) → IsRefusedIn t at numbering refused → (found : Read × ℕ)
+    → IsDefinedAt t at numbering found → found.0.position ≢ None
+none_there t at numbering refused h found k e = h.none (take (found.1 - at) (drop at t)) (drop (found.1 - at) (drop at t)) (specification_read found.0)
+    k.is.read.spelled (sym (take-append-drop (found.1 - at) (drop at t))) k.is.follows k.defined
 
 -- a specification fetches no more arguments than it has bytes
 star_bytes : (t : Text) (position : Option ℕ) (width : Option Amount) → SpellsPosixWidth t position width → length (star_fetches width) ≤ length t
@@ -176,8 +205,9 @@ module _ (model : Model) (t : Text) (at : ℕ) (old new : List ArgumentType) (co
   was_put (inl h) other = absurd (other h.0)
   was_put (inr h) other = h
 
-  pub none_put : IsPut model t at old new count read → read.at ≡ at → (read.count ≡ count) × (new ≡ old)
-  none_put (inl h) same = (h.1, h.2)
+  pub none_put : IsPut model t at old new count read → read.at ≡ at
+      → (read.count ≡ count) × (new ≡ old) × ((found : Read × ℕ) → IsDefinedAt t at (numbering_after count) found → found.0.position ≢ None)
+  none_put (inl h) same = (h.1, h.2, h.3)
   none_put (inr h) same = absurd (omega (arith, h.plain.some, same))
 
 pub put_few : (model : Model) (t : Text) (at : ℕ) (old new : List ArgumentType) (count stop after : ℕ) → IsPutAt model t at old new count (record { at = stop; count = after })
@@ -188,7 +218,7 @@ put_few model t at old new count stop after h few =
     omega (arith, few, h.more, h.plain.some, long, fetches_few model text h.s h.plain.item.0)
 
 pub no_front : (model : Model) (t : Text) (old : List ArgumentType) → IsPlainFront model t 0 old old 0
-no_front model t old = record { items = []; reads = refl; unnumbered = tt; count_is = refl; front = sym (filled_none old) }
+no_front model t old = record { plain = record { items = []; reads = refl; unnumbered = tt; count_is = refl }; front = sym (filled_none old) }
 
 -- items without an argument
 no_arguments : (model : Model) (items : List Item) → AllByRecursion (IsPassed IsPercent) items → fetched model (map item_of items) ≡ []
@@ -196,141 +226,116 @@ no_arguments model [] h = refl
 no_arguments model (Byte byte ∷ items) h = no_arguments model items h.1
 no_arguments model (Directive s ∷ items) h = absurd h.0.1
 
+-- what a walk has passed
+pub passed_more : (model : Model) (before after : Walk) (items : List PosixItem) → HasPassed IsPercent before after
+    → ReadsPosix (take before.at before.text.now) items → before.at ≤ length before.text.now
+    → (more : List PosixItem) × ReadsPosix (take after.at after.text.now) more × (fetched model more ≡ fetched model items) × (after.at ≤ length after.text.now)
+passed_more model before after items h reads low =
+    let t = after.text.now in
+    let n = after.at - before.at in
+    let place : before.at + n ≡ after.at = omega (arith, h.from) in
+    let bytes = take n (drop before.at t) in
+    let earlier = subst (λ u. ReadsPosix (take before.at u) items) (sym h.text) reads in
+    let passed = reads_here bytes h.items (run_is_read IsPercent bytes h.items h.run) in
+    let joined = subst (λ u. ReadsPosix u (items ++ map item_of h.items)) (sym (take-add before.at n t))
+    (posix_append (take before.at t) bytes items (map item_of h.items) earlier passed) in (
+      items ++ map item_of h.items,
+      subst (λ k. ReadsPosix (take k t) (items ++ map item_of h.items)) place joined,
+      fetched_append model items (map item_of h.items) ∙ ap (λ l. fetched model items ++ l) (no_arguments model h.items h.run.passed)
+          ∙ append-nil (fetched model items),
+      omega (arith, h.within, low, ap length h.text),
+    )
+
+-- how the next specifications are numbered
+after_some : (n : ℕ) → numbering_after (suc n) ≡ Unnumbered
+after_some n = let no : (suc n == 0) ≡ false = ne_eqb (suc n) 0 (λ e. absurd (omega (arith, e))) in rw no refl
+
+pub plain_numbering : (fs : List Fetch) → AllByRecursion (λ f. f.number ≡ None) fs → numbering_of fs ≡ numbering_after (length fs)
+plain_numbering [] h = refl
+plain_numbering (f ∷ fs) h = ap numbering_by h.0 ∙ sym (after_some (length fs))
+
+module _ (model : Model) (old new : List ArgumentType) (count : ℕ) where
+  pub front_walked : (before after : Walk) → HasPassed IsPercent before after → IsPlainFront model before.text.now before.at old new count
+      → before.at ≤ length before.text.now → IsPlainFront model after.text.now after.at old new count × (after.at ≤ length after.text.now)
+  front_walked before after h front low =
+      let more = passed_more model before after front.plain.items h front.plain.reads low in (
+        record {
+          plain = record {
+            items = more.0;
+            reads = more.1;
+            unnumbered = subst (AllByRecursion (λ f. f.number ≡ None)) (sym more.2) front.plain.unnumbered;
+            count_is = front.plain.count_is ∙ ap length (sym more.2);
+          };
+          front = front.front ∙ ap (λ l. filled old (wanted_types l)) (sym more.2);
+        },
+        more.3,
+      )
+
 module _ (model : Model) (t : Text) (at : ℕ) (old new : List ArgumentType) (count : ℕ) (h : IsPlainFront model t at old new count) where
-  -- more items
-  joined : (n : ℕ) (items : List PosixItem) → ReadsPosix (take n (drop at t)) items → ReadsPosix (take (at + n) t) (h.items ++ items)
-  joined n items reads = subst (λ u. ReadsPosix u (h.items ++ items)) (sym (take-add at n t)) (posix_append (take at t) (take n (drop at t)) h.items items h.reads reads)
+  abbrev seen : List Fetch
+  seen = fetched model h.plain.items
 
   -- a specification
   pub front_put : (more : List ArgumentType) (stop after : ℕ) → IsPutAt model t at new more count (record { at = stop; count = after }) → IsPlainFront model t stop old more after
   front_put more stop after p =
       let s = p.s in
       let own = fetches model s in
-      let place : at + (stop - at) ≡ stop = omega (arith, p.plain.some) in
-      let same : fetched model (h.items ++ Specification s ∷ []) ≡ fetched model h.items ++ own =
-      fetched_append model h.items (Specification s ∷ []) ∙ ap (λ l. fetched model h.items ++ l) (append-nil own) in
-      let long = length-append (fetched model h.items) own in
+      let items = h.plain.items ++ Specification s ∷ [] in
+      let text = take (stop - at) (drop at t) in
+      let same : fetched model items ≡ seen ++ own =
+      fetched_append model h.plain.items (Specification s ∷ []) ∙ ap (λ l. seen ++ l) (append-nil own) in
+      let long = length-append seen own in
       record {
-        items = h.items ++ Specification s ∷ [];
-        reads = subst (λ k. ReadsPosix (take k t) (h.items ++ Specification s ∷ [])) place
-            (joined (stop - at) (Specification s ∷ []) (take (stop - at) (drop at t), [], p.plain.item, refl, sym (append-nil (take (stop - at) (drop at t)))));
-        unnumbered = subst (AllByRecursion (λ f. f.number ≡ None)) (sym same)
-            (all_append (λ f. f.number ≡ None) (fetched model h.items) own h.unnumbered
-            (own_unnumbered model (take (stop - at) (drop at t)) s p.plain.item.0 p.plain.unnumbered));
-        count_is = omega (arith, p.more, h.count_is, ap length same, long);
+        plain = record {
+          items = items;
+          reads = subst (λ u. ReadsPosix u items) (sym (take_between t at stop (omega (arith, p.plain.some))))
+              (reads_push (take at t) text h.plain.items (Specification s) h.plain.reads p.plain.item);
+          unnumbered = subst (AllByRecursion (λ f. f.number ≡ None)) (sym same)
+              (all_append (λ f. f.number ≡ None) seen own h.plain.unnumbered (own_unnumbered model text s p.plain.item.0 p.plain.unnumbered));
+          count_is = omega (arith, p.more, h.plain.count_is, ap length same, long);
+        };
         front =
-            p.put old (wanted_types (fetched model h.items)) h.front (h.count_is ∙ sym (length-map (fetched model h.items) (λ g. g.wanted)))
-            ∙ ap (filled old) (sym (map-append (λ g. g.wanted) (fetched model h.items) own) ∙ ap wanted_types (sym same));
-      }
-
-  -- what a walk has passed
-  passed_items : (n : ℕ) (items : List Item) → AllByRecursion (IsPassed IsPercent) items → ReadsPosix (take n (drop at t)) (map item_of items)
-      → IsPlainFront model t (at + n) old new count
-  passed_items n items all reads =
-      let same : fetched model (h.items ++ map item_of items) ≡ fetched model h.items =
-      fetched_append model h.items (map item_of items) ∙ ap (λ l. fetched model h.items ++ l) (no_arguments model items all)
-      ∙ append-nil (fetched model h.items) in
-      record {
-        items = h.items ++ map item_of items;
-        reads = joined n (map item_of items) reads;
-        unnumbered = subst (AllByRecursion (λ f. f.number ≡ None)) (sym same) h.unnumbered;
-        count_is = h.count_is ∙ ap length (sym same);
-        front = h.front ∙ ap (λ l. filled old (wanted_types l)) (sym same);
+            p.put old (wanted_types seen) h.front (h.plain.count_is ∙ sym (length-map seen (λ g. g.wanted)))
+            ∙ ap (filled old) (sym (map-append (λ g. g.wanted) seen own) ∙ ap wanted_types (sym same));
       }
 
   -- the end of the text
-  pub front_whole : at ≡ length t → at ≤ MAX_TEXT_LEN → HasCount model t old new count
+  pub front_whole : length t ≤ at → length t ≤ MAX_TEXT_LEN → HasCount model t old new count
   front_whole end few =
-      let whole : take at t ≡ t = take_all at t (omega (arith, end)) in
       record {
-        types = wanted_types (fetched model h.items);
+        types = wanted_types seen;
         accepted = record {
-          items = h.items;
-          reads = subst (λ u. ReadsPosix u h.items) whole h.reads;
-          limit = omega (arith, end, few);
-          types_are = inl (record { unnumbered = h.unnumbered; types_are = refl });
+          items = h.plain.items;
+          reads = subst (λ u. ReadsPosix u h.plain.items) (take_all at t end) h.plain.reads;
+          limit = few;
+          types_are = inl (record { unnumbered = h.plain.unnumbered; types_are = refl });
         };
-        count_is = h.count_is ∙ sym (length-map (fetched model h.items) (λ g. g.wanted));
+        count_is = h.plain.count_is ∙ sym (length-map seen (λ g. g.wanted));
         front = h.front;
       }
 
   -- no argument
   pub front_unchanged : count ≡ 0 → new ≡ old
-  front_unchanged none = go (fetched model h.items) (sym none ∙ h.count_is) h.front where
+  front_unchanged none = go seen (sym none ∙ h.plain.count_is) h.front where
     go : (seen : List Fetch) → 0 ≡ length seen → new ≡ filled old (wanted_types seen) → new ≡ old
     go [] e front = front ∙ filled_none old
     go (g ∷ seen) e front = absurd (omega (arith, e))
 
-  -- one argument at least
-  pub front_ordered : count ≢ 0 → at ≤ length t → at ≤ MAX_TEXT_LEN → IsOrderedFront model t (trace_from model Unnumbered Between at (drop at t)) old new count
-  front_ordered some within few =
-      let seen = fetched model h.items in
-      let long = length-take-le at t within in
-      let place : 0 + length (take at t) ≡ at = omega (arith, long) in
-      let agreed = types_agreed seen (wanted_types seen) (inl (record { unnumbered = h.unnumbered; types_are = refl })) in
-      record {
-        seen = seen;
-        in_order = record {
-          verdict_is =
-              ap (λ u. verdict_after [] (trace_from model Undecided Between 0 u)) (sym (take-append-drop at t))
-              ∙ reads_on model h.items [] (take at t) (drop at t) 0 h.reads agreed (omega (arith, long, few))
-              ∙ ap (λ s. verdict_after seen (trace_from model s Between (0 + length (take at t)) (drop at t)))
-              (numbered seen (λ none. some (h.count_is ∙ none)) h.unnumbered)
-              ∙ ap (λ k. verdict_after seen (trace_from model Unnumbered Between k (drop at t))) place;
-          unnumbered = h.unnumbered;
-          bounded = bounded_at model Unnumbered at (drop at t);
-        };
-        count_is = h.count_is;
-        front = h.front;
-      } where
-        numbered : (seen : List Fetch) → length seen ≢ 0 → AllByRecursion (λ f. f.number ≡ None) seen → numbering_of seen ≡ Unnumbered
-        numbered [] some all = absurd (some refl)
-        numbered (f ∷ seen) some all = rw (all.0) refl
+  -- where nothing begins
+  pub front_ended : length t ≤ MAX_TEXT_LEN → at < length t → BeginsNothing t at → IsRefused model t (end_refusal t at)
+  front_ended few less nothing = end_refused model t at h.plain.items few h.plain.reads (agreed_plain seen h.plain.unnumbered) less nothing
 
-pub front_walked : (model : Model) (t : Text) (old new : List ArgumentType) (count : ℕ) → length t ≤ MAX_TEXT_LEN → (before after : Walk) → IsWalkOver t before
-    → before.at ≤ length t → HasPassed IsPercent before after → IsPlainFront model t before.at old new count
-    → IsWalkOver t after × (after.at ≤ length t) × IsPlainFront model t after.at old new count × (after.text.now ≡ t)
-front_walked model t old new count short before after over low h front =
-    let text_is : after.text.now ≡ t = h.text ∙ over.text_is ∙ take_all MAX_TEXT_LEN t short in
-    let most : after.at ≤ max before.at (length t) = subst (λ u. after.at ≤ max before.at (length u)) text_is h.within in
-    let n = after.at - before.at in
-    let place : before.at + n ≡ after.at = omega (arith, h.from) in
-    let bytes = take n (drop before.at t) in
-    let reads = subst (λ u. ReadsPosix (take n (drop before.at u)) (map item_of h.items)) text_is
-    (reads_here (take n (drop before.at after.text.now)) h.items (run_is_read IsPercent (take n (drop before.at after.text.now)) h.items h.run)) in (
-      record { walk_is = h.walk; text_is = h.text ∙ over.text_is },
-      omega (arith, most, low),
-      subst (λ k. IsPlainFront model t k old new count) place (passed_items model t before.at old new count front n h.items h.run.passed reads),
-      text_is,
-    )
+  -- and where something else does
+  pub front_others : (last : List ArgumentType) (r : Result ℕ Refusal)
+      → MatchResult r (λ count. HasCount model t new last count) (λ refusal. IsPosixRefusedAt model t refusal.kind refusal.at) → IfOk r (λ _. count ≡ 0)
+      → MatchResult r (λ count. HasCount model t old last count) (λ refusal. IsPosixRefusedAt model t refusal.kind refusal.at)
+  front_others last (Ok n) k none = subst (λ l. HasCount model t l last n) (front_unchanged none) k
+  front_others last (Err refusal) k none = k
 
--- with an argument before it
-pub first_ordered : (model : Model) (t : Text) (type : ArgumentType) (at : ℕ) (left : FetchTrace) (old new : List ArgumentType)
-    → fetch_trace model t ≡ Fetches (fetch None type) at left → new ≡ filled old (type ∷ []) → IsOrderedFront model t left old new 1
-first_ordered model t type at left old new e put =
-    record { seen = fetch None type ∷ []; in_order = first_in_order model t type at left e; count_is = refl; front = put }
-
-module _ (model : Model) (t : Text) (old left : FetchTrace) (start new : List ArgumentType) (count : ℕ) (h : IsOrderedFront model t old start new count) where
-  pub next_ordered : (f : Fetch) (at : ℕ) (more : List ArgumentType) → old ≡ Fetches f at left
-      → ((start before : List ArgumentType) → new ≡ filled start before → count ≡ length before → more ≡ filled start (before ++ f.wanted ∷ []))
-      → IsOrderedFront model t left start more (count + 1)
-  next_ordered f at more e puts =
-      let longer = length_push h.seen f in
-      record {
-        seen = h.seen ++ f ∷ [];
-        in_order = next_in_order model t h.seen old h.in_order f at left e;
-        count_is = omega (arith, h.count_is, longer);
-        front =
-            puts start (wanted_types h.seen) h.front (h.count_is ∙ sym (length-map h.seen (λ g. g.wanted)))
-            ∙ ap (filled start) (sym (map_push (λ g. g.wanted) h.seen f));
-      }
-
-pub whole_ordered : (model : Model) (t : Text) (left : FetchTrace) (start new : List ArgumentType) (count : ℕ) (h : IsOrderedFront model t left start new count)
-    → left ≡ Whole → HasCount model t start new count
-whole_ordered model t left start new count h e =
-    record {
-      types = wanted_types h.seen;
-      accepted = end_in_order model t h.seen left h.in_order e;
-      count_is = h.count_is ∙ sym (length-map h.seen (λ g. g.wanted));
-      front = h.front;
-    }
+-- a specification that is refused after items without numbers
+pub plain_refused : (model : Model) (t : Text) (at count : ℕ) (refused : Refused) → HasPlainItems model t at count → length t ≤ MAX_TEXT_LEN → at ≤ length t
+    → IsRefusedIn t at (numbering_after count) refused → IsRefused model t refused.refusal
+plain_refused model t at count refused h few low k =
+    let seen = fetched model h.items in
+    halt_refused_plain model t at h.items (numbering_after count) k.position k.own refused.refusal few h.reads low
+    (plain_numbering seen h.unnumbered ∙ ap numbering_after (sym h.count_is)) h.unnumbered k.halt

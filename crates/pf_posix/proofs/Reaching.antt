@@ -13,20 +13,20 @@ use Rattle.pf_posix.specs.declared.conversions.Floating.TheVariants as floats
 use Rattle.pf_posix.specs.declared.conversions.Modifier.{Modifier}
 use Rattle.pf_posix.specs.declared.conversions.Modifier.TheVariants.{Integer, LongDouble}
 use Rattle.pf_posix.specs.declared.fetches.Fetch.{Fetch}
-use Rattle.pf_posix.specs.declared.partial_specification.PartialSpecification.{PartialSpecification}
-use Rattle.pf_posix.specs.declared.partial_specification.WidthOrPrecision.{WidthOrPrecision}
-use Rattle.pf_posix.specs.declared.partial_specification.WidthOrPrecision.TheVariants.{Width, Precision}
-use Rattle.pf_posix.specs.declared.partial_specification.Numbering.{Numbering}
-use Rattle.pf_posix.specs.declared.partial_specification.Numbering.TheVariants.{Unnumbered, Numbered}
+use Rattle.pf_posix.proofs.States.{PartialSpecification}
+use Rattle.pf_posix.proofs.States.{WidthOrPrecision}
+use Rattle.pf_posix.proofs.States.{Width, Precision}
+use Rattle.pf_posix.specs.declared.specifications.Numbering.{Numbering}
+use Rattle.pf_posix.specs.declared.specifications.Numbering.TheVariants.{Unnumbered, Numbered}
 use Rattle.pf_posix.specs.Defined.{IsPosixDefined, undefined_of}
-use Rattle.pf_posix.specs.Fronts.{IsStateAfter, IsBefore, at_star}
+use Rattle.pf_posix.proofs.Fronts.{IsStateAfter, IsBefore, at_star}
 use Rattle.pf_posix.specs.Letters.{conversion_of, length_modifier_of}
 use Rattle.pf_posix.specs.Refusals.{Follows, numbering_by}
 use Rattle.pf_posix.proofs.StateRefusals.{numbering_in}
 use Rattle.pf_posix.specs.Specifications.{PosixSpecification, conversion_letter, modifier_letters}
 use Rattle.pf_posix.specs.Spelling.{SpellsPosix}
-use Rattle.pf_posix.specs.Stages.{PosixState, Between, Opened, First, Flags, Digits, Star, StarDigits, Placed, Point, Modified}
-use Rattle.pf_posix.specs.States.{after_modifier_letter, after_numbers, conversion_at, judgement, posix_step}
+use Rattle.pf_posix.proofs.States.{PosixState, Between, Opened, First, Flags, Digits, Star, StarDigits, Placed, Point, Modified}
+use Rattle.pf_posix.proofs.States.{after_modifier_letter, after_numbers, conversion_at, judgement, posix_step}
 use Rattle.pf_posix.specs.Types.{fetch, fetches, star_fetches, conversion_type}
 use Rattle.pf_posix.proofs.Running.{Finished, Ready, Reached, both_parts, digits_run, first_run, flags_run, not_opened, numbers_finished, ready_point}
 use Rattle.pf_posix.proofs.Running.{ready_width, run, run-append, stand, star_begun, star_numbered, star_open, star_placed, went, width_reached}

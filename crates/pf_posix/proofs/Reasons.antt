@@ -17,20 +17,21 @@ use Rattle.pf_posix.specs.declared.fetches.Fetch.{Fetch}
 use Rattle.pf_values.specs.declared.refusals.RefusalKind.{RefusalKind}
 use Rattle.pf_values.specs.declared.refusals.RefusalKind.TheVariants.{NulByte, Unexpected, BadPercent, AltUndefined, ZeroUndefined, GroupUndefined}
 use Rattle.pf_values.specs.declared.refusals.RefusalKind.TheVariants.{PrecisionUndefined, LengthUndefined, Mixed, CountUndefined}
-use Rattle.pf_posix.specs.declared.partial_specification.PartialSpecification.{PartialSpecification}
-use Rattle.pf_posix.specs.declared.partial_specification.WidthOrPrecision.{WidthOrPrecision}
-use Rattle.pf_posix.specs.declared.partial_specification.WidthOrPrecision.TheVariants.{Width, Precision}
-use Rattle.pf_posix.specs.declared.partial_specification.Numbering.{Numbering}
-use Rattle.pf_posix.specs.declared.partial_specification.Numbering.TheVariants.{Undecided, Unnumbered, Numbered}
+use Rattle.pf_posix.proofs.States.{PartialSpecification}
+use Rattle.pf_posix.proofs.States.{WidthOrPrecision}
+use Rattle.pf_posix.proofs.States.{Width, Precision}
+use Rattle.pf_posix.specs.declared.specifications.Numbering.{Numbering}
+use Rattle.pf_posix.specs.declared.specifications.Numbering.TheVariants.{Undecided, Unnumbered, Numbered}
 use Rattle.pf_posix.specs.Defined.{is_undefined_as, undefined_as}
 use Rattle.pf_posix.specs.Letters.{conversion_of, is_first_digit, length_modifier_of}
 use Rattle.pf_posix.specs.Refusals.{MixesStar}
-use Rattle.pf_posix.specs.States.{too_large}
+use Rattle.pf_posix.proofs.States.{too_large}
 use Rattle.pf_posix.proofs.StateRefusals.{FetchesStarIn, IsInSpecification, IsMixedIn, IsPastPercent, IsTooLargeIn}
-use Rattle.pf_posix.specs.Stages.{PosixState, Between, Opened, First, Flags, Digits, Star, StarDigits, Placed, Point, Modified}
-use Rattle.pf_posix.specs.States.{PosixStep, after_amount, after_first, among_flags, after_modifier_letter, after_numbers, after_percent, after_star}
-use Rattle.pf_posix.specs.States.{dollar_after, conversion_at, conversion_by, flag_or_width, judgement, modifier_or_conversion, posix_step, parts_at, star_at}
-use Rattle.pf_posix.specs.States.{stray, with_digit, with_width}
+use Rattle.pf_posix.proofs.States.{PosixState, Between, Opened, First, Flags, Digits, Star, StarDigits, Placed, Point, Modified}
+use Rattle.pf_posix.proofs.States.{PosixStep, after_amount, after_first, among_flags, after_modifier_letter, after_numbers, after_percent, after_star}
+use Rattle.pf_posix.proofs.States.{dollar_after, conversion_at, conversion_by, flag_or_width, judgement, modifier_or_conversion, posix_step, parts_at, star_at}
+use Rattle.pf_posix.specs.Halts.{stray}
+use Rattle.pf_posix.proofs.States.{with_digit, with_width}
 use Rattle.pf_posix.specs.Types.{fetch, conversion_type}
 use Rattle.pf_posix.proofs.Judging.{is_undefined_kind}
 use Rattle.pf_text.proofs.Sound.{find_holds}

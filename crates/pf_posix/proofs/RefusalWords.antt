@@ -12,16 +12,16 @@ use Rattle.pf_values.specs.meaning.Digits.{AreDigits}
 use Rattle.pf_values.specs.meaning.Flags.{no_flags}
 use Rattle.pf_values.specs.meaning.Text.{Text}
 use Rattle.pf_posix.specs.declared.fetches.Fetch.{Fetch}
-use Rattle.pf_posix.specs.declared.partial_specification.WidthOrPrecision.{WidthOrPrecision}
-use Rattle.pf_posix.specs.declared.partial_specification.WidthOrPrecision.TheVariants.{Width, Precision}
-use Rattle.pf_posix.specs.declared.partial_specification.Numbering.{Numbering}
-use Rattle.pf_posix.specs.declared.partial_specification.Numbering.TheVariants.{Undecided}
-use Rattle.pf_posix.specs.Beginnings.{EndsInDigits, EndsInStarDigits, IsUndecided, SpellsAmount}
-use Rattle.pf_posix.specs.Fronts.{IsStateAfter, SpellsDigits}
+use Rattle.pf_posix.proofs.States.{WidthOrPrecision}
+use Rattle.pf_posix.proofs.States.{Width, Precision}
+use Rattle.pf_posix.specs.declared.specifications.Numbering.{Numbering}
+use Rattle.pf_posix.specs.declared.specifications.Numbering.TheVariants.{Undecided}
+use Rattle.pf_posix.specs.Beginnings.{EndsInDigits, EndsInStarDigits, IsUndecided, SpellsAmount, IsBegunAs}
+use Rattle.pf_posix.proofs.Fronts.{IsStateAfter, SpellsDigits}
 use Rattle.pf_posix.specs.Refusals.{FetchesStar, Follows, IsMixed, IsNumberTooLarge, IsPosixRefusalCause, IsPosixRefusedAt, IsPosixRefusedByte, IsUnexpected, IsWrong, MayFollow, MixesStar, PassesLimit, numbering_by, numbering_of}
-use Rattle.pf_posix.specs.States.{too_large}
+use Rattle.pf_posix.proofs.States.{too_large}
 use Rattle.pf_posix.proofs.StateRefusals.{FetchesStarIn, IsByteRefusedIn, IsCauseIn, IsInSpecification, IsMixedIn, IsPastPercent, IsRefusedInState, IsTooLargeIn, IsUnexpectedIn, IsWrongIn, numbering_in}
-use Rattle.pf_posix.specs.Stages.{PosixState, Between, Opened, First, Flags, Digits, Star, StarDigits, Placed, Point, Modified}
+use Rattle.pf_posix.proofs.States.{PosixState, Between, Opened, First, Flags, Digits, Star, StarDigits, Placed, Point, Modified}
 use Rattle.pf_posix.proofs.BeginningStates.{IsMore, IsShown, StateOf, before_of, more_than, opening, parts_of, slotted, star_digits_state, state_of}
 use Rattle.pf_posix.proofs.Reaching.{came}
 use Rattle.pf_posix.proofs.Running.{Progress, stand}
@@ -35,7 +35,7 @@ state_then (Ok p) = p.state
 state_then (Err kind) = Between
 
 -- a part has one state
-one_state : (model : Model) (s q : PosixState) (part : Text) (own others : List Fetch) → IsStateAfter s part own → IsStateAfter q part others → s ≡ q
+pub one_state : (model : Model) (s q : PosixState) (part : Text) (own others : List Fetch) → IsStateAfter s part own → IsStateAfter q part others → s ≡ q
 one_state model s q part own others h k =
     let a = came model Undecided s part own h (any_follows (numbering_in s)) in
     let b = came model Undecided q part others k (any_follows (numbering_in q)) in
@@ -246,10 +246,10 @@ module _ (model : Model) (part : Text) (own : List Fetch) (byte : ℕ) where
       wrong_here (inr (inr (inr (inl (k, f, inr last, conflict))))) = inr (inr (inr (inl (k, f, inr last, conflict))))
       wrong_here (inr (inr (inr (inr (k, u))))) = inr (inr (inr (inr (k, unexpected_here (numbering_of fetches) u))))
 
-      byte_there : IsByteRefusedIn model fetches part state byte kind → IsPosixRefusedByte model fetches part byte kind
+      pub byte_there : IsByteRefusedIn model fetches part state byte kind → IsPosixRefusedByte model fetches part byte kind
       byte_there h = match_both (byte == 0) (λ e. e) (λ other. match_both (byte == 37) (λ m. let p = past_there m.1 in (m.0, p.0, p.1)) wrong_there other) h
 
-      byte_here : IsPosixRefusedByte model fetches part byte kind → IsByteRefusedIn model fetches part state byte kind
+      pub byte_here : IsPosixRefusedByte model fetches part byte kind → IsByteRefusedIn model fetches part state byte kind
       byte_here h = match_both (byte == 0) (λ e. e) (λ other. match_both (byte == 37) (λ m. (m.0, past_here (m.1, m.2))) wrong_here other) h
 
 module _ (model : Model) (part : Text) (own : List Fetch) (state : PosixState) (at : IsStateAfter state part own) (fetches : List Fetch) (kind : RefusalKind)
@@ -292,11 +292,12 @@ module _ (model : Model) where
     pub after : IsStateAfter state part own
     pub follows : Follows numbering (numbering_in state)
 
-  begun_here : (numbering : Numbering) (part : Text) (own : List Fetch) → MayFollow numbering part own → Comes numbering part own
-  begun_here numbering part own (inl none) = record { state = Between; after = none; follows = tt }
-  begun_here numbering part own (inr (position, b, shows)) = go (state_of part position own b) where
-    go : StateOf part position own → Comes numbering part own
-    go s = record { state = s.state; after = s.after; follows = by s.shown shows } where
+  -- it begins a specification, and comes to a state inside of one
+  pub comes : (numbering : Numbering) (part : Text) (position : Option ℕ) (own : List Fetch) → IsBegunAs part position own
+      → IsUndecided part ⊎ Follows numbering (Some (numbering_by position)) → (c : Comes numbering part own) × (Comes.state c ≢ Between)
+  comes numbering part position own b shows = go (state_of part position own b) where
+    go : StateOf part position own → (c : Comes numbering part own) × (Comes.state c ≢ Between)
+    go s = (record { state = s.state; after = s.after; follows = by s.shown shows }, s.begun) where
       undecided : IsUndecided part → numbering_in s.state ≡ None
       undecided (inl one) = ap numbering_in (sym (one_state model Opened s.state part [] own (one, refl) s.after))
       undecided (inr (n, first)) = ap numbering_in (sym (one_state model (First n) s.state part [] own (first.0, first.1, first.2, refl) s.after))
@@ -305,6 +306,10 @@ module _ (model : Model) where
       by (inl none) f = subst (Follows numbering) (sym none.1) tt
       by (inr some) (inl f) = subst (Follows numbering) (sym (undecided f)) tt
       by (inr some) (inr f) = subst (Follows numbering) (sym some) f
+
+  begun_here : (numbering : Numbering) (part : Text) (own : List Fetch) → MayFollow numbering part own → Comes numbering part own
+  begun_here numbering part own (inl none) = record { state = Between; after = none; follows = tt }
+  begun_here numbering part own (inr (position, b, shows)) = (comes numbering part position own b shows).0
 
   pub by_parts : (t : Text) (kind : RefusalKind) (at : ℕ) → IsRefusedInState model t kind at → IsPosixRefusedAt model t kind at
   by_parts t kind at h =

@@ -23,21 +23,21 @@ use Rattle.pf_text.specs.States.{is_digit}
 use Rattle.pf_values.proofs.Numerals.{number_after-place_sum}
 use Rattle.pf_posix.specs.declared.fetches.Fetch.{Fetch}
 use Rattle.pf_values.specs.declared.refusals.RefusalKind.{RefusalKind}
-use Rattle.pf_posix.specs.declared.partial_specification.PartialSpecification.{PartialSpecification}
-use Rattle.pf_posix.specs.declared.partial_specification.WidthOrPrecision.{WidthOrPrecision}
-use Rattle.pf_posix.specs.declared.partial_specification.WidthOrPrecision.TheVariants.{Width, Precision}
-use Rattle.pf_posix.specs.declared.partial_specification.Numbering.{Numbering}
-use Rattle.pf_posix.specs.declared.partial_specification.Numbering.TheVariants.{Undecided, Unnumbered, Numbered}
+use Rattle.pf_posix.proofs.States.{PartialSpecification}
+use Rattle.pf_posix.proofs.States.{WidthOrPrecision}
+use Rattle.pf_posix.proofs.States.{Width, Precision}
+use Rattle.pf_posix.specs.declared.specifications.Numbering.{Numbering}
+use Rattle.pf_posix.specs.declared.specifications.Numbering.TheVariants.{Undecided, Unnumbered, Numbered}
 use Rattle.pf_posix.specs.Types.{int_type}
-use Rattle.pf_posix.specs.Fronts.{IsNotFirst, SpellsDigits}
+use Rattle.pf_posix.proofs.Fronts.{IsNotFirst, SpellsDigits}
 use Rattle.pf_posix.specs.Letters.{is_first_digit}
 use Rattle.pf_posix.specs.Refusals.{Follows, numbering_by}
 use Rattle.pf_posix.specs.Specifications.{Amount, Given, Fetched}
 use Rattle.pf_posix.specs.Spelling.{SpellsUpToFlags, SpellsUpToWidth, SpellsUpToPrecision, SpellsPosixPrecision, SpellsPositive, SpellsPosition, SpellsStar}
 use Rattle.pf_posix.specs.Spelling.{SpellsPosixWidth}
-use Rattle.pf_posix.specs.Stages.{PosixState, Between, Opened, First, Flags, Digits, Star, StarDigits, Placed, Point}
-use Rattle.pf_posix.specs.States.{PosixStep, after_amount, after_first, among_flags, after_numbers, after_percent, after_star, dollar_after, move_to}
-use Rattle.pf_posix.specs.States.{posix_step, parts_at, star_at, with_digit, with_width}
+use Rattle.pf_posix.proofs.States.{PosixState, Between, Opened, First, Flags, Digits, Star, StarDigits, Placed, Point}
+use Rattle.pf_posix.proofs.States.{PosixStep, after_amount, after_first, among_flags, after_numbers, after_percent, after_star, dollar_after, move_to}
+use Rattle.pf_posix.proofs.States.{posix_step, parts_at, star_at, with_digit, with_width}
 use Rattle.pf_posix.specs.Types.{fetch, star_fetches}
 use Rattle.pf_text.proofs.NumberDigits.{first_above_zero}
 

@@ -10,14 +10,15 @@ use Rattle.pf_values.specs.meaning.Text.{Text}
 use Rattle.pf_posix.specs.declared.fetches.Fetch.{Fetch}
 use Rattle.pf_values.specs.declared.refusals.RefusalKind.{RefusalKind}
 use Rattle.pf_values.specs.declared.refusals.RefusalKind.TheVariants.{Truncated, TooLong, TwoTypes}
-use Rattle.pf_posix.specs.declared.partial_specification.Numbering.{Numbering}
-use Rattle.pf_posix.specs.Fronts.{IsStateAfter}
+use Rattle.pf_posix.specs.declared.specifications.Numbering.{Numbering}
+use Rattle.pf_posix.proofs.Fronts.{IsStateAfter}
 use Rattle.pf_posix.specs.Items.{Byte, SpellsPosixItem, ReadsPosix, Specification, PosixItem, fetched}
-use Rattle.pf_posix.specs.Readings.{FetchTrace, Takes, Refused, Verdict, conflicts, trace_at_end, moved, trace_from, verdict_after, verdict}
+use Rattle.pf_posix.specs.Readings.{conflicts}
+use Rattle.pf_posix.proofs.Traces.{FetchTrace, Takes, Refused, Verdict, trace_at_end, moved, trace_from, verdict_after, verdict}
 use Rattle.pf_posix.specs.Refusals.{AreAgreed, Follows, IsOneType, IsPosixRefusedAt, numbering_by, numbering_of}
 use Rattle.pf_posix.proofs.StateRefusals.{IsCauseIn, IsFrontIn, numbering_in}
-use Rattle.pf_posix.specs.Stages.{PosixState, Between, Opened, First, Flags, Digits, Star, StarDigits, Placed, Point, Modified}
-use Rattle.pf_posix.specs.States.{PosixStep, posix_step}
+use Rattle.pf_posix.proofs.States.{PosixState, Between, Opened, First, Flags, Digits, Star, StarDigits, Placed, Point, Modified}
+use Rattle.pf_posix.proofs.States.{PosixStep, posix_step}
 use Rattle.pf_posix.specs.Types.{fetches}
 use Rattle.pf_posix.proofs.Agreeing.{agreed_none, agreed_push, conflicts_not, numbering_push}
 use Rattle.pf_posix.proofs.Judging.{Arrives, Brings, Judges, judge}

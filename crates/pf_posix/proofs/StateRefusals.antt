@@ -8,17 +8,17 @@ use Rattle.pf_text.specs.States.{is_digit}
 use Rattle.pf_posix.specs.declared.fetches.Fetch.{Fetch}
 use Rattle.pf_values.specs.declared.refusals.RefusalKind.{RefusalKind}
 use Rattle.pf_values.specs.declared.refusals.RefusalKind.TheVariants.{NulByte, Truncated, Unexpected, BadPercent, WidthTooLarge, TooLong, Mixed, MissingArgument, TwoTypes}
-use Rattle.pf_posix.specs.declared.partial_specification.Numbering.{Numbering}
-use Rattle.pf_posix.specs.declared.partial_specification.Numbering.TheVariants.{Unnumbered, Numbered}
+use Rattle.pf_posix.specs.declared.specifications.Numbering.{Numbering}
+use Rattle.pf_posix.specs.declared.specifications.Numbering.TheVariants.{Unnumbered, Numbered}
 use Rattle.pf_posix.specs.Types.{int_type}
-use Rattle.pf_posix.specs.Fronts.{IsStateAfter}
+use Rattle.pf_posix.proofs.Fronts.{IsStateAfter}
 use Rattle.pf_posix.specs.Items.{PosixItem, ReadsPosix, fetched}
 use Rattle.pf_posix.specs.Letters.{is_first_digit}
 use Rattle.pf_posix.specs.Refusals.{AreAgreed, CompletesUndefined, FetchesLast, Follows, HasGap, IsOneType, MixesStar, PassesLimit, numbering_by, numbering_of}
 use Rattle.pf_posix.specs.Specifications.{PosixSpecification}
 use Rattle.pf_posix.specs.Spelling.{SpellsPosix}
-use Rattle.pf_posix.specs.Stages.{PosixState, Between, Opened, First, Flags, Digits, Star, StarDigits, Placed, Point, Modified}
-use Rattle.pf_posix.specs.States.{too_large}
+use Rattle.pf_posix.proofs.States.{PosixState, Between, Opened, First, Flags, Digits, Star, StarDigits, Placed, Point, Modified}
+use Rattle.pf_posix.proofs.States.{too_large}
 use Rattle.pf_posix.specs.Types.{fetch}
 
 -- the numbering of a specification, where it shows in what was read

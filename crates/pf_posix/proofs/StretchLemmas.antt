@@ -1,4 +1,5 @@
 -- Stretches of a text, one after another.
+use Rattle.std.proofs.Common.{inl}
 use Rattle.std.proofs.Common.{◌≡◌, ◌≢◌, ℕ, zero, suc, ◌+◌, ◌-◌, ◌<◌, ◌≤◌, Bool, true, false, List, [], ◌∷◌, ◌++◌, drop, get_or, length, length-append, take}
 use Rattle.std.proofs.Common.{refl, sym, ap, ◌∙◌, arith, subst}
 use Rattle.std.specs.Prelude.{Some, None, MatchBool, ◌==◌}
@@ -18,7 +19,9 @@ use Rattle.pf_posix.specs.Heads.{IsHead}
 use Rattle.pf_posix.specs.Items.{Byte as PosixByte, PosixItem, ReadsPosix, Specification as PosixDirective}
 use Rattle.pf_posix.specs.Opaque.{SpellsOpaque, is_opaque}
 use Rattle.pf_posix.specs.OpaqueParts.{parts_of_opaque}
-use Rattle.pf_posix.specs.PartsInText.{BeginsNoSpecification, IsSpecificationAt}
+use Rattle.pf_posix.specs.PartsInText.{IsSpecificationAt}
+use Rattle.pf_posix.specs.Halts.{BeginsNoneAfter}
+use Rattle.pf_posix.specs.declared.specifications.Numbering.TheVariants.{Undecided}
 use Rattle.pf_posix.specs.Specifications.{PosixSpecification}
 use Rattle.pf_posix.specs.Spelling.{SpellsPosix}
 use Rattle.pf_posix.specs.Stretches.{Stretches, Last, Before, ReadsWhole}
@@ -280,8 +283,8 @@ module _ (t : Text) where
     directive_there = flat_read (FirstDirective (37 ∷ drop (at + 1) t)) (37 ∷ drop (at + 1) t) left (subst (λ u. ReadsWhole u left) here h)
         (λ items g u. directive_items (drop (at + 1) t) items no_second g u)
 
-    pub no_specification : BeginsNoSpecification (drop at t) → ⊥
-    no_specification g = let d = directive_there in g d.first d.rest d.s d.spelled (here ∙ d.split)
+    pub no_specification : BeginsNoneAfter Undecided (drop at t) → ⊥
+    no_specification g = let d = directive_there in g d.first d.rest d.s d.spelled (here ∙ d.split) (inl refl) d.defined
 
     module _ (read : Specification) (stop : ℕ) (g : IsSpecificationAt t at (read, stop)) where
       read_there : (parts_of_opaque read.parts ≡ FirstDirective.s directive_there) × (drop stop t ≡ FirstDirective.rest directive_there)

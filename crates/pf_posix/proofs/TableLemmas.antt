@@ -1,35 +1,24 @@
 -- A table of numbered arguments.
-use Rattle.std.proofs.Common.{◌≡◌, ◌≢◌, ℕ, zero, suc, ◌+◌, ◌-◌, ◌<◌, ◌≤◌, max, Bool, true, false, List, [], ◌∷◌, ◌++◌, length, get_or, set, refl, sym, ap, ◌∙◌}
-use Rattle.std.proofs.Common.{arith, subst, inl, inr, Ok, Err, Result}
-use Rattle.std.specs.Prelude.{Option, Some, None, ◌⊎◌, unwrap_or, if◌then◌else◌, ◌==◌, MatchBool, MatchResult, is_some}
+use Rattle.std.proofs.Common.{◌≡◌, ◌≢◌, ℕ, zero, suc, ◌+◌, ◌<◌, ◌≤◌, max, Bool, true, false, List, [], ◌∷◌, ◌++◌, length, get_or, set, refl, sym, ap, ◌∙◌}
+use Rattle.std.proofs.Common.{arith, inl, inr}
+use Rattle.std.proofs.Common.{subst}
+use Rattle.std.specs.Prelude.{Option, Some, None, ◌⊎◌, unwrap_or, if◌then◌else◌, ◌==◌, MatchBool, is_some}
 use Rattle.std.specs.List.{AllByRecursion}
 use Rattle.std.proofs.lemmas.Bool.{cases_eq, eqb-true, ne_eqb}
 use Rattle.std.proofs.lemmas.Bool.Decides.{nat_tests}
 use Rattle.std.proofs.lemmas.List.{get_or-set_other, get_or-set_same, length-set}
-use Rattle.pf_values.specs.declared.models.Model.{Model}
-use Rattle.pf_values.specs.meaning.Text.{Text}
 use Rattle.pf_posix.specs.declared.fetches.Fetch.{Fetch}
-use Rattle.pf_values.specs.declared.refusals.RefusalKind.{RefusalKind}
-use Rattle.pf_values.specs.declared.refusals.RefusalKind.TheVariants.{MissingArgument, TwoTypes}
-use Rattle.pf_text.specs.declared.refusals.Refusal.{Refusal}
-use Rattle.pf_posix.specs.declared.partial_specification.Numbering.TheVariants.{Undecided, Numbered}
-use Rattle.pf_posix.specs.declared.tables.Table.{Table}
-use Rattle.pf_posix.specs.declared.tables.TheConstants.{ROOM}
+use Rattle.pf_posix.specs.declared.numbered.Table.{Table}
+use Rattle.pf_posix.specs.declared.numbered.TheConstants.{ROOM}
 use Rattle.pf_posix.specs.declared.types.ArgumentType.{ArgumentType}
 use Rattle.pf_posix.specs.Types.{int_type}
 use Rattle.pf_posix.specs.TypeNumbers.{number_of_type}
-use Rattle.pf_posix.specs.Readings.{Fault, Fetches, FetchTrace, Refused, Takes, Whole, conflicts, greatest, is_number, listed, fetch_trace, verdict_after}
-use Rattle.pf_posix.specs.Readings.{verdict, wanted_at}
-use Rattle.pf_posix.specs.Refusals.{Follows, HasGap, IsOneType, IsPosixRefusedAt, numbering_by}
-use Rattle.pf_posix.specs.Tabled.{IsTabled, TableHolds}
-use Rattle.pf_posix.specs.Types.{AreNumbered, IsFetched, fetch}
-use Rattle.pf_posix.specs.Items.{HasArguments}
-use Rattle.pf_posix.proofs.Agreeing.{all_push, conflicts_no, conflicts_not, one_type_push, same_type}
-use Rattle.pf_posix.proofs.Bounds.{reading_bounded}
-use Rattle.pf_posix.proofs.Soundness.{Tells, told}
-use Rattle.pf_posix.proofs.Telling.{accepted, missing, seen_within, told_taken}
-use Rattle.pf_posix.proofs.TypeLists.{fetched_none, fetched_some, gap_is, length_listed, numbered_types, wanted_one}
-use Rattle.pf_posix.specs.Within.{IsBounded, IsWithin}
+use Rattle.pf_posix.specs.Readings.{conflicts, greatest, is_number, listed, wanted_at}
+use Rattle.pf_posix.specs.Refusals.{HasGap, IsOneType}
+use Rattle.pf_posix.specs.Tables.{TableHolds}
+use Rattle.pf_posix.specs.Types.{IsFetched, fetch}
+use Rattle.pf_posix.proofs.Agreeing.{conflicts_no, conflicts_not, one_type_push, same_type}
+use Rattle.pf_posix.proofs.TypeLists.{fetched_none, fetched_some, gap_is, length_listed, wanted_one}
 
 wanted_push : (index : ℕ) (seen : List Fetch) (f : Fetch) (type : ArgumentType) → wanted_at index seen ≡ Some type
     → wanted_at index (seen ++ f ∷ []) ≡ Some type
@@ -176,86 +165,7 @@ listed_more table seen index h less =
 pub length_of_listed : (seen : List Fetch) (index : ℕ) → index ≡ length (listed seen 0 index)
 length_of_listed seen index = sym (length_listed seen 0 index)
 
--- a numbered format, read one argument after another
-pub record IsByNumber (model : Model) (t : Text) (seen : List Fetch) (f : Fetch) (at : ℕ) (left : FetchTrace) : Type 0 where
-  pub verdict_is : verdict model t ≡ verdict_after seen (Fetches f at left)
-  pub within : IsWithin f
-  pub number : numbering_by f.number ≡ Numbered
-  pub numbered : AllByRecursion (λ g. numbering_by g.number ≡ Numbered) seen
-  pub bounded : IsBounded Numbered left
-
-pub first_by_number : (model : Model) (t : Text) (f : Fetch) (at : ℕ) (left : FetchTrace) → numbering_by f.number ≡ Numbered
-    → fetch_trace model t ≡ Fetches f at left → IsByNumber model t [] f at left
-first_by_number model t f at left n e =
-    let bounded = subst (IsBounded Undecided) e (reading_bounded model t) in
-    record { verdict_is = ap (verdict_after []) e; within = bounded.0; number = n; numbered = tt; bounded = subst (λ s. IsBounded s left) n bounded.2 }
-
-module _ (model : Model) (t : Text) (seen : List Fetch) (f : Fetch) (at : ℕ) (left : FetchTrace) (h : IsByNumber model t seen f at left) where
-  pub conflict_refused : conflicts seen f ≡ true → IsPosixRefusedAt model t TwoTypes at
-  conflict_refused c = let e : verdict model t ≡ Refused TwoTypes at = h.verdict_is ∙ rw c refl in subst (Tells model t) e (told model t)
-
-  module _ (c : conflicts seen f ≡ false) where
-    goes_on : verdict model t ≡ verdict_after (seen ++ f ∷ []) left
-    goes_on = h.verdict_is ∙ rw c refl
-
-    pub all_numbered : AllByRecursion (λ g. numbering_by g.number ≡ Numbered) (seen ++ f ∷ [])
-    all_numbered = all_push _ seen f h.numbered h.number
-
-    pub next_by_number : (g : Fetch) (index : ℕ) (rest : FetchTrace) → left ≡ Fetches g index rest → IsByNumber model t (seen ++ f ∷ []) g index rest
-    next_by_number g index rest e =
-        let bounded = subst (IsBounded Numbered) e h.bounded in
-        let n = follows g.number bounded.1 in
-        record {
-          verdict_is = goes_on ∙ ap (verdict_after (seen ++ f ∷ [])) e;
-          within = bounded.0;
-          number = n;
-          numbered = all_numbered;
-          bounded = subst (λ s. IsBounded s rest) n bounded.2;
-        } where
-          follows : (o : Option ℕ) → Follows Numbered (Some (numbering_by o)) → numbering_by o ≡ Numbered
-          follows o (inl e) = cc
-          follows o (inr e) = sym e
-
-    pub end_by_number : left ≡ Whole → verdict model t ≡ Takes (seen ++ f ∷ [])
-    end_by_number e = goes_on ∙ ap (verdict_after (seen ++ f ∷ [])) e
-
-    pub refused_by_number : (kind : RefusalKind) (index : ℕ) → left ≡ Fault kind index → IsPosixRefusedAt model t kind index
-    refused_by_number kind index e = subst (Tells model t) (goes_on ∙ ap (verdict_after (seen ++ f ∷ [])) e) (told model t)
-
-pub same_fetch : (f : Fetch) (m : ℕ) → numbering_by f.number ≡ Numbered → IsWithin f → m ≡ unwrap_or f.number 1 → fetch (Some (m - 1 + 1)) f.wanted ≡ f
-same_fetch f m n w e = go f.number refl n where
-  go : (o : Option ℕ) → f.number ≡ o → numbering_by o ≡ Numbered → fetch (Some (m - 1 + 1)) f.wanted ≡ f
-  go None x n = cc
-  go (Some k) x n =
-      let value : m ≡ k = e ∙ ap (λ o. unwrap_or o 1) x in
-      let some = (w k x).0 in
-      let same : m - 1 + 1 ≡ k = omega (arith, value, some) in
-      ap (λ j. fetch (Some j) f.wanted) same ∙ ap (λ o. fetch o f.wanted) (sym x)
-
-pub numbered_of : (o : Option ℕ) → is_some o ≡ true → numbering_by o ≡ Numbered
-numbered_of None e = cc
-numbered_of (Some n) e = refl
-
--- the end of a text
-pub finished : (model : Model) (t : Text) (table : Table) (seen : List Fetch) (at : ℕ) (r : Result (Unit {0}) Refusal) → verdict model t ≡ Takes seen
-    → AllByRecursion (λ g. numbering_by g.number ≡ Numbered) seen → TableHolds table seen → at ≡ length t
-    → MatchResult r (λ _. (index : ℕ) → index < table.count → IsFetched index seen)
-    (λ refusal. (refusal ≡ record { kind = MissingArgument; at = at }) × HasGap seen)
-    → MatchResult r (λ _. IsTabled model t table) (λ refusal. IsPosixRefusedAt model t refusal.kind refusal.at)
-finished model t table seen at (Ok done) v n k e h = record { seen = seen; verdict_is = v; kept = k; numbered = n; all = h }
-finished model t table seen at (Err refusal) v n k e h =
-    subst (λ r. IsPosixRefusedAt model t r.kind r.at) (sym h.0) (subst (IsPosixRefusedAt model t MissingArgument) (sym e)
-    (missing model t seen (told_taken model t seen v) h.1))
-
-pub tabled_types : (model : Model) (t : Text) (table : Table) (h : IsTabled model t table) → HasArguments model t (listed h.seen 0 table.count)
-tabled_types model t table h =
-    let taken = told_taken model t h.seen h.verdict_is in
-    let count = h.kept.count in
-    accepted model t h.seen taken (listed h.seen 0 table.count) (inr
-    (subst (λ n. AreNumbered h.seen (listed h.seen 0 n)) (sym count)
-    (numbered_types h.seen taken.agreed (seen_within model t h.seen taken) h.numbered (λ p less. h.all p (omega (arith, less, count))))))
-
--- a index that is empty, and one that isn't
+-- an index that is empty, and one that isn't
 module _ (table : Table) (seen : List Fetch) (h : TableHolds table seen) (index : ℕ) (room : index < ROOM) where
   at_index : get_or table.types index None ≡ wanted_at index seen
   at_index = h.types index room

@@ -9,7 +9,7 @@ use Rattle.pf_values.specs.declared.refusals.RefusalKind.TheVariants.{MissingArg
 use Rattle.pf_posix.specs.declared.types.ArgumentType.{ArgumentType}
 use Rattle.pf_posix.specs.Items.{HasArguments}
 use Rattle.pf_posix.specs.Laws.{IsAcceptedOrRefused}
-use Rattle.pf_posix.specs.Readings.{Refused, Takes, Verdict, verdict}
+use Rattle.pf_posix.proofs.Traces.{Refused, Takes, Verdict, verdict}
 use Rattle.pf_posix.specs.Refusals.{HasGap, IsPosixRefusedAt}
 use Rattle.pf_posix.specs.Types.{HaveTypes}
 use Rattle.pf_posix.proofs.Bounds.{items_within}

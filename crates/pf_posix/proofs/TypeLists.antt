@@ -6,7 +6,7 @@ use Rattle.std.proofs.lemmas.Bool.{eqb-true, cases_eq, cases_lt}
 use Rattle.std.proofs.lemmas.Bool.Decides.{nat_tests}
 use Rattle.std.proofs.lemmas.Option.{slice_get_within}
 use Rattle.pf_posix.specs.declared.fetches.Fetch.{Fetch}
-use Rattle.pf_posix.specs.declared.partial_specification.Numbering.TheVariants.{Unnumbered, Numbered}
+use Rattle.pf_posix.specs.declared.specifications.Numbering.TheVariants.{Unnumbered, Numbered}
 use Rattle.pf_posix.specs.declared.types.ArgumentType.{ArgumentType}
 use Rattle.pf_posix.specs.Types.{int_type}
 use Rattle.pf_posix.specs.Readings.{greatest, is_number, listed, wanted_types, wanted_at}

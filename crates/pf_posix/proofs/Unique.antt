@@ -11,7 +11,7 @@ use Rattle.pf_values.specs.declared.refusals.RefusalKind.{RefusalKind}
 use Rattle.pf_posix.specs.declared.types.ArgumentType.{ArgumentType}
 use Rattle.pf_posix.specs.Types.{int_type}
 use Rattle.pf_posix.specs.Items.{HasArguments, fetched}
-use Rattle.pf_posix.specs.Readings.{Refused, Takes, Verdict, verdict}
+use Rattle.pf_posix.proofs.Traces.{Refused, Takes, Verdict, verdict}
 use Rattle.pf_posix.specs.Refusals.{AreAgreed, IsPosixRefusalCause, IsOneType, IsPosixRefusedAt, numbering_by, numbering_of}
 use Rattle.pf_posix.specs.Types.{AreInOrder, AreNumbered, HaveTypes, IsFetched, HasTypeIn}
 use Rattle.pf_posix.proofs.Agreeing.{all_map}

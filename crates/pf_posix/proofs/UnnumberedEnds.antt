@@ -15,21 +15,22 @@ use Rattle.pf_values.specs.meaning.Flags.{no_flags}
 use Rattle.pf_values.specs.meaning.Text.{Text}
 use Rattle.pf_posix.specs.declared.conversions.Conversion.TheVariants.{Profile}
 use Rattle.pf_posix.specs.declared.conversions.Modifier.TheVariants.{Integer}
-use Rattle.pf_posix.specs.declared.partial_specification.Numbering.TheVariants.{Unnumbered}
-use Rattle.pf_posix.specs.declared.partial_specification.WidthOrPrecision.{WidthOrPrecision}
-use Rattle.pf_posix.specs.declared.partial_specification.WidthOrPrecision.TheVariants.{Width, Precision}
+use Rattle.pf_posix.specs.declared.specifications.Numbering.TheVariants.{Unnumbered}
+use Rattle.pf_posix.proofs.States.{WidthOrPrecision}
+use Rattle.pf_posix.proofs.States.{Width, Precision}
 use Rattle.pf_values.specs.declared.refusals.RefusalKind.{RefusalKind}
 use Rattle.pf_values.specs.declared.refusals.RefusalKind.TheVariants.{BadPercent, Mixed, NulByte, Numbered, TooLong}
-use Rattle.pf_posix.specs.Endings.{ending, numbered_instead, unnumbered_trace}
+use Rattle.pf_posix.specs.Endings.{numbered_instead}
+use Rattle.pf_posix.proofs.Traces.{ending, unnumbered_trace}
 use Rattle.pf_posix.specs.Items.{Byte, HasArguments, PosixItem, ReadsPosix, Specification}
-use Rattle.pf_posix.specs.Readings.{Fault, Fetches, FetchTrace, Whole, moved, trace_from}
+use Rattle.pf_posix.proofs.Traces.{Fault, Fetches, FetchTrace, Whole, moved, trace_from}
 use Rattle.pf_posix.specs.Refusals.{IsPosixRefusalCause, IsPosixRefusedAt, numbering_by}
-use Rattle.pf_posix.specs.States.{too_large}
+use Rattle.pf_posix.proofs.States.{too_large}
 use Rattle.pf_posix.proofs.StateRefusals.{IsRefusedInState, IsByteRefusedIn, IsCauseIn, IsPastPercent, IsTooLargeIn, IsWrongIn}
 use Rattle.pf_posix.specs.Specifications.{Given, PosixSpecification}
 use Rattle.pf_posix.specs.Spelling.{SpellsPosix, SpellsPositive}
-use Rattle.pf_posix.specs.Stages.{PosixState, Between, First, Digits, StarDigits}
-use Rattle.pf_posix.specs.States.{PosixStep, posix_step}
+use Rattle.pf_posix.proofs.States.{PosixState, Between, First, Digits, StarDigits}
+use Rattle.pf_posix.proofs.States.{PosixStep, posix_step}
 use Rattle.pf_posix.specs.Stretches.{IsWholeAccepted, whole_types}
 use Rattle.pf_posix.specs.Types.{fetches}
 use Rattle.pf_posix.specs.Unnumbered.{IsAcceptedUnnumbered, IsJudged, IsNumberedAt, IsUnnumbered, IsWholeRefusedAt}
@@ -48,7 +49,7 @@ use Rattle.pf_posix.proofs.RefusalWords.{by_state}
 
 module _ (model : Model) (rest : Text) where
   -- what is run through changes nothing of the end
-  end_after : (t : Text) (at : ℕ) (p q : Stand) → run model (Ok p) t ≡ Ok q → at + length t ≤ MAX_TEXT_LEN
+  pub end_after : (t : Text) (at : ℕ) (p q : Stand) → run model (Ok p) t ≡ Ok q → at + length t ≤ MAX_TEXT_LEN
       → ending (trace_from model p.numbering p.state at (t ++ rest)) ≡ ending (trace_from model q.numbering q.state (at + length t) rest)
   end_after [] at p q e few =
       let same : p ≡ q = cc in

@@ -17,18 +17,18 @@ use Rattle.pf_posix.specs.declared.conversions.Modifier.TheVariants.{Integer, Lo
 use Rattle.pf_posix.specs.declared.fetches.Fetch.{Fetch}
 use Rattle.pf_values.specs.declared.refusals.RefusalKind.{RefusalKind}
 use Rattle.pf_values.specs.declared.refusals.RefusalKind.TheVariants.{Mixed, TooLong, Unexpected}
-use Rattle.pf_posix.specs.declared.partial_specification.Numbering.{Numbering}
-use Rattle.pf_posix.specs.declared.partial_specification.Numbering.TheVariants.{Undecided, Unnumbered}
-use Rattle.pf_posix.specs.declared.partial_specification.WidthOrPrecision.{WidthOrPrecision}
-use Rattle.pf_posix.specs.declared.partial_specification.WidthOrPrecision.TheVariants.{Width, Precision}
-use Rattle.pf_posix.specs.declared.partial_specification.PartialSpecification.{PartialSpecification}
-use Rattle.pf_posix.specs.Endings.{ending, unnumbered_trace}
+use Rattle.pf_posix.specs.declared.specifications.Numbering.{Numbering}
+use Rattle.pf_posix.specs.declared.specifications.Numbering.TheVariants.{Undecided, Unnumbered}
+use Rattle.pf_posix.proofs.States.{WidthOrPrecision}
+use Rattle.pf_posix.proofs.States.{Width, Precision}
+use Rattle.pf_posix.proofs.States.{PartialSpecification}
+use Rattle.pf_posix.proofs.Traces.{ending, unnumbered_trace}
 use Rattle.pf_posix.specs.Items.{Byte, PosixItem, Specification, fetched}
-use Rattle.pf_posix.specs.Readings.{Fault, Fetches, FetchTrace, Whole, moved, trace_at_end, trace_from}
+use Rattle.pf_posix.proofs.Traces.{Fault, Fetches, FetchTrace, Whole, moved, trace_at_end, trace_from}
 use Rattle.pf_posix.specs.Refusals.{Follows, IsPosixRefusedAt, numbering_by, numbering_of}
 use Rattle.pf_posix.proofs.StateRefusals.{IsFrontIn, numbering_in}
-use Rattle.pf_posix.specs.Stages.{PosixState, Between, Opened, First, Flags, Digits, Star, StarDigits, Placed, Point, Modified}
-use Rattle.pf_posix.specs.States.{PosixStep, after_amount, after_star, posix_step}
+use Rattle.pf_posix.proofs.States.{PosixState, Between, Opened, First, Flags, Digits, Star, StarDigits, Placed, Point, Modified}
+use Rattle.pf_posix.proofs.States.{PosixStep, after_amount, after_star, posix_step}
 use Rattle.pf_posix.specs.Types.{conversion_type, fetch, fetches, star_fetches}
 use Rattle.pf_posix.specs.Unnumbered.{IsAcceptedUnnumbered, IsNumberedAt, IsUnnumbered}
 use Rattle.pf_posix.proofs.Agreeing.{all_back, all_front, all_push}

@@ -17,22 +17,23 @@ use Rattle.pf_posix.specs.declared.conversions.Modifier.TheVariants.{Integer, Lo
 use Rattle.pf_posix.specs.declared.fetches.Fetch.{Fetch}
 use Rattle.pf_values.specs.declared.refusals.RefusalKind.{RefusalKind}
 use Rattle.pf_values.specs.declared.refusals.RefusalKind.TheVariants.{NulByte, Unexpected, BadPercent, WidthTooLarge, Mixed, TwoTypes}
-use Rattle.pf_posix.specs.declared.partial_specification.PartialSpecification.{PartialSpecification}
-use Rattle.pf_posix.specs.declared.partial_specification.WidthOrPrecision.{WidthOrPrecision}
-use Rattle.pf_posix.specs.declared.partial_specification.WidthOrPrecision.TheVariants.{Width, Precision}
-use Rattle.pf_posix.specs.declared.partial_specification.Numbering.{Numbering}
-use Rattle.pf_posix.specs.declared.partial_specification.Numbering.TheVariants.{Undecided, Unnumbered, Numbered}
+use Rattle.pf_posix.proofs.States.{PartialSpecification}
+use Rattle.pf_posix.proofs.States.{WidthOrPrecision}
+use Rattle.pf_posix.proofs.States.{Width, Precision}
+use Rattle.pf_posix.specs.declared.specifications.Numbering.{Numbering}
+use Rattle.pf_posix.specs.declared.specifications.Numbering.TheVariants.{Undecided, Unnumbered, Numbered}
 use Rattle.pf_posix.specs.Defined.{undefined_of}
-use Rattle.pf_posix.specs.Fronts.{IsStateAfter}
+use Rattle.pf_posix.proofs.Fronts.{IsStateAfter}
 use Rattle.pf_posix.specs.Letters.{conversion_of, is_first_digit, length_modifier_of}
 use Rattle.pf_posix.specs.Refusals.{CompletesSpecification, CompletesUndefined, FetchesLast, Follows, IsOneType, MixesStar, numbering_by, numbering_of}
-use Rattle.pf_posix.specs.States.{too_large}
+use Rattle.pf_posix.proofs.States.{too_large}
 use Rattle.pf_posix.proofs.StateRefusals.{CannotStandIn, FetchesStarIn, IsByteRefusedIn, IsInSpecification, IsMixedIn, IsPastPercent, IsTooLargeIn, IsUnexpectedIn, IsWrongIn, numbering_in}
 use Rattle.pf_posix.specs.Specifications.{PosixSpecification}
 use Rattle.pf_posix.specs.Spelling.{SpellsPosix}
-use Rattle.pf_posix.specs.Stages.{PosixState, Between, Opened, First, Flags, Digits, Star, StarDigits, Placed, Point, Modified}
-use Rattle.pf_posix.specs.States.{PosixStep, after_amount, after_first, among_flags, after_modifier_letter, after_percent, after_star, dollar_after}
-use Rattle.pf_posix.specs.States.{conversion_at, judgement, posix_step, parts_at, stray, with_digit, with_width}
+use Rattle.pf_posix.proofs.States.{PosixState, Between, Opened, First, Flags, Digits, Star, StarDigits, Placed, Point, Modified}
+use Rattle.pf_posix.proofs.States.{PosixStep, after_amount, after_first, among_flags, after_modifier_letter, after_percent, after_star, dollar_after}
+use Rattle.pf_posix.specs.Halts.{stray}
+use Rattle.pf_posix.proofs.States.{conversion_at, judgement, posix_step, parts_at, with_digit, with_width}
 use Rattle.pf_posix.specs.Types.{fetch, fetches, star_fetches, conversion_type}
 use Rattle.pf_posix.proofs.Judging.{Arrives, Brings, Judges, is_undefined_kind, judge}
 use Rattle.pf_posix.proofs.Reaching.{Came, came, spelled_ends}

@@ -3,7 +3,7 @@ use Rattle.std.specs.Prelude.{◌≡◌, ℕ, suc, zero, ◌≤◌, List, [], �
 use Rattle.pf_values.specs.declared.models.Model.{Model}
 use Rattle.pf_values.specs.meaning.Text.{Text}
 use Rattle.pf_posix.specs.declared.comparison.Comparison.{Comparison}
-use Rattle.pf_posix.specs.declared.tables.TheConstants.{ROOM}
+use Rattle.pf_posix.specs.declared.numbered.TheConstants.{ROOM}
 use Rattle.pf_posix.specs.declared.types.ArgumentType.{ArgumentType}
 use Rattle.pf_posix.specs.declared.types_in_order.TypesInOrder.{TypesInOrder}
 use Rattle.pf_posix.specs.Items.{HasArguments, PosixItem, ReadsPosix, fetched}

@@ -9,8 +9,8 @@ use Rattle.pf_text.specs.States.{is_digit}
 use Rattle.pf_posix.specs.declared.fetches.Fetch.{Fetch}
 use Rattle.pf_values.specs.declared.refusals.RefusalKind.{RefusalKind}
 use Rattle.pf_values.specs.declared.refusals.RefusalKind.TheVariants.{NulByte, Truncated, Unexpected, BadPercent, TooLong, Mixed, MissingArgument, TwoTypes}
-use Rattle.pf_posix.specs.declared.partial_specification.Numbering.{Numbering}
-use Rattle.pf_posix.specs.declared.partial_specification.Numbering.TheVariants.{Undecided, Unnumbered, Numbered}
+use Rattle.pf_posix.specs.declared.specifications.Numbering.{Numbering}
+use Rattle.pf_posix.specs.declared.specifications.Numbering.TheVariants.{Undecided, Unnumbered, Numbered}
 use Rattle.pf_posix.specs.Beginnings.{EndsInDigits, EndsInFirst, EndsInStar, EndsInStarDigits, IsBegunAs, IsUndecided}
 use Rattle.pf_posix.specs.Defined.{IsPosixDefined, undefined_of}
 use Rattle.pf_posix.specs.Items.{PosixItem, ReadsPosix, fetched}

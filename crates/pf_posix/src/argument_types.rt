@@ -1,21 +1,36 @@
 //! The argument types of a format, in a slice or in a vector.
-ghost use Rattle.std.specs.Prelude.{◌≡◌, ◌<◌, ◌≤◌, ℕ, List, length, MatchResult, ◌+◌, IsTrue, is_some, IfErr, IfOk};
-ghost use Rattle.pf_posix.specs.Laws.{HasCount, FaultForArguments};
-ghost use Rattle.pf_posix.specs.Readings.{Fetches, fetch_trace};
-ghost use Rattle.pf_posix.specs.Refusals.{IsPosixRefusedAt};
-ghost use Rattle.pf_posix.specs.Plain.{IsOrderedFront};
+ghost use Rattle.std.specs.Prelude.{◌≡◌, ◌≢◌, ◌<◌, ◌≤◌, ◌++◌, ◌∷◌, ◌+◌, [], ℕ, None, List, get_or, length, take, MatchResult, IfErr, IfOk};
+ghost use Rattle.pf_values.specs.declared.limits.TheConstants.{MAX_TEXT_LEN as LIMIT};
+ghost use Rattle.pf_values.specs.meaning.Text.{percent};
+ghost use Rattle.pf_text.specs.Walks.{HasPercent, IsWalk};
+ghost use Rattle.pf_posix.specs.declared.specifications.Specification.{Specification as Read};
 ghost use Rattle.pf_posix.specs.declared.types.ArgumentType.{ArgumentType as ArgumentTypeOf};
-ghost use Rattle.pf_posix.specs.Walks.{ReadsOn, trace_left};
+ghost use Rattle.pf_posix.specs.Halts.{IsDefinedAt};
 ghost use Rattle.pf_posix.specs.Items.{HasArguments};
+ghost use Rattle.pf_posix.specs.Laws.{FaultForArguments, HasCount, filled};
+ghost use Rattle.pf_posix.specs.OpaqueParts.{amount_of, parts_of_opaque};
+ghost use Rattle.pf_posix.specs.Plain.{HasPlainItems, IsPut, numbering_after};
+ghost use Rattle.pf_posix.specs.Readings.{wanted_types};
+ghost use Rattle.pf_posix.specs.Refusals.{IsPosixRefusedAt};
+ghost use Rattle.pf_posix.specs.Types.{fetches, star_fetches};
 
-use crate::fetches::Fetch;
-use crate::plain_reader::plain_front;
-use crate::reader::{NextFetch, Reader};
-use crate::tables::{Table, put};
+use crate::fetches::{bare_type, conversion_type};
+use crate::long_texts::{of_long, refusal_at, too_long};
+use crate::numbered::numbered_arguments;
+use crate::opaque_directives::{OpaqueAmount, OpaqueDirective, is_star};
+use crate::specifications::{Numbering, defined_at};
 use crate::types::ArgumentType;
-use pf_text::{Refusal, TextFault};
+use pf_text::{Percents, Refusal, TextFault, Walk, directive_at};
+use pf_values::limits::MAX_TEXT_LEN;
 use pf_values::{ArgType, Model};
 use std::alloc::{AllocError, Global};
+
+// The front of a format in which no argument has a number: where it ends, and how many arguments it takes.
+#[derive(Clone, Copy, Debug)]
+struct PlainFront {
+    at: usize,
+    count: usize,
+}
 
 /// Returns how many arguments a format of the whole language takes in a data model (C11 7.21.6.1,
 /// paragraphs 3 to 9; POSIX fprintf on numbered arguments). Their types, as many as `out` has room
@@ -28,99 +43,213 @@ pub fn arguments(model: Model, text: &[u8], out: &mut [ArgumentType]) -> Result<
         (λ refusal. IsPosixRefusedAt model text.now refusal.kind refusal.at) }
     ensures length { length out.new ≡ length out.old }
 {
-    let front = plain_front(model, text, out);
-    if front.at == text.len() {
-        return Ok(front.count as u64);
-    }
-    if front.count == 0 {
-        return by_first_fetch(model, text, out);
-    }
-    in_order(
-        model,
-        text,
-        Reader::unnumbered_at(front.at),
-        front.count,
-        out,
-    )
-}
-
-// The types of a format that may be numbered: its first argument shows it.
-#[inline(never)]
-fn by_first_fetch(model: Model, text: &[u8], out: &mut [ArgumentType]) -> Result<u64, Refusal>
-    ensures types { MatchResult result
-        (λ count. HasCount model text.now out.old out.new count)
-        (λ refusal. IsPosixRefusedAt model text.now refusal.kind refusal.at) }
-    ensures length { length out.new ≡ length out.old }
-{
-    let mut reader = Reader::new();
-    match reader.next_fetch(model, text) {
-        NextFetch::End => Ok(0),
-        NextFetch::Refused(refusal) => Err(refusal),
-        NextFetch::Fetched(first) => match first.number {
-            None => {
-                put(out, 0, first.wanted);
-                in_order(model, text, reader, 1, out)
+    match arguments_within(model, text, out) {
+        Ok(count) => {
+            if text.len() as u64 > MAX_TEXT_LEN {
+                return Err(too_long());
             }
-            Some(_) => by_number(model, text, reader, first, out),
-        },
-    }
-}
-
-// The types of a format that isn't numbered. Those read so far are at the front of `out`.
-#[inline(never)]
-fn in_order(
-    model: Model,
-    text: &[u8],
-    after_front: Reader,
-    front: usize,
-    out: &mut [ArgumentType],
-) -> Result<u64, Refusal>
-    requires reading { ReadsOn model text.now after_front }
-    requires few { front ≤ after_front.at }
-    ensures types { (old : List ArgumentTypeOf)
-        → IsOrderedFront model text.now (trace_left model text.now after_front) old out.old front
-        → MatchResult result
-        (λ count. HasCount model text.now old out.new count)
-        (λ refusal. IsPosixRefusedAt model text.now refusal.kind refusal.at) }
-    ensures length { length out.new ≡ length out.old }
-{
-    let mut reader = after_front;
-    let mut count = front;
-    loop {
-        match reader.next_fetch(model, text) {
-            NextFetch::Fetched(fetch) => {
-                put(out, count, fetch.wanted);
-                count += 1;
-            }
-            NextFetch::End => return Ok(count as u64),
-            NextFetch::Refused(refusal) => return Err(refusal),
+            Ok(count)
         }
+        Err(refusal) => Err(of_long(text, refusal)),
     }
 }
 
-// The types of a numbered format after its first argument was read.
+// The arguments of the front of a text up to the limit.
 #[inline(never)]
-fn by_number(
-    model: Model,
-    text: &[u8],
-    after_first: Reader,
-    first: Fetch,
-    out: &mut [ArgumentType],
-) -> Result<u64, Refusal>
-    requires reading { ReadsOn model text.now after_first }
-    requires number { IsTrue (is_some first.number) }
-    requires first { (at : ℕ) × (after_first.at ≡ at + 1)
-        × (fetch_trace model text.now ≡ Fetches first at (trace_left model text.now after_first)) }
+fn arguments_within(model: Model, text: &[u8], out: &mut [ArgumentType]) -> Result<u64, Refusal>
     ensures types { MatchResult result
-        (λ count. HasCount model text.now out.old out.new count)
-        (λ refusal. IsPosixRefusedAt model text.now refusal.kind refusal.at) }
+        (λ count. HasCount model (take LIMIT text.now) out.old out.new count)
+        (λ refusal. IsPosixRefusedAt model (take LIMIT text.now) refusal.kind refusal.at) }
     ensures length { length out.new ≡ length out.old }
 {
-    let mut table = Table::new();
-    table.fill(model, text, after_first, first)?;
-    table.copy_front(out);
-    let count = table.count();
+    let mut walk = Walk::new(text);
+    let mut count = 0;
+    while walk.find::<Percents>() {
+        let front = put_specification(model, walk.text(), walk.at, out, count);
+        if front.at == walk.at {
+            return other_arguments(model, walk, count, out);
+        }
+        walk.at = front.at;
+        count = front.count;
+    }
+    if walk.at < walk.text().len() {
+        return Err(refusal_at(walk.text(), walk.at));
+    }
     Ok(count as u64)
+}
+
+// Puts the types of the arguments of the specification at an offset after `count` others.
+#[inline(always)]
+fn put_specification(
+    model: Model,
+    text: &[u8],
+    at: usize,
+    out: &mut [ArgumentType],
+    count: usize,
+) -> PlainFront
+    requires percent { HasPercent text.now at }
+    requires other { get_or text.now (at + 1) 0 ≢ percent }
+    requires short { length text.now ≤ LIMIT }
+    requires few { count ≤ at }
+    ensures { IsPut model text.now at out.old out.new count result }
+{
+    match bare_type(text[at + 1]) {
+        Some(wanted) => {
+            put(out, count, wanted);
+            PlainFront {
+                at: at + 2,
+                count: count + 1,
+            }
+        }
+        None => put_other(model, text, at, out, count),
+    }
+}
+
+// Puts the types of a specification that isn't a conversion alone. It isn't inlined: that keeps the loop of those
+// short.
+#[inline(never)]
+fn put_other(
+    model: Model,
+    text: &[u8],
+    at: usize,
+    out: &mut [ArgumentType],
+    count: usize,
+) -> PlainFront
+    requires percent { HasPercent text.now at }
+    requires other { get_or text.now (at + 1) 0 ≢ percent }
+    requires short { length text.now ≤ LIMIT }
+    requires few { count ≤ at }
+    ensures { IsPut model text.now at out.old out.new count result }
+{
+    match directive_at(text, at) {
+        Some(found) => {
+            put(
+                out,
+                count,
+                ArgumentType::Profile(found.directive.arg_type(model)),
+            );
+            PlainFront {
+                at: found.stop,
+                count: count + 1,
+            }
+        }
+        None => put_any(model, text, at, out, count),
+    }
+}
+
+// Puts the types of a specification that the profile lacks.
+#[inline(never)]
+fn put_any(
+    model: Model,
+    text: &[u8],
+    at: usize,
+    out: &mut [ArgumentType],
+    count: usize,
+) -> PlainFront
+    requires percent { HasPercent text.now at }
+    requires other { get_or text.now (at + 1) 0 ≢ percent }
+    requires short { length text.now ≤ LIMIT }
+    requires few { count ≤ at }
+    ensures { IsPut model text.now at out.old out.new count result }
+{
+    let unread = PlainFront { at, count };
+    match defined_at(text, at, numbering_after(count)) {
+        Ok((read, stop)) => match read.position {
+            Some(_) => unread,
+            None => PlainFront {
+                at: stop,
+                count: put_types(model, &read.parts, out, count),
+            },
+        },
+        Err(_) => unread,
+    }
+}
+
+// The arguments of a format, or its refusal. After a front of this many without numbers, a walk is at a specification
+// that is numbered or refused.
+#[inline(never)]
+fn other_arguments(
+    model: Model,
+    walk: Walk<'_>,
+    count: usize,
+    out: &mut [ArgumentType],
+) -> Result<u64, Refusal>
+    requires walk { IsWalk walk }
+    requires percent { HasPercent walk.text.now walk.at }
+    requires other { get_or walk.text.now (walk.at + 1) 0 ≢ percent }
+    requires front { HasPlainItems model walk.text.now walk.at count }
+    requires never { (found : Read × ℕ) → IsDefinedAt walk.text.now walk.at (numbering_after count) found
+        → found.0.position ≢ None }
+    ensures types { MatchResult result
+        (λ count. HasCount model walk.entry.text.now out.old out.new count)
+        (λ refusal. IsPosixRefusedAt model walk.entry.text.now refusal.kind refusal.at) }
+    ensures none { IfOk result (λ _. count ≡ 0) }
+    ensures length { length out.new ≡ length out.old }
+{
+    match defined_at(walk.text(), walk.at, numbering_after(count)) {
+        Ok(_) => numbered_arguments(model, walk, out),
+        Err(refused) => Err(refused.refusal),
+    }
+}
+
+// Whether specifications are numbered after this many arguments without numbers.
+#[inline(always)]
+fn numbering_after(count: usize) -> Numbering
+    ensures { result ≡ numbering_after count }
+{
+    match count {
+        0 => Numbering::Undecided,
+        _ => Numbering::Unnumbered,
+    }
+}
+
+// Puts the types of the arguments of a specification of these parts after `count` others, and returns how many
+// there are now.
+#[inline(always)]
+fn put_types(model: Model, parts: &OpaqueDirective, out: &mut [ArgumentType], count: usize) -> usize
+    requires { count ≤ LIMIT }
+    ensures count { result ≡ count + length (fetches model (parts_of_opaque parts.now)) }
+    ensures put { (first before : List ArgumentTypeOf) → out.old ≡ filled first before → count ≡ length before
+        → out.new ≡ filled first (before ++ wanted_types (fetches model (parts_of_opaque parts.now))) }
+    ensures length { length out.new ≡ length out.old }
+{
+    let after_width = put_star(parts.width, out, count);
+    let last = put_star(parts.precision, out, after_width);
+    put(
+        out,
+        last,
+        conversion_type(model, parts.modifier, parts.conversion),
+    );
+    last + 1
+}
+
+// Puts the type of the argument of a width or of a precision that is a `*`, and returns how many there are now.
+#[inline(always)]
+fn put_star(amount: Option<OpaqueAmount>, out: &mut [ArgumentType], count: usize) -> usize
+    requires { count ≤ LIMIT + 1 }
+    ensures few { result ≤ count + 1 }
+    ensures count { result ≡ count + length (star_fetches (amount_of amount)) }
+    ensures put { (first before : List ArgumentTypeOf) → out.old ≡ filled first before → count ≡ length before
+        → out.new ≡ filled first (before ++ wanted_types (star_fetches (amount_of amount))) }
+    ensures length { length out.new ≡ length out.old }
+{
+    if is_star(amount) {
+        put(out, count, ArgumentType::Profile(ArgType::Int));
+        return count + 1;
+    }
+    count
+}
+
+/// Sets the element at an index, if the slice has that index.
+#[inline(always)]
+pub(crate) fn put<T: Copy>(out: &mut [T], index: usize, element: T)
+    ensures length { length out.new ≡ length out.old }
+    ensures filled { (start before : List T) → out.old ≡ filled start before
+        → index ≡ length before → out.new ≡ filled start (before ++ element ∷ []) }
+{
+    if index < out.len() {
+        out[index] = element;
+    }
 }
 
 /// Returns the types of the arguments that a format of the whole language takes in a data model, as

@@ -1,13 +1,13 @@
 //! Whether two formats take the same arguments.
 ghost use Rattle.std.specs.Prelude.{◌≡◌, ◌<◌, ◌≤◌, List, length, ◌⊎◌, MatchResult};
-ghost use Rattle.pf_posix.specs.declared.tables.TheConstants.{ROOM as MOST};
+ghost use Rattle.pf_posix.specs.declared.numbered.TheConstants.{ROOM as MOST};
 ghost use Rattle.pf_posix.specs.declared.types.ArgumentType.{ArgumentType as ArgumentTypeOf};
 ghost use Rattle.pf_posix.specs.Laws.{ComparesArgumentTypes, ComparesBeginning, FaultForFits, IsFirstDifference, IsFirstExcess, filled};
 ghost use Rattle.pf_posix.specs.Items.{HasArguments};
 ghost use Rattle.pf_posix.specs.ListComparisons.{AreCounted, AreFew, IsListComparison};
 
 use crate::argument_types::arguments;
-use crate::tables::ROOM;
+use crate::numbered::ROOM;
 use crate::types::ArgumentType;
 use crate::types_in_order::TypesInOrder;
 use pf_text::{Refusal, Side};
@@ -145,7 +145,7 @@ fn of_many(
     }
 }
 
-// Where two formats differ that have more types than a numbered one can have.
+// Returns the first index at which two formats differ. Both have more types than a numbered one can have.
 fn difference_in_order(
     model: Model,
     first: &[u8],
@@ -174,7 +174,7 @@ fn difference_in_order(
     Some(index)
 }
 
-// Where two formats differ. One of them has no more types than a numbered one can have.
+// Returns the first index at which two formats differ. One has no more types than a numbered one can have.
 fn by_tables(model: Model, first: &[u8], second: &[u8]) -> Result<Option<u64>, (Side, Refusal)>
     requires { AreFew model first.now second.now }
     ensures { MatchResult result (ComparesArgumentTypes model first.now second.now)

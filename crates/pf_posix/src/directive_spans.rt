@@ -11,11 +11,10 @@ ghost use Rattle.pf_posix.specs.PartsInText.{specification_read};
 ghost use Rattle.pf_posix.specs.Refusals.{IsPosixRefusedAt};
 ghost use Rattle.pf_posix.specs.Types.{fetches, star_fetches};
 
-use crate::argument_types::{arguments, room_for};
+use crate::argument_types::{arguments, put, room_for};
 use crate::fetches::conversion_type;
 use crate::opaque_directives::{OpaqueAmount, is_star};
-use crate::specifications::{Specification, has_byte, specification_at};
-use crate::tables::put;
+use crate::specifications::{Numbering, Specification, has_byte, specification_at};
 use crate::types::ArgumentType;
 use pf_text::{Percents, Refusal, TextFault, Walk};
 use pf_values::Model;
@@ -126,7 +125,7 @@ pub(crate) fn item_at(text: &[u8], at: usize) -> (Option<Specification>, usize)
     if has_byte(text, at + 1, b'%') {
         return (None, at + 2);
     }
-    let Some((read, end)) = specification_at(text, at) else {
+    let Ok((read, end)) = specification_at(text, at, Numbering::Undecided) else {
         unreachable!();
     };
     (Some(read), end)
@@ -149,8 +148,8 @@ fn span_between(
         begin: begin as u64,
         end: end as u64,
         argument: argument_index(read.position, after_width + star_count(parts.precision)),
-        width_argument: star_index(parts.width, read.width_position, next),
-        precision_argument: star_index(parts.precision, read.precision_position, after_width),
+        width_argument: star_index(parts.width, read.stars.width, next),
+        precision_argument: star_index(parts.precision, read.stars.precision, after_width),
         kind: conversion_type(model, parts.modifier, parts.conversion),
     }
 }

@@ -1,146 +1,337 @@
 //! A conversion specification of the whole language, read part by part (C11 7.21.6.1, paragraph 4; POSIX
-//! fprintf on numbered arguments). `read_parts` finds out why a text has
-//! none.
-ghost use Rattle.std.specs.Prelude.{◌≡◌, ◌≢◌, ◌+◌, ◌<◌, ◌≤◌, ◌==◌, ◌++◌, ◌∷◌, [], IfSome, IsTrue, MatchOption, Some, drop, get_or, is_some, length};
+//! fprintf on numbered arguments), up to its end or to where it can't go on.
+ghost use Rattle.std.specs.Prelude.{◌≡◌, ◌≢◌, ◌+◌, ◌<◌, ◌≤◌, ◌==◌, ◌++◌, ◌∷◌, [], ℕ, IfErr, IfOk, IsTrue, MatchResult, Some, None, false, get_or, is_some, length};
+ghost use Rattle.pf_values.specs.declared.refusals.RefusalKind.TheVariants.{Unexpected};
 ghost use Rattle.pf_values.specs.meaning.Text.{Text, percent, point};
 ghost use Rattle.pf_text.specs.Offsets.{HasBytes};
 ghost use Rattle.pf_text.specs.States.{is_digit};
 ghost use Rattle.pf_posix.specs.OpaqueParts.{amount_at};
-ghost use Rattle.pf_posix.specs.PartsInText.{BeginsNoSpecification, ConversionIs, IsAfterPoint, IsSpecificationAt, ModifierGoesOn, ModifierIs, PositionIs, PrecisionIs, StarIs, WidthIs, second_modifier};
 ghost use Rattle.pf_posix.specs.Specifications.{conversion_letter, modifier_letters};
 ghost use Rattle.pf_posix.specs.Spelling.{SpellsPosition, SpellsPosixPrecision, SpellsPosixWidth};
+ghost use Rattle.pf_posix.specs.PartsInText.{ConversionIs, IsAfterPoint, IsFirstWidth, ModifierEnds, ModifierGoesOn, ModifierIs, NumbersStar, PositionIs, PrecisionEnds, PrecisionIs, StarIs, WidthEnds, WidthIs, second_modifier};
+ghost use Rattle.pf_posix.specs.Halts.{FollowsBy, HaltsAtPoint, HaltsAtPosition, HaltsAtPrecision, HaltsAtStar, HaltsAtWidth, IsDefinedAt, IsReadAt, IsRefusedIn, IsStrayAt};
 
 use crate::conversions::{Conversion, Modifier};
 use crate::letters::{conversion_of, length_modifier_of};
 use crate::opaque_directives::{OpaqueAmount, OpaqueDirective};
-use pf_text::{digits_at, flags_at, number_at};
-use pf_values::Length;
+use crate::undefined_combinations::undefined_as;
+use pf_text::{Refusal, digits_at, flags_at, number_at};
+use pf_values::{Length, RefusalKind};
 
-/// A conversion specification: its parts, and the numbers of its arguments.
+/// Whether the specifications of a format are numbered.
+#[derive(Clone, Copy, Debug, PartialEq, Eq)]
+pub(crate) enum Numbering {
+    /// There was no specification yet.
+    Undecided,
+    /// They aren't.
+    Unnumbered,
+    /// They are.
+    Numbered,
+}
+
+/// The arguments of a specification's `*`s, if they have numbers.
+#[derive(Clone, Copy, Debug)]
+pub(crate) struct Stars {
+    /// The number of the width's argument.
+    pub(crate) width: Option<u16>,
+    /// The offset after the width.
+    pub(crate) width_stop: usize,
+    /// The number of the precision's argument.
+    pub(crate) precision: Option<u16>,
+    /// The offset after the precision.
+    pub(crate) precision_stop: usize,
+}
+
+/// A conversion specification.
 #[derive(Clone, Copy, Debug)]
 pub(crate) struct Specification {
     /// The number of the argument that it converts.
     pub(crate) position: Option<u16>,
     /// Its parts.
     pub(crate) parts: OpaqueDirective,
-    /// The number of the argument of its width.
-    pub(crate) width_position: Option<u16>,
-    /// The number of the argument of its precision.
-    pub(crate) precision_position: Option<u16>,
+    /// The arguments of its `*`s.
+    pub(crate) stars: Stars,
 }
 
-/// The specification at a `%`, and where it ends. None if none begins there.
+/// Where and why a specification can't go on.
+#[derive(Clone, Copy, Debug)]
+pub(crate) struct Refused {
+    /// The refusal.
+    pub(crate) refusal: Refusal,
+    /// The arguments of the `*`s before it.
+    pub(crate) stars: Stars,
+}
+
+/// Reads the specification at a `%`, after others of a numbering, if it is defined (C11 7.21.6.1, paragraphs 4 to
+/// 9). Returns it and where it ends.
 #[inline(always)]
-pub(crate) fn specification_at(text: &[u8], start: usize) -> Option<(Specification, usize)>
+pub(crate) fn defined_at(
+    text: &[u8],
+    start: usize,
+    numbering: Numbering,
+) -> Result<(Specification, usize), Refused>
     requires start { start < length text.now }
     requires percent { get_or text.now start 0 ≡ percent }
-    ensures { MatchOption result (BeginsNoSpecification (drop start text.now)) (IsSpecificationAt text.now start) }
+    requires other { get_or text.now (start + 1) 0 ≢ percent }
+    ensures { MatchResult result (IsDefinedAt text.now start numbering) (IsRefusedIn text.now start numbering) }
 {
-    let (position, at) = position_at(text, start + 1);
-    let (flags, at) = flags_at(text, at);
-    let (width, width_position, at) = width_at(text, at, position)?;
-    let (precision, precision_position, at) = precision_at(text, at, position)?;
-    let (modifier, at) = modifier_at(text, at);
-    let conversion = conversion_at(text, at)?;
-    let read = Specification {
-        position,
-        parts: OpaqueDirective {
-            flags,
-            width,
-            precision,
-            modifier,
-            conversion,
+    match specification_at(text, start, numbering) {
+        Ok((read, stop)) => match undefined_as(&read.parts) {
+            Some(kind) => Err(read.stars.refused(refusal(kind, stop - 1))),
+            None => Ok((read, stop)),
         },
-        width_position,
-        precision_position,
-    };
-    Some((read, at + 1))
+        Err(refused) => Err(refused),
+    }
 }
 
-// The number of an argument at an offset, with its `$`, and where they end (POSIX fprintf on `%n$`).
+/// Reads the specification at a `%`, after others of a numbering. Returns it and where it ends.
 #[inline(always)]
-fn position_at(text: &[u8], start: usize) -> (Option<u16>, usize)
-    requires { start ≤ length text.now }
-    ensures bytes { (bytes : Text) × SpellsPosition bytes result.0 × HasBytes text.now start result.1 bytes }
-    ensures position { PositionIs text.now start result.0 result.1 }
+pub(crate) fn specification_at(
+    text: &[u8],
+    start: usize,
+    numbering: Numbering,
+) -> Result<(Specification, usize), Refused>
+    requires start { start < length text.now }
+    requires percent { get_or text.now start 0 ≡ percent }
+    requires other { get_or text.now (start + 1) 0 ≢ percent }
+    ensures { MatchResult result (IsReadAt text.now start numbering) (IsRefusedIn text.now start numbering) }
+{
+    let none = Stars::none(start);
+    let (position, at) = match position_at(text, start + 1, numbering) {
+        Ok(read) => read,
+        Err(refusal) => return Err(none.refused(refusal)),
+    };
+    let (flags, at) = flags_at(text, at);
+    let (width, width_number, width_stop) = match width_at(text, at, position) {
+        Ok(read) => read,
+        Err(refusal) => return Err(none.refused(refusal)),
+    };
+    let of_width = none.with_width(width_number, width_stop);
+    let (precision, precision_number, stop) = match precision_at(text, width_stop, position) {
+        Ok(read) => read,
+        Err(refusal) => return Err(of_width.refused(refusal)),
+    };
+    let stars = of_width.with_precision(precision_number, stop);
+    let (modifier, at) = modifier_at(text, stop);
+    let conversion = match conversion_at(text, at) {
+        Ok(conversion) => conversion,
+        Err(refusal) => return Err(stars.refused(refusal)),
+    };
+    let parts = OpaqueDirective {
+        flags,
+        width,
+        precision,
+        modifier,
+        conversion,
+    };
+    let read = Specification {
+        position,
+        parts,
+        stars,
+    };
+    Ok((read, at + 1))
+}
+
+impl Stars {
+    // Before any `*`.
+    #[inline(always)]
+    fn none(start: usize) -> Stars
+        ensures { result ≡ record { width = None; width_stop = start; precision = None; precision_stop = start } }
+    {
+        Stars {
+            width: None,
+            width_stop: start,
+            precision: None,
+            precision_stop: start,
+        }
+    }
+
+    #[inline(always)]
+    fn with_width(self, number: Option<u16>, stop: usize) -> Stars
+        ensures { result ≡ record self { width = number; width_stop = stop } }
+    {
+        Stars {
+            width: number,
+            width_stop: stop,
+            precision: self.precision,
+            precision_stop: self.precision_stop,
+        }
+    }
+
+    #[inline(always)]
+    fn with_precision(self, number: Option<u16>, stop: usize) -> Stars
+        ensures { result ≡ record self { precision = number; precision_stop = stop } }
+    {
+        Stars {
+            width: self.width,
+            width_stop: self.width_stop,
+            precision: number,
+            precision_stop: stop,
+        }
+    }
+
+    #[inline(always)]
+    fn refused(self, refusal: Refusal) -> Refused
+        ensures { result ≡ record { refusal = refusal; stars = self } }
+    {
+        Refused {
+            refusal,
+            stars: self,
+        }
+    }
+}
+
+/// The refusal at an offset.
+pub(crate) fn refusal(kind: RefusalKind, at: usize) -> Refusal
+    ensures { result ≡ record { kind = kind; at = at } }
+{
+    Refusal {
+        kind,
+        at: at as u64,
+    }
+}
+
+// The refusal at an offset whose byte isn't allowed for this reason: the text may have ended there, and a NUL
+// and a `%` have kinds of their own.
+fn stray_at(text: &[u8], at: usize, kind: RefusalKind) -> Refusal
+    ensures { IsStrayAt text.now at kind result }
+{
+    match text.get(at) {
+        None => refusal(RefusalKind::Truncated, at),
+        Some(0) => refusal(RefusalKind::NulByte, at),
+        Some(b'%') => refusal(RefusalKind::BadPercent, at),
+        Some(_) => refusal(kind, at),
+    }
+}
+
+// The number of the argument after a `%`, with its `$`, and where they end (POSIX fprintf on `%n$`). Digits
+// without a `$` are left to the width.
+#[inline(always)]
+fn position_at(
+    text: &[u8],
+    start: usize,
+    numbering: Numbering,
+) -> Result<(Option<u16>, usize), Refusal>
+    requires within { start ≤ length text.now }
+    requires other { get_or text.now start 0 ≢ percent }
+    ensures bytes { IfOk result (λ read. (bytes : Text) × SpellsPosition bytes read.0 × HasBytes text.now start read.1 bytes) }
+    ensures position { IfOk result (λ read. PositionIs text.now start read.0 read.1) }
+    ensures follows { IfOk result (λ read. FollowsBy numbering read.0) }
+    ensures first { IfOk result (λ read. read.0 ≡ None → IsFirstWidth text.now start) }
+    ensures halt { IfErr result (HaltsAtPosition text.now start numbering) }
 {
     let (number, stop) = number_at(text, start);
     let Some(number) = number else {
-        return (None, start);
+        return match numbering {
+            Numbering::Numbered => Err(stray_at(text, stop, RefusalKind::Mixed)),
+            _ => Ok((None, start)),
+        };
     };
-    if !has_byte(text, stop, b'$') {
-        return (None, start);
+    if has_digit(text, stop) {
+        return Err(refusal(RefusalKind::WidthTooLarge, stop));
     }
-    (Some(number), stop + 1)
+    if has_byte(text, stop, b'$') {
+        return match numbering {
+            Numbering::Unnumbered => Err(refusal(RefusalKind::Mixed, stop)),
+            _ => Ok((Some(number), stop + 1)),
+        };
+    }
+    match numbering {
+        Numbering::Numbered => Err(stray_at(text, stop, RefusalKind::Mixed)),
+        _ => Ok((None, start)),
+    }
 }
 
 // The number of the argument of a `*` that ends at an offset, and where it ends. It has one exactly if the
-// specification has (POSIX fprintf on `*m$`); None if it should have one or shouldn't.
+// specification has (POSIX fprintf on `*m$`).
 #[inline(never)]
-fn star_number_at(text: &[u8], start: usize, position: Option<u16>) -> Option<(Option<u16>, usize)>
-    requires { start ≤ length text.now }
-    ensures bytes { IfSome result (λ read. (bytes : Text) × SpellsPosition bytes read.0
+fn star_number_at(
+    text: &[u8],
+    start: usize,
+    position: Option<u16>,
+    too_large: RefusalKind,
+) -> Result<(Option<u16>, usize), Refusal>
+    requires within { start ≤ length text.now }
+    ensures bytes { IfOk result (λ read. (bytes : Text) × SpellsPosition bytes read.0
         × (is_some read.0 ≡ is_some position) × HasBytes text.now start read.1 bytes) }
     ensures number { StarIs text.now start position result }
+    ensures ended { IfOk result (λ read. position ≡ None → is_digit (get_or text.now read.1 0) ≡ false) }
+    ensures halt { IfErr result (HaltsAtStar text.now start position too_large) }
 {
-    let (number, stop) = position_at(text, start);
-    match position {
-        None => match number {
-            None => Some((None, stop)),
-            Some(_) => None,
-        },
-        Some(_) => match number {
-            None => None,
-            Some(number) => Some((Some(number), stop)),
-        },
+    if position.is_none() {
+        if has_digit(text, start) {
+            return Err(refusal(RefusalKind::Mixed, start));
+        }
+        return Ok((None, start));
     }
+    let (number, stop) = number_at(text, start);
+    let Some(number) = number else {
+        return Err(stray_at(text, stop, RefusalKind::Mixed));
+    };
+    if has_digit(text, stop) {
+        return Err(refusal(too_large, stop));
+    }
+    if !has_byte(text, stop, b'$') {
+        return Err(stray_at(text, stop, RefusalKind::Mixed));
+    }
+    Ok((Some(number), stop + 1))
 }
 
 // The field width at an offset, the number of its argument, and where it ends (C11 7.21.6.1, paragraphs 4
-// and 5). None if it isn't one, or passes the limit.
+// and 5).
 #[inline(always)]
 fn width_at(
     text: &[u8],
     start: usize,
     position: Option<u16>,
-) -> Option<(Option<OpaqueAmount>, Option<u16>, usize)>
-    requires { start ≤ length text.now }
-    ensures bytes { IfSome result (λ read. (bytes : Text) × SpellsPosixWidth bytes position (amount_at read.0 read.1)
+) -> Result<(Option<OpaqueAmount>, Option<u16>, usize), Refusal>
+    requires within { start ≤ length text.now }
+    ensures bytes { IfOk result (λ read. (bytes : Text) × SpellsPosixWidth bytes position (amount_at read.0 read.1)
         × HasBytes text.now start read.2 bytes) }
     ensures width { WidthIs text.now start position result }
+    ensures number { IfOk result (λ read. NumbersStar read.0 read.1) }
+    ensures ended { IfOk result (λ read. WidthEnds text.now read.2 position read.0) }
+    ensures halt { IfErr result (HaltsAtWidth text.now start position) }
 {
     if has_byte(text, start, b'*') {
-        let (number, stop) = star_number_at(text, start + 1, position)?;
-        return Some((Some(OpaqueAmount::Star), number, stop));
+        return match star_number_at(text, start + 1, position, RefusalKind::WidthTooLarge) {
+            Ok((number, stop)) => Ok((Some(OpaqueAmount::Star), number, stop)),
+            Err(refusal) => Err(refusal),
+        };
     }
     let (number, stop) = number_at(text, start);
     let Some(number) = number else {
-        return Some((None, None, start));
+        return Ok((None, None, start));
     };
     if has_digit(text, stop) {
-        return None;
+        return Err(refusal(RefusalKind::WidthTooLarge, stop));
     }
-    Some((Some(OpaqueAmount::Number(number)), None, stop))
+    Ok((Some(OpaqueAmount::Number(number)), None, stop))
 }
 
 // The precision at an offset, the number of its argument, and where it ends (C11 7.21.6.1, paragraphs 4
-// and 5). None if it isn't one, or passes the limit.
+// and 5).
 #[inline(always)]
 fn precision_at(
     text: &[u8],
     start: usize,
     position: Option<u16>,
-) -> Option<(Option<OpaqueAmount>, Option<u16>, usize)>
-    requires { start ≤ length text.now }
-    ensures bytes { IfSome result (λ read. (bytes : Text) × SpellsPosixPrecision bytes position (amount_at read.0 read.1)
+) -> Result<(Option<OpaqueAmount>, Option<u16>, usize), Refusal>
+    requires within { start ≤ length text.now }
+    ensures bytes { IfOk result (λ read. (bytes : Text) × SpellsPosixPrecision bytes position (amount_at read.0 read.1)
         × HasBytes text.now start read.2 bytes) }
     ensures precision { PrecisionIs text.now start position result }
+    ensures number { IfOk result (λ read. NumbersStar read.0 read.1) }
+    ensures ended { IfOk result (λ read. PrecisionEnds text.now start read.2 position read.0) }
+    ensures halt { IfErr result (HaltsAtPrecision text.now start position) }
 {
     if !has_byte(text, start, b'.') {
-        return Some((None, None, start));
+        return Ok((None, None, start));
     }
-    let (amount, number, stop) = after_point(text, start + 1, position)?;
-    Some((Some(amount), number, stop))
+    match after_point(text, start + 1, position) {
+        Ok((amount, number, stop)) => Ok((Some(amount), number, stop)),
+        Err(refusal) => Err(refusal),
+    }
 }
 
 // The precision after its point, as `precision_at` has it.
@@ -149,21 +340,26 @@ fn after_point(
     text: &[u8],
     start: usize,
     position: Option<u16>,
-) -> Option<(OpaqueAmount, Option<u16>, usize)>
-    requires { start ≤ length text.now }
-    ensures bytes { IfSome result (λ read. (bytes : Text) × SpellsPosixPrecision (point ∷ bytes) position (amount_at (Some read.0) read.1)
+) -> Result<(OpaqueAmount, Option<u16>, usize), Refusal>
+    requires within { start ≤ length text.now }
+    ensures bytes { IfOk result (λ read. (bytes : Text) × SpellsPosixPrecision (point ∷ bytes) position (amount_at (Some read.0) read.1)
         × HasBytes text.now start read.2 bytes) }
     ensures amount { IsAfterPoint text.now start position result }
+    ensures number { IfOk result (λ read. NumbersStar (Some read.0) read.1) }
+    ensures ended { (before : ℕ) → start ≡ before + 1 → IfOk result (λ read. PrecisionEnds text.now before read.2 position (Some read.0)) }
+    ensures halt { IfErr result (HaltsAtPoint text.now start position) }
 {
     if has_byte(text, start, b'*') {
-        let (number, stop) = star_number_at(text, start + 1, position)?;
-        return Some((OpaqueAmount::Star, number, stop));
+        return match star_number_at(text, start + 1, position, RefusalKind::PrecisionTooLarge) {
+            Ok((number, stop)) => Ok((OpaqueAmount::Star, number, stop)),
+            Err(refusal) => Err(refusal),
+        };
     }
     let (number, stop) = digits_at(text, start, 0);
     if has_digit(text, stop) {
-        return None;
+        return Err(refusal(RefusalKind::PrecisionTooLarge, stop));
     }
-    Some((OpaqueAmount::Number(number), None, stop))
+    Ok((OpaqueAmount::Number(number), None, stop))
 }
 
 /// Whether an offset of a text has this byte, which isn't zero.
@@ -179,9 +375,9 @@ pub(crate) fn has_byte(text: &[u8], at: usize, byte: u8) -> bool
     text[at] == byte
 }
 
-/// Whether an offset of a text has a digit.
+// Whether an offset of a text has a digit.
 #[inline(always)]
-pub(crate) fn has_digit(text: &[u8], at: usize) -> bool
+fn has_digit(text: &[u8], at: usize) -> bool
     ensures same { result ≡ is_digit (get_or text.now at 0) }
     ensures within { IsTrue result → at < length text.now }
 {
@@ -197,6 +393,7 @@ fn modifier_at(text: &[u8], start: usize) -> (Modifier, usize)
     requires { start ≤ length text.now }
     ensures letters { HasBytes text.now start result.1 (modifier_letters result.0) }
     ensures modifier { ModifierIs text.now start result.0 result.1 }
+    ensures ended { ModifierEnds text.now result.1 result.0 }
 {
     if start >= text.len() {
         return (Modifier::Integer(Length::None), start);
@@ -214,6 +411,7 @@ fn modifier_with(text: &[u8], start: usize, first: Modifier) -> (Modifier, usize
     ensures letters { (bytes : Text) × (modifier_letters result.0 ≡ modifier_letters first ++ bytes)
         × HasBytes text.now start result.1 bytes }
     ensures modifier { ModifierGoesOn text.now start first result.0 result.1 }
+    ensures ended { second_modifier result.0 (get_or text.now result.1 0) ≡ None }
 {
     if start >= text.len() {
         return (first, start);
@@ -226,7 +424,7 @@ fn modifier_with(text: &[u8], start: usize, first: Modifier) -> (Modifier, usize
 
 // The modifier of two letters that a byte ends, after the first one of this modifier.
 #[inline(always)]
-pub(crate) fn second_modifier(first: Modifier, byte: u8) -> Option<Modifier>
+fn second_modifier(first: Modifier, byte: u8) -> Option<Modifier>
     ensures { result ≡ second_modifier first byte }
 {
     match first {
@@ -244,13 +442,17 @@ pub(crate) fn second_modifier(first: Modifier, byte: u8) -> Option<Modifier>
 
 // The conversion at an offset (C11 7.21.6.1, paragraph 8).
 #[inline(always)]
-fn conversion_at(text: &[u8], at: usize) -> Option<Conversion>
+fn conversion_at(text: &[u8], at: usize) -> Result<Conversion, Refusal>
     requires { at ≤ length text.now }
-    ensures letter { IfSome result (λ conversion. HasBytes text.now at (at + 1) (conversion_letter conversion ∷ [])) }
+    ensures letter { IfOk result (λ conversion. HasBytes text.now at (at + 1) (conversion_letter conversion ∷ [])) }
     ensures conversion { ConversionIs text.now at result }
+    ensures stray { IfErr result (IsStrayAt text.now at Unexpected) }
 {
-    if at >= text.len() {
-        return None;
+    match text.get(at) {
+        None => Err(stray_at(text, at, RefusalKind::Unexpected)),
+        Some(byte) => match conversion_of(*byte) {
+            Some(conversion) => Ok(conversion),
+            None => Err(stray_at(text, at, RefusalKind::Unexpected)),
+        },
     }
-    conversion_of(text[at])
 }

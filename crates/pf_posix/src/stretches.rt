@@ -6,7 +6,7 @@ ghost use Rattle.pf_posix.specs.Stretches.{ReadsWhole, Stretches};
 ghost use Rattle.pf_posix.specs.StretchesInText.{EndsBehind, IsFound};
 
 use crate::opaque_directives::{OpaqueDirective, is_opaque};
-use crate::specifications::{has_byte, specification_at};
+use crate::specifications::{Numbering, has_byte, specification_at};
 use pf_text::literal_len;
 
 /// A stretch of a text, and the opaque directive after it.
@@ -74,7 +74,9 @@ fn found_at(text: &[u8], at: usize) -> Option<Found>
     if has_byte(text, at + 1, b'%') {
         return Some(Found::Items(at + 2));
     }
-    let (read, stop) = specification_at(text, at)?;
+    let Ok((read, stop)) = specification_at(text, at, Numbering::Undecided) else {
+        return None;
+    };
     if is_opaque(read.parts) {
         return Some(Found::Opaque(read.parts, stop));
     }

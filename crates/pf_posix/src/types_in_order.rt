@@ -2,7 +2,7 @@
 //! has room for.
 ghost use Rattle.std.specs.Prelude.{◌≡◌, ◌≢◌, ◌<◌, ◌∷◌, [], List, length};
 ghost use Rattle.pf_values.specs.declared.models.Model.{Model as ModelOf};
-ghost use Rattle.pf_posix.specs.declared.tables.TheConstants.{ROOM as MOST};
+ghost use Rattle.pf_posix.specs.declared.numbered.TheConstants.{ROOM as MOST};
 ghost use Rattle.pf_posix.specs.declared.types.ArgumentType.{ArgumentType as ArgumentTypeOf};
 ghost use Rattle.pf_posix.specs.Items.{HasArguments};
 ghost use Rattle.pf_posix.specs.ListComparisons.{HasLeft};

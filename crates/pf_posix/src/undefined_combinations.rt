@@ -1,37 +1,38 @@
 //! Which specifications the standards leave undefined (C11 7.21.6.1, paragraphs 4 to 9).
 ghost use Rattle.std.specs.Prelude.{◌≡◌};
 ghost use Rattle.pf_posix.specs.declared.conversions.Modifier.TheVariants.{Integer};
-ghost use Rattle.pf_posix.specs.Defined.{has_any_flag, takes_alt, takes_group, takes_modifier, takes_precision, takes_zero, undefined_as, is_count};
+ghost use Rattle.pf_posix.specs.OpaqueParts.{parts_of_opaque};
+ghost use Rattle.pf_posix.specs.Defined.{has_any_flag, takes_alt, takes_group, takes_modifier, takes_precision, takes_zero, undefined_of, is_count};
 
 use crate::conversions::{Conversion, Floating, Modifier};
-use crate::partial_specification::PartialSpecification;
+use crate::opaque_directives::OpaqueDirective;
 use pf_values::{Conv, Flag, FlagSet, Length, RefusalKind};
 
 /// The first kind, in the order of numbers, for which a specification is undefined, if it is.
 #[inline(always)]
-pub(crate) fn undefined_as(
-    parts: PartialSpecification,
-    modifier: Modifier,
-    conversion: Conversion,
-) -> Option<RefusalKind>
-    ensures { result ≡ undefined_as parts.flags parts.width parts.precision modifier conversion }
+pub(crate) fn undefined_as(parts: &OpaqueDirective) -> Option<RefusalKind>
+    ensures { result ≡ undefined_of (parts_of_opaque parts.now) }
 {
-    if parts.flags.has(Flag::Alt) && !takes_alt(conversion) {
+    let flags = parts.flags;
+    let conversion = parts.conversion;
+    if flags.has(Flag::Alt) && !takes_alt(conversion) {
         return Some(RefusalKind::AltUndefined);
     }
-    if parts.flags.has(Flag::Zero) && !takes_zero(conversion) {
+    if flags.has(Flag::Zero) && !takes_zero(conversion) {
         return Some(RefusalKind::ZeroUndefined);
     }
-    if parts.flags.has(Flag::Group) && !takes_group(conversion) {
+    if flags.has(Flag::Group) && !takes_group(conversion) {
         return Some(RefusalKind::GroupUndefined);
     }
-    if parts.precision && !takes_precision(conversion) {
+    if parts.precision.is_some() && !takes_precision(conversion) {
         return Some(RefusalKind::PrecisionUndefined);
     }
-    if !takes_modifier(conversion, modifier) {
+    if !takes_modifier(conversion, parts.modifier) {
         return Some(RefusalKind::LengthUndefined);
     }
-    if is_count(conversion) && (has_any_flag(parts.flags) || parts.width || parts.precision) {
+    if is_count(conversion)
+        && (has_any_flag(flags) || parts.width.is_some() || parts.precision.is_some())
+    {
         return Some(RefusalKind::CountUndefined);
     }
     None

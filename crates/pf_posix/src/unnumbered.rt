@@ -1,17 +1,16 @@
 //! Whether a format of the whole language is accepted where arguments may have no numbers.
-ghost use Rattle.std.specs.Prelude.{◌≡◌, ◌<◌, ◌≤◌, drop, length, take, MatchOption, MatchResult};
+ghost use Rattle.std.specs.Prelude.{◌≡◌, ◌≤◌, drop, length, take, MatchOption, MatchResult};
 ghost use Rattle.pf_values.specs.declared.limits.TheConstants.{MAX_TEXT_LEN as LIMIT};
 ghost use Rattle.pf_text.specs.FoundDirectives.{BeginsNoItem};
 ghost use Rattle.pf_posix.specs.Heads.{IsOpaqueAt};
-ghost use Rattle.pf_posix.specs.Plain.{BeginsNoPlain};
 ghost use Rattle.pf_posix.specs.Stretches.{IsWholeAccepted};
 ghost use Rattle.pf_posix.specs.Unnumbered.{IsWholeRefusedAt};
 ghost use Rattle.pf_posix.specs.Endings.{numbered_instead};
 
+use crate::long_texts::{of_long, too_long};
 use crate::opaque_directives::OpaqueDirective;
-use crate::plain_specifications::plain_at;
-use crate::reader::{NextFetch, Reader};
-use pf_text::{Bare, Refusal, Walk, directive_at};
+use crate::specifications::{Numbering, defined_at, refusal};
+use pf_text::{Bare, Refusal, Walk, directive_at, within_limit};
 use pf_values::{Model, RefusalKind};
 
 /// Checks whether a format of the whole language is accepted in a data model if no argument may have a
@@ -53,46 +52,34 @@ pub fn opaque_at(
     if at == text.len() {
         return Ok(None);
     }
-    match plain_at(text, at) {
-        Some(found) => Ok(Some(found)),
-        None => Err(refusal_from(model, text, at)),
+    let front = within_limit(text);
+    if at == front.len() {
+        return Err(too_long());
+    }
+    if front[at] != b'%' {
+        return Err(refusal(RefusalKind::NulByte, at));
+    }
+    match defined_at(front, at, Numbering::Unnumbered) {
+        Ok((read, stop)) => Ok(Some((read.parts, stop))),
+        Err(refused) => Err(of_long(text, numbered_instead(front, refused.refusal))),
     }
 }
 
-// The refusal of a text in which nothing that is accepted begins at an offset between two items.
+// The refusal of a text in which no specification may be numbered: a `$` that is refused as Mixed numbers an
+// argument.
 #[inline(never)]
-fn refusal_from(model: Model, text: &[u8], at: usize) -> Refusal
-    requires within { at < length text.now }
-    requires front { IsWholeAccepted (take at text.now) }
-    requires none { BeginsNoItem (drop at (take LIMIT text.now)) }
-    requires other { BeginsNoPlain text.now at }
-    ensures { IsWholeRefusedAt model text.now result.kind result.at }
+fn numbered_instead(text: &[u8], refused: Refusal) -> Refusal
+    ensures at { result.at ≡ refused.at }
+    ensures kind { result.kind ≡ numbered_instead text.now refused.kind refused.at }
 {
-    let mut reader = Reader::unnumbered_at(at);
-    loop {
-        match reader.next_fetch(model, text) {
-            NextFetch::Fetched(_) => {}
-            NextFetch::End => unreachable!(),
-            NextFetch::Refused(refusal) => {
-                return Refusal {
-                    kind: numbered_instead(text, refusal),
-                    at: refusal.at,
-                };
-            }
-        }
-    }
-}
-
-// The kind of a refusal of the reader. In a format whose specifications count as not numbered, a `$`
-// that is refused as Mixed numbers an argument.
-fn numbered_instead(text: &[u8], refusal: Refusal) -> RefusalKind
-    ensures { result ≡ numbered_instead text.now refusal.kind refusal.at }
-{
-    match refusal.kind {
-        RefusalKind::Mixed => match text.get(refusal.at as usize) {
-            Some(b'$') => RefusalKind::Numbered,
-            _ => RefusalKind::Mixed,
+    match refused.kind {
+        RefusalKind::Mixed => match text.get(refused.at as usize) {
+            Some(b'$') => Refusal {
+                kind: RefusalKind::Numbered,
+                at: refused.at,
+            },
+            _ => refused,
         },
-        kind => kind,
+        _ => refused,
     }
 }

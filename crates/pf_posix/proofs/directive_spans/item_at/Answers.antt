@@ -13,13 +13,13 @@ returns-then-has_byte-clause-listed c model all done next h =
 pub unreachable-requires : goal.unreachable-requires
 unreachable-requires c =
     some_specification c.args.text.now c.args.at c.requires.within c.requires.reads.0 c.requires.reads.1 c.if-text-at-ne37.false
-    (sym c.if-has_byte.ensures.same) c.in_default.ensures
+    (sym c.if-has_byte.ensures.same) c.in_default.ensures.none
 
 pub returns-clause-listed : goal.returns-clause-listed
 returns-clause-listed c model all done next h =
-    let read = c.in-Some in
+    let read = c.in-Ok in
     listed_specification model c.args.text.now all done c.args.at next h c.requires.within c.if-text-at-ne37.false read.read read.end
-    (sym c.if-has_byte.ensures.same) read.ensures
+    (sym c.if-has_byte.ensures.same) read.ensures.read
 
 pub returns-then-text-at-ne37-clause-item : goal.returns-then-text-at-ne37-clause-item
 returns-then-text-at-ne37-clause-item c = item_byte c.args.text.now c.args.at c.requires.within (other_byte _ c.if-text-at-ne37.true)
@@ -31,5 +31,5 @@ returns-then-has_byte-clause-item c =
 
 pub returns-clause-item : goal.returns-clause-item
 returns-clause-item c =
-    let read = c.in-Some in
-    item_specification c.args.text.now c.args.at c.requires.within c.if-text-at-ne37.false read.read read.end (sym c.if-has_byte.ensures.same) read.ensures
+    let read = c.in-Ok in
+    item_specification c.args.text.now c.args.at c.requires.within c.if-text-at-ne37.false read.read read.end (sym c.if-has_byte.ensures.same) read.ensures.read

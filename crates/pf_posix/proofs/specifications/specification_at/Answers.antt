@@ -1,44 +1,61 @@
 use Rattle.std.proofs.Common.{refl}
-use Rattle.pf_posix.proofs.FoundLemmas.{no_conversion_there, no_precision_there, no_width_there, specification_there}
+use Rattle.pf_posix.proofs.ReadLemmas.{read_there, refused_conversion, refused_precision, refused_width}
 use Rattle.pf_posix.proofs.specifications.specification_at.Goals as goal
 
-pub returns-in_err-width : goal.returns-in_err-width
-returns-in_err-width c =
-    let number = c.position_at-position in
+pub returns-in-Err-width_at : goal.returns-in-Err-width_at
+returns-in-Err-width_at c =
+    let number = c.in-Ok in
     let flags = c.flags_at-at in
-    rw c.from_residual.ensures (no_width_there c.args.text.now c.args.start number.result.0 number.result.1 number.ensures.position flags.result.0 flags.result.1
-    flags.ensures.flags flags.ensures.ended c.in_err-width.ensures.width)
+    let err = c.in-Err-width_at in
+    let none = c.none-none.ensures in
+    refused_width c.args.text.now c.args.start c.args.numbering number.read.0 number.read.1 number.ensures.position number.ensures.follows flags.result.0
+    flags.result.1 flags.ensures.flags flags.ensures.ended c.requires.start c.requires.percent number.ensures.bytes err.refusal err.ensures.halt
+    err.ensures.width c.refused-in-Err-width_at.result (rw none at c.refused-in-Err-width_at.ensures)
 
-pub returns-in_err-precision : goal.returns-in_err-precision
-returns-in_err-precision c =
-    let number = c.position_at-position in
+pub returns-in-Err-precision_at : goal.returns-in-Err-precision_at
+returns-in-Err-precision_at c =
+    let number = c.in-Ok in
     let flags = c.flags_at-at in
-    let width = c.in_ok-width in
-    rw c.from_residual-in_err-precision.ensures
-    (no_precision_there c.args.text.now c.args.start number.result.0 number.result.1 number.ensures.position flags.result.0 flags.result.1 flags.ensures.flags
-    flags.ensures.ended width.width width.width_position width.at width.ensures.width c.in_err-precision.ensures.precision)
+    let width = c.in-Ok-width_at in
+    let err = c.in-Err-precision_at in
+    let none = c.none-none.ensures in
+    let of_width = rw none at c.with_width-of_width.ensures in
+    refused_precision c.args.text.now c.args.start c.args.numbering number.read.0 number.read.1 number.ensures.position number.ensures.follows flags.result.0
+    flags.result.1 flags.ensures.flags flags.ensures.ended c.requires.start c.requires.percent number.ensures.bytes width.read.0 width.read.1 width.read.2
+    width.ensures.width width.ensures.bytes width.ensures.number err.refusal err.ensures.halt err.ensures.precision c.refused-in-Err-precision_at.result
+    (rw of_width at c.refused-in-Err-precision_at.ensures)
 
-pub returns-in_err-conversion : goal.returns-in_err-conversion
-returns-in_err-conversion c =
-    let number = c.position_at-position in
+pub returns-in-Err-conversion_at : goal.returns-in-Err-conversion_at
+returns-in-Err-conversion_at c =
+    let number = c.in-Ok in
     let flags = c.flags_at-at in
-    let width = c.in_ok-width in
-    let precision = c.in_ok-precision in
+    let width = c.in-Ok-width_at in
+    let precision = c.in-Ok-precision_at in
     let modifier = c.modifier_at-modifier in
-    rw c.from_residual-in_err-conversion.ensures
-    (no_conversion_there c.args.text.now c.args.start number.result.0 number.result.1 number.ensures.position flags.result.0 flags.result.1 flags.ensures.flags
-    flags.ensures.ended width.width width.width_position width.at width.ensures.width precision.precision precision.precision_position precision.at
-    precision.ensures.precision modifier.result.0 modifier.result.1 modifier.ensures.modifier c.in_err-conversion.ensures.conversion)
+    let err = c.in-Err-conversion_at in
+    let none = c.none-none.ensures in
+    let of_width = rw none at c.with_width-of_width.ensures in
+    let stars = rw of_width at c.with_precision-stars.ensures in
+    refused_conversion c.args.text.now c.args.start c.args.numbering number.read.0 number.read.1 number.ensures.position number.ensures.follows flags.result.0
+    flags.result.1 flags.ensures.flags flags.ensures.ended c.requires.start c.requires.percent number.ensures.bytes width.read.0 width.read.1 width.read.2
+    width.ensures.width width.ensures.bytes width.ensures.number precision.read.0 precision.read.1 precision.read.2 precision.ensures.precision
+    precision.ensures.bytes precision.ensures.number modifier.result.0 modifier.result.1 modifier.ensures.modifier modifier.ensures.letters c.requires.other
+    number.ensures.first width.ensures.ended precision.ensures.ended modifier.ensures.ended err.refusal err.ensures.stray err.ensures.conversion
+    c.refused-in-Err-conversion_at.result (rw stars at c.refused-in-Err-conversion_at.ensures)
 
 pub returns : goal.returns
 returns c =
-    let number = c.position_at-position in
+    let number = c.in-Ok in
     let flags = c.flags_at-at in
-    let width = c.in_ok-width in
-    let precision = c.in_ok-precision in
+    let width = c.in-Ok-width_at in
+    let precision = c.in-Ok-precision_at in
     let modifier = c.modifier_at-modifier in
-    let conversion = c.in_ok-conversion in
-    specification_there c.args.text.now c.args.start number.result.0 number.result.1 number.ensures.position flags.result.0 flags.result.1 flags.ensures.flags
-    flags.ensures.ended c.requires.start c.requires.percent number.ensures.bytes width.width width.width_position width.at width.ensures.bytes precision.precision
-    precision.precision_position precision.at precision.ensures.bytes modifier.result.0 modifier.result.1 modifier.ensures.letters conversion.conversion _ refl
-    conversion.ensures.letter
+    let conversion = c.in-Ok-conversion_at in
+    let none = c.none-none.ensures in
+    let of_width = rw none at c.with_width-of_width.ensures in
+    let stars = rw of_width at c.with_precision-stars.ensures in
+    rw stars (read_there c.args.text.now c.args.start c.args.numbering number.read.0 number.read.1 number.ensures.position number.ensures.follows flags.result.0
+    flags.result.1 flags.ensures.flags flags.ensures.ended c.requires.start c.requires.percent number.ensures.bytes width.read.0 width.read.1 width.read.2
+    width.ensures.width width.ensures.bytes width.ensures.number precision.read.0 precision.read.1 precision.read.2 precision.ensures.precision
+    precision.ensures.bytes precision.ensures.number modifier.result.0 modifier.result.1 modifier.ensures.modifier modifier.ensures.letters
+    conversion.conversion _ refl conversion.ensures.letter)

@@ -1,18 +1,29 @@
-use Rattle.std.proofs.Common.{None, Some, refl, sym}
+use Rattle.std.proofs.Common.{[], ◌+◌, Err, Ok, Some, ◌∷◌, refl, sym}
 use Rattle.pf_values.specs.meaning.Spelling.{width_spelled}
-use Rattle.pf_posix.proofs.PartLemmas.{numeral_read, width_given, width_none, width_over, width_star}
+use Rattle.pf_text.proofs.SpecificationLemmas.{bytes_join, bytes_one}
+use Rattle.pf_posix.proofs.HaltLemmas.{width_halts}
+use Rattle.pf_posix.proofs.PartLemmas.{byte_is, numeral_read, width_given, width_none, width_over, width_star}
 use Rattle.pf_posix.proofs.specifications.width_at.Goals as goal
 
-pub returns-in_err-number-clause-width : goal.returns-in_err-number-clause-width
-returns-in_err-number-clause-width c =
+pub returns-in-Err-clause-width : goal.returns-in-Err-clause-width
+returns-in-Err-clause-width c =
     let star = c.if-has_byte.ensures in
-    rw c.from_residual.ensures (width_star c.args.text.now c.args.start c.args.position None (sym star.same) (star.within refl) c.in_err-number.ensures.number)
+    width_star c.args.text.now c.args.start c.args.position (Err c.in-Err.refusal) (sym star.same) (star.within refl) c.in-Err.ensures.number
 
-pub returns-then-has_byte-clause-width : goal.returns-then-has_byte-clause-width
-returns-then-has_byte-clause-width c =
+pub returns-in-Err-clause-halt : goal.returns-in-Err-clause-halt
+returns-in-Err-clause-halt c = λ begin numbering before set h spelled follows.
+    let t = c.args.text.now in
+    let start = c.args.start in
     let star = c.if-has_byte.ensures in
-    let read = c.in_ok-number in
-    width_star c.args.text.now c.args.start c.args.position (Some (read.number, read.stop)) (sym star.same) (star.within refl) read.ensures.number
+    c.in-Err.ensures.halt begin numbering before []
+    (bytes_join t begin start (start + 1) before (42 ∷ []) h (bytes_one t start 42 (star.within refl) (byte_is t start 42 (sym star.same)))) (set, spelled, refl)
+    follows
+
+pub returns-in-Ok-clause-width : goal.returns-in-Ok-clause-width
+returns-in-Ok-clause-width c =
+    let star = c.if-has_byte.ensures in
+    let read = c.in-Ok in
+    width_star c.args.text.now c.args.start c.args.position (Ok (read.number, read.stop)) (sym star.same) (star.within refl) read.ensures.number
 
 pub returns-in_default-clause-width : goal.returns-in_default-clause-width
 returns-in_default-clause-width c =
@@ -26,7 +37,7 @@ returns-then-has_digit-clause-width c =
     let digit = c.if-has_digit.ensures in
     width_over c.args.text.now c.args.start c.args.position c.in-Some.number number.result.1 (sym c.if-has_byte.ensures.same)
     (rw c.in-Some.is at number.ensures.bytes) (rw c.in-Some.is at number.ensures.some) (rw c.in-Some.is at number.ensures.small)
-    (rw c.in-Some.is at number.ensures.ended) (sym digit.same) (digit.within refl)
+    (rw c.in-Some.is at number.ensures.ended) (sym digit.same) (digit.within refl) c.refusal.result
 
 pub returns-clause-bytes : goal.returns-clause-bytes
 returns-clause-bytes c =
@@ -44,3 +55,11 @@ returns-clause-width c =
     width_given c.args.text.now c.args.start c.args.position c.in-Some.number number.result.1 (sym c.if-has_byte.ensures.same)
     (rw c.in-Some.is at number.ensures.bytes) (rw c.in-Some.is at number.ensures.some) (rw c.in-Some.is at number.ensures.small)
     (rw c.in-Some.is at number.ensures.ended) (sym c.if-has_digit.ensures.same)
+
+pub returns-then-has_digit-clause-halt : goal.returns-then-has_digit-clause-halt
+returns-then-has_digit-clause-halt c = λ begin numbering before set h spelled follows.
+    let number = c.number_at-number in
+    let digit = c.if-has_digit.ensures in
+    width_halts c.args.text.now c.args.start begin numbering c.args.position before set h spelled follows c.in-Some.number number.result.1 (rw c.in-Some.is at number.ensures.bytes)
+    (rw c.in-Some.is at number.ensures.some) (rw c.in-Some.is at number.ensures.small) (rw c.in-Some.is at number.ensures.ended) c.refusal.result
+    c.refusal.ensures (digit.within refl) (sym digit.same)

@@ -7,21 +7,21 @@ returns-then-has_byte-clause-found c left h =
     let second = c.if-has_byte.ensures in
     found_percent c.args.text.now c.args.at c.if-text-at-ne37.false (sym second.same) (second.within refl) left h
 
-pub returns-in_err-read-clause-found : goal.returns-in_err-read-clause-found
-returns-in_err-read-clause-found c left h =
+pub returns-in_default-clause-found : goal.returns-in_default-clause-found
+returns-in_default-clause-found c left h =
     absurd (no_specification c.args.text.now c.args.at c.requires c.if-text-at-ne37.false
-    (sym c.if-has_byte.ensures.same) left h c.in_err-read.ensures)
+    (sym c.if-has_byte.ensures.same) left h c.in_default.ensures.none)
 
 pub returns-then-is_opaque-clause-found : goal.returns-then-is_opaque-clause-found
 returns-then-is_opaque-clause-found c left h =
-    let read = c.in_ok-read in
+    let read = c.in-Ok in
     found_opaque c.args.text.now c.args.at c.requires c.if-text-at-ne37.false
-    (sym c.if-has_byte.ensures.same) left h read.read read.stop read.ensures
+    (sym c.if-has_byte.ensures.same) left h read.read read.stop read.ensures.read
     (sym c.if-is_opaque.ensures)
 
 pub returns-clause-found : goal.returns-clause-found
 returns-clause-found c left h =
-    let read = c.in_ok-read in
+    let read = c.in-Ok in
     found_directive c.args.text.now c.args.at c.requires c.if-text-at-ne37.false
-    (sym c.if-has_byte.ensures.same) left h read.read read.stop read.ensures
+    (sym c.if-has_byte.ensures.same) left h read.read read.stop read.ensures.read
     (sym c.if-is_opaque.ensures)
