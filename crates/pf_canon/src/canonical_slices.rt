@@ -137,7 +137,7 @@ impl<'a> CanonicalSlices<'a> {
         }
     }
 
-    // Takes the verbatim bytes that come next. If there are none, it takes an item, or the end.
+    // Takes a run of verbatim bytes, if one begins here. Otherwise it takes an item, or the end.
     fn take<L: Language>(&mut self)
         requires slices { AreSlices L.has_front L.refuses self.old }
         requires open { self.old.end ≡ None }
@@ -157,7 +157,7 @@ impl<'a> CanonicalSlices<'a> {
         }
     }
 
-    // Takes the verbatim bytes that come next, and returns whether there are any.
+    // Takes a run of verbatim bytes, if one begins here, and returns whether it did.
     #[inline(always)]
     fn take_verbatim<L: Language>(&mut self) -> bool
         requires slices { AreSlices L.has_front L.refuses self.old }

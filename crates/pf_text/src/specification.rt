@@ -42,7 +42,7 @@ pub fn directive_at(text: &[u8], start: usize) -> Option<FoundDirective>
 }
 
 /// Returns the directive at an offset of a text, if it is spelled as `spell` spells it, and has no flag
-/// but `-` or `0`. `None` if not.
+/// but `-` or `0`. `None` says nothing of the text: call `directive_at` then.
 #[inline(always)]
 pub fn spelled_at(text: &[u8], start: usize) -> Option<FoundDirective>
     ensures { IfSome result (IsSpelledAt text.now start) }

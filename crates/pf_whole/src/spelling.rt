@@ -54,10 +54,8 @@ fn push_width(out: &mut Spelling, width: Option<OpaqueAmount>)
     ensures bytes { out.new.items ≡ out.old.items ++ posix_width_spelled (amount_of width) }
     ensures len { array_vec_len out.new ≤ array_vec_len out.old + 5 }
 {
-    match width {
-        Some(OpaqueAmount::Number(n)) => push_number(out, n),
-        Some(OpaqueAmount::Star) => out.push(b'*'),
-        None => {}
+    if let Some(amount) = width {
+        push_amount(out, amount);
     }
 }
 
@@ -66,10 +64,22 @@ fn push_precision(out: &mut Spelling, precision: Option<OpaqueAmount>)
     ensures bytes { out.new.items ≡ out.old.items ++ posix_precision_spelled (amount_of precision) }
     ensures len { array_vec_len out.new ≤ array_vec_len out.old + 6 }
 {
-    if precision.is_some() {
+    if let Some(amount) = precision {
         out.push(b'.');
+        push_amount(out, amount);
     }
-    push_width(out, precision);
+}
+
+// A number, or `*`.
+fn push_amount(out: &mut Spelling, amount: OpaqueAmount)
+    requires { array_vec_len out.old + 5 ≤ 20 }
+    ensures bytes { out.new.items ≡ out.old.items ++ posix_width_spelled (amount_of (Some amount)) }
+    ensures len { array_vec_len out.new ≤ array_vec_len out.old + 5 }
+{
+    match amount {
+        OpaqueAmount::Number(n) => push_number(out, n),
+        OpaqueAmount::Star => out.push(b'*'),
+    }
 }
 
 fn push_number(out: &mut Spelling, number: u16)
