@@ -8,7 +8,7 @@ use Rattle.pf_text.specs.declared.refusals.Side.{Side}
 use Rattle.pf_posix.specs.declared.types.ArgumentType.{ArgumentType}
 use Rattle.pf_posix.specs.Items.{HasArguments}
 use Rattle.pf_posix.specs.Laws.{ComparesArgumentTypes, ComparesBeginning, FaultForFits, HasCount, filled}
-use Rattle.pf_posix.proofs.BeginningLemmas.{fewer_once}
+use Rattle.pf_posix.proofs.DifferenceLemmas.{fewer_once}
 use Rattle.pf_posix.proofs.Unique.{one_list}
 use Rattle.pf_values.specs.declared.models.Model.{Model}
 use Rattle.pf_values.specs.meaning.Text.{Text}

@@ -1,11 +1,11 @@
 -- The specifications of an accepted text, one item after another.
-use Rattle.std.proofs.Common.{inl}
-use Rattle.std.proofs.Common.{◌≡◌, ◌≢◌, ℕ, ◌+◌, ◌*◌, ◌<◌, ◌≤◌, Bool, true, false, List, [], ◌∷◌, ◌++◌, length, length-append, get_or, drop, refl, sym, ap, ◌∙◌}
-use Rattle.std.proofs.Common.{arith, subst}
-use Rattle.std.specs.Prelude.{Some, None, ◌==◌, MatchBool}
+use Rattle.std.proofs.Common.{inl, inr, ◌≡◌, ◌≢◌, ℕ, ◌+◌, ◌-◌, ◌*◌, ◌<◌, ◌≤◌, true, false, List, [], ◌∷◌, ◌++◌, length, length-append, get_or, drop, take, refl, sym}
+use Rattle.std.proofs.Common.{ap, ◌∙◌, arith, subst}
+use Rattle.std.specs.Prelude.{Some, None, ◌==◌}
 use Rattle.std.specs.List.{AllByRecursion}
 use Rattle.std.proofs.lemmas.Bool.Decides.{nat_tests}
-use Rattle.std.proofs.lemmas.List.{append_assoc, append-nil, drop_all, length-drop, length_push}
+use Rattle.std.proofs.lemmas.Bool.{cases_lt, eqb-true}
+use Rattle.std.proofs.lemmas.List.{append_assoc, append-nil, drop_all, drop_more, get_or_past, length-drop, length_push}
 use Rattle.pf_values.specs.declared.models.Model.{Model}
 use Rattle.pf_values.specs.meaning.Text.{Text}
 use Rattle.pf_posix.specs.declared.directive_spans.DirectiveSpan.{DirectiveSpan}
@@ -21,161 +21,125 @@ use Rattle.pf_posix.specs.Laws.{filled}
 use Rattle.pf_posix.specs.PartsInText.{IsSpecificationAt, specification_read}
 use Rattle.pf_posix.specs.Halts.{BeginsNoneAfter}
 use Rattle.pf_posix.specs.declared.specifications.Numbering.TheVariants.{Undecided}
-use Rattle.pf_posix.specs.Specifications.{PosixSpecification}
-use Rattle.pf_posix.specs.Spelling.{SpellsPosix}
 use Rattle.pf_posix.specs.Types.{fetches}
-use Rattle.pf_posix.proofs.DirectiveTypes.{all_typed}
-use Rattle.pf_posix.proofs.DirectivesOnce.{some_text}
-use Rattle.pf_posix.proofs.FoundLemmas.{same_there}
-use Rattle.pf_posix.proofs.OrderLemmas.{filled_none}
-use Rattle.pf_posix.proofs.PartLemmas.{head_at, tail_at}
+use Rattle.pf_posix.proofs.ItemsOnce.{BeginsWith, HasText, first_item, item_once, items_once, percent_twice, text_there}
+use Rattle.pf_posix.proofs.PartLemmas.{bool_no, head_at}
+use Rattle.pf_posix.proofs.SpecificationsOnce.{parted}
+use Rattle.pf_posix.proofs.ListLemmas.{same_from, filled_none}
+use Rattle.pf_posix.proofs.Bounds.{all_typed}
 use Rattle.pf_posix.proofs.PassedLemmas.{walked}
-use Rattle.pf_posix.proofs.SpecificationsOnce.{begins_no_percent}
 
-behind : (t : Text) (at : ℕ) (first rest : Text) → drop at t ≡ first ++ rest → drop (at + length first) t ≡ rest
-behind t at [] rest e = let same : at + 0 ≡ at = omega arith in ap (λ k. drop k t) same ∙ e
-behind t at (byte ∷ first) rest e =
-    let more = behind t (at + 1) first rest (tail_at t at byte (first ++ rest) e) in
-    let same : at + length (byte ∷ first) ≡ at + 1 + length first = omega arith in
-    ap (λ k. drop k t) same ∙ more
+pub percent_split : (t : Text) (at : ℕ) → get_or t at 0 ≡ 37 → (get_or t (at + 1) 0 == 37) ≡ true → at + 1 < length t → drop at t ≡ 37 ∷ 37 ∷ drop (at + 2) t
+percent_split t at first second more =
+    let next : at + 1 + 1 ≡ at + 2 = omega arith in
+    drop_more t at 0 (omega (arith, more)) ∙ ap (λ b. b ∷ drop (at + 1) t) first
+    ∙ ap (λ u. 37 ∷ u) (drop_more t (at + 1) 0 more ∙ ap (λ b. b ∷ drop (at + 1 + 1) t) (eqb-true _ 37 second) ∙ ap (λ k. 37 ∷ drop k t) next)
 
--- the first item of what is left of a text
+-- what comes after an item of a text that is read from an offset on
+item_there : (t : Text) (at stop : ℕ) (item : PosixItem) (first : Text) → HasText item first → drop at t ≡ first ++ drop stop t → (items : List PosixItem)
+    → ReadsPosix (drop at t) items → BeginsWith item (drop stop t) items
+item_there t at stop item first text split items reads = first_item item first (drop stop t) items text (subst (λ u. ReadsPosix u items) split reads)
+
 module _ (t : Text) (at : ℕ) (less : at < length t) where
-  abbrev byte_here : ℕ
-  byte_here = get_or t at 0
-
-  no_end : ReadsPosix (drop at t) [] → ⊥
-  no_end reads = omega (arith, less, ap length reads, length-drop at t)
-
-  -- a specification begins with `%`, and goes on with another byte
-  starts : (text rest : Text) (s : PosixSpecification) → SpellsPosix text s → drop at t ≡ text ++ rest → (byte_here ≡ 37) × ((get_or t (at + 1) 0 == 37) ≡ false)
-  starts text rest s spelled e =
-      let begins = begins_no_percent text s spelled in
-      let split = e ∙ ap (λ u. u ++ rest) begins.3 in
-      let second = head_at t (at + 1) begins.0 (begins.1 ++ rest) (tail_at t at 37 (begins.0 ∷ (begins.1 ++ rest)) split) in
-      (head_at t at 37 (begins.0 ∷ (begins.1 ++ rest)) split, ap (λ b. b == 37) second ∙ begins.2)
-
-  -- a byte has one byte, or two if it is `%`
-  module _ (x : ℕ) (later : List PosixItem) (reads : ReadsPosix (drop at t) (Byte x ∷ later)) where
-    one_byte : (byte_here == 37) ≡ false → length reads.0 ≡ 1
-    one_byte other = go (x == 37) reads.2 where
-      go : (b : Bool) → MatchBool b (reads.0 ≡ 37 ∷ 37 ∷ []) ((x ≢ 0) × (reads.0 ≡ x ∷ [])) → length reads.0 ≡ 1
-      go true w =
-          let first = head_at t at 37 (37 ∷ reads.1) (reads.4 ∙ ap (λ u. u ++ reads.1) w) in
-          let no : true ≡ false = ap (λ b. b == 37) (sym first) ∙ other in cc
-      go false w = ap length w.1
-
-    two_bytes : byte_here ≡ 37 → (length reads.0 ≡ 2) × (get_or t (at + 1) 0 ≡ 37)
-    two_bytes percent = go (x == 37) refl reads.2 where
-      go : (b : Bool) → (x == 37) ≡ b → MatchBool b (reads.0 ≡ 37 ∷ 37 ∷ []) ((x ≢ 0) × (reads.0 ≡ x ∷ []))
-          → (length reads.0 ≡ 2) × (get_or t (at + 1) 0 ≡ 37)
-      go true is w = (ap length w, head_at t (at + 1) 37 reads.1 (tail_at t at 37 (37 ∷ reads.1) (reads.4 ∙ ap (λ u. u ++ reads.1) w)))
-      go false is w =
-          let first = head_at t at x reads.1 (reads.4 ∙ ap (λ u. u ++ reads.1) w.1) in
-          let no : false ≡ true = sym is ∙ ap (λ b. b == 37) (sym first ∙ percent) in cc
-
-  no_byte : (x : ℕ) (later : List PosixItem) → ReadsPosix (drop at t) (Byte x ∷ later) → byte_here ≡ 37 → (get_or t (at + 1) 0 == 37) ≡ false → ⊥
+  -- a `%` and another byte are the beginning of a specification
+  no_byte : (x : ℕ) (later : List PosixItem) → ReadsPosix (drop at t) (Byte x ∷ later) → get_or t at 0 ≡ 37 → (get_or t (at + 1) 0 == 37) ≢ false
   no_byte x later reads percent other =
-      let second = (two_bytes x later reads percent).1 in
-      let no : true ≡ false = ap (λ b. b == 37) (sym second) ∙ other in cc
+      let twice = percent_twice x reads.1 (drop (at + 1) t) (sym (ap (λ u. u ++ reads.1) (text_there reads.0 (Byte x) reads.2)) ∙ sym reads.4
+      ∙ drop_more t at 0 less ∙ ap (λ b. b ∷ drop (at + 1) t) percent) in
+      bool_no (ap (λ b. b == 37) (head_at t (at + 1) 37 reads.1 twice)) other
 
-  pub some_specification : (items : List PosixItem) → ReadsPosix (drop at t) items → byte_here ≡ 37 → (get_or t (at + 1) 0 == 37) ≡ false
+  pub some_specification : (items : List PosixItem) → ReadsPosix (drop at t) items → get_or t at 0 ≡ 37 → (get_or t (at + 1) 0 == 37) ≡ false
       → BeginsNoneAfter Undecided (drop at t) → ⊥
-  some_specification [] reads percent other none = no_end reads
+  some_specification [] reads percent other none = omega (arith, less, ap length reads, length-drop at t)
   some_specification (Byte x ∷ later) reads percent other none = no_byte x later reads percent other
   some_specification (Specification s ∷ later) reads percent other none = none reads.0 reads.1 s reads.2.0 reads.4 (inl refl) reads.2.1
 
--- so it is after that item
-module _ (t : Text) (at : ℕ) (less : at < length t) where
+  byte_text : (get_or t at 0 == 37) ≡ false → HasText (Byte (get_or t at 0)) (get_or t at 0 ∷ [])
+  byte_text other = rw other refl
+
+  -- so it is after the first item
   pub item_byte : (get_or t at 0 == 37) ≡ false → (items : List PosixItem) → ReadsPosix (drop at t) items → IsBehindItem t items None (at + 1)
-  item_byte other [] reads = absurd (no_end t at less reads)
-  item_byte other (Byte x ∷ later) reads =
-      let end = ap (λ n. drop (at + n) t) (sym (one_byte t at less x later reads other)) ∙ behind t at reads.0 reads.1 reads.4 in
-      (x, later, refl, subst (λ u. ReadsPosix u later) (sym end) reads.3, omega (arith, less))
-  item_byte other (Specification s ∷ later) reads =
-      let first = (starts t at less reads.0 reads.1 s reads.2.0 reads.4).0 in
-      let no : true ≡ false = ap (λ b. b == 37) (sym first) ∙ other in cc
+  item_byte other items reads =
+      let byte = get_or t at 0 in
+      let front = item_there t at (at + 1) (Byte byte) (byte ∷ []) (byte_text other) (drop_more t at 0 less) items reads in
+      (byte, front.later, front.items_are, front.reads, omega (arith, less))
 
   module _ (percent : get_or t at 0 ≡ 37) where
     pub item_percent : (get_or t (at + 1) 0 == 37) ≡ true → at + 1 < length t → (items : List PosixItem) → ReadsPosix (drop at t) items
         → IsBehindItem t items None (at + 2)
-    item_percent second more [] reads = absurd (no_end t at less reads)
-    item_percent second more (Byte x ∷ later) reads =
-        let end = ap (λ n. drop (at + n) t) (sym (two_bytes t at less x later reads percent).0) ∙ behind t at reads.0 reads.1 reads.4 in
-        (x, later, refl, subst (λ u. ReadsPosix u later) (sym end) reads.3, omega (arith, more))
-    item_percent second more (Specification s ∷ later) reads =
-        let other = (starts t at less reads.0 reads.1 s reads.2.0 reads.4).1 in
-        let no : true ≡ false = sym second ∙ other in cc
+    item_percent second more items reads =
+        let front = item_there t at (at + 2) (Byte 37) (37 ∷ 37 ∷ []) refl (percent_split t at percent second more) items reads in
+        (37, front.later, front.items_are, front.reads, omega (arith, more))
 
     pub item_specification : (read : Read) (stop : ℕ) → (get_or t (at + 1) 0 == 37) ≡ false → IsSpecificationAt t at (read, stop) → (items : List PosixItem)
         → ReadsPosix (drop at t) items → IsBehindItem t items (Some read) stop
-    item_specification read stop other found [] reads = absurd (no_end t at less reads)
-    item_specification read stop other found (Byte x ∷ later) reads = absurd (no_byte t at less x later reads percent other)
-    item_specification read stop other found (Specification s ∷ later) reads =
-        let there = same_there t at (read, stop) found reads.0 reads.1 s reads.2.0 reads.4 in
-        (later, ap (λ p. Specification p ∷ later) (sym there.0), subst (λ u. ReadsPosix u later) (sym there.1) reads.3, found.within)
+    item_specification read stop other found items reads =
+        let split = parted t at stop (omega (arith, found.some)) in
+        let front = item_there t at stop (Specification (specification_read read)) (take (stop - at) (drop at t)) found.spelled split items reads in
+        (front.later, front.items_are, front.reads, found.within)
 
 module _ (model : Model) (t : Text) (all done : List DirectiveSpan) (at next : ℕ) (h : IsListedTo model t all at next done) where
-  -- after an item
-  moved : (first rest : Text) (later : List PosixItem) (more : ReadsPosix rest later) (fetched : ℕ) (listed : List DirectiveSpan) → drop at t ≡ first ++ rest
-      → all ≡ listed ++ directives_from model (at + length first) fetched rest later more → IsListedTo model t all (at + length first) fetched listed
-  moved first rest later more fetched listed e are =
-      let stop = at + length first in
-      let there = subst (λ u. (reads : ReadsPosix u later) × (directives_from model stop fetched rest later more ≡ directives_from model stop fetched u later reads))
-      (sym (behind t at first rest e)) (more, refl) in
-      record {
-        items = later;
-        reads = there.0;
-        within = omega (arith, h.within, ap length e, length-append first rest, length-drop at t);
-        all_are = are ∙ ap (λ l. listed ++ l) there.1;
-      }
+  abbrev After : PosixItem → ℕ → Type 0
+  After (Byte x) stop = IsListedTo model t all stop next done
+  After (Specification s) stop = IsListedTo model t all stop (next + length (fetches model s)) (done ++ directive_between model at stop next s ∷ [])
+
+  -- an item that ends at an offset, and the specifications after it
+  module _ (stop : ℕ) (within : stop ≤ length t) where
+    ends : (first rest : Text) → drop at t ≡ first ++ rest → rest ≡ drop stop t → at + length first ≡ stop
+    ends first rest e same = omega (arith, h.within, within, ap length e, length-append first rest, length-drop at t, ap length same, length-drop stop t)
+
+    moved : (end fetched : ℕ) (spans : List DirectiveSpan) (rest : Text) (later : List PosixItem) (reads : ReadsPosix rest later)
+        → end ≡ stop → rest ≡ drop stop t → all ≡ spans ++ directives_from model end fetched rest later reads → IsListedTo model t all stop fetched spans
+    moved end fetched spans rest later reads place same are =
+        let now = subst (λ u. ReadsPosix u later) same reads in
+        record {
+          items = later;
+          reads = now;
+          within = within;
+          all_are = are ∙ ap (λ l. spans ++ l) (same_from model end stop fetched rest (drop stop t) later reads now place same);
+        }
+
+    after_first : (item : PosixItem) (later : List PosixItem) (reads : ReadsPosix (drop at t) (item ∷ later)) → reads.1 ≡ drop stop t
+        → all ≡ done ++ directives_from model at next (drop at t) (item ∷ later) reads → After item stop
+    after_first (Byte x) later reads rest e =
+        moved (at + length reads.0) next done reads.1 later reads.3 (ends reads.0 reads.1 reads.4 rest) rest e
+    after_first (Specification s) later reads rest e =
+        let end = at + length reads.0 in
+        let place = ends reads.0 reads.1 reads.4 rest in
+        let fetched = next + length (fetches model s) in
+        let tail = directives_from model end fetched reads.1 later reads.3 in
+        let span = directive_between model at stop next s in
+        moved end fetched (done ++ span ∷ []) reads.1 later reads.3 place rest
+        (e ∙ ap (λ k. done ++ directive_between model at k next s ∷ tail) place ∙ sym (append_assoc done (span ∷ []) tail))
+
+    listed_item : (item : PosixItem) (first : Text) → HasText item first → drop at t ≡ first ++ drop stop t → After item stop
+    listed_item item first text split =
+        let front = item_there t at stop item first text split h.items h.reads in
+        subst (λ items. (reads : ReadsPosix (drop at t) items) → all ≡ done ++ directives_from model at next (drop at t) items reads → After item stop)
+        (sym front.items_are) (λ reads e. after_first item front.later reads
+        (item_once item item reads.0 reads.1 first (drop stop t) (text_there reads.0 item reads.2) text (sym reads.4 ∙ split)).1 e) h.reads h.all_are
 
   module _ (less : at < length t) where
     pub listed_byte : (get_or t at 0 == 37) ≡ false → IsListedTo model t all (at + 1) next done
-    listed_byte other = go h.items h.reads h.all_are where
-      go : (items : List PosixItem) (reads : ReadsPosix (drop at t) items) → all ≡ done ++ directives_from model at next (drop at t) items reads
-          → IsListedTo model t all (at + 1) next done
-      go [] reads e = absurd (no_end t at less reads)
-      go (Byte x ∷ later) reads e =
-          subst (λ n. IsListedTo model t all (at + n) next done) (one_byte t at less x later reads other)
-          (moved reads.0 reads.1 later reads.3 next done reads.4 e)
-      go (Specification s ∷ later) reads e =
-          let first = (starts t at less reads.0 reads.1 s reads.2.0 reads.4).0 in
-          let no : true ≡ false = ap (λ b. b == 37) (sym first) ∙ other in cc
+    listed_byte other =
+        listed_item (at + 1) (omega (arith, less)) (Byte (get_or t at 0)) (get_or t at 0 ∷ []) (byte_text t at less other) (drop_more t at 0 less)
 
     module _ (percent : get_or t at 0 ≡ 37) where
       pub listed_percent : (get_or t (at + 1) 0 == 37) ≡ true → IsListedTo model t all (at + 2) next done
-      listed_percent second = go h.items h.reads h.all_are where
-        go : (items : List PosixItem) (reads : ReadsPosix (drop at t) items) → all ≡ done ++ directives_from model at next (drop at t) items reads
-            → IsListedTo model t all (at + 2) next done
-        go [] reads e = absurd (no_end t at less reads)
-        go (Byte x ∷ later) reads e =
-            subst (λ n. IsListedTo model t all (at + n) next done) (two_bytes t at less x later reads percent).0
-            (moved reads.0 reads.1 later reads.3 next done reads.4 e)
-        go (Specification s ∷ later) reads e =
-            let other = (starts t at less reads.0 reads.1 s reads.2.0 reads.4).1 in
-            let no : true ≡ false = sym second ∙ other in cc
+      listed_percent second =
+          listed_item (at + 2) (omega (arith, more)) (Byte 37) (37 ∷ 37 ∷ []) refl (percent_split t at percent second more) where
+            more : at + 1 < length t
+            more = elim (cases_lt (at + 1) (length t)) [
+              | inl l ↦ l
+              | inr over ↦ absurd (bool_no second (ap (λ b. b == 37) (get_or_past t (at + 1) 0 over)))
+            ]
 
       pub listed_specification : (read : Read) (stop : ℕ) → (get_or t (at + 1) 0 == 37) ≡ false → IsSpecificationAt t at (read, stop)
           → IsListedTo model t all stop (next + length (fetches model (specification_read read)))
           (done ++ directive_between model at stop next (specification_read read) ∷ [])
-      listed_specification read stop other found = go h.items h.reads h.all_are where
-        After : ℕ → PosixSpecification → Type 0
-        After end s = IsListedTo model t all end (next + length (fetches model s)) (done ++ directive_between model at end next s ∷ [])
-
-        go : (items : List PosixItem) (reads : ReadsPosix (drop at t) items) → all ≡ done ++ directives_from model at next (drop at t) items reads
-            → After stop (specification_read read)
-        go [] reads e = absurd (no_end t at less reads)
-        go (Byte x ∷ later) reads e = absurd (no_byte t at less x later reads percent other)
-        go (Specification s ∷ later) reads e =
-            let there = same_there t at (read, stop) found reads.0 reads.1 s reads.2.0 reads.4 in
-            let end : at + length reads.0 ≡ stop =
-            omega (arith, found.some, found.within, h.within, ap length reads.4, length-append reads.0 reads.1, length-drop at t, ap length there.1, length-drop stop t) in
-            let span = directive_between model at (at + length reads.0) next s in
-            let fetched = next + length (fetches model s) in
-            let now = moved reads.0 reads.1 later reads.3 fetched (done ++ span ∷ []) reads.4
-            (e ∙ sym (append_assoc done (span ∷ []) (directives_from model (at + length reads.0) fetched reads.1 later reads.3))) in
-            subst (After stop) (sym there.0) (subst (λ k. After k s) end now)
+      listed_specification read stop other found =
+          listed_item stop found.within (Specification (specification_read read)) (take (stop - at) (drop at t)) found.spelled
+          (parted t at stop (omega (arith, found.some)))
 
 pub other_byte : (byte : ℕ) → byte ≢ 37 → (byte == 37) ≡ false
 other_byte byte h = grind (arith, nat_tests)
@@ -244,8 +208,8 @@ module _ (model : Model) (t : Text) where
           → ((start before : List DirectiveSpan) → new ≡ filled start before → count ≡ length before → put ≡ filled start (before ++ span ∷ []))
           → IsListing model t (record walk { at = end }) (fetched + more) (count + 1) old put
       listing_found read listed span spanned more counted many put puts =
-          let spanned_there = subst (λ d. IsListedTo model t all end (fetched + length (fetches model (specification_read read))) (h.done ++ d ∷ [])) (sym spanned)
-          listed in
+          let own = length (fetches model (specification_read read)) in
+          let spanned_there = subst (λ d. IsListedTo model t all end (fetched + own) (h.done ++ d ∷ [])) (sym spanned) listed in
           record {
             types = h.types;
             given = h.given;
@@ -264,9 +228,9 @@ module _ (model : Model) (t : Text) where
       none : drop walk.at t ≡ []
       none = drop_all walk.at t over
 
-      go : (items : List PosixItem) (reads : ReadsPosix (drop walk.at t) items) → all ≡ h.done ++ directives_from model walk.at fetched (drop walk.at t) items reads
-          → HasDirectiveCount model t old new count
-      go (item ∷ later) reads e = absurd (some_text reads.0 reads.1 item reads.2 (sym reads.4 ∙ none))
+      go : (items : List PosixItem) (reads : ReadsPosix (drop walk.at t) items)
+          → all ≡ h.done ++ directives_from model walk.at fetched (drop walk.at t) items reads → HasDirectiveCount model t old new count
+      go (item ∷ later) reads e = let no : item ∷ later ≡ [] = items_once _ (item ∷ later) [] reads none in cc
       go [] reads e =
           let are : h.done ≡ all = sym (append-nil h.done) ∙ sym e in
           record {

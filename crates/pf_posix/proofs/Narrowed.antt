@@ -1,58 +1,32 @@
 -- An unnumbered specification that isn't opaque is one of the profile.
-use Rattle.std.proofs.Common.{◌≡◌, ◌≢◌, ℕ, Bool, true, false, List, [], ◌∷◌, ◌++◌, map, refl, sym, ap, ap₂, ◌∙◌, arith, subst}
-use Rattle.std.specs.Prelude.{Option, Some, None, is_some, not, ◌&&◌, ◌||◌}
+use Rattle.std.proofs.Common.{◌≡◌, ◌≢◌, ℕ, Bool, true, false, List, [], ◌∷◌, ◌++◌, map, refl, sym, ap, ◌∙◌, arith}
+use Rattle.std.specs.Prelude.{Option, Some, None, is_some, not, ◌&&◌}
 use Rattle.std.specs.List.{AllByRecursion}
 use Rattle.std.proofs.lemmas.List.{append_assoc}
 use Rattle.pf_values.specs.declared.flags.Flag.TheVariants.{Alt, Zero, Group}
 use Rattle.pf_values.specs.declared.flags.FlagSet.{FlagSet}
-use Rattle.pf_values.specs.declared.conversions.Conv.{Conv}
-use Rattle.pf_values.specs.declared.lengths.Length.{Length}
 use Rattle.pf_values.specs.meaning.Conversions.{conv_letter, has_alternative_form, is_char, is_decimal, is_text}
-use Rattle.pf_values.specs.meaning.Defined.{IsDefined, is_above_limit}
+use Rattle.pf_values.specs.meaning.Defined.{is_above_limit}
 use Rattle.pf_values.specs.meaning.Flags.{flag_byte, has}
 use Rattle.pf_values.specs.meaning.Items.{Byte, Directive, IsReadAs, Item}
-use Rattle.pf_values.specs.meaning.Lengths.{is_absent, is_long, length_letters}
+use Rattle.pf_values.specs.meaning.Lengths.{is_absent, length_letters}
 use Rattle.pf_values.specs.meaning.Spelling.{SpellsPrecision, SpellsWidth}
 use Rattle.pf_values.specs.meaning.Text.{Text}
 use Rattle.pf_text.proofs.Complete.{small}
 use Rattle.pf_posix.specs.declared.conversions.Conversion.{Conversion}
-use Rattle.pf_posix.specs.declared.conversions.Conversion.TheVariants.{Profile, Float, UpperC, UpperS, Pointer, Count}
+use Rattle.pf_posix.specs.declared.conversions.Conversion.TheVariants.{Profile}
 use Rattle.pf_posix.specs.declared.conversions.Modifier.{Modifier}
 use Rattle.pf_posix.specs.declared.conversions.Modifier.TheVariants.{Integer, LongDouble}
-use Rattle.pf_posix.specs.Defined.{IsPosixDefined, takes_alt, takes_group, takes_modifier, takes_precision, takes_zero}
+use Rattle.pf_posix.specs.Defined.{IsPosixDefined, undefined_as}
 use Rattle.pf_posix.specs.Items.{Byte as PosixByte, PosixItem, ReadsPosix, Specification as PosixDirective}
-use Rattle.pf_posix.specs.Specifications.{Amount, Given, Fetched, PosixSpecification, conversion_letter, modifier_letters}
+use Rattle.pf_posix.specs.Specifications.{Amount, Given, Fetched, PosixSpecification}
 use Rattle.pf_posix.specs.Spelling.{SpellsPosix, SpellsPosixPrecision, SpellsPosixWidth}
 use Rattle.pf_posix.specs.StretchesInText.{push}
-use Rattle.pf_posix.specs.Types.{integer_length}
 use Rattle.pf_posix.specs.Unnumbered.{IsUnnumbered, IsAcceptedUnnumbered}
 use Rattle.pf_posix.specs.Opaque.{is_opaque, is_outside, is_star}
 use Rattle.pf_posix.specs.Stretches.{Stretches, Last, Before, ReadsWhole, IsWholeAccepted}
-use Rattle.pf_posix.proofs.DefinedLemmas.{no_reason}
-use Rattle.pf_posix.proofs.ReadOnce.{amount_back, conv_back, narrow, pushed_or, stretched}
-use Rattle.pf_posix.proofs.SpecificationsOnce.{parts_of, regrouped}
-
-either : (a b c : Bool) → (a || b || c) ≡ false → (a ≡ false) × (b ≡ false) × (c ≡ false)
-either false false false e = (refl, refl, refl)
-either true b c e = cc
-either false true c e = cc
-either false false true e = cc
-
-turned : (a b : Bool) → (b && not a) ≡ false → (not a && b) ≡ false
-turned true b e = refl
-turned false true e = cc
-turned false false e = refl
-
-twice : (a b : Bool) → (b && not (not a)) ≡ false → (a && b) ≡ false
-twice true true e = cc
-twice true false e = refl
-twice false b e = refl
-
-absent : (t p l : Bool) → not (not t || p || l) ≡ false → (t && l) ≡ false → (t && not p) ≡ false
-absent false p l e f = refl
-absent true true l e f = refl
-absent true false true e f = cc
-absent true false false e f = cc
+use Rattle.pf_posix.proofs.ReadOnce.{amount_back, narrow, pushed_or, stretched}
+use Rattle.pf_posix.proofs.SpecificationsOnce.{no_reason, made, parts_of, regrouped}
 
 no_width : (t : Text) (width : Option Amount) → is_star width ≡ false → SpellsPosixWidth t None width
     → SpellsWidth t (amount_back width) × (amount_back width ≢ Some 0) × (is_above_limit (amount_back width) ≡ false)
@@ -67,76 +41,42 @@ no_precision t (Some (Given n)) e h = (h.0, small n h.1, refl)
 no_precision t (Some (Fetched number)) e h = cc
 
 -- its conversion and modifier are of the profile
-record IsOfProfile (s : PosixSpecification) : Type 0 where
-  conv : Conv
-  length : Length
-  conversion_is : s.conversion ≡ Profile conv
-  modifier_is : s.modifier ≡ Integer length
-
-of_profile : (s : PosixSpecification) → IsPosixDefined s → is_outside s.conversion s.modifier ≡ false → IsOfProfile s
-of_profile s d e = go s.conversion s.modifier refl refl e
-    (no_reason s.flags (is_some s.width) (is_some s.precision) s.modifier s.conversion d).modifier_is where
-      go : (c : Conversion) (m : Modifier) → s.conversion ≡ c → s.modifier ≡ m → is_outside c m ≡ false → not (takes_modifier c m) ≡ false → IsOfProfile s
-      go (Profile conv) (Integer length) a b e f = record { conv = conv; length = length; conversion_is = a; modifier_is = b }
-      go (Profile conv) LongDouble a b e f = cc
-      go (Float floating) m a b e f = cc
-      go UpperC m a b e f = cc
-      go UpperS m a b e f = cc
-      go Pointer m a b e f = cc
-      go Count m a b e f = cc
-
-narrowed_defined : (flags : FlagSet) (width precision : Option ℕ) (given : Bool) (length : Length) (conv : Conv) → width ≢ Some 0 → is_above_limit width ≡ false
-    → is_above_limit precision ≡ false → is_some precision ≡ given → (is_text conv && is_long length) ≡ false
-    → (has flags Alt && not (has_alternative_form conv)) ≡ false → (has flags Zero && not (not (is_text conv))) ≡ false
-    → (has flags Group && not (is_decimal conv)) ≡ false → (given && not (not (is_char conv))) ≡ false
-    → not (not (is_text conv) || is_absent length || is_long length) ≡ false
-    → IsDefined (record { flags = flags; width = width; precision = precision; length = length; conv = conv })
-narrowed_defined flags width precision given length conv some w p q wide alt zero_flag group prec modifier =
-    let a = turned (has_alternative_form conv) (has flags Alt) alt in
-    let b = twice (is_text conv) (has flags Zero) zero_flag in
-    let c = turned (is_decimal conv) (has flags Group) group in
-    let d : (is_char conv && is_some precision) ≡ false = ap (λ x. is_char conv && x) q ∙ twice (is_char conv) given prec in
-    let e = absent (is_text conv) (is_absent length) (is_long length) modifier wide in
-    record { width = some; allowed = rw (w, p, wide, a, b, c, d, e) refl }
-
-pub narrowed : (t : Text) (s : PosixSpecification) → SpellsPosix t s → IsPosixDefined s → s.position ≡ None → is_opaque s ≡ false
-    → IsReadAs t (Directive (narrow s))
-narrowed t s h d u e =
-    let three = either (is_star s.width) (is_star s.precision) (is_outside s.conversion s.modifier) e in
+narrowed_by : (t : Text) (position : Option ℕ) (flags : FlagSet) (width precision : Option Amount) (modifier : Modifier) (conversion : Conversion)
+    → SpellsPosix t (made position flags width precision modifier conversion)
+    → undefined_as flags (is_some width) (is_some precision) modifier conversion ≡ None
+    → position ≡ None → is_star width ≡ false → is_star precision ≡ false → is_outside conversion modifier ≡ false
+    → IsReadAs t (Directive (narrow (made position flags width precision modifier conversion)))
+narrowed_by t position flags width precision (Integer length) (Profile conv) h d u w p wide =
+    let s = made position flags width precision (Integer length) (Profile conv) in
     let parts = parts_of t s h u in
-    let is = of_profile s d three.2 in
-    let width = no_width parts.width s.width three.0 parts.width_is in
-    let precision = no_precision parts.precision s.precision three.1 parts.precision_is in
-    let none = no_reason s.flags (is_some s.width) (is_some s.precision) s.modifier s.conversion d in
-    let ce : s.conversion ≡ Profile (conv_back s.conversion) = is.conversion_is ∙ ap Profile (sym (ap conv_back is.conversion_is)) in
-    let me : s.modifier ≡ Integer (integer_length s.modifier) = is.modifier_is ∙ ap Integer (sym (ap integer_length is.modifier_is)) in
-    let letters : modifier_letters s.modifier ≡ length_letters (integer_length s.modifier) = ap modifier_letters me in
-    let letter : conversion_letter s.conversion ≡ conv_letter (conv_back s.conversion) = ap conversion_letter ce in
-    let f = map flag_byte parts.flags in
-    let fits : not (takes_modifier (Profile (conv_back s.conversion)) (Integer (integer_length s.modifier))) ≡ false =
-    subst (λ m. not (takes_modifier (Profile (conv_back s.conversion)) m) ≡ false) me
-    (subst (λ c. not (takes_modifier c s.modifier) ≡ false) ce none.modifier_is) in (
+    let given = no_width parts.width width w parts.width_is in
+    let digits = no_precision parts.precision precision p parts.precision_is in
+    let none = no_reason flags (is_some width) (is_some precision) (Integer length) (Profile conv) d in
+    let alt : (not (has_alternative_form conv) && has flags Alt) ≡ false = grind (arith, none.alt) in
+    let zero_flag : (is_text conv && has flags Zero) ≡ false = grind (arith, none.zero_flag) in
+    let group : (not (is_decimal conv) && has flags Group) ≡ false = grind (arith, none.group) in
+    let char : (is_char conv && is_some (amount_back precision)) ≡ false = grind (arith, digits.2, none.precision_is) in
+    let fits : (is_text conv && not (is_absent length)) ≡ false = grind (arith, none.modifier_is, wide) in (
       record {
         flags = parts.flags;
         width = parts.width;
         precision = parts.precision;
         flags_are = parts.set_is;
-        width_is = width.0;
-        precision_is = precision.0;
+        width_is = given.0;
+        precision_is = digits.0;
         whole = parts.whole
-            ∙ ap₂ (λ l c. 37 ∷ (f ++ (parts.width ++ (parts.precision ++ (l ++ c ∷ []))))) letters letter
-            ∙ ap (λ l. 37 ∷ l) (sym (regrouped f parts.width parts.precision (length_letters (integer_length s.modifier))
-            (conv_letter (conv_back s.conversion) ∷ [])));
+            ∙ ap (λ l. 37 ∷ l) (sym (regrouped (map flag_byte parts.flags) parts.width parts.precision (length_letters length) (conv_letter conv ∷ [])));
       },
-      narrowed_defined s.flags (amount_back s.width) (amount_back s.precision) (is_some s.precision) (integer_length s.modifier) (conv_back s.conversion)
-          width.1 width.2 precision.1 precision.2
-          (subst (λ c. is_outside c s.modifier ≡ false) ce three.2)
-          (subst (λ c. (has s.flags Alt && not (takes_alt c)) ≡ false) ce none.alt)
-          (subst (λ c. (has s.flags Zero && not (takes_zero c)) ≡ false) ce none.zero_flag)
-          (subst (λ c. (has s.flags Group && not (takes_group c)) ≡ false) ce none.group)
-          (subst (λ c. (is_some s.precision && not (takes_precision c)) ≡ false) ce none.precision_is)
-          fits,
+      record { width = given.1; allowed = rw (given.2, digits.1, wide, alt, zero_flag, group, char, fits) refl },
     )
+narrowed_by t position flags width precision LongDouble (Profile conv) h d u w p wide =
+    let fits = (no_reason flags (is_some width) (is_some precision) LongDouble (Profile conv) d).modifier_is in cc
+narrowed_by t position flags width precision modifier _ h d u w p wide = cc
+
+pub narrowed : (t : Text) (s : PosixSpecification) → SpellsPosix t s → IsPosixDefined s → s.position ≡ None → is_opaque s ≡ false
+    → IsReadAs t (Directive (narrow s))
+narrowed t s h d u e =
+    narrowed_by t s.position s.flags s.width s.precision s.modifier s.conversion h d u (grind (arith, e)) (grind (arith, e)) (grind (arith, e))
 
 -- one item more at the front
 pushed : (t u : Text) (item : Item) (a : Stretches) → IsReadAs t item → ReadsWhole u a → ReadsWhole (t ++ u) (push item a)

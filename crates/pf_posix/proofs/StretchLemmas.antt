@@ -1,10 +1,9 @@
 -- Stretches of a text, one after another.
-use Rattle.std.proofs.Common.{inl}
-use Rattle.std.proofs.Common.{◌≡◌, ◌≢◌, ℕ, zero, suc, ◌+◌, ◌-◌, ◌<◌, ◌≤◌, Bool, true, false, List, [], ◌∷◌, ◌++◌, drop, get_or, length, length-append, take}
-use Rattle.std.proofs.Common.{refl, sym, ap, ◌∙◌, arith, subst}
-use Rattle.std.specs.Prelude.{Some, None, MatchBool, ◌==◌}
+use Rattle.std.proofs.Common.{◌≡◌, ◌≢◌, ℕ, zero, suc, ◌+◌, ◌-◌, ◌<◌, ◌≤◌, true, false, List, [], ◌∷◌, ◌++◌, drop, get_or, length, length-append, take, refl, sym, ap}
+use Rattle.std.proofs.Common.{◌∙◌, arith, subst, Bool, ◌||◌}
+use Rattle.std.specs.Prelude.{Some, None, ◌==◌, if◌then◌else◌}
 use Rattle.std.specs.List.{AllByRecursion}
-use Rattle.std.proofs.lemmas.Bool.{eqb-true}
+use Rattle.std.proofs.lemmas.Bool.{ne_eqb}
 use Rattle.std.proofs.lemmas.Bool.Decides.{nat_tests}
 use Rattle.std.proofs.lemmas.List.{append_assoc, append-nil, drop_all, drop_more, get_or-drop, length-drop, take_at, take_rest}
 use Rattle.memchr.specs.Find.{Nowhere, Passes, is_byte2}
@@ -19,7 +18,7 @@ use Rattle.pf_posix.specs.Heads.{IsHead}
 use Rattle.pf_posix.specs.Items.{Byte as PosixByte, PosixItem, ReadsPosix, Specification as PosixDirective}
 use Rattle.pf_posix.specs.Opaque.{SpellsOpaque, is_opaque}
 use Rattle.pf_posix.specs.OpaqueParts.{parts_of_opaque}
-use Rattle.pf_posix.specs.PartsInText.{IsSpecificationAt}
+use Rattle.pf_posix.specs.PartsInText.{IsSpecificationAt, specification_read}
 use Rattle.pf_posix.specs.Halts.{BeginsNoneAfter}
 use Rattle.pf_posix.specs.declared.specifications.Numbering.TheVariants.{Undecided}
 use Rattle.pf_posix.specs.Specifications.{PosixSpecification}
@@ -27,13 +26,20 @@ use Rattle.pf_posix.specs.Spelling.{SpellsPosix}
 use Rattle.pf_posix.specs.Stretches.{Stretches, Last, Before, ReadsWhole}
 use Rattle.pf_posix.specs.StretchesInText.{IsFound, push, push_all}
 use Rattle.pf_posix.specs.Unnumbered.{IsUnnumbered}
-use Rattle.pf_posix.proofs.KeptTypes.{posix_reads, unnumbered}
+use Rattle.pf_posix.proofs.KeptTypes.{flat, posix_reads, unnumbered}
 use Rattle.pf_posix.proofs.Narrowed.{narrowed, reads_whole}
-use Rattle.pf_posix.proofs.FoundLemmas.{same_there, unnumbered_parts}
-use Rattle.pf_posix.proofs.PartLemmas.{bool_no, head_at}
-use Rattle.pf_posix.proofs.ReadOnce.{flat, narrow, push_all-before, push_all-last, pushed_or, read_once, stretched, stretches_back}
-use Rattle.pf_posix.proofs.SpecificationsOnce.{begins_no_percent, parts_of}
-use Rattle.pf_posix.proofs.WalkLemmas.{literal}
+use Rattle.pf_posix.proofs.DirectiveLemmas.{percent_split, some_specification}
+use Rattle.pf_posix.proofs.ItemsOnce.{HasText, first_item}
+use Rattle.pf_posix.proofs.SpecificationsOnce.{parted, unnumbered_parts}
+use Rattle.pf_posix.proofs.ReadOnce.{narrow, push_all-before, push_all-last, pushed_or, read_once, stretched, stretches_back}
+
+-- a byte that doesn't end a run of literal ones
+literal : (byte : ℕ) → is_byte2 37 0 byte ≢ true → ((byte == 0) ≡ false) × ((byte == 37) ≡ false)
+literal byte h = go (byte == 37) (byte == 0) refl refl h where
+  go : (a b : Bool) → (byte == 37) ≡ a → (byte == 0) ≡ b → (a || b) ≢ true → ((byte == 0) ≡ false) × ((byte == 37) ≡ false)
+  go true b e f h = absurd (h refl)
+  go false true e f h = absurd (h refl)
+  go false false e f h = (f, e)
 
 -- the rest of a text after its first item, which is before the stretches of the rest
 record Rest (item : Item) (more : Text) (left : Stretches) : Type 0 where
@@ -41,103 +47,15 @@ record Rest (item : Item) (more : Text) (left : Stretches) : Type 0 where
   reads : ReadsWhole more later
   whole : left ≡ push item later
 
--- a text that begins with a byte other than `%`
-byte_items : (byte : ℕ) (more : Text) (items : List PosixItem) → (byte == 37) ≡ false → ReadsPosix (byte ∷ more) items → AllByRecursion IsUnnumbered items
-    → (byte ≢ 0) × Rest (Byte byte) more (stretched items)
-byte_items byte more [] other h u = cc
-byte_items byte more (PosixDirective s ∷ items) other h u =
-    let parts = parts_of h.0 s h.2.0 u.0 in
-    let split : byte ∷ more ≡ 37 ∷ _ = h.4 ∙ ap (λ t. t ++ h.1) parts.whole in
-    let first : byte ≡ 37 = cc in
-    let yes : (byte == 37) ≡ true = ap (λ b. b == 37) first in
-    absurd (bool_no yes other)
-byte_items byte more (PosixByte x ∷ items) other h u = go (x == 37) h.2 where
-  go : (b : Bool) → MatchBool b (h.0 ≡ 37 ∷ 37 ∷ []) ((x ≢ 0) × (h.0 ≡ x ∷ [])) → (byte ≢ 0) × Rest (Byte byte) more (stretched (PosixByte x ∷ items))
-  go true e =
-      let split : byte ∷ more ≡ 37 ∷ (37 ∷ h.1) = h.4 ∙ ap (λ t. t ++ h.1) e in
-      let first : byte ≡ 37 = cc in
-      let yes : (byte == 37) ≡ true = ap (λ b. b == 37) first in
-      absurd (bool_no yes other)
-  go false e =
-      let split : byte ∷ more ≡ x ∷ h.1 = h.4 ∙ ap (λ t. t ++ h.1) e.1 in
-      let first : byte ≡ x = cc in
-      let rest : more ≡ h.1 = cc in (
-        λ zero. e.0 (sym first ∙ zero),
-        record {
-          later = stretched items;
-          reads = reads_whole more items (subst (λ t. ReadsPosix t items) (sym rest) h.3) u.1;
-          whole = ap (λ b. push (Byte b) (stretched items)) (sym first);
-        },
-      )
-
--- and one that begins with `%%`
-percent_items : (more : Text) (items : List PosixItem) → ReadsPosix (37 ∷ 37 ∷ more) items → AllByRecursion IsUnnumbered items
-    → Rest (Byte 37) more (stretched items)
-percent_items more [] h u = cc
-percent_items more (PosixDirective s ∷ items) h u =
-    let parts = parts_of h.0 s h.2.0 u.0 in
-    let begins = begins_no_percent h.0 s h.2.0 in
-    let split : 37 ∷ 37 ∷ more ≡ 37 ∷ (begins.0 ∷ (begins.1 ++ h.1)) = h.4 ∙ ap (λ t. t ++ h.1) begins.3 in
-    let second : begins.0 ≡ 37 = cc in
-    let yes : (begins.0 == 37) ≡ true = ap (λ b. b == 37) second in
-    absurd (bool_no yes begins.2)
-percent_items more (PosixByte x ∷ items) h u = go (x == 37) refl h.2 where
-  go : (b : Bool) → (x == 37) ≡ b → MatchBool b (h.0 ≡ 37 ∷ 37 ∷ []) ((x ≢ 0) × (h.0 ≡ x ∷ [])) → Rest (Byte 37) more (stretched (PosixByte x ∷ items))
-  go true t e =
-      let split : 37 ∷ 37 ∷ more ≡ 37 ∷ (37 ∷ h.1) = h.4 ∙ ap (λ t. t ++ h.1) e in
-      let rest : more ≡ h.1 = cc in
-      record {
-        later = stretched items;
-        reads = reads_whole more items (subst (λ t. ReadsPosix t items) (sym rest) h.3) u.1;
-        whole = ap (λ b. push (Byte b) (stretched items)) (eqb-true x 37 t);
-      }
-  go false t e =
-      let split : 37 ∷ 37 ∷ more ≡ x ∷ h.1 = h.4 ∙ ap (λ t. t ++ h.1) e.1 in
-      let first : x ≡ 37 = cc in
-      let yes : (x == 37) ≡ true = ap (λ b. b == 37) first in
-      absurd (bool_no yes t)
-
--- a text that begins with `%`, and not with `%%`, begins with a specification
-record FirstDirective (t : Text) (left : Stretches) : Type 0 where
-  s : PosixSpecification
-  first : Text
-  rest : Text
-  later : Stretches
-  spelled : SpellsPosix first s
-  defined : IsPosixDefined s
-  unnumbered_is : s.position ≡ None
-  split : t ≡ first ++ rest
-  reads : ReadsWhole rest later
-  whole : left ≡ pushed_or (is_opaque s) s later
-
-directive_items : (more : Text) (items : List PosixItem) → ((back : Text) → more ≡ 37 ∷ back → ⊥) → ReadsPosix (37 ∷ more) items
-    → AllByRecursion IsUnnumbered items
-    → FirstDirective (37 ∷ more) (stretched items)
-directive_items more [] other h u = cc
-directive_items more (PosixDirective s ∷ items) other h u =
-    record {
-      s = s;
-      first = h.0;
-      rest = h.1;
-      later = stretched items;
-      spelled = h.2.0;
-      defined = h.2.1;
-      unnumbered_is = u.0;
-      split = h.4;
-      reads = reads_whole h.1 items h.3 u.1;
-      whole = refl;
-    }
-directive_items more (PosixByte x ∷ items) other h u = go (x == 37) refl h.2 where
-  go : (b : Bool) → (x == 37) ≡ b → MatchBool b (h.0 ≡ 37 ∷ 37 ∷ []) ((x ≢ 0) × (h.0 ≡ x ∷ [])) → FirstDirective (37 ∷ more) (stretched (PosixByte x ∷ items))
-  go true t e =
-      let split : 37 ∷ more ≡ 37 ∷ (37 ∷ h.1) = h.4 ∙ ap (λ t. t ++ h.1) e in
-      let back : more ≡ 37 ∷ h.1 = cc in
-      absurd (other h.1 back)
-  go false t e =
-      let split : 37 ∷ more ≡ x ∷ h.1 = h.4 ∙ ap (λ t. t ++ h.1) e.1 in
-      let first : x ≡ 37 = cc in
-      let yes : (x == 37) ≡ true = ap (λ b. b == 37) first in
-      absurd (bool_no yes t)
+-- a text that begins with a byte, which is no NUL
+byte_items : (byte : ℕ) (first more : Text) (items : List PosixItem) → HasText (PosixByte byte) first → ReadsPosix (first ++ more) items
+    → AllByRecursion IsUnnumbered items → ((byte == 37) ≡ false → byte ≢ 0) × Rest (Byte byte) more (stretched items)
+byte_items byte first more items text h u =
+    let front = first_item (PosixByte byte) first more items text h in
+    let left = subst (AllByRecursion IsUnnumbered) front.items_are u in (
+      λ other. (rw other at front.spelled).0,
+      record { later = stretched front.later; reads = reads_whole more front.later front.reads left.1; whole = ap stretched front.items_are },
+    )
 
 -- what holds of the stretches that items make holds of those that a text is read as
 flat_read : (P : Stretches → Type 0) (t : Text) (left : Stretches) → ReadsWhole t left
@@ -202,9 +120,10 @@ module _ (t : Text) where
   one_byte at left less other h =
       let byte = get_or t at 0 in
       let more = drop (at + 1) t in
-      let here : drop at t ≡ byte ∷ more = drop_more t at 0 less in
-      flat_read (λ l. (byte ≢ 0) × Rest (Byte byte) more l) (byte ∷ more) left (subst (λ u. ReadsWhole u left) here h)
-      (λ items g u. byte_items byte more items other g u)
+      let text : byte ∷ [] ≡ (if byte == 37 then 37 ∷ 37 ∷ [] else byte ∷ []) = rw other refl in
+      let r = flat_read (λ l. ((byte == 37) ≡ false → byte ≢ 0) × Rest (Byte byte) more l) (byte ∷ more) left
+      (subst (λ u. ReadsWhole u left) (drop_more t at 0 less) h) (λ items g u. byte_items byte (byte ∷ []) more items text g u) in
+      (r.0 other, r.1)
 
   found_byte : (at : ℕ) (left : Stretches) → at < length t → (get_or t at 0 == 37) ≡ false → ReadsWhole (drop at t) left
       → IsFound t at left (found.Items (at + 1))
@@ -248,85 +167,82 @@ module _ (t : Text) where
       let same : get_or (take (length t - at) (drop at t)) 0 0 ≡ byte = ap (λ u. get_or u 0 0) (take_rest t at) ∙ get_or-drop at t 0 0
       ∙ ap (λ k. get_or t k 0) here in
       let test : is_byte2 37 0 byte ≡ true = ap (is_byte2 37 0) (sym same) ∙ passes in
-      let no = no_percent byte other in
-      (one_byte at left less no h).0 (only_zero byte no test) where
-        no_percent : (byte : ℕ) → byte ≢ 37 → (byte == 37) ≡ false
-        no_percent byte n = grind (arith, nat_tests)
-
-        only_zero : (byte : ℕ) → (byte == 37) ≡ false → is_byte2 37 0 byte ≡ true → byte ≡ 0
-        only_zero byte n e = grind (arith, nat_tests)
+      let no : (byte == 37) ≡ false = ne_eqb byte 37 other in
+      (one_byte at left less no h).0 (grind (arith, nat_tests, test, no))
 
   -- `%%`
   pub found_percent : (at : ℕ) → get_or t at 0 ≡ 37 → (get_or t (at + 1) 0 == 37) ≡ true → at + 1 < length t → (left : Stretches) → ReadsWhole (drop at t) left
       → IsFound t at left (found.Items (at + 2))
   found_percent at first second less left h =
-      let is : get_or t (at + 1) 0 ≡ 37 = eqb-true (get_or t (at + 1) 0) 37 second in
-      let next : at + 1 + 1 ≡ at + 2 = omega arith in
-      let split : drop at t ≡ 37 ∷ 37 ∷ drop (at + 2) t =
-      drop_more t at 0 (omega (arith, less)) ∙ ap (λ b. b ∷ drop (at + 1) t) first
-      ∙ ap (λ u. 37 ∷ u) (drop_more t (at + 1) 0 less ∙ ap (λ b. b ∷ drop (at + 1 + 1) t) is ∙ ap (λ k. 37 ∷ drop k t) next) in
+      let split = percent_split t at first second less in
       let r = flat_read (Rest (Byte 37) (drop (at + 2) t)) (37 ∷ 37 ∷ drop (at + 2) t) left (subst (λ u. ReadsWhole u left) split h)
-      (λ items g u. percent_items (drop (at + 2) t) items g u) in
+      (λ items g u. (byte_items 37 (37 ∷ 37 ∷ []) (drop (at + 2) t) items refl g u).1) in
       (Byte 37 ∷ [], 37 ∷ 37 ∷ [], r.later, (37 ∷ 37 ∷ [], [], refl, refl, refl), r.reads, split, r.whole)
 
   module _ (at : ℕ) (less : at < length t) (first : get_or t at 0 ≡ 37) (second : (get_or t (at + 1) 0 == 37) ≡ false) (left : Stretches)
       (h : ReadsWhole (drop at t) left) where
-    here : drop at t ≡ 37 ∷ drop (at + 1) t
-    here = drop_more t at 0 less ∙ ap (λ b. b ∷ drop (at + 1) t) first
-
-    no_second : (back : Text) → drop (at + 1) t ≡ 37 ∷ back → ⊥
-    no_second back e =
-        let yes : (get_or t (at + 1) 0 == 37) ≡ true = ap (λ b. b == 37) (head_at t (at + 1) 37 back e) in
-        bool_no yes second
-
-    directive_there : FirstDirective (37 ∷ drop (at + 1) t) left
-    directive_there = flat_read (FirstDirective (37 ∷ drop (at + 1) t)) (37 ∷ drop (at + 1) t) left (subst (λ u. ReadsWhole u left) here h)
-        (λ items g u. directive_items (drop (at + 1) t) items no_second g u)
-
     pub no_specification : BeginsNoneAfter Undecided (drop at t) → ⊥
-    no_specification g = let d = directive_there in g d.first d.rest d.s d.spelled (here ∙ d.split) (inl refl) d.defined
+    no_specification g = some_specification t at less (flat left) (posix_reads (drop at t) left h) first second g
 
     module _ (read : Specification) (stop : ℕ) (g : IsSpecificationAt t at (read, stop)) where
-      read_there : (parts_of_opaque read.parts ≡ FirstDirective.s directive_there) × (drop stop t ≡ FirstDirective.rest directive_there)
-      read_there =
-          let d = directive_there in
-          let same = same_there t at (read, stop) g d.first d.rest d.s d.spelled (here ∙ d.split) in
-          let unnumbered = ap PosixSpecification.position same.0 ∙ d.unnumbered_is in
-          (unnumbered_parts d.first read (subst (SpellsPosix d.first) (sym same.0) d.spelled) unnumbered ∙ same.0, same.1)
-
       abbrev directive : OpaqueDirective
       directive = read.parts
 
+      abbrev s : PosixSpecification
+      s = specification_read read
+
+      abbrev bytes : Text
+      bytes = take (stop - at) (drop at t)
+
+      -- the specification that was read, and the stretches after it
+      record FirstDirective (made : Stretches) : Type 0 where
+        later : Stretches
+        defined : IsPosixDefined s
+        unnumbered_is : s.position ≡ None
+        reads : ReadsWhole (drop stop t) later
+        whole : made ≡ pushed_or (is_opaque s) s later
+
+      split : drop at t ≡ bytes ++ drop stop t
+      split = parted t at stop (omega (arith, g.some))
+
+      there : FirstDirective left
+      there = flat_read FirstDirective (bytes ++ drop stop t) left (subst (λ u. ReadsWhole u left) split h) (λ items reads u.
+          let front = first_item (PosixDirective s) bytes (drop stop t) items g.spelled reads in
+          let all = subst (AllByRecursion IsUnnumbered) front.items_are u in
+          record {
+            later = stretched front.later;
+            defined = front.spelled.1;
+            unnumbered_is = all.0;
+            reads = reads_whole (drop stop t) front.later front.reads all.1;
+            whole = ap stretched front.items_are;
+          })
+
+      same : s ≡ parts_of_opaque directive
+      same = sym (unnumbered_parts bytes read g.spelled there.unnumbered_is)
+
       pub found_opaque : is_opaque (parts_of_opaque directive) ≡ true → IsFound t at left (found.Opaque directive stop)
-      found_opaque o =
-          let d = directive_there in
-          let r = read_there in
-          let s = parts_of_opaque directive in
-          let same : d.s ≡ s = sym r.0 in
-          let opaque : is_opaque d.s ≡ true = ap is_opaque same ∙ o in (
-            d.first,
-            d.later,
-            record {
-              spelled = subst (SpellsPosix d.first) same d.spelled;
-              defined = subst IsPosixDefined same d.defined;
-              unnumbered = refl;
-              opaque = o;
-            },
-            subst (λ u. ReadsWhole u d.later) (sym r.1) d.reads,
-            here ∙ d.split ∙ ap (λ u. d.first ++ u) (sym r.1),
-            d.whole ∙ ap (λ b. pushed_or b d.s d.later) opaque ∙ ap (λ x. Before [] x d.later) same,
-          )
+      found_opaque o = (
+        bytes,
+        there.later,
+        record {
+          spelled = subst (SpellsPosix bytes) same g.spelled;
+          defined = subst IsPosixDefined same there.defined;
+          unnumbered = refl;
+          opaque = o;
+        },
+        there.reads,
+        split,
+        there.whole ∙ ap (λ b. pushed_or b s there.later) (ap is_opaque same ∙ o) ∙ ap (λ x. Before [] x there.later) same,
+      )
 
       pub found_directive : is_opaque (parts_of_opaque directive) ≡ false → IsFound t at left (found.Items stop)
       found_directive o =
-          let d = directive_there in
-          let r = read_there in
-          let opaque : is_opaque d.s ≡ false = ap is_opaque (sym r.0) ∙ o in (
-            Directive (narrow d.s) ∷ [],
-            d.first,
-            d.later,
-            (d.first, [], narrowed d.first d.s d.spelled d.defined d.unnumbered_is opaque, refl, sym (append-nil d.first)),
-            subst (λ u. ReadsWhole u d.later) (sym r.1) d.reads,
-            here ∙ d.split ∙ ap (λ u. d.first ++ u) (sym r.1),
-            d.whole ∙ ap (λ b. pushed_or b d.s d.later) opaque,
+          let opaque : is_opaque s ≡ false = ap is_opaque same ∙ o in (
+            Directive (narrow s) ∷ [],
+            bytes,
+            there.later,
+            (bytes, [], narrowed bytes s g.spelled there.defined there.unnumbered_is opaque, refl, sym (append-nil bytes)),
+            there.reads,
+            split,
+            there.whole ∙ ap (λ b. pushed_or b s there.later) opaque,
           )

@@ -1,4 +1,5 @@
--- Where and why a specification can't go on, as the code reads it part by part. No public contract names these.
+-- At which byte a specification is refused, and why, as the code reads it part by part. No public contract names
+-- these.
 use Rattle.std.specs.Prelude.{◌≡◌, ℕ, ◌-◌, ◌<◌, ◌≤◌, true, List, [], ◌∷◌, ◌++◌, drop, get_or, is_some, length, Option, Some, None, ◌⊎◌, ◌==◌, if◌then◌else◌, ⊤}
 use Rattle.pf_values.specs.declared.flags.FlagSet.{FlagSet}
 use Rattle.pf_values.specs.declared.models.Model.{Model}
@@ -62,7 +63,7 @@ BeginsNoneAfter numbering t = (text rest : Text) (s : PosixSpecification) → Sp
 -- so the text halts after its `%`
 abbrev pub HaltsAtPosition : Text → ℕ → Numbering → Refusal → Type 0
 HaltsAtPosition t start numbering refusal = (begin : ℕ) → HasBytes t begin start (percent ∷ [])
-    → IsHalt t begin numbering None [] refusal × BeginsNoneAfter numbering (drop begin t)
+    → IsHalt t begin numbering None [] refusal
 
 -- after the flags
 abbrev pub HaltsAtWidth : Text → ℕ → Option ℕ → Refusal → Type 0

@@ -22,5 +22,4 @@ pub mod StretchesInText
 pub mod ListComparisons
 pub mod Directives
 pub mod DirectivesInText
-pub mod Within
 pub mod Plain

@@ -165,8 +165,8 @@ fn put_any(
     }
 }
 
-// The arguments of a format, or its refusal. After a front of this many without numbers, a walk is at a specification
-// that is numbered or refused.
+// The arguments of a format, or its refusal. The walk has come over items that take `count` arguments, none of them by
+// number, and is at a specification that has a number or is refused.
 #[inline(never)]
 fn other_arguments(
     model: Model,

@@ -5,10 +5,11 @@ ghost use Rattle.pf_values.specs.declared.refusals.RefusalKind.TheVariants.{Unex
 ghost use Rattle.pf_values.specs.meaning.Text.{Text, percent, point};
 ghost use Rattle.pf_text.specs.Offsets.{HasBytes};
 ghost use Rattle.pf_text.specs.States.{is_digit};
+ghost use Rattle.pf_posix.specs.Letters.{conversion_of};
 ghost use Rattle.pf_posix.specs.OpaqueParts.{amount_at};
 ghost use Rattle.pf_posix.specs.Specifications.{conversion_letter, modifier_letters};
 ghost use Rattle.pf_posix.specs.Spelling.{SpellsPosition, SpellsPosixPrecision, SpellsPosixWidth};
-ghost use Rattle.pf_posix.specs.PartsInText.{ConversionIs, IsAfterPoint, IsFirstWidth, ModifierEnds, ModifierGoesOn, ModifierIs, NumbersStar, PositionIs, PrecisionEnds, PrecisionIs, StarIs, WidthEnds, WidthIs, second_modifier};
+ghost use Rattle.pf_posix.specs.PartsInText.{IsFirstWidth, ModifierEnds, NumbersStar, PrecisionEnds, WidthEnds, second_modifier};
 ghost use Rattle.pf_posix.specs.Halts.{FollowsBy, HaltsAtPoint, HaltsAtPosition, HaltsAtPrecision, HaltsAtStar, HaltsAtWidth, IsDefinedAt, IsReadAt, IsRefusedIn, IsStrayAt};
 
 use crate::conversions::{Conversion, Modifier};
@@ -53,7 +54,7 @@ pub(crate) struct Specification {
     pub(crate) stars: Stars,
 }
 
-/// Where and why a specification can't go on.
+/// The refusal of a specification, and what was read before it.
 #[derive(Clone, Copy, Debug)]
 pub(crate) struct Refused {
     /// The refusal.
@@ -215,7 +216,6 @@ fn position_at(
     requires within { start ≤ length text.now }
     requires other { get_or text.now start 0 ≢ percent }
     ensures bytes { IfOk result (λ read. (bytes : Text) × SpellsPosition bytes read.0 × HasBytes text.now start read.1 bytes) }
-    ensures position { IfOk result (λ read. PositionIs text.now start read.0 read.1) }
     ensures follows { IfOk result (λ read. FollowsBy numbering read.0) }
     ensures first { IfOk result (λ read. read.0 ≡ None → IsFirstWidth text.now start) }
     ensures halt { IfErr result (HaltsAtPosition text.now start numbering) }
@@ -254,7 +254,6 @@ fn star_number_at(
     requires within { start ≤ length text.now }
     ensures bytes { IfOk result (λ read. (bytes : Text) × SpellsPosition bytes read.0
         × (is_some read.0 ≡ is_some position) × HasBytes text.now start read.1 bytes) }
-    ensures number { StarIs text.now start position result }
     ensures ended { IfOk result (λ read. position ≡ None → is_digit (get_or text.now read.1 0) ≡ false) }
     ensures halt { IfErr result (HaltsAtStar text.now start position too_large) }
 {
@@ -288,7 +287,6 @@ fn width_at(
     requires within { start ≤ length text.now }
     ensures bytes { IfOk result (λ read. (bytes : Text) × SpellsPosixWidth bytes position (amount_at read.0 read.1)
         × HasBytes text.now start read.2 bytes) }
-    ensures width { WidthIs text.now start position result }
     ensures number { IfOk result (λ read. NumbersStar read.0 read.1) }
     ensures ended { IfOk result (λ read. WidthEnds text.now read.2 position read.0) }
     ensures halt { IfErr result (HaltsAtWidth text.now start position) }
@@ -320,7 +318,6 @@ fn precision_at(
     requires within { start ≤ length text.now }
     ensures bytes { IfOk result (λ read. (bytes : Text) × SpellsPosixPrecision bytes position (amount_at read.0 read.1)
         × HasBytes text.now start read.2 bytes) }
-    ensures precision { PrecisionIs text.now start position result }
     ensures number { IfOk result (λ read. NumbersStar read.0 read.1) }
     ensures ended { IfOk result (λ read. PrecisionEnds text.now start read.2 position read.0) }
     ensures halt { IfErr result (HaltsAtPrecision text.now start position) }
@@ -344,7 +341,6 @@ fn after_point(
     requires within { start ≤ length text.now }
     ensures bytes { IfOk result (λ read. (bytes : Text) × SpellsPosixPrecision (point ∷ bytes) position (amount_at (Some read.0) read.1)
         × HasBytes text.now start read.2 bytes) }
-    ensures amount { IsAfterPoint text.now start position result }
     ensures number { IfOk result (λ read. NumbersStar (Some read.0) read.1) }
     ensures ended { (before : ℕ) → start ≡ before + 1 → IfOk result (λ read. PrecisionEnds text.now before read.2 position (Some read.0)) }
     ensures halt { IfErr result (HaltsAtPoint text.now start position) }
@@ -392,7 +388,6 @@ fn has_digit(text: &[u8], at: usize) -> bool
 fn modifier_at(text: &[u8], start: usize) -> (Modifier, usize)
     requires { start ≤ length text.now }
     ensures letters { HasBytes text.now start result.1 (modifier_letters result.0) }
-    ensures modifier { ModifierIs text.now start result.0 result.1 }
     ensures ended { ModifierEnds text.now result.1 result.0 }
 {
     if start >= text.len() {
@@ -410,7 +405,6 @@ fn modifier_with(text: &[u8], start: usize, first: Modifier) -> (Modifier, usize
     requires { start ≤ length text.now }
     ensures letters { (bytes : Text) × (modifier_letters result.0 ≡ modifier_letters first ++ bytes)
         × HasBytes text.now start result.1 bytes }
-    ensures modifier { ModifierGoesOn text.now start first result.0 result.1 }
     ensures ended { second_modifier result.0 (get_or text.now result.1 0) ≡ None }
 {
     if start >= text.len() {
@@ -445,7 +439,7 @@ fn second_modifier(first: Modifier, byte: u8) -> Option<Modifier>
 fn conversion_at(text: &[u8], at: usize) -> Result<Conversion, Refusal>
     requires { at ≤ length text.now }
     ensures letter { IfOk result (λ conversion. HasBytes text.now at (at + 1) (conversion_letter conversion ∷ [])) }
-    ensures conversion { ConversionIs text.now at result }
+    ensures none { IfErr result (λ refusal. conversion_of (get_or text.now at 0) ≡ None) }
     ensures stray { IfErr result (IsStrayAt text.now at Unexpected) }
 {
     match text.get(at) {

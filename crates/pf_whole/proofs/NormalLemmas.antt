@@ -20,8 +20,8 @@ use Rattle.pf_posix.specs.Types.{conversion_type, counted_type, integer_length, 
 use Rattle.pf_posix.specs.Opaque.{is_opaque, is_outside, is_star}
 use Rattle.pf_posix.specs.Stretches.{types_of_opaque}
 use Rattle.pf_posix.proofs.SpecificationsOnce.{same_fields}
-use Rattle.pf_whole.specs.meaning.NormalSpellings.{given_precision, integer_modifier, is_general, is_given, is_integer, keeps_sign, kept_conversion}
-use Rattle.pf_whole.specs.meaning.NormalSpellings.{kept_flags, kept_modifier, normal_precision, meant_precision, normal_parts}
+use Rattle.pf_whole.specs.meaning.NormalSpellings.{given_precision, integer_modifier, is_general, is_given, is_integer, keeps_sign, kept_conversion, kept_flags}
+use Rattle.pf_whole.specs.meaning.NormalSpellings.{kept_modifier, normal_precision, meant_precision, normal_parts}
 
 -- conversions
 pub record SameConversion (before after : Conversion) : Type 0 where

@@ -14,11 +14,9 @@ use Rattle.pf_posix.specs.Defined.{IsPosixDefined, has_any_flag, is_count, takes
 use Rattle.pf_posix.specs.Specifications.{Amount, Given, Fetched, PosixSpecification}
 use Rattle.pf_posix.specs.Spelling.{SpellsPosition, SpellsPosix, SpellsPosixPrecision, SpellsPosixWidth, SpellsUpToPrecision}
 use Rattle.pf_posix.specs.Opaque.{SpellsOpaque}
-use Rattle.pf_posix.proofs.DefinedLemmas.{is_defined, no_reason}
-use Rattle.pf_posix.proofs.SpecificationsOnce.{HasParts, no_number, parts_of}
-use Rattle.pf_whole.specs.meaning.NormalSpellings.{is_given, is_integer, kept_conversion, kept_flags, kept_modifier}
-use Rattle.pf_whole.specs.meaning.NormalSpellings.{normal_precision, normal_parts, normal_spelling, posix_precision_spelled}
-use Rattle.pf_whole.specs.meaning.NormalSpellings.{posix_width_spelled}
+use Rattle.pf_posix.proofs.SpecificationsOnce.{is_defined, no_reason, HasParts, no_number, parts_of}
+use Rattle.pf_whole.specs.meaning.NormalSpellings.{is_given, is_integer, kept_conversion, kept_flags, kept_modifier, normal_precision, normal_parts, normal_spelling}
+use Rattle.pf_whole.specs.meaning.NormalSpellings.{posix_precision_spelled, posix_width_spelled}
 use Rattle.pf_whole.proofs.NormalLemmas.{fewer_some, less, modifier_stands, opaque_again, precision_same, same_conversion}
 
 none_placed : (number : Option ℕ) → number ≡ None → SpellsPosition [] number

@@ -1,6 +1,5 @@
 -- Examples of verdicts. Each of them computes.
-use Rattle.std.proofs.Common.{◌≡◌, ℕ, zero, suc, ◌<◌, List, [], ◌∷◌, ◌++◌, codes, length, refl, sym, ap, ◌∙◌, arith, inl, inr}
-use Rattle.std.proofs.Common.{subst}
+use Rattle.std.proofs.Common.{◌≡◌, ℕ, zero, suc, ◌<◌, List, [], ◌∷◌, ◌++◌, codes, length, refl, sym, ap, ◌∙◌, arith, inl, inr, subst}
 use Rattle.std.specs.Prelude.{Option, Some, None, Contains, slice_index, slice_get, pos, negsuc}
 use Rattle.std.specs.Fmt.{digits}
 use Rattle.pf_values.specs.declared.conversions.Conv.{Conv}
@@ -28,8 +27,7 @@ use Rattle.pf_posix.specs.declared.conversions.Modifier.TheVariants.{Integer}
 use Rattle.pf_posix.specs.Types.{int_type}
 use Rattle.pf_posix.specs.Specifications.{PosixSpecification}
 use Rattle.pf_posix.specs.Stretches.{Stretches, Last, Before, ReadsWhole}
-use Rattle.pf_whole.specs.Answers.{Different, DirectivesDiffer, IsWholeProbe, IsWholeVerdict, StretchesAgree, TellStretches}
-use Rattle.pf_whole.specs.Answers.{TracesTogether, TypesDiffer}
+use Rattle.pf_whole.specs.Answers.{Different, DirectivesDiffer, IsWholeProbe, IsWholeVerdict, StretchesAgree, TellStretches, TracesTogether, TypesDiffer}
 use Rattle.pf_whole.specs.Laws.{PlacedCall}
 use Rattle.pf_whole.specs.meaning.WholeArguments.{narrowed}
 use Rattle.pf_whole.proofs.Telling.{telling_is_apart}

@@ -1,5 +1,5 @@
 use Rattle.std.proofs.Common.{◌<◌, ◌≤◌, ap, length, arith, ◌∙◌}
-use Rattle.pf_posix.proofs.OrderLemmas.{filled_full, filled_set, length_filled}
+use Rattle.pf_posix.proofs.ListLemmas.{filled_full, filled_set, length_filled}
 use Rattle.pf_posix.proofs.argument_types.put.Goals as goal
 
 pub returns-then-index-out-clause-filled : goal.returns-then-index-out-clause-filled

@@ -1,5 +1,5 @@
 use Rattle.std.proofs.Common.{◌∙◌, arith, sym}
-use Rattle.pf_posix.proofs.OrderedTypes.{all_same, compared_none, next_differ, next_same, one_shorter}
+use Rattle.pf_posix.proofs.DifferenceLemmas.{all_same, compared_none, next_differ, next_same, one_shorter}
 use Rattle.pf_posix.proofs.comparison.difference_in_order.Goals as goal
 
 pub loop-index-init : goal.loop-index-init

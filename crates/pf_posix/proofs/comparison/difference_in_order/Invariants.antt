@@ -1,5 +1,5 @@
 use Rattle.std.proofs.Common.{◌-◌}
-use Rattle.pf_posix.proofs.OrderedTypes.{AreComparedTo}
+use Rattle.pf_posix.proofs.DifferenceLemmas.{AreComparedTo}
 use Rattle.pf_posix.proofs.comparison.difference_in_order.Given as goal
 
 abbrev pub invariant-loop-index : goal.invariant-loop-index

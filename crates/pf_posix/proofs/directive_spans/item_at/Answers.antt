@@ -1,5 +1,6 @@
 use Rattle.std.proofs.Common.{refl, sym}
-use Rattle.pf_posix.proofs.DirectiveLemmas.{item_byte, item_percent, item_specification, listed_byte, listed_percent, listed_specification, other_byte, some_specification}
+use Rattle.pf_posix.proofs.DirectiveLemmas.{item_byte, item_percent, item_specification, listed_byte, listed_percent, listed_specification, other_byte}
+use Rattle.pf_posix.proofs.DirectiveLemmas.{some_specification}
 use Rattle.pf_posix.proofs.directive_spans.item_at.Goals as goal
 
 pub returns-then-text-at-ne37-clause-listed : goal.returns-then-text-at-ne37-clause-listed

@@ -1,4 +1,4 @@
-use Rattle.pf_posix.proofs.DirectivesOnce.{directives_once}
+use Rattle.pf_posix.proofs.ListLemmas.{directives_once}
 use Rattle.pf_posix.proofs.laws.directives_once.Goals as goal
 
 pub returns : goal.returns

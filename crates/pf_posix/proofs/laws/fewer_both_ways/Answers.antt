@@ -1,4 +1,4 @@
-use Rattle.pf_posix.proofs.BeginningLemmas.{fewer_both_ways}
+use Rattle.pf_posix.proofs.DifferenceLemmas.{fewer_both_ways}
 use Rattle.pf_posix.proofs.laws.fewer_both_ways.Goals as goal
 
 pub returns : goal.returns

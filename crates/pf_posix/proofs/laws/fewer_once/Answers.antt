@@ -1,4 +1,4 @@
-use Rattle.pf_posix.proofs.BeginningLemmas.{fewer_once}
+use Rattle.pf_posix.proofs.DifferenceLemmas.{fewer_once}
 use Rattle.pf_posix.proofs.laws.fewer_once.Goals as goal
 
 pub returns : goal.returns

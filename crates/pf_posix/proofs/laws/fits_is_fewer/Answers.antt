@@ -1,4 +1,4 @@
-use Rattle.pf_posix.proofs.BeginningLemmas.{fits_is_fewer}
+use Rattle.pf_posix.proofs.DifferenceLemmas.{fits_is_fewer}
 use Rattle.pf_posix.proofs.laws.fits_is_fewer.Goals as goal
 
 pub returns : goal.returns

@@ -1,4 +1,4 @@
-use Rattle.pf_posix.proofs.UnnumberedEnds.{judged}
+use Rattle.pf_posix.proofs.UnnumberedVerdicts.{judged}
 use Rattle.pf_posix.proofs.laws.judged_unnumbered.Goals as goal
 
 pub returns : goal.returns

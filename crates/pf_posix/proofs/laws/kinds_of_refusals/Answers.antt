@@ -1,4 +1,4 @@
-use Rattle.pf_posix.proofs.KindLemmas.{numbered_kind, unnumbered_kind}
+use Rattle.pf_posix.proofs.Unique.{numbered_kind, unnumbered_kind}
 use Rattle.pf_posix.proofs.laws.kinds_of_refusals.Goals as goal
 
 pub returns-clause-numbered : goal.returns-clause-numbered

@@ -1,4 +1,4 @@
-use Rattle.pf_posix.proofs.Profile.{profile_fits}
+use Rattle.pf_posix.proofs.KeptTypes.{profile_fits}
 use Rattle.pf_posix.proofs.laws.same_fits.Goals as goal
 
 pub returns : goal.returns

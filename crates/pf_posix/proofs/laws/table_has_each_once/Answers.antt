@@ -1,4 +1,4 @@
-use Rattle.pf_posix.proofs.EachOnce.{each_type}
+use Rattle.pf_posix.proofs.Agreeing.{each_type}
 use Rattle.pf_posix.proofs.laws.table_has_each_once.Goals as goal
 
 pub returns : goal.returns

@@ -1,14 +1,9 @@
-use Rattle.std.proofs.Common.{◌+◌, Err, Ok, refl, sym, ◌++◌, ◌∷◌, []}
+use Rattle.std.proofs.Common.{◌+◌, refl, sym, ◌++◌, ◌∷◌, []}
 use Rattle.pf_posix.specs.Types.{star_fetches}
 use Rattle.pf_text.proofs.SpecificationLemmas.{bytes_join, bytes_one}
 use Rattle.pf_posix.proofs.HaltLemmas.{point_halts}
-use Rattle.pf_posix.proofs.PartLemmas.{byte_is, point_bytes, point_given, point_over, point_star}
+use Rattle.pf_posix.proofs.PartLemmas.{byte_is, point_bytes}
 use Rattle.pf_posix.proofs.specifications.after_point.Goals as goal
-
-pub returns-in-Err-clause-amount : goal.returns-in-Err-clause-amount
-returns-in-Err-clause-amount c =
-    let star = c.if-has_byte.ensures in
-    point_star c.args.text.now c.args.start c.args.position (Err c.in-Err.refusal) (sym star.same) (star.within refl) c.in-Err.ensures.number
 
 pub returns-in-Err-clause-halt : goal.returns-in-Err-clause-halt
 returns-in-Err-clause-halt c = λ begin numbering before set width h spelled follows.
@@ -19,30 +14,10 @@ returns-in-Err-clause-halt c = λ begin numbering before set width h spelled fol
     (bytes_join t begin start (start + 1) (before ++ 46 ∷ []) (42 ∷ []) h (bytes_one t start 42 (star.within refl) (byte_is t start 42 (sym star.same))))
     (before, set, width, spelled, refl, refl) follows
 
-pub returns-in-Ok-clause-amount : goal.returns-in-Ok-clause-amount
-returns-in-Ok-clause-amount c =
-    let star = c.if-has_byte.ensures in
-    let read = c.in-Ok in
-    point_star c.args.text.now c.args.start c.args.position (Ok (read.number, read.stop)) (sym star.same) (star.within refl) read.ensures.number
-
-pub returns-then-has_digit-clause-amount : goal.returns-then-has_digit-clause-amount
-returns-then-has_digit-clause-amount c =
-    let number = c.digits_at-number in
-    let digit = c.if-has_digit.ensures in
-    point_over c.args.text.now c.args.start c.args.position number.result.0 number.result.1 (sym c.if-has_byte.ensures.same) number.ensures.small
-    number.ensures.digits number.ensures.ended (sym digit.same) (digit.within refl) c.refusal.result
-
 pub returns-clause-bytes : goal.returns-clause-bytes
 returns-clause-bytes c =
     let number = c.digits_at-number in
-    point_bytes c.args.text.now c.args.start c.args.position number.result.0 number.result.1 (sym c.if-has_byte.ensures.same) number.ensures.small
-    number.ensures.digits number.ensures.ended
-
-pub returns-clause-amount : goal.returns-clause-amount
-returns-clause-amount c =
-    let number = c.digits_at-number in
-    point_given c.args.text.now c.args.start c.args.position number.result.0 number.result.1 (sym c.if-has_byte.ensures.same) number.ensures.small
-    number.ensures.digits number.ensures.ended (sym c.if-has_digit.ensures.same)
+    point_bytes c.args.text.now c.args.start c.args.position number.result.0 number.result.1 number.ensures.small number.ensures.digits
 
 pub returns-then-has_digit-clause-halt : goal.returns-then-has_digit-clause-halt
 returns-then-has_digit-clause-halt c = λ begin numbering before set width h spelled follows.

@@ -1,7 +1,7 @@
 use Rattle.std.proofs.Common.{refl, sym, []}
 use Rattle.pf_text.proofs.SpecificationLemmas.{bytes_none}
 use Rattle.pf_posix.proofs.HaltLemmas.{may_be_numbered, may_be_unnumbered, position_missing, position_mixed, position_open, position_over}
-use Rattle.pf_posix.proofs.PartLemmas.{dollar_missing, first_width, no_numeral, no_position, number_missing, position_read}
+use Rattle.pf_posix.proofs.PartLemmas.{first_width, number_missing, position_read}
 use Rattle.pf_posix.proofs.specifications.position_at.Goals as goal
 
 pub returns-in-Numbered-clause-halt : goal.returns-in-Numbered-clause-halt
@@ -19,9 +19,8 @@ returns-in_default-numbering c =
     let ended = rw c.in_default.is at number.ensures.ended in
     record {
       bytes = ([], refl, bytes_none t start c.requires.within);
-      position = no_numeral t start number.result.1 bytes ended;
       follows = may_be_unnumbered c.args.numbering c.in_default-numbering.not-Numbered;
-      first = λ none. first_width t start (number_missing t start number.result.1 bytes ended);
+      first = λ none. number_missing t start number.result.1 bytes ended;
       halt = tt;
     }
 
@@ -48,8 +47,7 @@ returns-in_default-numbering-2 c =
     let read = position_read c.args.text.now c.args.start c.in-Some.number number.result.1 (rw c.in-Some.is at number.ensures.bytes)
     (rw c.in-Some.is at number.ensures.some) (rw c.in-Some.is at number.ensures.small) (rw c.in-Some.is at number.ensures.ended) (dollar.within refl) (sym dollar.same) in
     record {
-      bytes = read.0;
-      position = read.1;
+      bytes = read;
       follows = may_be_numbered c.args.numbering c.in-Some.number c.in_default-numbering-2.not-Unnumbered;
       first = λ none. cc;
       halt = tt;
@@ -67,12 +65,10 @@ returns-in_default-numbering-3 c =
     let t = c.args.text.now in
     let start = c.args.start in
     let number = c.number_at-number in
-    let never = dollar_missing t start c.in-Some.number number.result.1 (rw c.in-Some.is at number.ensures.bytes)
-    (rw c.in-Some.is at number.ensures.some) (rw c.in-Some.is at number.ensures.small) (rw c.in-Some.is at number.ensures.ended) (sym c.if-has_byte.ensures.same) in
     record {
       bytes = ([], refl, bytes_none t start c.requires.within);
-      position = no_position t start never;
       follows = may_be_unnumbered c.args.numbering c.in_default-numbering-3.not-Numbered;
-      first = λ none. first_width t start never;
+      first = λ none. first_width t start c.in-Some.number number.result.1 (rw c.in-Some.is at number.ensures.bytes) (rw c.in-Some.is at number.ensures.some)
+          (rw c.in-Some.is at number.ensures.small) (rw c.in-Some.is at number.ensures.ended) (sym c.if-has_digit.ensures.same) (sym c.if-has_byte.ensures.same);
       halt = tt;
     }

@@ -1,20 +1,14 @@
 use Rattle.std.proofs.Common.{refl, sym}
 use Rattle.pf_posix.proofs.HaltLemmas.{star_missing, star_mixed, star_open, star_over}
-use Rattle.pf_posix.proofs.PartLemmas.{digit_missing, dollar_missing, known_number, no_known_number, no_star, number_missing, position_read, star_read}
+use Rattle.pf_posix.proofs.PartLemmas.{known_number, position_read}
+use Rattle.pf_posix.proofs.SpecificationsOnce.{no_number}
 use Rattle.pf_posix.proofs.specifications.star_number_at.Goals as goal
 
 pub returns-then-has_digit-clause-halt : goal.returns-then-has_digit-clause-halt
 returns-then-has_digit-clause-halt c = λ begin numbering before own h takes follows.
     let digit = c.if-has_digit.ensures in
     star_mixed c.args.text.now c.args.start begin numbering c.args.position c.args.too_large before own h takes follows c.refusal.result c.refusal.ensures
-    (digit.within refl) (sym digit.same) (no_known_number c.args.position c.if-is_none.ensures)
-
-pub returns-in_default-clause-number : goal.returns-in_default-clause-number
-returns-in_default-clause-number c =
-    let number = c.number_at-number in
-    let k = known_number c.args.position c.if-is_none.ensures in
-    no_star c.args.text.now c.args.start (number_missing c.args.text.now c.args.start number.result.1 (rw c.in_default.is at number.ensures.bytes)
-    (rw c.in_default.is at number.ensures.ended)) k.0 c.args.position k.1 c.stray_at.result
+    (digit.within refl) (sym digit.same) (no_number c.args.position c.if-is_none.ensures)
 
 pub returns-in_default-clause-halt : goal.returns-in_default-clause-halt
 returns-in_default-clause-halt c = λ begin numbering before own h takes follows.
@@ -22,14 +16,6 @@ returns-in_default-clause-halt c = λ begin numbering before own h takes follows
     let k = known_number c.args.position c.if-is_none.ensures in
     star_missing c.args.text.now c.args.start begin numbering c.args.position c.args.too_large before own h takes follows k.0 k.1 number.result.1
     c.stray_at.result (rw c.in_default.is at number.ensures.bytes) (rw c.in_default.is at number.ensures.ended) c.stray_at.ensures
-
-pub returns-then-has_digit-2-clause-number : goal.returns-then-has_digit-2-clause-number
-returns-then-has_digit-2-clause-number c =
-    let number = c.number_at-number in
-    let k = known_number c.args.position c.if-is_none.ensures in
-    no_star c.args.text.now c.args.start (digit_missing c.args.text.now c.args.start c.in-Some.number number.result.1 (rw c.in-Some.is at number.ensures.bytes)
-    (rw c.in-Some.is at number.ensures.some) (rw c.in-Some.is at number.ensures.small) (rw c.in-Some.is at number.ensures.ended)
-    (sym c.if-has_digit-2.ensures.same)) k.0 c.args.position k.1 c.refusal-then-has_digit-2.result
 
 pub returns-then-has_digit-2-clause-halt : goal.returns-then-has_digit-2-clause-halt
 returns-then-has_digit-2-clause-halt c = λ begin numbering before own h takes follows.
@@ -39,14 +25,6 @@ returns-then-has_digit-2-clause-halt c = λ begin numbering before own h takes f
     star_over c.args.text.now c.args.start begin numbering c.args.position c.args.too_large before own h takes follows k.0 k.1 c.in-Some.number number.result.1
     (rw c.in-Some.is at number.ensures.bytes) (rw c.in-Some.is at number.ensures.some) (rw c.in-Some.is at number.ensures.small)
     (rw c.in-Some.is at number.ensures.ended) c.refusal-then-has_digit-2.result c.refusal-then-has_digit-2.ensures (digit.within refl) (sym digit.same)
-
-pub returns-then-not-has_byte-clause-number : goal.returns-then-not-has_byte-clause-number
-returns-then-not-has_byte-clause-number c =
-    let number = c.number_at-number in
-    let k = known_number c.args.position c.if-is_none.ensures in
-    no_star c.args.text.now c.args.start (dollar_missing c.args.text.now c.args.start c.in-Some.number number.result.1 (rw c.in-Some.is at number.ensures.bytes)
-    (rw c.in-Some.is at number.ensures.some) (rw c.in-Some.is at number.ensures.small) (rw c.in-Some.is at number.ensures.ended)
-    (sym c.if-not-has_byte.ensures.same)) k.0 c.args.position k.1 c.stray_at-then-not-has_byte.result
 
 pub returns-then-not-has_byte-clause-halt : goal.returns-then-not-has_byte-clause-halt
 returns-then-not-has_byte-clause-halt c = λ begin numbering before own h takes follows.
@@ -61,15 +39,7 @@ pub returns-clause-bytes : goal.returns-clause-bytes
 returns-clause-bytes c =
     let number = c.number_at-number in
     let dollar = c.if-not-has_byte.ensures in
-    let read = (position_read c.args.text.now c.args.start c.in-Some.number number.result.1 (rw c.in-Some.is at number.ensures.bytes)
+    let read = position_read c.args.text.now c.args.start c.in-Some.number number.result.1 (rw c.in-Some.is at number.ensures.bytes)
     (rw c.in-Some.is at number.ensures.some) (rw c.in-Some.is at number.ensures.small) (rw c.in-Some.is at number.ensures.ended) (dollar.within refl)
-    (sym dollar.same)).0 in
+    (sym dollar.same) in
     (read.0, read.1, sym c.if-is_none.ensures, read.2)
-
-pub returns-clause-number : goal.returns-clause-number
-returns-clause-number c =
-    let number = c.number_at-number in
-    let dollar = c.if-not-has_byte.ensures in
-    star_read c.args.text.now c.args.start c.in-Some.number number.result.1 (rw c.in-Some.is at number.ensures.bytes)
-    (rw c.in-Some.is at number.ensures.some) (rw c.in-Some.is at number.ensures.small) (rw c.in-Some.is at number.ensures.ended) (dollar.within refl)
-    (sym dollar.same) c.args.position

@@ -1,14 +1,9 @@
-use Rattle.std.proofs.Common.{[], ◌+◌, Err, Ok, Some, ◌∷◌, refl, sym}
+use Rattle.std.proofs.Common.{[], ◌+◌, Some, ◌∷◌, refl, sym}
 use Rattle.pf_values.specs.meaning.Spelling.{width_spelled}
 use Rattle.pf_text.proofs.SpecificationLemmas.{bytes_join, bytes_one}
 use Rattle.pf_posix.proofs.HaltLemmas.{width_halts}
-use Rattle.pf_posix.proofs.PartLemmas.{byte_is, numeral_read, width_given, width_none, width_over, width_star}
+use Rattle.pf_posix.proofs.PartLemmas.{byte_is, numeral_read}
 use Rattle.pf_posix.proofs.specifications.width_at.Goals as goal
-
-pub returns-in-Err-clause-width : goal.returns-in-Err-clause-width
-returns-in-Err-clause-width c =
-    let star = c.if-has_byte.ensures in
-    width_star c.args.text.now c.args.start c.args.position (Err c.in-Err.refusal) (sym star.same) (star.within refl) c.in-Err.ensures.number
 
 pub returns-in-Err-clause-halt : goal.returns-in-Err-clause-halt
 returns-in-Err-clause-halt c = λ begin numbering before set h spelled follows.
@@ -19,26 +14,6 @@ returns-in-Err-clause-halt c = λ begin numbering before set h spelled follows.
     (bytes_join t begin start (start + 1) before (42 ∷ []) h (bytes_one t start 42 (star.within refl) (byte_is t start 42 (sym star.same)))) (set, spelled, refl)
     follows
 
-pub returns-in-Ok-clause-width : goal.returns-in-Ok-clause-width
-returns-in-Ok-clause-width c =
-    let star = c.if-has_byte.ensures in
-    let read = c.in-Ok in
-    width_star c.args.text.now c.args.start c.args.position (Ok (read.number, read.stop)) (sym star.same) (star.within refl) read.ensures.number
-
-pub returns-in_default-clause-width : goal.returns-in_default-clause-width
-returns-in_default-clause-width c =
-    let number = c.number_at-number in
-    width_none c.args.text.now c.args.start number.result.1 c.args.position (sym c.if-has_byte.ensures.same) (rw c.in_default.is at number.ensures.bytes)
-    (rw c.in_default.is at number.ensures.ended)
-
-pub returns-then-has_digit-clause-width : goal.returns-then-has_digit-clause-width
-returns-then-has_digit-clause-width c =
-    let number = c.number_at-number in
-    let digit = c.if-has_digit.ensures in
-    width_over c.args.text.now c.args.start c.args.position c.in-Some.number number.result.1 (sym c.if-has_byte.ensures.same)
-    (rw c.in-Some.is at number.ensures.bytes) (rw c.in-Some.is at number.ensures.some) (rw c.in-Some.is at number.ensures.small)
-    (rw c.in-Some.is at number.ensures.ended) (sym digit.same) (digit.within refl) c.refusal.result
-
 pub returns-clause-bytes : goal.returns-clause-bytes
 returns-clause-bytes c =
     let number = c.number_at-number in
@@ -48,13 +23,6 @@ returns-clause-bytes c =
           (rw c.in-Some.is at number.ensures.some) (rw c.in-Some.is at number.ensures.small) (rw c.in-Some.is at number.ensures.ended),
       bytes,
     )
-
-pub returns-clause-width : goal.returns-clause-width
-returns-clause-width c =
-    let number = c.number_at-number in
-    width_given c.args.text.now c.args.start c.args.position c.in-Some.number number.result.1 (sym c.if-has_byte.ensures.same)
-    (rw c.in-Some.is at number.ensures.bytes) (rw c.in-Some.is at number.ensures.some) (rw c.in-Some.is at number.ensures.small)
-    (rw c.in-Some.is at number.ensures.ended) (sym c.if-has_digit.ensures.same)
 
 pub returns-then-has_digit-clause-halt : goal.returns-then-has_digit-clause-halt
 returns-then-has_digit-clause-halt c = λ begin numbering before set h spelled follows.

@@ -5,7 +5,7 @@ use Rattle.pf_posix.specs.Endings.{numbered_instead}
 use Rattle.pf_posix.specs.Halts.{IsDefinedAt, IsRefusedIn}
 use Rattle.pf_posix.specs.Unnumbered.{IsWholeRefusedAt}
 use Rattle.pf_posix.proofs.PlainLemmas.{opaque_read}
-use Rattle.pf_posix.proofs.UnnumberedHalts.{inside_front, no_second, whole_nul, whole_refused, whole_too_long}
+use Rattle.pf_posix.proofs.UnnumberedVerdicts.{inside_front, no_second, whole_nul, whole_refused, whole_too_long}
 use Rattle.pf_posix.proofs.unnumbered.opaque_at.Goals as goal
 
 pub returns-then-at-front : goal.returns-then-at-front

@@ -1,6 +1,6 @@
 use Rattle.std.proofs.Common.{arith, subst}
 use Rattle.pf_posix.specs.Laws.{IsFirstDifference}
-use Rattle.pf_posix.proofs.BeginningLemmas.{ends_first}
+use Rattle.pf_posix.proofs.DifferenceLemmas.{ends_first}
 use Rattle.pf_posix.proofs.comparison.Comparison.excess.Goals as goal
 
 pub returns-else-index-self : goal.returns-else-index-self

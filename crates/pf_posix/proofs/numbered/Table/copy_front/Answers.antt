@@ -2,7 +2,7 @@ use Rattle.std.proofs.Common.{◌<◌, ◌++◌, ◌∷◌, [], ◌∙◌, arith
 use Rattle.pf_posix.specs.declared.numbered.TheConstants.{ROOM}
 use Rattle.pf_posix.specs.Laws.{filled}
 use Rattle.pf_posix.specs.Readings.{listed}
-use Rattle.pf_posix.proofs.OrderLemmas.{filled_none}
+use Rattle.pf_posix.proofs.ListLemmas.{filled_none}
 use Rattle.pf_posix.proofs.TableLemmas.{length_of_listed, listed_more}
 use Rattle.pf_posix.proofs.numbered.Table.copy_front.Goals as goal
 

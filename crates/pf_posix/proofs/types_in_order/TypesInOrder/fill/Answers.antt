@@ -1,6 +1,6 @@
 use Rattle.std.proofs.Common.{arith}
 use Rattle.pf_posix.specs.ListComparisons.{HasLeft}
-use Rattle.pf_posix.proofs.OrderedTypes.{left_none}
+use Rattle.pf_posix.proofs.DifferenceLemmas.{left_none}
 use Rattle.pf_posix.proofs.types_in_order.TypesInOrder.fill.Goals as goal
 
 pub item_at-requires-clause-reads : goal.item_at-requires-clause-reads

@@ -1,5 +1,5 @@
 use Rattle.std.proofs.Common.{refl}
-use Rattle.pf_posix.proofs.OrderedTypes.{many_left}
+use Rattle.pf_posix.proofs.DifferenceLemmas.{many_left}
 use Rattle.pf_posix.proofs.types_in_order.TypesInOrder.new.Goals as goal
 
 pub returns : goal.returns
