@@ -12,7 +12,7 @@ use Rattle.pf_values.specs.Arg.{argument_of, type_of}
 use Rattle.pf_values.specs.meaning.Arguments.{Argument, HasType, HasTypes}
 use Rattle.pf_values.specs.meaning.Text.{Text}
 use Rattle.fmtcanon.specs.ArgumentWords.{SpellsArgument}
-use Rattle.fmtcanon.specs.declared.outcome.Fault.TheVariants.{WrongCount}
+use Rattle.fmtcanon.specs.declared.outcome.Outcome.TheVariants.{WrongCount}
 use Rattle.fmtcanon.specs.declared.arguments.UntypedArg.{UntypedArg}
 use Rattle.fmtcanon.specs.FormatArguments.{SpellsSomeArgument, IsArgumentFault, IsFirstBadWord, IsFirstWrongType, SpellArguments}
 use Rattle.fmtcanon.specs.UntypedArgs.{argument_given}

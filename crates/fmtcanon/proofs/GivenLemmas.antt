@@ -19,8 +19,8 @@ use Rattle.fmtcanon.specs.FormatArguments.{IsArgumentFault}
 use Rattle.fmtcanon.specs.Formats.{HoldsFormat, IsFormat, IsOffsetInText}
 use Rattle.fmtcanon.specs.Questions.{language_of, language_of_format}
 use Rattle.fmtcanon.specs.declared.questions.PairQuestion.{PairQuestion}
-use Rattle.fmtcanon.specs.declared.outcome.Fault.{Fault}
-use Rattle.fmtcanon.specs.declared.outcome.Fault.TheVariants.{Refused, BadLiteral, BadWord, WrongCount, WrongType, Memory}
+use Rattle.fmtcanon.specs.declared.outcome.Outcome.{Outcome}
+use Rattle.fmtcanon.specs.declared.outcome.Outcome.TheVariants.{Refused, BadWord, WrongCount, WrongType, Memory}
 use Rattle.fmtcanon.specs.declared.formats.GivenFormat.{GivenFormat}
 use Rattle.fmtcanon.specs.declared.formats.Notation.TheVariants.{Literals}
 use Rattle.fmtcanon.specs.declared.questions.OneQuestion.{OneQuestion}
@@ -67,19 +67,18 @@ offset_in_literals given index at found is offset e bytes gives within =
     let there = offset_there text bytes index found offset (subst (λ n. HoldsFormat n text bytes) is gives) within in
     subst (λ n. IsOffsetInText n text index at) (sym is) (subst (IsOffsetOf text index) (sym e) there)
 
--- the offset of a fault is within the bytes, and no fault of literals is one of bytes
-abbrev pub IsOfBytes : Text → Fault → Type 0
+-- the offset of a refusal is within the bytes, and nothing else that fails is about literals or devices
+abbrev pub IsOfBytes : Text → Outcome → Type 0
 IsOfBytes bytes (Refused None refusal) = refusal.at ≤ length bytes
-IsOfBytes bytes (Refused (Some side) refusal) = ⊥
-IsOfBytes bytes (BadLiteral side refusal) = ⊥
 IsOfBytes bytes (BadWord index) = ⊤
 IsOfBytes bytes (WrongCount wanted given) = ⊤
 IsOfBytes bytes (WrongType index) = ⊤
 IsOfBytes bytes Memory = ⊤
+IsOfBytes bytes _ = ⊥
 
 -- why the bytes of a format have no answer, at the offset in the text
-pub given_fault : (IsFault : Text → Fault → Type 0) (given : GivenFormat) (bytes : Text) (fault reported : Fault)
-    → ((f : Fault) → IsFault bytes f → IsOfBytes bytes f)
+pub given_fault : (IsFault : Text → Outcome → Type 0) (given : GivenFormat) (bytes : Text) (fault reported : Outcome)
+    → ((f : Outcome) → IsFault bytes f → IsOfBytes bytes f)
     → IsFormat given bytes → IsFault bytes fault → IsFaultInText given fault reported → IsGivenFault IsFault given reported
 given_fault IsFault given bytes fault reported of gives h is = grind arith
 
@@ -90,16 +89,16 @@ refusal_within Profile model bytes refusal h = refused_within bytes refusal.kind
 refusal_within Numbered model bytes refusal h = posix_within model bytes refusal.kind refusal.at h
 refusal_within Unnumbered model bytes refusal h = unnumbered_within model bytes refusal.kind refusal.at h
 
-format_of_bytes : (language : Language) (model : Model) (bytes : Text) (fault : Fault)
+format_of_bytes : (language : Language) (model : Model) (bytes : Text) (fault : Outcome)
     → IsFormatFault language model bytes fault → IsOfBytes bytes fault
 format_of_bytes language model bytes fault h = grind (arith, refusal_within)
 
-arguments_of_bytes : (model : Model) (words : List Text) (bytes : Text) (fault : Fault)
+arguments_of_bytes : (model : Model) (words : List Text) (bytes : Text) (fault : Outcome)
     → IsArgumentFault model bytes words fault → IsOfBytes bytes fault
 arguments_of_bytes model words bytes fault h = grind (arith, refused_within)
 
 -- no fault of a question about bytes is one of literals
-pub one_of_bytes : (question : OneQuestion) (model : Model) (bytes : Text) (fault : Fault)
+pub one_of_bytes : (question : OneQuestion) (model : Model) (bytes : Text) (fault : Outcome)
     → IsOneFault question model bytes fault → IsOfBytes bytes fault
 one_of_bytes (Any question) model bytes fault h = format_of_bytes (language_of_format question) model bytes fault h
 one_of_bytes (Printed words) model bytes fault h = arguments_of_bytes model (map (λ s. s.now) words.items) bytes fault h
@@ -107,11 +106,11 @@ one_of_bytes (Printed words) model bytes fault h = arguments_of_bytes model (map
 module _ (Needs : PairQuestion → Model → Text → Text → Type 0) (question : PairQuestion) (model : Model) (first second : GivenFormat)
     (first_bytes : Text) (g : IsFormat first first_bytes) where
   -- the refusal of the first of two formats, at the offset in the text
-  pub first_refused : (fault reported : Fault) → IsRefusalOfFirst (language_of question) model first_bytes fault → IsFaultInText first fault reported
+  pub first_refused : (fault reported : Outcome) → IsRefusalOfFirst (language_of question) model first_bytes fault → IsFaultInText first fault reported
       → IsGivenPairFault Needs question model first second reported
   first_refused fault reported h is = grind (arith, refusal_within)
 
   -- why two formats have no answer
-  pub pair_fault : (second_bytes : Text) → IsFormat second second_bytes → (fault reported : Fault) → IsPairFault Needs question model first_bytes second_bytes fault
+  pub pair_fault : (second_bytes : Text) → IsFormat second second_bytes → (fault reported : Outcome) → IsPairFault Needs question model first_bytes second_bytes fault
       → IsFaultInTexts first second (side_of fault) fault reported → IsGivenPairFault Needs question model first second reported
   pair_fault second_bytes h fault reported hinders is = grind (arith, refusal_within, first_refused)

@@ -19,7 +19,7 @@ use Rattle.fmtcanon.specs.declared.answer.Ending.{Ending}
 use Rattle.fmtcanon.specs.declared.formats.GivenFormat.{GivenFormat}
 use Rattle.fmtcanon.specs.declared.models.Models.{Models}
 use Rattle.fmtcanon.specs.declared.models.Models.TheVariants.{All, Both, One}
-use Rattle.fmtcanon.specs.declared.outcome.Fault.{Fault}
+use Rattle.fmtcanon.specs.declared.outcome.Outcome.{Outcome}
 use Rattle.fmtcanon.specs.declared.questions.PairQuestion.{PairQuestion}
 use Rattle.fmtcanon.specs.declared.questions.PairQuestion.TheVariants.{Fits, FitsFewer, Same, WholeSame}
 use Rattle.fmtcanon.proofs.GivenLemmas.{pair_fault}
@@ -43,12 +43,12 @@ needed_accepts FitsFewer model first second h = absurd h
 needed_accepts Same model first second h = ((h.0.first.items, h.0.first.accepted), (h.0.second.items, h.0.second.accepted))
 needed_accepts WholeSame model first second h = (h.0, h.1)
 
-pub several_fault : (question : PairQuestion) (model : Model) (first second : Text) (fault : Fault)
+pub several_fault : (question : PairQuestion) (model : Model) (first second : Text) (fault : Outcome)
     → IsPairFault NeedsMemory question model first second fault → IsPairFault AcceptsBoth question model first second fault
 several_fault question model first second fault h = grind (arith, needed_accepts)
 
 -- one data model
-pub one_model : {X : Type 0} (Says : X → Type 0) (question : PairQuestion) (model : Model) (first second : Text) (result : Result X Fault)
+pub one_model : {X : Type 0} (Says : X → Type 0) (question : PairQuestion) (model : Model) (first second : Text) (result : Result X Outcome)
     → MatchResult result Says (IsPairFault NeedsMemory question model first second)
     → MatchResult result Says (IsPairFaultIn question (One model) first second)
 one_model Says question model first second (Ok answer) h = h
@@ -58,7 +58,7 @@ one_model Says question model first second (Err fault) h =
 module _ (question : PairQuestion) (first second : GivenFormat) where
   -- a fault of texts is one of the formats that give them
   pub pair_faults : (first_bytes second_bytes : Text) → IsFormat first first_bytes → IsFormat second second_bytes
-      → (models : Models) (fault reported : Fault)
+      → (models : Models) (fault reported : Outcome)
       → IsPairFaultIn question models first_bytes second_bytes fault → IsFaultInTexts first second (side_of fault) fault reported
       → IsGivenPairFaultIn question models first second reported
   pair_faults first_bytes second_bytes g h models fault reported k is =
@@ -78,7 +78,7 @@ module _ (question : PairQuestion) (first second : GivenFormat) where
   rest_of All = (Ilp32 ∷ Llp64 ∷ [], refl)
 
   -- a fault in the first data model
-  first_fault : (models : Models) (fault : Fault) → IsGivenPairFault (lacks_in models) question (first_model models) first second fault
+  first_fault : (models : Models) (fault : Outcome) → IsGivenPairFault (lacks_in models) question (first_model models) first second fault
       → IsGivenPairFaultIn question models first second fault
   first_fault models fault h =
       let rest = rest_of models in
@@ -95,13 +95,13 @@ module _ (question : PairQuestion) (first second : GivenFormat) where
   literal_second models model (literals.Refused refusal) a h = (a, h)
   literal_second models model literals.Memory a h = inr (inl h)
 
-  pub first_missing : (models : Models) (fault : LiteralFault) (result : Fault) → IsBytesFault first fault
+  pub first_missing : (models : Models) (fault : LiteralFault) (result : Outcome) → IsBytesFault first fault
       → result ≡ of_literal (Some sides.First) fault → IsGivenPairFaultIn question models first second result
   first_missing models fault result h e =
       subst (IsGivenPairFaultIn question models first second) (sym e)
       (first_fault models (of_literal (Some sides.First) fault) (literal_first models (first_model models) fault h))
 
-  pub second_missing : (models : Models) (model : Model) (first_bytes : Text) (refused : Option Fault) (fault : LiteralFault) (result : Fault)
+  pub second_missing : (models : Models) (model : Model) (first_bytes : Text) (refused : Option Outcome) (fault : LiteralFault) (result : Outcome)
       → model ≡ first_model models → IsFormat first first_bytes
       → MatchOption refused (AcceptsText (language_of question) model first_bytes)
       (λ f. (models : Models) (second : GivenFormat) → IsGivenPairFault (lacks_in models) question model first second f)

@@ -8,7 +8,6 @@ use Rattle.pf_values.specs.Counting.{Known, device_of, failures_of, is_flushed}
 use Rattle.pf_values.specs.meaning.Text.{Text}
 use Rattle.fmtcanon.specs.RecordRuns.{HasAnswered, HasFirst, HasReplies, HasRepliedTo, RecordsFinish, RecordsEndEarly, waiting_text}
 use Rattle.fmtcanon.specs.Records.{AllReplied, IsRecords, RepliesAll, RecordsEnd, ReadFails, last_record}
-use Rattle.fmtcanon.specs.declared.outcome.Fault.TheVariants as faults
 use Rattle.fmtcanon.specs.declared.outcome.Outcome.{Outcome}
 use Rattle.fmtcanon.specs.declared.outcome.Outcome.TheVariants as outcomes
 use Rattle.fmtcanon.specs.declared.questions.RecordQuestion.{RecordQuestion}
@@ -23,7 +22,7 @@ module _ (asked : RecordQuestion) {R W : Type 0} (remaining : R → Known) (cont
   pub left_stopped : failures_of left ≡ failures_of reader → (outcome : Outcome)
       → RecordsEndEarly asked contents old new (whole ++ last_record rest) outcome
       → RecordsEnd asked remaining contents reader left old new outcome
-  left_stopped well (outcomes.Failed faults.Memory) h = (whole, rest, h.0, h.1, (taken, cut, took), well, h.2)
+  left_stopped well outcomes.Memory h = (whole, rest, h.0, h.1, (taken, cut, took), well, h.2)
   left_stopped well (outcomes.Write count) h = (whole, rest, (taken, cut, took), well, h)
   left_stopped well _ h = absurd h
 
@@ -35,7 +34,7 @@ module _ (asked : RecordQuestion) {R W : Type 0} (remaining : R → Known) (cont
       (whole ++ last_record rest, (whole, rest, (taken, cut, took), end, refl), well, h)
   left_at_end well end outcomes.NoSecond h =
       (whole ++ last_record rest, h.0, h.1, (whole, rest, (taken, cut, took), end, refl), well, h.2, h.3)
-  left_at_end well end (outcomes.Failed faults.Memory) h = left_stopped well (outcomes.Failed faults.Memory) h
+  left_at_end well end outcomes.Memory h = left_stopped well outcomes.Memory h
   left_at_end well end (outcomes.Write count) h = left_stopped well (outcomes.Write count) h
   left_at_end well end _ h = absurd h
 

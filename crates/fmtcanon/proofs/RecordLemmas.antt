@@ -16,7 +16,6 @@ use Rattle.fmtcanon.specs.declared.record_answers.RecordRunFault.{RecordRunFault
 use Rattle.fmtcanon.specs.declared.record_answers.RecordRunFault.TheVariants.{Memory, Write}
 use Rattle.fmtcanon.specs.declared.records.RecordRun.{RecordRun}
 use Rattle.fmtcanon.specs.declared.replies.Replies.{Replies}
-use Rattle.fmtcanon.specs.declared.outcome.Fault.TheVariants as faults
 use Rattle.fmtcanon.specs.declared.outcome.Outcome.{Outcome}
 use Rattle.fmtcanon.specs.declared.outcome.Outcome.TheVariants as outcomes
 use Rattle.fmtcanon.proofs.RecordTexts.{all_more}
@@ -178,7 +177,7 @@ module _ (asked : RecordQuestion) where
     -- to stop is one way to end
     pub stopped_at_end : (records : List Text) (outcome : Outcome) → RecordsEndEarly asked contents start now records outcome
         → RecordsFinish asked contents start now records outcome
-    stopped_at_end records (outcomes.Failed faults.Memory) h = h
+    stopped_at_end records outcomes.Memory h = h
     stopped_at_end records (outcomes.Write count) h = h
     stopped_at_end records _ h = absurd h
 

@@ -1,5 +1,5 @@
 -- What replies have gone out, and what is added to them.
-use Rattle.std.proofs.Common.{◌≡◌, ◌∙◌, ℕ, ◌+◌, ◌++◌, [], ◌∷◌, List, append-nil, append_assoc, ap, arith, length, length-append, max, min, refl, subst, sym}
+use Rattle.std.proofs.Common.{◌≡◌, ◌∙◌, ℕ, ◌+◌, ◌≤◌, ◌++◌, [], ◌∷◌, List, append-nil, append_assoc, ap, arith, length, length-append, max, min, refl, subst, sym}
 use Rattle.std.proofs.Common.{take, take_all, Result, Ok, Err}
 use Rattle.std.specs.Prelude.{MatchResult, OnErr, OnOk}
 use Rattle.std.proofs.lemmas.List.{flat_map_more}
@@ -7,15 +7,20 @@ use Rattle.std.proofs.lemmas.List.Sums.{fold-append}
 use Rattle.std.specs.Io.KnownBytes.{Appends, Keeps}
 use Rattle.std.proofs.KnownBytes.{Appends-kept, Appends-trans}
 use Rattle.pf_values.specs.declared.counted.Counted.{Counted}
+use Rattle.pf_values.specs.declared.models.Model.{Model}
 use Rattle.pf_values.specs.Counting.{HasFailed, Known, WritesAll, WritesFirst, device_of}
 use Rattle.pf_values.specs.meaning.Text.{Text}
 use Rattle.pf_values.proofs.WriteLemmas.{WritesFirst-more}
 use Rattle.fmtcanon.specs.RecordRuns.{HasReplies, HasSaid, HasSaidFirst, count_of, waiting_text}
+use Rattle.fmtcanon.specs.Answers.{IsGivenFault, IsGivenPairFault, IsOneFault, IsQuestionFault, lacks_in}
 use Rattle.fmtcanon.specs.Outcomes.{status_of}
 use Rattle.fmtcanon.specs.Questions.{IsAbout}
 use Rattle.fmtcanon.specs.Records.{IsReply, Reply, RunWrites, replies_text, reply_bytes}
 use Rattle.fmtcanon.specs.declared.outcome.Outcome.{Outcome}
+use Rattle.fmtcanon.specs.declared.formats.GivenFormat.{GivenFormat}
+use Rattle.fmtcanon.specs.declared.questions.PairQuestion.{PairQuestion}
 use Rattle.fmtcanon.specs.declared.questions.Question.{Question}
+use Rattle.fmtcanon.specs.declared.questions.Question.TheVariants.{One, Two}
 use Rattle.fmtcanon.specs.declared.questions.RecordQuestion.{RecordQuestion}
 use Rattle.fmtcanon.specs.declared.replies.Replies.{Replies}
 
@@ -97,3 +102,15 @@ module _ (asked : RecordQuestion) (formats : List Text) (sent : Text) (replies :
       )
   reply_added (Err e) bytes greatest none stays =
       record { bytes = h.bytes ∙ ap (λ t. sent ++ t) (sym none); greatest = stays ∙ h.greatest; count = same ∙ h.count }
+
+-- the status of what failed is one digit
+one_digit : (IsFault : Text → Outcome → Type 0) (given : GivenFormat) (failed : Outcome) → IsGivenFault IsFault given failed → status_of failed ≤ 9
+one_digit IsFault given failed h = grind arith
+
+pair_digit : (Needs : PairQuestion → Model → Text → Text → Type 0) (question : PairQuestion) (model : Model) (first second : GivenFormat) (failed : Outcome)
+    → IsGivenPairFault Needs question model first second failed → status_of failed ≤ 9
+pair_digit Needs question model first second failed h = grind arith
+
+pub fault_digit : (question : Question) (failed : Outcome) → IsQuestionFault question failed → status_of failed ≤ 9
+fault_digit (One question model format) failed h = one_digit (IsOneFault question model) format failed h
+fault_digit (Two question models first second) failed h = pair_digit (lacks_in models) question h.model first second failed h.is

@@ -12,8 +12,8 @@ use Rattle.pf_text.specs.declared.refusals.Side.{Side}
 use Rattle.pf_text.specs.declared.refusals.Side.TheVariants as sides
 use Rattle.fmtcanon.specs.declared.answer.Ending.{Ending}
 use Rattle.fmtcanon.specs.declared.answer.Ending.TheVariants as endings
-use Rattle.fmtcanon.specs.declared.outcome.Fault.{Fault}
-use Rattle.fmtcanon.specs.declared.outcome.Fault.TheVariants.{Refused, BadLiteral, BadWord, WrongCount, WrongType, Memory}
+use Rattle.fmtcanon.specs.declared.outcome.Outcome.{Outcome}
+use Rattle.fmtcanon.specs.declared.outcome.Outcome.TheVariants.{Refused, BadLiteral, BadWord, WrongCount, WrongType, Memory}
 use Rattle.fmtcanon.specs.declared.formats.GivenFormat.{GivenFormat}
 use Rattle.fmtcanon.specs.declared.formats.Notation.{Notation}
 use Rattle.fmtcanon.specs.declared.questions.FormatQuestion.{FormatQuestion}
@@ -68,14 +68,14 @@ IsAnswer (Two question models first second) out ending = (first_bytes second_byt
 
 -- Why the bytes of a format have no answer: they are refused. Memory can be refused only if they are
 -- accepted.
-abbrev pub IsFormatFault : Language → Model → Text → Fault → Type 0
+abbrev pub IsFormatFault : Language → Model → Text → Outcome → Type 0
 IsFormatFault language model format (Refused None refusal) =
     RefusesText language model format refusal.kind refusal.at
 IsFormatFault language model format Memory = AcceptsText language model format
 IsFormatFault language model format _ = ⊥
 
 -- the refusal of the first of two
-abbrev pub IsRefusalOfFirst : Language → Model → Text → Fault → Type 0
+abbrev pub IsRefusalOfFirst : Language → Model → Text → Outcome → Type 0
 IsRefusalOfFirst language model first (Refused (Some sides.First) refusal) =
     RefusesText language model first refusal.kind refusal.at
 IsRefusalOfFirst language model first _ = ⊥
@@ -102,7 +102,7 @@ lacks_in models.All = AcceptsBoth
 -- Why two have none: the refusal of the first, otherwise of the second. Memory can be refused only if
 -- it is needed.
 abbrev pub IsPairFault : (PairQuestion → Model → Text → Text → Type 0) → PairQuestion → Model → Text → Text
-    → Fault → Type 0
+    → Outcome → Type 0
 IsPairFault Needs question model first second (Refused (Some side) refusal) =
     RefusesOne (AcceptsText (language_of question) model) (RefusesText (language_of question) model)
     first second side refusal
@@ -111,18 +111,18 @@ IsPairFault Needs question model first second _ = ⊥
 
 -- why two texts have no answer in some data models
 abbrev pub IsFirstPairFault : (PairQuestion → Model → Text → Text → Type 0) → PairQuestion → List Model
-    → Text → Text → Fault → Type 0
+    → Text → Text → Outcome → Type 0
 IsFirstPairFault Needs question models first second fault = IsFirstIn models
     (λ model. AcceptsBoth question model first second)
     (λ model. IsPairFault Needs question model first second fault)
 
 -- in those that are asked for
-abbrev pub IsPairFaultIn : PairQuestion → Models → Text → Text → Fault → Type 0
+abbrev pub IsPairFaultIn : PairQuestion → Models → Text → Text → Outcome → Type 0
 IsPairFaultIn question models = IsFirstPairFault (lacks_in models) question (asked_models models)
 
 -- Why a format that is given has none, by why its bytes have none: a refusal is reported at its offset in
 -- the text.
-abbrev pub IsGivenFault : (Text → Fault → Type 0) → GivenFormat → Fault → Type 0
+abbrev pub IsGivenFault : (Text → Outcome → Type 0) → GivenFormat → Outcome → Type 0
 IsGivenFault IsFault given (Refused None refusal) = HoldsAt given
     (λ bytes at. IsFault bytes (Refused None (record refusal { at = at }))) refusal.at
 IsGivenFault IsFault given (Refused (Some side) refusal) = ⊥
@@ -135,11 +135,12 @@ IsGivenFault IsFault given (WrongType index) =
     HoldsOf given (λ bytes. IsFault bytes (WrongType index))
 IsGivenFault IsFault given Memory =
     MakesBytes given.notation ⊎ HoldsOf given (λ bytes. IsFault bytes Memory)
+IsGivenFault IsFault given _ = ⊥
 
 -- Why two that are given have none: what is wrong with the first, otherwise with the second, if the
 -- first is accepted.
 abbrev pub IsGivenPairFault : (PairQuestion → Model → Text → Text → Type 0) → PairQuestion → Model
-    → GivenFormat → GivenFormat → Fault → Type 0
+    → GivenFormat → GivenFormat → Outcome → Type 0
 IsGivenPairFault Needs question model first second (Refused (Some sides.First) refusal) =
     IsGivenFault (IsFormatFault (language_of question) model) first (Refused None refusal)
 IsGivenPairFault Needs question model first second (Refused (Some sides.Second) refusal) =
@@ -155,34 +156,30 @@ IsGivenPairFault Needs question model first second Memory =
 IsGivenPairFault Needs question model first second _ = ⊥
 
 -- why two that are given have none in the data models that are asked for
-abbrev pub IsGivenPairFaultIn : PairQuestion → Models → GivenFormat → GivenFormat → Fault → Type 0
+abbrev pub IsGivenPairFaultIn : PairQuestion → Models → GivenFormat → GivenFormat → Outcome → Type 0
 IsGivenPairFaultIn question models first second fault = IsFirstIn (asked_models models)
     (λ model. HoldsOf first (AcceptsText (language_of question) model)
     × HoldsOf second (AcceptsText (language_of question) model))
     (λ model. IsGivenPairFault (lacks_in models) question model first second fault)
 
 -- why the bytes of a format have no answer to what is asked about them
-abbrev pub IsOneFault : OneQuestion → Model → Text → Fault → Type 0
+abbrev pub IsOneFault : OneQuestion → Model → Text → Outcome → Type 0
 IsOneFault (Any question) model bytes fault =
     IsFormatFault (language_of_format question) model bytes fault
 IsOneFault (Printed words) model bytes fault =
     IsArgumentFault model bytes (map (λ s. s.now) words.items) fault
 
 -- why a question has none
-abbrev pub IsQuestionFault : Question → Fault → Type 0
+abbrev pub IsQuestionFault : Question → Outcome → Type 0
 IsQuestionFault (One question model format) fault =
     IsGivenFault (IsOneFault question model) format fault
 IsQuestionFault (Two question models first second) fault =
     IsGivenPairFaultIn question models first second fault
 
 -- the side that is refused
-abbrev pub side_of : Fault → Option Side
+abbrev pub side_of : Outcome → Option Side
 side_of (Refused side refusal) = side
-side_of (BadLiteral side refusal) = None
-side_of (BadWord index) = None
-side_of (WrongCount wanted given) = None
-side_of (WrongType index) = None
-side_of Memory = None
+side_of _ = None
 
 -- an index in the bytes of a format is reported as this offset in the text
 abbrev pub IsOffsetOfByte : GivenFormat → ℕ → ℕ → Type 0
@@ -190,17 +187,13 @@ IsOffsetOfByte given at reported = (bytes : Text) → IsFormat given bytes → a
     → IsOffsetInText given.notation given.text.now at reported
 
 -- A refusal of the bytes of a format is reported at its offset in the text, any other fault as it is.
-abbrev pub IsFaultInText : GivenFormat → Fault → Fault → Type 0
+abbrev pub IsFaultInText : GivenFormat → Outcome → Outcome → Type 0
 IsFaultInText given (Refused side refusal) reported = (at : ℕ)
     × (reported ≡ Refused side (record refusal { at = at })) × IsOffsetOfByte given refusal.at at
-IsFaultInText given (BadLiteral side refusal) reported = reported ≡ BadLiteral side refusal
-IsFaultInText given (BadWord index) reported = reported ≡ BadWord index
-IsFaultInText given (WrongCount wanted had) reported = reported ≡ WrongCount wanted had
-IsFaultInText given (WrongType index) reported = reported ≡ WrongType index
-IsFaultInText given Memory reported = reported ≡ Memory
+IsFaultInText given fault reported = reported ≡ fault
 
 -- a refusal of the bytes of two formats is reported by the side that is refused
-abbrev pub IsFaultInTexts : GivenFormat → GivenFormat → Option Side → Fault → Fault → Type 0
+abbrev pub IsFaultInTexts : GivenFormat → GivenFormat → Option Side → Outcome → Outcome → Type 0
 IsFaultInTexts first second (Some sides.Second) fault reported = IsFaultInText second fault reported
 IsFaultInTexts first second (Some sides.First) fault reported = IsFaultInText first fault reported
 IsFaultInTexts first second None fault reported = IsFaultInText first fault reported

@@ -11,8 +11,8 @@ use Rattle.pf_values.specs.meaning.Items.{HasItems, IsAccepted, Item, types}
 use Rattle.pf_values.specs.meaning.Printing.{PrintsAll}
 use Rattle.pf_values.specs.meaning.Refusals.{IsRefusedAt}
 use Rattle.pf_values.specs.meaning.Text.{Text}
-use Rattle.fmtcanon.specs.declared.outcome.Fault.{Fault}
-use Rattle.fmtcanon.specs.declared.outcome.Fault.TheVariants.{Refused, BadWord, WrongCount, WrongType, Memory}
+use Rattle.fmtcanon.specs.declared.outcome.Outcome.{Outcome}
+use Rattle.fmtcanon.specs.declared.outcome.Outcome.TheVariants.{Refused, BadWord, WrongCount, WrongType, Memory}
 use Rattle.fmtcanon.specs.ArgumentWords.{SpellsArgument}
 
 -- each word gives an argument, in order
@@ -41,13 +41,13 @@ pub record IsFirstWrongType (model : Model) (arguments : List Argument) (wanted 
   pub right_before : HasTypes model (take index arguments) (take index wanted)
 
 -- what stops the reading of words
-abbrev pub IsBadWord : List Text → Fault → Type 0
+abbrev pub IsBadWord : List Text → Outcome → Type 0
 IsBadWord words (BadWord index) = IsFirstBadWord words index
 IsBadWord words Memory = ⊤
 IsBadWord words _ = ⊥
 
 -- what stops the pairing of arguments with types
-abbrev pub IsWrongType : Model → List Argument → List ArgType → Fault → Type 0
+abbrev pub IsWrongType : Model → List Argument → List ArgType → Outcome → Type 0
 IsWrongType model arguments wanted (WrongType index) = IsFirstWrongType model arguments wanted index
 IsWrongType model arguments wanted Memory = ⊤
 IsWrongType model arguments wanted _ = ⊥
@@ -67,7 +67,7 @@ pub record AreArgumentsFor (model : Model) (format : Text) (words : List Text)
   pub types_are : map type_of args ≡ types model items
 
 -- Why there are no arguments: the first that holds, in this order.
-abbrev pub IsArgumentFault : Model → Text → List Text → Fault → Type 0
+abbrev pub IsArgumentFault : Model → Text → List Text → Outcome → Type 0
 IsArgumentFault model format words (Refused None refusal) =
     IsRefusedAt format refusal.kind refusal.at
 IsArgumentFault model format words (BadWord index) = IsAccepted format × IsFirstBadWord words index

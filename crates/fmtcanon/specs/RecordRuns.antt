@@ -7,7 +7,6 @@ use Rattle.pf_values.specs.Counting.{Known, WritesAll, WritesFirst, device_of, f
 use Rattle.pf_values.specs.meaning.Text.{Text}
 use Rattle.fmtcanon.specs.Questions.{formats_wanted}
 use Rattle.fmtcanon.specs.Records.{AreReplies, IsRecords, IsReply, RepliesAll, RepliesFirst, Reply, replies_text, greatest_of, last_record}
-use Rattle.fmtcanon.specs.declared.outcome.Fault.TheVariants as faults
 use Rattle.fmtcanon.specs.declared.outcome.Outcome.{Outcome}
 use Rattle.fmtcanon.specs.declared.outcome.Outcome.TheVariants as outcomes
 use Rattle.fmtcanon.specs.declared.questions.RecordQuestion.{RecordQuestion}
@@ -122,7 +121,7 @@ module _ {W : Type 0} (contents : W → Known) where
 module _ (asked : RecordQuestion) {W : Type 0} (contents : W → Known) (old new : Counted W) where
   -- what is written where it ends early, of replies to the first of these records
   abbrev pub RecordsEndEarly : List Text → Outcome → Type 0
-  RecordsEndEarly records (outcomes.Failed faults.Memory) =
+  RecordsEndEarly records outcomes.Memory =
       (others : List Text) × (greatest : ℕ)
       × RepliesAll asked contents old new records others greatest
   RecordsEndEarly records (outcomes.Write count) =

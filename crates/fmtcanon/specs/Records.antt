@@ -6,14 +6,12 @@ use Rattle.pf_values.specs.declared.counted.Counted.{Counted}
 use Rattle.pf_values.specs.Counting.{HasFailed, Known, WritesAll, WritesFirst, calls_of, device_of, failures_of, is_flushed, max_count}
 use Rattle.pf_values.specs.meaning.Text.{Text}
 use Rattle.fmtcanon.specs.Answers.{IsAnswer, IsQuestionFault}
-use Rattle.fmtcanon.specs.Outcomes.{status_of}
+use Rattle.fmtcanon.specs.Outcomes.{outcome_of, status_of}
 use Rattle.fmtcanon.specs.Questions.{IsAbout, formats_wanted}
-use Rattle.fmtcanon.specs.Reports.{fault_text}
+use Rattle.fmtcanon.specs.Reports.{line_text}
 use Rattle.fmtcanon.specs.declared.answer.Ending.{Ending}
-use Rattle.fmtcanon.specs.declared.outcome.Fault.{Fault}
-use Rattle.fmtcanon.specs.declared.outcome.Fault.TheVariants as faults
 use Rattle.fmtcanon.specs.declared.outcome.Outcome.{Outcome}
-use Rattle.fmtcanon.specs.declared.outcome.Outcome.TheVariants.{Answered, Ended, Failed, NoSecond, Read, Write}
+use Rattle.fmtcanon.specs.declared.outcome.Outcome.TheVariants.{Answered, Memory, NoSecond, Read, Write}
 use Rattle.fmtcanon.specs.declared.questions.Question.{Question}
 use Rattle.fmtcanon.specs.declared.questions.RecordQuestion.{RecordQuestion}
 
@@ -32,12 +30,11 @@ last_record [] = []
 last_record (byte ∷ bytes) = (byte ∷ bytes) ∷ []
 
 -- What a run of the command says to a question, and how it ends: it writes the answer to standard
--- output, or a line about the fault to standard error.
+-- output, or a line about what failed to standard error.
 abbrev pub RunWrites : Question → Text → Outcome → Type 0
 RunWrites question said outcome =
-    ((ending : Ending) × IsAnswer question said ending × (outcome ≡ Ended ending))
-    ⊎ ((fault : Fault) × IsQuestionFault question fault × (fault ≢ faults.Memory)
-    × (outcome ≡ Failed fault) × (said ≡ fault_text fault))
+    ((ending : Ending) × IsAnswer question said ending × (outcome ≡ outcome_of ending))
+    ⊎ (IsQuestionFault question outcome × (outcome ≢ Memory) × (said ≡ line_text outcome))
 
 -- a reply: the digit of the status, a space, what is said except for its last newline, a NUL
 abbrev pub reply_bytes : ℕ → Text → Text
@@ -138,7 +135,7 @@ module _ (asked : RecordQuestion) {R W : Type 0} (remaining : R → Known) (cont
       (whole : List Text) × (rest : Text) × (first : List Text) × (greatest : ℕ)
       × HandsOut whole rest × ReadFails × (length first < formats_wanted asked)
       × RepliesAll asked contents old new whole first greatest
-  RecordsEnd (Failed faults.Memory) =
+  RecordsEnd Memory =
       (whole : List Text) × (rest : Text) × (others : List Text) × (greatest : ℕ)
       × HandsOut whole rest × ReadWell
       × RepliesAll asked contents old new (whole ++ last_record rest) others greatest

@@ -10,10 +10,8 @@ use Rattle.pf_text.specs.declared.refusals.Refusal.{Refusal}
 use Rattle.pf_text.specs.declared.refusals.Side.{Side}
 use Rattle.pf_text.specs.declared.refusals.Side.TheVariants as sides
 use Rattle.fmtcanon.specs.Lines.{line}
-use Rattle.fmtcanon.specs.declared.outcome.Fault.{Fault}
-use Rattle.fmtcanon.specs.declared.outcome.Fault.TheVariants.{Refused, BadLiteral, BadWord, WrongCount, WrongType, Memory}
 use Rattle.fmtcanon.specs.declared.outcome.Outcome.{Outcome}
-use Rattle.fmtcanon.specs.declared.outcome.Outcome.TheVariants.{Ended, Answered, Failed, NoSecond, Usage, Missing, Misplaced, Read, Write}
+use Rattle.fmtcanon.specs.declared.outcome.Outcome.TheVariants.{Refused, BadLiteral, BadWord, WrongCount, WrongType, NoSecond, Usage, Missing, Misplaced, Read, Write, Memory}
 
 -- which format is refused, where there are two
 abbrev pub side_words : Option Side → Text
@@ -34,32 +32,31 @@ abbrev pub literal_words : Option Side → LiteralRefusal → Text
 literal_words side refusal = fault_words side (codes "literal ")
     (literals.literal_kind_number refusal.kind) (literals.literal_kind_name refusal.kind) refusal.at
 
--- the line about a fault
-abbrev pub fault_text : Fault → Text
-fault_text (Refused side refusal) = line (refusal_words side refusal)
-fault_text (BadLiteral side refusal) = line (literal_words side refusal)
-fault_text (BadWord index) =
+-- the line about what failed, if there is one
+abbrev pub line_text : Outcome → Text
+line_text (Refused side refusal) = line (refusal_words side refusal)
+line_text (BadLiteral side refusal) = line (literal_words side refusal)
+line_text (BadWord index) =
     line (codes "argument " ++ decimal index ++ codes ": " ++ codes "not an argument")
-fault_text (WrongCount wanted given) =
+line_text (WrongCount wanted given) =
     line (codes "argument count: wanted " ++ decimal wanted ++ codes ", given " ++ decimal given)
-fault_text (WrongType index) =
+line_text (WrongType index) =
     line (codes "argument " ++ decimal index ++ codes ": " ++ codes "wrong type")
-fault_text Memory = line (codes "out of memory")
+line_text NoSecond = line (codes "a second format is wanted")
+line_text Read = line (codes "read failed")
+line_text (Write written) = line (codes "write failed")
+line_text Memory = line (codes "out of memory")
+line_text _ = []
 
 -- What is reported of an outcome: nothing if all was written, the text of a usage error as it is, and
 -- otherwise a line.
 abbrev pub report_text : Outcome → Text
-report_text (Ended ending) = []
-report_text (Answered status) = []
-report_text (Failed fault) = fault_text fault
-report_text NoSecond = line (codes "a second format is wanted")
 report_text (Usage text) = string_bytes text
 report_text Missing =
     codes "error: a format is missing; give it as an argument, or use '--null'\n\nFor more information, try '--help'.\n"
 report_text Misplaced =
     codes "error: '--null' takes no formats as arguments\n\nFor more information, try '--help'.\n"
-report_text Read = line (codes "read failed")
-report_text (Write written) = line (codes "write failed")
+report_text outcome = line_text outcome
 
 -- all of a text went out, or just its first bytes and one call failed
 abbrev pub WritesReport : {W : Type 0} → (W → Known) → Counted W → Counted W → Text → Type 0

@@ -6,12 +6,11 @@ use Rattle.pf_values.specs.meaning.Text.{Text}
 use Rattle.fmtcanon.specs.Answers.{IsAnswer, IsQuestionFault}
 use Rattle.fmtcanon.specs.Streams.{CopyEnds}
 use Rattle.fmtcanon.specs.Records.{AllReplied, RecordsEnd}
+use Rattle.fmtcanon.specs.Outcomes.{outcome_of}
 use Rattle.fmtcanon.specs.Tasks.{Asks, IsNoTaskOf}
 use Rattle.fmtcanon.specs.declared.answer.Ending.{Ending}
-use Rattle.fmtcanon.specs.declared.outcome.Fault.{Fault}
-use Rattle.fmtcanon.specs.declared.outcome.Fault.TheVariants.{Memory}
 use Rattle.fmtcanon.specs.declared.outcome.Outcome.{Outcome}
-use Rattle.fmtcanon.specs.declared.outcome.Outcome.TheVariants.{Ended, Failed, Misplaced, Missing, Usage, Write}
+use Rattle.fmtcanon.specs.declared.outcome.Outcome.TheVariants.{Memory, Misplaced, Missing, Usage, Write}
 use Rattle.fmtcanon.specs.declared.task.NoTask.{NoTask}
 use Rattle.fmtcanon.specs.declared.task.NoTask.TheVariants as reasons
 use Rattle.fmtcanon.specs.declared.questions.Question.{Question}
@@ -23,7 +22,7 @@ module _ {W : Type 0} (contents : W → Known) (old new : Counted W) where
   -- failed
   abbrev pub WritingEnds : Text → Ending → Outcome → Type 0
   WritingEnds bytes ending outcome =
-      ((outcome ≡ Ended ending) × WritesAll contents old new bytes × (is_flushed new ≡ true))
+      ((outcome ≡ outcome_of ending) × WritesAll contents old new bytes × (is_flushed new ≡ true))
       ⊎ ((count : ℕ) × (outcome ≡ Write count) × WritesFirst contents old new bytes count)
 
 module _ {W : Type 0} (contents : W → Known) (old new : Counted W) where
@@ -42,14 +41,14 @@ module _ {W : Type 0} (contents : W → Known) (old new : Counted W) where
     pub writes : WritesFirst contents old new out count
 
   -- There is no answer, and the writer was not called.
-  abbrev pub AnswersNothing : Question → Fault → Type 0
-  AnswersNothing question fault = IsQuestionFault question fault × (new ≡ old)
+  abbrev pub AnswersNothing : Question → Outcome → Type 0
+  AnswersNothing question outcome = IsQuestionFault question outcome × (new ≡ old)
 
   -- what the run of a question leaves
   abbrev pub AnswerEnds : Question → Outcome → Type 0
   AnswerEnds question outcome =
-      ((ending : Ending) × (outcome ≡ Ended ending) × AnswersAll question ending)
-      ⊎ ((fault : Fault) × (outcome ≡ Failed fault) × AnswersNothing question fault)
+      ((ending : Ending) × (outcome ≡ outcome_of ending) × AnswersAll question ending)
+      ⊎ AnswersNothing question outcome
       ⊎ ((count : ℕ) × (outcome ≡ Write count) × AnswersFirst question count)
 
 -- neither the reader nor the writer was called
@@ -86,7 +85,7 @@ module _ {R W : Type 0} (remaining : R → Known) (contents : W → Known)
       (outcome ≡ Usage text) × CallsNeither reader left old new
   NoTaskEnds reasons.Missing outcome = (outcome ≡ Missing) × CallsNeither reader left old new
   NoTaskEnds reasons.Misplaced outcome = (outcome ≡ Misplaced) × CallsNeither reader left old new
-  NoTaskEnds reasons.Memory outcome = (outcome ≡ Failed Memory) × CallsNeither reader left old new
+  NoTaskEnds reasons.Memory outcome = (outcome ≡ Memory) × CallsNeither reader left old new
 
   -- what the run of a task leaves, or of none
   abbrev pub FoundEnds : Result Task NoTask → Outcome → Type 0

@@ -6,10 +6,8 @@ use Rattle.pf_values.specs.Counting.{HasFailed, Known, device_of, failures_after
 use Rattle.pf_canon.specs.Copy.{CopiesAll, CopyStops}
 use Rattle.pf_canon.specs.declared.faults.CopyFault.{CopyFault}
 use Rattle.pf_canon.specs.declared.faults.CopyFault.TheVariants as faults
-use Rattle.fmtcanon.specs.declared.answer.Ending.TheVariants.{Done}
-use Rattle.fmtcanon.specs.declared.outcome.Fault.TheVariants.{Refused}
 use Rattle.fmtcanon.specs.declared.outcome.Outcome.{Outcome}
-use Rattle.fmtcanon.specs.declared.outcome.Outcome.TheVariants.{Ended, Failed, Read, Write}
+use Rattle.fmtcanon.specs.declared.outcome.Outcome.TheVariants.{Done, Refused, Read, Write}
 
 module _ (model : Model) {R W : Type 0} (remaining : R → Known) (contents : W → Known)
     (reader left : Counted R) (old new : Counted W) where
@@ -38,10 +36,10 @@ module _ (model : Model) {R W : Type 0} (remaining : R → Known) (contents : W 
 
   -- At Write the bytes are fewer than all, except where the flush failed after all went out.
   abbrev pub CopyEnds : Outcome → Type 0
-  CopyEnds (Ended Done) =
+  CopyEnds Done =
       ((count : ℕ) × AllCopied count) × ReadWell × (failures_of new ≡ failures_of old)
       × (is_flushed new ≡ true)
-  CopyEnds (Failed (Refused None refusal)) =
+  CopyEnds (Refused None refusal) =
       CopyStopped (faults.Refused refusal) × ReadWell × FlushedAtLast
   CopyEnds Read =
       CopyStopped faults.Read × HasFailed reader left × FlushedAtLast

@@ -11,7 +11,7 @@ ghost use Rattle.pf_whole.specs.Languages.{AcceptsText, Profile, Unnumbered};
 ghost use Rattle.pf_canon.specs.Answers.{IsCanonicalFor};
 ghost use Rattle.pf_whole.specs.Answers.{IsWholeCanonicalFor};
 ghost use Rattle.fmtcanon.specs.Lines.{line, output_bytes};
-ghost use Rattle.fmtcanon.specs.Outcomes.{status_of_ending};
+ghost use Rattle.fmtcanon.specs.Outcomes.{outcome_of, status_of};
 ghost use Rattle.fmtcanon.specs.PairAnswers.{IsPairAnswerIn};
 ghost use Rattle.fmtcanon.specs.Questions.{language_of, language_of_format};
 ghost use Rattle.fmtcanon.specs.declared.formats.GivenFormat.{GivenFormat};
@@ -22,7 +22,7 @@ use crate::byte_counts::bounds_line;
 use crate::formats::{GivenFormat, Notation};
 use crate::lines::Output;
 use crate::models::Models;
-use crate::outcome::Fault;
+use crate::outcome::Outcome;
 use crate::pairs::{pair_answer, refusal_of_first};
 use crate::questions::{FormatQuestion, OneQuestion, PairQuestion, Question};
 use crate::show_lines::show_lines;
@@ -45,14 +45,15 @@ pub enum Ending {
 }
 
 impl Ending {
-    /// Returns the exit status of a run that ends so.
-    pub fn status(self) -> u8
-        ensures value { result ≡ status_of_ending self }
-        ensures digit { status_of_ending self ≤ 9 }
+    /// Returns the outcome of a run that ends so.
+    pub fn outcome(self) -> Outcome
+        ensures value { result ≡ outcome_of self }
+        ensures digit { status_of (outcome_of self) ≤ 9 }
     {
         match self {
-            Ending::Done | Ending::Same => 0,
-            Ending::Different => 1,
+            Ending::Done => Outcome::Done,
+            Ending::Same => Outcome::Same,
+            Ending::Different => Outcome::Different,
         }
     }
 }
@@ -67,7 +68,7 @@ pub struct Answer {
 }
 
 /// Returns the answer to a question. `Err` with the reason if there is none.
-pub fn answer_to(alloc: Global, question: &Question<'_>) -> Result<Answer, Fault>
+pub fn answer_to(alloc: Global, question: &Question<'_>) -> Result<Answer, Outcome>
     ensures { MatchResult result
         (λ answer. IsAnswer question.now (output_bytes answer.output) answer.ending)
         (IsQuestionFault question.now) }
@@ -86,7 +87,7 @@ fn answer_of_one(
     asked: &OneQuestion<'_>,
     model: Model,
     format: &GivenFormat<'_>,
-) -> Result<Answer, Fault>
+) -> Result<Answer, Outcome>
     ensures { MatchResult result (λ answer. (bytes : Text) × IsFormat format.now bytes
         × HasOneAnswer asked.now format.now.notation model bytes (output_bytes answer.output)
         × (answer.ending ≡ Done))
@@ -106,7 +107,7 @@ pub fn answer_about_one(
     asked: &OneQuestion<'_>,
     model: Model,
     format: &GivenFormat<'_>,
-) -> Result<Vec<u8>, Fault>
+) -> Result<Vec<u8>, Outcome>
     ensures { MatchResult result (λ out. (bytes : Text) × IsFormat format.now bytes
         × HasOneAnswer asked.now format.now.notation model bytes out.items)
         (IsGivenFault (IsOneFault asked.now model) format.now) }
@@ -125,7 +126,7 @@ fn answer_about_bytes(
     notation: Notation,
     model: Model,
     bytes: &[u8],
-) -> Result<Vec<u8>, Fault>
+) -> Result<Vec<u8>, Outcome>
     ensures { MatchResult result (λ out. HasOneAnswer asked.now notation model bytes.now out.items)
         (IsOneFault asked.now model bytes.now) }
 {
@@ -142,7 +143,7 @@ fn lines_about(
     notation: Notation,
     model: Model,
     bytes: &[u8],
-) -> Result<Vec<u8>, Fault>
+) -> Result<Vec<u8>, Outcome>
     ensures { MatchResult result (λ out. HasAnswer asked notation model bytes.now out.items)
         (IsFormatFault (language_of_format asked) model bytes.now) }
 {
@@ -164,7 +165,7 @@ pub fn answer_about_two(
     models: Models,
     first: &GivenFormat<'_>,
     second: &GivenFormat<'_>,
-) -> Result<Answer, Fault>
+) -> Result<Answer, Outcome>
     ensures { MatchResult result (λ answer. (first_bytes second_bytes : Text)
         × IsFormat first.now first_bytes × IsFormat second.now second_bytes
         × IsPairAnswerIn asked models first_bytes second_bytes (output_bytes answer.output) answer.ending)
@@ -172,7 +173,7 @@ pub fn answer_about_two(
 {
     let first_bytes = match first.bytes(alloc) {
         Ok(bytes) => bytes,
-        Err(fault) => return Err(Fault::of_literal(Some(Side::First), fault)),
+        Err(fault) => return Err(Outcome::of_literal(Some(Side::First), fault)),
     };
     let second_bytes = match second.bytes(alloc) {
         Ok(bytes) => bytes,
@@ -194,13 +195,13 @@ pub fn answer_about_two(
 }
 
 // The fault where the second of two formats has no bytes: a fault of the first comes before it.
-fn without_second(first_refused: Option<Fault>, fault: LiteralFault) -> Fault
+fn without_second(first_refused: Option<Outcome>, fault: LiteralFault) -> Outcome
     ensures { MatchOption first_refused (result ≡ of_literal (Some sides.Second) fault)
         (λ refused. result ≡ refused) }
 {
     match first_refused {
         Some(refused) => refused,
-        None => Fault::of_literal(Some(Side::Second), fault),
+        None => Outcome::of_literal(Some(Side::Second), fault),
     }
 }
 
@@ -210,7 +211,7 @@ fn refused(
     model: Model,
     first: &GivenFormat<'_>,
     bytes: &[u8],
-) -> Option<Fault>
+) -> Option<Outcome>
     ensures { IsFormat first.now bytes.now
         → MatchOption result (AcceptsText (language_of asked) model bytes.now)
         (λ fault. (models : Models) (second : GivenFormat)
@@ -223,11 +224,11 @@ fn refused(
 }
 
 // A fault of the bytes of a format, as a fault of the format that is given.
-fn fault_in_text(format: &GivenFormat<'_>, fault: Fault) -> Fault
+fn fault_in_text(format: &GivenFormat<'_>, fault: Outcome) -> Outcome
     ensures { IsFaultInText format.now fault result }
 {
     match fault {
-        Fault::Refused { side, refusal } => Fault::Refused {
+        Outcome::Refused { side, refusal } => Outcome::Refused {
             side,
             refusal: Refusal {
                 kind: refusal.kind,
@@ -239,10 +240,10 @@ fn fault_in_text(format: &GivenFormat<'_>, fault: Fault) -> Fault
 }
 
 // A fault of the bytes of two formats, as a fault of those that are given.
-fn fault_in_texts(first: &GivenFormat<'_>, second: &GivenFormat<'_>, fault: Fault) -> Fault
+fn fault_in_texts(first: &GivenFormat<'_>, second: &GivenFormat<'_>, fault: Outcome) -> Outcome
     ensures { IsFaultInTexts first.now second.now (side_of fault) fault result }
 {
-    match side_of(fault) {
+    match side_of(&fault) {
         Some(Side::Second) => fault_in_text(second, fault),
         Some(Side::First) => fault_in_text(first, fault),
         None => fault_in_text(first, fault),
@@ -250,11 +251,11 @@ fn fault_in_texts(first: &GivenFormat<'_>, second: &GivenFormat<'_>, fault: Faul
 }
 
 // The side that is refused.
-fn side_of(fault: Fault) -> Option<Side>
-    ensures { result ≡ side_of fault }
+fn side_of(fault: &Outcome) -> Option<Side>
+    ensures { result ≡ side_of fault.now }
 {
     match fault {
-        Fault::Refused { side, .. } => side,
+        Outcome::Refused { side, .. } => *side,
         _ => None,
     }
 }
@@ -265,7 +266,7 @@ fn print_format(
     model: Model,
     format: &[u8],
     words: &[&str],
-) -> Result<Vec<u8>, Fault>
+) -> Result<Vec<u8>, Outcome>
     ensures ok { IfOk result
         (λ out. IsPrinted model format.now (map (λ s. s.now) words.now) out.items) }
     ensures err { IfErr result (IsArgumentFault model format.now (map (λ s. s.now) words.now)) }
@@ -274,7 +275,7 @@ fn print_format(
     match render_vec(alloc, model, format, &args) {
         Ok(out) => Ok(out),
         Err(fault) => match fault {
-            RenderVecFault::Memory => Err(Fault::Memory),
+            RenderVecFault::Memory => Err(Outcome::Memory),
             // The format takes just these arguments.
             _ => unreachable!(),
         },
@@ -287,7 +288,7 @@ fn canonical_line(
     notation: Notation,
     model: Model,
     format: &[u8],
-) -> Result<Vec<u8>, Fault>
+) -> Result<Vec<u8>, Outcome>
     ensures { MatchResult result (λ out. HasCanonicalLine notation (IsCanonicalFor model format.now) out.items)
         (IsFormatFault Profile model format.now) }
 {
@@ -302,7 +303,7 @@ fn whole_canonical_line(
     notation: Notation,
     model: Model,
     format: &[u8],
-) -> Result<Vec<u8>, Fault>
+) -> Result<Vec<u8>, Outcome>
     ensures { MatchResult result (λ out. HasCanonicalLine notation (IsWholeCanonicalFor model format.now) out.items)
         (IsFormatFault Unnumbered model format.now) }
 {

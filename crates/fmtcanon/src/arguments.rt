@@ -7,7 +7,7 @@ ghost use Rattle.fmtcanon.specs.UntypedArgs.{argument_given};
 ghost use Rattle.fmtcanon.specs.ArgumentWords.{SpellsArgument, SpellsMagnitude, SpellsNumber};
 ghost use Rattle.fmtcanon.specs.FormatArguments.{AreArgumentsFor, IsArgumentFault, IsBadWord, IsWrongType, SpellArguments};
 
-use crate::outcome::Fault;
+use crate::outcome::Outcome;
 use crate::type_lines::types_of;
 use pf_values::{Arg, ArgType, CBytes, Model};
 use std::alloc::Global;
@@ -108,7 +108,7 @@ pub fn arguments_for<'a>(
     model: Model,
     format: &[u8],
     words: &[&'a str],
-) -> Result<Vec<Arg<'a>>, Fault>
+) -> Result<Vec<Arg<'a>>, Outcome>
     ensures ok { IfOk result
         (λ args. AreArgumentsFor model format.now (map (λ s. s.now) words.now) args.items) }
     ensures err { IfErr result (IsArgumentFault model format.now (map (λ s. s.now) words.now)) }
@@ -116,7 +116,7 @@ pub fn arguments_for<'a>(
     let wanted = types_of(alloc, model, format)?;
     let given = read_words(alloc, words)?;
     if wanted.len() != given.len() {
-        return Err(Fault::WrongCount {
+        return Err(Outcome::WrongCount {
             wanted: wanted.len() as u64,
             given: given.len() as u64,
         });
@@ -125,7 +125,7 @@ pub fn arguments_for<'a>(
 }
 
 // The arguments that the words give.
-fn read_words<'a>(alloc: Global, words: &[&'a str]) -> Result<Vec<UntypedArg<'a>>, Fault>
+fn read_words<'a>(alloc: Global, words: &[&'a str]) -> Result<Vec<UntypedArg<'a>>, Outcome>
     ensures ok { IfOk result
         (λ given. SpellArguments (map (λ s. s.now) words.now) (map argument_given given.items)) }
     ensures err { IfErr result (λ fault. IsBadWord (map (λ s. s.now) words.now) fault) }
@@ -135,10 +135,10 @@ fn read_words<'a>(alloc: Global, words: &[&'a str]) -> Result<Vec<UntypedArg<'a>
         match read_argument(word.as_bytes()) {
             Some(argument) => {
                 if given.push(argument).is_err() {
-                    return Err(Fault::Memory);
+                    return Err(Outcome::Memory);
                 }
             }
-            None => return Err(Fault::BadWord(given.len() as u64)),
+            None => return Err(Outcome::BadWord(given.len() as u64)),
         }
     }
     Ok(given)
@@ -150,7 +150,7 @@ fn at_types<'a>(
     model: Model,
     given: &[UntypedArg<'a>],
     wanted: &[ArgType],
-) -> Result<Vec<Arg<'a>>, Fault>
+) -> Result<Vec<Arg<'a>>, Outcome>
     requires { length given.now ≡ length wanted.now }
     ensures ok { IfOk result (λ args.
         (map argument_of args.items ≡ map argument_given given.now)
@@ -164,10 +164,10 @@ fn at_types<'a>(
         match argument.as_type(model, *arg_type) {
             Some(arg) => {
                 if args.push(arg).is_err() {
-                    return Err(Fault::Memory);
+                    return Err(Outcome::Memory);
                 }
             }
-            None => return Err(Fault::WrongType(args.len() as u64)),
+            None => return Err(Outcome::WrongType(args.len() as u64)),
         }
     }
     Ok(args)

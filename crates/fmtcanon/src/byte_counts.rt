@@ -5,20 +5,20 @@ ghost use Rattle.fmtcanon.specs.ByteCounts.{HasBoundsLine, bounds_line, greatest
 ghost use Rattle.pf_whole.specs.Languages.{Profile};
 
 use crate::lines::push_decimal;
-use crate::outcome::Fault;
+use crate::outcome::Outcome;
 use pf_bounds::{Bounds, bounds};
 use pf_values::Model;
 use std::alloc::{AllocError, Global};
 
 /// Returns the line of `bounds`: how many bytes a format prints at least and at most in a data model.
 /// `Err` if the format or memory is refused.
-pub fn bounds_line(alloc: Global, model: Model, format: &[u8]) -> Result<Vec<u8>, Fault>
+pub fn bounds_line(alloc: Global, model: Model, format: &[u8]) -> Result<Vec<u8>, Outcome>
     ensures { MatchResult result (λ out. HasBoundsLine model format.now out.items)
         (IsFormatFault Profile model format.now) }
 {
     let found = match bounds(model, format) {
         Ok(found) => found,
-        Err(refusal) => return Err(Fault::refused(None, refusal)),
+        Err(refusal) => return Err(Outcome::refused(None, refusal)),
     };
     Ok(line_of_bounds(alloc, found)?)
 }

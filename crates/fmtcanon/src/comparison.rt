@@ -8,7 +8,7 @@ ghost use Rattle.fmtcanon.specs.declared.questions.PairQuestion.TheVariants.{Sam
 
 use crate::answer::{Answer, Ending};
 use crate::lines::{Output, difference_line, line_of};
-use crate::outcome::Fault;
+use crate::outcome::Outcome;
 use pf_compare::OwnedArg;
 use pf_values::Model;
 use pf_whole::WholeVerdict;
@@ -22,7 +22,7 @@ pub fn comparison_in(
     model: Model,
     first: &[u8],
     second: &[u8],
-) -> Result<Answer, Fault>
+) -> Result<Answer, Outcome>
     ensures { MatchResult result
         (λ answer. IsComparisonAnswer model first.now second.now (output_bytes answer.output)
         answer.ending)
@@ -36,7 +36,7 @@ pub fn comparison_in(
 /// Says whether two formats of the whole language are interchangeable; otherwise where their types or
 /// their calls differ, or arguments for which they print different bytes. `Err` if one of them or memory
 /// is refused.
-pub fn alike_in(alloc: Global, model: Model, first: &[u8], second: &[u8]) -> Result<Answer, Fault>
+pub fn alike_in(alloc: Global, model: Model, first: &[u8], second: &[u8]) -> Result<Answer, Outcome>
     ensures { MatchResult result
         (λ answer. IsAlikeAnswer model first.now second.now (output_bytes answer.output)
         answer.ending)

@@ -8,13 +8,13 @@ ghost use Rattle.fmtcanon.specs.declared.questions.PairQuestion.TheVariants.{Fit
 
 use crate::answer::{Answer, Ending};
 use crate::lines::{Line, Output, difference_line, line_of};
-use crate::outcome::Fault;
+use crate::outcome::Outcome;
 use pf_posix::{fits, fits_fewer};
 use pf_values::Model;
 
 /// Says whether the second format takes just the arguments of the first; otherwise the first index at
 /// which they differ. `Err` if one of them is refused.
-pub fn fit_in(model: Model, first: &[u8], second: &[u8]) -> Result<Answer, Fault>
+pub fn fit_in(model: Model, first: &[u8], second: &[u8]) -> Result<Answer, Outcome>
     ensures { MatchResult result
         (λ answer. IsFitAnswer (ComparesArgumentTypes model first.now second.now)
         (output_bytes answer.output) answer.ending)
@@ -22,14 +22,14 @@ pub fn fit_in(model: Model, first: &[u8], second: &[u8]) -> Result<Answer, Fault
 {
     let index = match fits(model, first, second) {
         Ok(index) => index,
-        Err((side, refusal)) => return Err(Fault::refused(Some(side), refusal)),
+        Err((side, refusal)) => return Err(Outcome::refused(Some(side), refusal)),
     };
     Ok(fit_answer(index))
 }
 
 /// Says whether the second format takes no other arguments than the first, from which it may leave out
 /// the last ones; otherwise the first index at which it takes another. `Err` if one of them is refused.
-pub fn fewer_in(model: Model, first: &[u8], second: &[u8]) -> Result<Answer, Fault>
+pub fn fewer_in(model: Model, first: &[u8], second: &[u8]) -> Result<Answer, Outcome>
     ensures { MatchResult result
         (λ answer. IsFitAnswer (ComparesBeginning model first.now second.now)
         (output_bytes answer.output) answer.ending)
@@ -37,7 +37,7 @@ pub fn fewer_in(model: Model, first: &[u8], second: &[u8]) -> Result<Answer, Fau
 {
     let index = match fits_fewer(model, first, second) {
         Ok(index) => index,
-        Err((side, refusal)) => return Err(Fault::refused(Some(side), refusal)),
+        Err((side, refusal)) => return Err(Outcome::refused(Some(side), refusal)),
     };
     Ok(fit_answer(index))
 }

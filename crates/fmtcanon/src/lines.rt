@@ -58,7 +58,7 @@ pub fn difference_line(what: &str, index: u64) -> Line
 
 /// Returns a text as a line.
 pub fn line_of(text: &str) -> Line
-    requires { length text.now ≤ 20 }
+    requires { length text.now ≤ 30 }
     ensures { result.bytes ≡ line text.now }
 {
     let mut line = Line::new();

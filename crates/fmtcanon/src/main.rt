@@ -30,7 +30,7 @@ mod subcommands;
 mod task;
 mod type_lines;
 
-use outcome::{Fault, Outcome, report};
+use outcome::{Outcome, report};
 use pf_values::Counted;
 use run::run;
 use std::alloc::AllocError;
@@ -41,7 +41,7 @@ use std::{env, io};
 fn main(rt: HostRuntime) -> ExitCode {
     let outcome = match run_words(&rt) {
         Ok(outcome) => outcome,
-        Err(AllocError) => Outcome::Failed(Fault::Memory),
+        Err(AllocError) => Outcome::Memory,
     };
     end(&outcome, &mut Counted::new(rt.stderr()))
 }

@@ -5,11 +5,10 @@ ghost use Rattle.pf_literals.specs.Kinds as literals;
 ghost use Rattle.pf_values.specs.RefusalKinds.{name};
 ghost use Rattle.fmtcanon.specs.Faults.{of_comparison, of_literal, of_text};
 ghost use Rattle.fmtcanon.specs.Lines.{line};
-ghost use Rattle.fmtcanon.specs.Outcomes.{status_of, status_of_fault};
-ghost use Rattle.fmtcanon.specs.Reports.{WritesReport, fault_text, fault_words, literal_words, refusal_words, side_words, report_text};
-ghost use Rattle.fmtcanon.specs.declared.outcome.Fault.TheVariants.{Memory, Refused};
+ghost use Rattle.fmtcanon.specs.Outcomes.{status_of};
+ghost use Rattle.fmtcanon.specs.Reports.{WritesReport, fault_words, line_text, literal_words, refusal_words, side_words, report_text};
+ghost use Rattle.fmtcanon.specs.declared.outcome.Outcome.TheVariants.{Memory, Refused};
 
-use crate::answer::Ending;
 use crate::lines::{Line, line_of, push_number};
 use pf_compare::CompareFault;
 use pf_literals::{LiteralFault, LiteralKind, LiteralRefusal};
@@ -18,52 +17,20 @@ use pf_values::{Counted, RefusalKind, ShortWrite, write_bytes};
 use std::alloc::AllocError;
 use std::io::Write;
 
-/// How a run ended.
+/// How a run ended, or why a question has no answer.
 ///
-/// At `Failed` nothing was written, except what `stream` had settled before, and over records the
-/// replies to the first of them.
+/// Where something is refused, invalid or wrong, or memory was refused, nothing was written, except what
+/// `stream` had settled before, and over records the replies to the first of them.
 #[derive(Drop)]
 pub enum Outcome {
-    /// All was written, and this is how the run ends then.
-    Ended(Ending),
+    /// All was written.
+    Done,
+    /// All was written; the formats mean the same, or take the same arguments.
+    Same,
+    /// All was written; the formats differ, in types or in bytes.
+    Different,
     /// All records were answered; the highest status of their answers.
     Answered(u8),
-    /// A question has no answer, or memory was refused.
-    Failed(Fault),
-    /// A record is left over that needs a second one, and all before it were answered.
-    NoSecond,
-    /// The arguments are not a command, or ask for help; this is the text of `clap`.
-    Usage(String),
-    /// A format is missing, and nothing was written.
-    Missing,
-    /// Formats are given besides the option `--null`, and nothing was written.
-    Misplaced,
-    /// A read failed.
-    Read,
-    /// A write or the flush failed, after this number of bytes.
-    Write(u128),
-}
-
-impl Outcome {
-    /// Returns the exit status: 0 if all was written, 1 if formats differ, 2 if a format is refused or
-    /// literals are wrong, 3 for a usage error, an invalid argument or an unpaired record, and 4 if a
-    /// device failed or memory was refused. Of records that were answered it is the highest of theirs.
-    pub fn status(&self) -> u8
-        ensures { result ≡ status_of self.now }
-    {
-        match self {
-            Outcome::Ended(ending) => ending.status(),
-            Outcome::Answered(status) => *status,
-            Outcome::Failed(fault) => fault.status(),
-            Outcome::NoSecond | Outcome::Usage(_) | Outcome::Missing | Outcome::Misplaced => 3,
-            Outcome::Read | Outcome::Write(_) => 4,
-        }
-    }
-}
-
-/// Why a question has no answer, or memory was refused.
-#[derive(Clone, Copy)]
-pub enum Fault {
     /// A format is refused.
     Refused {
         /// Which one, where there are two.
@@ -89,84 +56,101 @@ pub enum Fault {
     },
     /// The argument with this index is not of its type.
     WrongType(u64),
+    /// A record is left over that needs a second one, and all before it were answered.
+    NoSecond,
+    /// The arguments are not a command, or ask for help; this is the text of `clap`.
+    Usage(String),
+    /// A format is missing, and nothing was written.
+    Missing,
+    /// Formats are given besides the option `--null`, and nothing was written.
+    Misplaced,
+    /// A read failed.
+    Read,
+    /// A write or the flush failed, after this number of bytes.
+    Write(u128),
     /// Memory was refused.
     Memory,
 }
 
-impl Fault {
-    /// Returns the exit status of a run that fails with it.
+impl Outcome {
+    /// Returns the exit status: 0 if all was written, 1 if formats differ, 2 if a format is refused or
+    /// literals are wrong, 3 for a usage error, an invalid argument or an unpaired record, and 4 if a
+    /// device failed or memory was refused. Of records that were answered it is the highest of theirs.
     pub fn status(&self) -> u8
-        ensures value { result ≡ status_of_fault self.now }
-        ensures digit { status_of_fault self.now ≤ 9 }
+        ensures { result ≡ status_of self.now }
     {
         match self {
-            Fault::Refused { .. } | Fault::BadLiteral { .. } => 2,
-            Fault::BadWord(_) | Fault::WrongCount { .. } | Fault::WrongType(_) => 3,
-            Fault::Memory => 4,
+            Outcome::Done | Outcome::Same => 0,
+            Outcome::Different => 1,
+            Outcome::Answered(status) => *status,
+            Outcome::Refused { .. } | Outcome::BadLiteral { .. } => 2,
+            Outcome::BadWord(_) | Outcome::WrongCount { .. } | Outcome::WrongType(_) => 3,
+            Outcome::NoSecond | Outcome::Usage(_) | Outcome::Missing | Outcome::Misplaced => 3,
+            Outcome::Read | Outcome::Write(_) | Outcome::Memory => 4,
         }
     }
 
     /// Returns the refusal of a format, the only one or this one of two.
-    pub fn refused(side: Option<Side>, refusal: Refusal) -> Fault
+    pub fn refused(side: Option<Side>, refusal: Refusal) -> Outcome
         ensures { result ≡ Refused side refusal }
     {
-        Fault::Refused { side, refusal }
+        Outcome::Refused { side, refusal }
     }
 
     /// Returns the fault of literals that give a format, the only one or this one of two.
-    pub fn of_literal(side: Option<Side>, fault: LiteralFault) -> Fault
+    pub fn of_literal(side: Option<Side>, fault: LiteralFault) -> Outcome
         ensures { result ≡ of_literal side fault }
     {
         match fault {
-            LiteralFault::Refused(refusal) => Fault::BadLiteral { side, refusal },
-            LiteralFault::Memory => Fault::Memory,
+            LiteralFault::Refused(refusal) => Outcome::BadLiteral { side, refusal },
+            LiteralFault::Memory => Outcome::Memory,
         }
     }
 }
 
-impl From<AllocError> for Fault {
-    ghost from_gives = { λ _ fault. fault ≡ Memory };
+impl From<AllocError> for Outcome {
+    ghost from_gives = { λ _ outcome. outcome ≡ Memory };
 
-    fn from(_error: AllocError) -> Fault {
-        Fault::Memory
+    fn from(_error: AllocError) -> Outcome {
+        Outcome::Memory
     }
 }
 
-impl From<Refusal> for Fault {
-    ghost from_gives = { λ refusal fault. fault ≡ Refused None refusal };
+impl From<Refusal> for Outcome {
+    ghost from_gives = { λ refusal outcome. outcome ≡ Refused None refusal };
 
-    fn from(refusal: Refusal) -> Fault {
-        Fault::refused(None, refusal)
+    fn from(refusal: Refusal) -> Outcome {
+        Outcome::refused(None, refusal)
     }
 }
 
-impl From<TextFault> for Fault {
-    ghost from_gives = { λ error fault. fault ≡ of_text error };
+impl From<TextFault> for Outcome {
+    ghost from_gives = { λ error outcome. outcome ≡ of_text error };
 
-    fn from(error: TextFault) -> Fault {
+    fn from(error: TextFault) -> Outcome {
         match error {
-            TextFault::Refused(refusal) => Fault::refused(None, refusal),
-            TextFault::Memory => Fault::Memory,
+            TextFault::Refused(refusal) => Outcome::refused(None, refusal),
+            TextFault::Memory => Outcome::Memory,
         }
     }
 }
 
-impl From<CompareFault> for Fault {
-    ghost from_gives = { λ error fault. fault ≡ of_comparison error };
+impl From<CompareFault> for Outcome {
+    ghost from_gives = { λ error outcome. outcome ≡ of_comparison error };
 
-    fn from(error: CompareFault) -> Fault {
+    fn from(error: CompareFault) -> Outcome {
         match error {
-            CompareFault::Refused(side, refusal) => Fault::refused(Some(side), refusal),
-            CompareFault::Memory => Fault::Memory,
+            CompareFault::Refused(side, refusal) => Outcome::refused(Some(side), refusal),
+            CompareFault::Memory => Outcome::Memory,
         }
     }
 }
 
-impl From<LiteralFault> for Fault {
-    ghost from_gives = { λ error fault. fault ≡ of_literal None error };
+impl From<LiteralFault> for Outcome {
+    ghost from_gives = { λ error outcome. outcome ≡ of_literal None error };
 
-    fn from(error: LiteralFault) -> Fault {
-        Fault::of_literal(None, error)
+    fn from(error: LiteralFault) -> Outcome {
+        Outcome::of_literal(None, error)
     }
 }
 
@@ -182,9 +166,6 @@ fn write_report<E: Write>(outcome: &Outcome, errors: &mut Counted<E>) -> Result<
     ensures { Writes E.contents errors.old errors.new (report_text outcome.now) result }
 {
     match outcome {
-        Outcome::Ended(_) | Outcome::Answered(_) => write_bytes(errors, b""),
-        Outcome::Failed(fault) => write_line(errors, &fault_line(fault)),
-        Outcome::NoSecond => write_bytes(errors, b"a second format is wanted\n"),
         Outcome::Usage(text) => write_bytes(errors, text.as_bytes()),
         Outcome::Missing => write_bytes(
             errors,
@@ -194,8 +175,7 @@ fn write_report<E: Write>(outcome: &Outcome, errors: &mut Counted<E>) -> Result<
             errors,
             b"error: '--null' takes no formats as arguments\n\nFor more information, try '--help'.\n",
         ),
-        Outcome::Read => write_bytes(errors, b"read failed\n"),
-        Outcome::Write(_) => write_bytes(errors, b"write failed\n"),
+        _ => write_line(errors, &error_line(outcome)),
     }
 }
 
@@ -205,17 +185,27 @@ fn write_line<E: Write>(errors: &mut Counted<E>, line: &Line) -> Result<(), Shor
     write_bytes(errors, line.as_str().as_bytes())
 }
 
-/// Returns the line of a fault.
-pub fn fault_line(fault: &Fault) -> Line
-    ensures { result.bytes ≡ fault_text fault.now }
+/// Returns the line about what failed; no bytes for outcomes that have no line.
+pub fn error_line(outcome: &Outcome) -> Line
+    ensures { result.bytes ≡ line_text outcome.now }
 {
-    match fault {
-        Fault::Refused { side, refusal } => refusal_line(*side, refusal),
-        Fault::BadLiteral { side, refusal } => literal_line(*side, refusal),
-        Fault::BadWord(index) => bad_argument_line(*index, "not an argument"),
-        Fault::WrongCount { wanted, given } => count_line(*wanted, *given),
-        Fault::WrongType(index) => bad_argument_line(*index, "wrong type"),
-        Fault::Memory => line_of("out of memory"),
+    match outcome {
+        Outcome::Refused { side, refusal } => refusal_line(*side, refusal),
+        Outcome::BadLiteral { side, refusal } => literal_line(*side, refusal),
+        Outcome::BadWord(index) => bad_argument_line(*index, "not an argument"),
+        Outcome::WrongCount { wanted, given } => count_line(*wanted, *given),
+        Outcome::WrongType(index) => bad_argument_line(*index, "wrong type"),
+        Outcome::NoSecond => line_of("a second format is wanted"),
+        Outcome::Read => line_of("read failed"),
+        Outcome::Write(_) => line_of("write failed"),
+        Outcome::Memory => line_of("out of memory"),
+        Outcome::Done
+        | Outcome::Same
+        | Outcome::Different
+        | Outcome::Answered(_)
+        | Outcome::Usage(_)
+        | Outcome::Missing
+        | Outcome::Misplaced => Line::new(),
     }
 }
 

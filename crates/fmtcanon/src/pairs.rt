@@ -11,7 +11,7 @@ use crate::comparison::{alike_in, comparison_in};
 use crate::fits::{fewer_in, fit_in};
 use crate::lines::{Output, push_line};
 use crate::models::{Models, name_of};
-use crate::outcome::Fault;
+use crate::outcome::Outcome;
 use crate::questions::PairQuestion;
 use pf_posix::{arguments, check_unnumbered};
 use pf_text::{Side, check};
@@ -26,7 +26,7 @@ pub fn pair_answer(
     models: Models,
     first: &[u8],
     second: &[u8],
-) -> Result<Answer, Fault>
+) -> Result<Answer, Outcome>
     ensures { MatchResult result
         (λ answer. IsPairAnswerIn question models first.now second.now (output_bytes answer.output)
         answer.ending)
@@ -45,7 +45,7 @@ fn pair_answer_in_each(
     models: &[Model],
     first: &[u8],
     second: &[u8],
-) -> Result<Answer, Fault>
+) -> Result<Answer, Outcome>
     ensures { MatchResult result
         (λ answer. IsAnswerInEach (λ model. IsPairAnswer question model first.now second.now)
         models.now (output_bytes answer.output) answer.ending)
@@ -70,7 +70,7 @@ fn pair_answer_in(
     model: Model,
     first: &[u8],
     second: &[u8],
-) -> Result<Answer, Fault>
+) -> Result<Answer, Outcome>
     ensures { MatchResult result
         (λ answer. IsPairAnswer question model first.now second.now (output_bytes answer.output)
         answer.ending)
@@ -85,7 +85,7 @@ fn pair_answer_in(
 }
 
 /// Returns the refusal of the bytes of the first of two formats, or `None` if it is accepted.
-pub fn refusal_of_first(question: PairQuestion, model: Model, bytes: &[u8]) -> Option<Fault>
+pub fn refusal_of_first(question: PairQuestion, model: Model, bytes: &[u8]) -> Option<Outcome>
     ensures { MatchOption result (AcceptsText (language_of question) model bytes.now)
         (IsRefusalOfFirst (language_of question) model bytes.now) }
 {
@@ -94,23 +94,23 @@ pub fn refusal_of_first(question: PairQuestion, model: Model, bytes: &[u8]) -> O
         PairQuestion::FitsFewer => numbered_refusal(model, bytes),
         PairQuestion::Same => match check(bytes) {
             Ok(()) => None,
-            Err(refusal) => Some(Fault::refused(Some(Side::First), refusal)),
+            Err(refusal) => Some(Outcome::refused(Some(Side::First), refusal)),
         },
         PairQuestion::WholeSame => match check_unnumbered(model, bytes) {
             Ok(()) => None,
-            Err(refusal) => Some(Fault::refused(Some(Side::First), refusal)),
+            Err(refusal) => Some(Outcome::refused(Some(Side::First), refusal)),
         },
     }
 }
 
 // The refusal of a first format in the whole language with numbered arguments.
-fn numbered_refusal(model: Model, bytes: &[u8]) -> Option<Fault>
+fn numbered_refusal(model: Model, bytes: &[u8]) -> Option<Outcome>
     ensures { MatchOption result (AcceptsText Numbered model bytes.now)
         (IsRefusalOfFirst Numbered model bytes.now) }
 {
     match arguments(model, bytes, &mut []) {
         Ok(_) => None,
-        Err(refusal) => Some(Fault::refused(Some(Side::First), refusal)),
+        Err(refusal) => Some(Outcome::refused(Some(Side::First), refusal)),
     }
 }
 

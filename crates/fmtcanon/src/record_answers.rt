@@ -5,7 +5,7 @@ ghost use Rattle.fmtcanon.specs.Questions.{IsAbout, formats_wanted};
 ghost use Rattle.fmtcanon.specs.RecordRuns.{AddsReply, HasAsked, HasFirst, HasReplies, HasSaid, HasStopped, RecordsEndEarly, RecordsFinish, WritesReplies};
 ghost use Rattle.fmtcanon.specs.Records.{Reply};
 
-use crate::outcome::{Fault, Outcome};
+use crate::outcome::Outcome;
 use crate::questions::{Question, RecordQuestion};
 use crate::replies::Replies;
 use pf_values::Counted;
@@ -120,7 +120,7 @@ impl RecordAnswers {
         match fault {
             RecordRunFault::Write(count) => Outcome::Write(count),
             RecordRunFault::Memory => match self.replies.flush(writer) {
-                Ok(()) => Outcome::Failed(Fault::Memory),
+                Ok(()) => Outcome::Memory,
                 Err(count) => Outcome::Write(count),
             },
         }

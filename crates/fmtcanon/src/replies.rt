@@ -2,12 +2,15 @@
 ghost use Rattle.std.specs.Prelude.{◌≡◌, ◌≤◌, ◌++◌, ◌∷◌, [], List, MatchResult, OnErr, OnOk, length, max, take, true};
 ghost use Rattle.pf_values.specs.Counting.{is_flushed};
 ghost use Rattle.pf_values.specs.meaning.Text.{Text};
+ghost use Rattle.fmtcanon.specs.Answers.{IsQuestionFault};
+ghost use Rattle.fmtcanon.specs.Outcomes.{status_of};
 ghost use Rattle.fmtcanon.specs.Questions.{IsAbout};
 ghost use Rattle.fmtcanon.specs.RecordRuns.{HasReplies, HasSaid, HasSaidFirst, waiting_text};
 ghost use Rattle.fmtcanon.specs.Records.{IsReply, Reply, reply_bytes};
+ghost use Rattle.fmtcanon.specs.declared.questions.Question.{Question as QuestionOf};
 
 use crate::answer::answer_to;
-use crate::outcome::{Fault, fault_line};
+use crate::outcome::{Outcome, error_line};
 use crate::questions::{Question, RecordQuestion};
 use pf_values::{Counted, write_bytes};
 use std::alloc::{AllocError, Global};
@@ -56,14 +59,28 @@ impl Replies {
             (λ _. HasReplies self.new sent replies) }
     {
         match answer_to(alloc, question) {
-            Ok(answer) => self.push(answer.ending.status(), answer.output.as_bytes()),
-            Err(fault) => match fault {
-                Fault::Memory => Err(AllocError),
-                _ => {
-                    let line = fault_line(&fault);
-                    self.push(fault.status(), line.as_str().as_bytes())
-                }
-            },
+            Ok(answer) => self.push(answer.ending.outcome().status(), answer.output.as_bytes()),
+            Err(failed) => self.push_failed(&failed),
+        }
+    }
+
+    // Adds the reply to a question that has no answer. `Err` if memory is refused, or was.
+    fn push_failed(&mut self, failed: &Outcome) -> Result<(), AllocError>
+        requires { status_of failed.now ≤ 9 }
+        ensures { (question : QuestionOf) (asked : RecordQuestion) (formats : List Text) (sent : Text)
+            (replies : List Reply) → IsQuestionFault question failed.now
+            → IsAbout question asked formats → HasReplies self.old sent replies
+            → MatchResult result
+            (λ _. (reply : Reply) × IsReply asked reply × (reply.formats ≡ formats)
+            × HasReplies self.new sent (replies ++ reply ∷ []))
+            (λ _. HasReplies self.new sent replies) }
+    {
+        match failed {
+            Outcome::Memory => Err(AllocError),
+            _ => {
+                let line = error_line(failed);
+                self.push(failed.status(), line.as_str().as_bytes())
+            }
         }
     }
 

@@ -7,9 +7,9 @@ ghost use Rattle.fmtcanon.specs.Streams.{CopyEnds};
 ghost use Rattle.fmtcanon.specs.Tasks.{Asks};
 ghost use Rattle.fmtcanon.specs.declared.task.Task.{Task};
 
-use crate::answer::{Answer, Ending, answer_to};
+use crate::answer::{Answer, answer_to};
 use crate::input::Input;
-use crate::outcome::{Fault, Outcome};
+use crate::outcome::Outcome;
 use crate::questions::Question;
 use crate::records::answer_records;
 use crate::task::{NoTask, Task, task_of};
@@ -19,8 +19,8 @@ use std::alloc::Global;
 use std::io::{Read, Write};
 
 /// Runs the command that the words name; the program's name isn't among them. What a command reads
-/// comes from `input`, and what it writes goes to `writer`. Its last call is a flush before `Ended`,
-/// by `stream` also before `Failed` and `Read`, and over records before all
+/// comes from `input`, and what it writes goes to `writer`. Its last call is a flush before `Done`,
+/// `Same` and `Different`, by `stream` also before `Refused` and `Read`, and over records before all
 /// outcomes except `Write`. What else is refused or invalid comes before the first call of the
 /// writer.
 ///
@@ -61,7 +61,7 @@ fn run_found<R: Read, W: Write, I: Input<R, W>>(
         Err(NoTask::Usage(text)) => Outcome::Usage(text),
         Err(NoTask::Missing) => Outcome::Missing,
         Err(NoTask::Misplaced) => Outcome::Misplaced,
-        Err(NoTask::Memory) => Outcome::Failed(Fault::Memory),
+        Err(NoTask::Memory) => Outcome::Memory,
     }
 }
 
@@ -71,7 +71,7 @@ fn answer<W: Write>(alloc: Global, question: &Question<'_>, writer: &mut Counted
 {
     match answer_to(alloc, question) {
         Ok(answer) => write_answer(&answer, writer),
-        Err(fault) => Outcome::Failed(fault),
+        Err(fault) => fault,
     }
 }
 
@@ -85,7 +85,7 @@ fn write_answer<W: Write>(answer: &Answer, writer: &mut Counted<W>) -> Outcome
         return Outcome::Write(short.written as u128);
     }
     match writer.flush() {
-        Ok(()) => Outcome::Ended(answer.ending),
+        Ok(()) => answer.ending.outcome(),
         Err(_) => Outcome::Write(bytes.len() as u128),
     }
 }
@@ -104,15 +104,15 @@ pub fn copy<R: Read, W: Write, I: Input<R, W>>(
 {
     match input.copy_all(model, writer) {
         Ok(count) => match writer.flush() {
-            Ok(()) => Outcome::Ended(Ending::Done),
+            Ok(()) => Outcome::Done,
             Err(_) => Outcome::Write(count),
         },
         Err(CopyFault::Refused(refusal)) => {
             let _ = writer.flush();
-            Outcome::Failed(Fault::Refused {
+            Outcome::Refused {
                 side: None,
                 refusal,
-            })
+            }
         }
         Err(CopyFault::Read) => {
             let _ = writer.flush();

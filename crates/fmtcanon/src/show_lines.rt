@@ -12,7 +12,7 @@ ghost use Rattle.fmtcanon.specs.Shows.{HasShownLines, IsLineOf, reduced_line, re
 ghost use Rattle.fmtcanon.specs.TypeLines.{type_name};
 
 use crate::lines::push_decimal;
-use crate::outcome::Fault;
+use crate::outcome::Outcome;
 use crate::type_lines::type_name;
 use pf_reduce::{Core, Reduced, reduce};
 use pf_text::{Piece, Pieces, check, spell};
@@ -21,7 +21,7 @@ use std::alloc::{AllocError, Global};
 
 /// Returns a line for each run of literal bytes, each `%%` and each directive of a format in a data
 /// model. `Err` if the format or memory is refused.
-pub fn show_lines(alloc: Global, model: Model, format: &[u8]) -> Result<Vec<u8>, Fault>
+pub fn show_lines(alloc: Global, model: Model, format: &[u8]) -> Result<Vec<u8>, Outcome>
     ensures { MatchResult result (λ out. HasShownLines model format.now out.items)
         (IsFormatFault Profile model format.now) }
 {
@@ -30,13 +30,13 @@ pub fn show_lines(alloc: Global, model: Model, format: &[u8]) -> Result<Vec<u8>,
     for piece in Pieces::new(format) {
         let piece = match piece {
             Ok(piece) => piece,
-            Err(refusal) => return Err(Fault::Refused {
+            Err(refusal) => return Err(Outcome::Refused {
                 side: None,
                 refusal,
             }),
         };
         if push_piece(&mut out, model, piece).is_err() {
-            return Err(Fault::Memory);
+            return Err(Outcome::Memory);
         }
     }
     Ok(out)

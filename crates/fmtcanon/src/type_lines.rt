@@ -7,15 +7,21 @@ ghost use Rattle.pf_text.specs.Signatures.{TakesTypes, types_of};
 ghost use Rattle.fmtcanon.specs.TypeLines.{HasTypeLines, type_line, type_name};
 
 use crate::lines::push_line;
-use crate::outcome::Fault;
-use pf_posix::{ArgumentType, arguments_vec};
+use crate::outcome::Outcome;
+use pf_posix::{ArgumentType, arguments, arguments_vec};
 use pf_text::{Signature, check, signature};
 use pf_values::{ArgType, Model};
 use std::alloc::{AllocError, Global};
 
+// How many types are found with no allocation.
+const ROOM: usize = 64;
+
+// Room for `unsigned long` and a newline. Few lines are longer.
+const USUAL_LINE: usize = 14;
+
 /// Returns a line for each argument of a format in a data model. `Err` if the format or memory is
 /// refused.
-pub fn type_lines(alloc: Global, model: Model, format: &[u8]) -> Result<Vec<u8>, Fault>
+pub fn type_lines(alloc: Global, model: Model, format: &[u8]) -> Result<Vec<u8>, Outcome>
     ensures { MatchResult result (λ out. HasTypeLines model format.now out.items)
         (IsFormatFault Profile model format.now) }
 {
@@ -25,7 +31,7 @@ pub fn type_lines(alloc: Global, model: Model, format: &[u8]) -> Result<Vec<u8>,
 
 /// Returns the types of a format's arguments in a data model. `Err` if it is refused, or memory is, for
 /// an accepted format.
-pub fn types_of(alloc: Global, model: Model, format: &[u8]) -> Result<Signature, Fault>
+pub fn types_of(alloc: Global, model: Model, format: &[u8]) -> Result<Signature, Outcome>
     ensures { MatchResult result (λ signature. TakesTypes model format.now (types_of signature))
         (IsFormatFault Profile model format.now) }
 {
@@ -36,7 +42,7 @@ pub fn types_of(alloc: Global, model: Model, format: &[u8]) -> Result<Signature,
 fn lines_of_types(alloc: Global, types: &[ArgType]) -> Result<Vec<u8>, AllocError>
     ensures { IfOk result (λ out. out.items ≡ flat_map type_line types.now) }
 {
-    let mut out = Vec::new(alloc);
+    let mut out = Vec::with_capacity(alloc, types.len().saturating_mul(USUAL_LINE))?;
     for arg_type in types {
         push_line(&mut out, type_name(*arg_type))?;
     }
@@ -60,7 +66,21 @@ pub fn type_name(arg_type: ArgType) -> &'static str
 
 /// Returns a line for each argument of a format of the whole language in a data model. `Err` if the
 /// format or memory is refused.
-pub fn whole_type_lines(alloc: Global, model: Model, format: &[u8]) -> Result<Vec<u8>, Fault>
+pub fn whole_type_lines(alloc: Global, model: Model, format: &[u8]) -> Result<Vec<u8>, Outcome>
+    ensures { MatchResult result (λ out. HasArgumentLines model format.now out.items)
+        (IsFormatFault Numbered model format.now) }
+{
+    let mut types = [ArgumentType::Profile(ArgType::Int); ROOM];
+    let count = arguments(model, format, &mut types)?;
+    if count > ROOM as u64 {
+        return many_type_lines(alloc, model, format);
+    }
+    Ok(lines_of_arguments(alloc, &types[..count as usize])?)
+}
+
+// Returns a line for each of any number of arguments.
+#[inline(never)]
+fn many_type_lines(alloc: Global, model: Model, format: &[u8]) -> Result<Vec<u8>, Outcome>
     ensures { MatchResult result (λ out. HasArgumentLines model format.now out.items)
         (IsFormatFault Numbered model format.now) }
 {
@@ -71,7 +91,7 @@ pub fn whole_type_lines(alloc: Global, model: Model, format: &[u8]) -> Result<Ve
 fn lines_of_arguments(alloc: Global, types: &[ArgumentType]) -> Result<Vec<u8>, AllocError>
     ensures { IfOk result (λ out. out.items ≡ flat_map argument_line types.now) }
 {
-    let mut out = Vec::new(alloc);
+    let mut out = Vec::with_capacity(alloc, types.len().saturating_mul(USUAL_LINE))?;
     for argument_type in types {
         push_line(&mut out, argument_name(*argument_type))?;
     }

@@ -1,18 +1,18 @@
 -- Whether two formats are related, and types at the front of a slice.
-use Rattle.std.proofs.Common.{◌≡◌, ◌∙◌, ◌++◌, ◌≤◌, [], ◌∷◌, Bool, List, ℕ, None, Some, ap, arith, length, refl, slice_get, subst, sym, take, Result, Ok, Err}
+use Rattle.std.proofs.Common.{◌≡◌, ◌∙◌, ◌++◌, ◌≤◌, Bool, List, ℕ, None, Some, ap, length, refl, slice_get, subst, sym, take, Result, Ok, Err}
 use Rattle.std.specs.Prelude.{MatchResult, Option}
 use Rattle.std.proofs.lemmas.Bool.{false≢true}
 use Rattle.pf_canon.specs.Comparison.{AreTextsSame, TextStops}
 use Rattle.pf_text.specs.declared.refusals.Refusal.{Refusal}
 use Rattle.pf_text.specs.declared.refusals.Side.{Side}
-use Rattle.pf_posix.specs.declared.types.ArgumentType.{ArgumentType}
 use Rattle.pf_posix.specs.Items.{HasArguments}
-use Rattle.pf_posix.specs.Laws.{ComparesArgumentTypes, ComparesBeginning, FaultForFits, HasCount, filled}
+use Rattle.pf_posix.specs.Laws.{ComparesArgumentTypes, ComparesBeginning, FaultForFits}
 use Rattle.pf_posix.proofs.DifferenceLemmas.{fewer_once}
 use Rattle.pf_posix.proofs.Unique.{one_list}
 use Rattle.pf_values.specs.declared.models.Model.{Model}
 use Rattle.pf_values.specs.meaning.Text.{Text}
 use Rattle.pf_whole.specs.Faults.{AreWholeSame, FaultForWholeSame}
+use Rattle.pf_whole.proofs.CountLemmas.{taken}
 use Rattle.fmtcanon_c.specs.Relations.{AcceptsRelated, AreRelated, Fit, FitFewer, Relates, is_nowhere}
 use Rattle.fmtcanon_c.specs.declared.relations.Relation.{Relation}
 use Rattle.fmtcanon_c.specs.declared.relations.Relation.TheVariants.{Fits, FitsFewer, Same, WholeSame}
@@ -75,22 +75,7 @@ module _ (model : Model) (f g : Text) where
       nowhere FitsFewer (ComparesBeginning model f g) (λ index k. ((k.types, k.first_accepted), (k.others, k.second_accepted)))
       they_begin they_exceed (FaultForFits model f g) found h
 
--- the elements at the front of a slice that has room for them
-taken_front : {X : Type 0} (old more : List X) → length more ≤ length old → take (length more) (filled old more) ≡ more
-taken_front [] [] few = refl
-taken_front [] (x ∷ more) few = absurd (omega (arith, few))
-taken_front (o ∷ old) [] few = refl
-taken_front (o ∷ old) (x ∷ more) few = ap (λ l. x ∷ l) (taken_front old more (omega (arith, few)))
-
--- the elements that a call has put there
-taken : {X : Type 0} (old new found : List X) (count : ℕ) → count ≡ length found → new ≡ filled old found → length found ≤ length old
-    → take count new ≡ found
-taken old new found count count_is front few = ap (λ n. take n new) count_is ∙ ap (take (length found)) front ∙ taken_front old found few
-
-pub taken_types : (model : Model) (t : Text) (old new : List ArgumentType) (count : ℕ) (h : HasCount model t old new count) → length h.types ≤ length old
-    → take count new ≡ h.types
-taken_types model t old new count h few = taken old new h.types count h.count_is h.front few
-
+-- the records that a call has put at the front of a slice that has room for them
 pub taken_directives : (model : Model) (t : Text) (old new : List DirectiveSpan) (count : ℕ) (h : HasDirectiveCount model t old new count)
     → length h.directives ≤ length old → take count new ≡ h.directives
 taken_directives model t old new count h few = taken old new h.directives count h.count_is h.front few

@@ -1,7 +1,9 @@
 //! Whether a text is a format, whether it is canonical, and its canonical text.
-ghost use Rattle.std.specs.Prelude.{◌≡◌};
+ghost use Rattle.std.specs.Prelude.{◌≡◌, length, MatchResult};
 ghost use Rattle.pf_values.specs.meaning.Refusals.{IsRefusedAt};
+ghost use Rattle.pf_values.specs.meaning.Text.{Text};
 ghost use Rattle.pf_canon.specs.Answers.{IsCanonicalFor};
+ghost use Rattle.pf_canon.specs.Languages.{FaultIn, HasCanonicalIn};
 ghost use Rattle.pf_canon.specs.VerbatimFronts.{IsVerbatimFront, front_model};
 ghost use Rattle.pf_posix.specs.Unnumbered.{IsWholeRefusedAt};
 ghost use Rattle.pf_whole.specs.Answers.{IsWholeCanonicalFor};
@@ -10,7 +12,8 @@ ghost use Rattle.fmtcanon_c.specs.Models.{InModel};
 
 use crate::interface::{CError, NO_MEMORY, NO_MODEL, model_of, put_refusal, put_string};
 use pf_canon::{
-    Language, Profile, ShortText, VerbatimFront, canonical_in, canonical_len, is_canonical,
+    Language, Profile, Room, ShortText, VerbatimFront, canonical_in, canonical_len,
+    canonical_of_len, is_canonical,
 };
 use pf_text::{Refusal, Side, TextFault, check};
 use pf_values::Model;
@@ -101,17 +104,46 @@ fn put_other_canonical<L: Language>(
 {
     let mut short = ShortText::new();
     match short.put::<L>(front, text) {
-        Ok(true) => {
+        Ok(Room::Enough) => {
             let canonical = short.as_slice();
             put_string(out, canonical);
             canonical.len() as i64
         }
-        Ok(false) => put_long_canonical::<L>(alloc, model, text, out, error),
+        Ok(Room::Counted(len)) => put_counted_canonical::<L>(
+            alloc, model, front, text, len, out, error,
+        ),
+        Ok(Room::Unread) => put_long_canonical::<L>(alloc, model, text, out, error),
         Err(refusal) => put_refusal(error, Side::First, refusal),
     }
 }
 
-// Puts the canonical text of a format that may be too long for the stack.
+// Puts the canonical text of a short format, which has this length, and more than the stack has room for.
+#[inline(never)]
+fn put_counted_canonical<L: Language>(
+    alloc: Global,
+    model: Model,
+    front: &VerbatimFront<'_>,
+    text: &[u8],
+    len: u128,
+    out: &mut [u8],
+    error: &mut CError,
+) -> i64
+    requires model { front_model front.now ≡ model }
+    requires taken { IsVerbatimFront text.now front.now }
+    requires len { (c : Text) × HasCanonicalIn L.has_front (front_model front.now) text.now c
+        × (len ≡ length c) }
+    ensures { PutsCanonicalIn L.has_front L.refuses model text.now out.old error.old result out.new error.new }
+{
+    put_made::<L>(
+        model,
+        text,
+        canonical_of_len::<L>(alloc, front, text, len),
+        out,
+        error,
+    )
+}
+
+// Puts the canonical text of a format that is too long for the stack.
 #[inline(never)]
 fn put_long_canonical<L: Language>(
     alloc: Global,
@@ -122,7 +154,28 @@ fn put_long_canonical<L: Language>(
 ) -> i64
     ensures { PutsCanonicalIn L.has_front L.refuses model text.now out.old error.old result out.new error.new }
 {
-    match canonical_in::<L>(alloc, model, text, 0) {
+    put_made::<L>(
+        model,
+        text,
+        canonical_in::<L>(alloc, model, text, 0),
+        out,
+        error,
+    )
+}
+
+// Puts a canonical text that was made in memory.
+fn put_made<L: Language>(
+    model: Model,
+    text: &[u8],
+    made: Result<Vec<u8>, TextFault>,
+    out: &mut [u8],
+    error: &mut CError,
+) -> i64
+    requires { MatchResult made (λ c. HasCanonicalIn L.has_front model text.now c.items)
+        (FaultIn L.has_front L.refuses model text.now) }
+    ensures { PutsCanonicalIn L.has_front L.refuses model text.now out.old error.old result out.new error.new }
+{
+    match made {
         Ok(canonical) => {
             put_string(out, &canonical);
             canonical.len() as i64

@@ -1,7 +1,7 @@
 //! Canonical texts that are put together on the stack.
-ghost use Rattle.std.specs.Prelude.{◌≡◌, IsTrue, MatchResult};
+ghost use Rattle.std.specs.Prelude.{◌≡◌, MatchResult};
 ghost use Rattle.pf_canon.specs.Languages.{HasCanonicalIn};
-ghost use Rattle.pf_canon.specs.ShortTexts.{IsUnused, short_text};
+ghost use Rattle.pf_canon.specs.ShortTexts.{HasRoom, IsUnused, short_text};
 ghost use Rattle.pf_canon.specs.VerbatimFronts.{IsVerbatimFront, front_model};
 
 use crate::canonical_texts::STACK_ROOM;
@@ -10,6 +10,17 @@ use crate::sink::TextBuilder;
 use crate::verbatim_front::VerbatimFront;
 use arrayvec::ArrayVec;
 use pf_text::Refusal;
+
+/// Whether there was room for a canonical text.
+#[derive(Clone, Copy, Debug, PartialEq, Eq)]
+pub enum Room {
+    /// All of it is there.
+    Enough,
+    /// It has this many bytes, and only some of it are there.
+    Counted(u128),
+    /// The format has more than 128 bytes, and wasn't read.
+    Unread,
+}
 
 /// Room for a canonical text of at most 128 bytes.
 #[derive(Drop)]
@@ -39,23 +50,26 @@ impl ShortText {
         self.builder.buffer.as_slice()
     }
 
-    /// Puts the canonical text of a format in a language. False if it may have more than 128 bytes; then
-    /// only some of it are there. `Err` if the format is refused.
+    /// Puts the canonical text of a format in a language, if there is room for it. `Err` if the format is
+    /// refused.
     pub fn put<L: Language>(
         &mut self,
         front: &VerbatimFront<'_>,
         text: &[u8],
-    ) -> Result<bool, Refusal>
+    ) -> Result<Room, Refusal>
         requires unused { IsUnused self.old }
         requires front { IsVerbatimFront text.now front.now }
         ensures { MatchResult result
-            (λ is. IsTrue is → HasCanonicalIn L.has_front (front_model front.now) text.now (short_text self.new))
+            (HasRoom (HasCanonicalIn L.has_front (front_model front.now) text.now) self.new)
             (λ refusal. L.refuses (front_model front.now) text.now refusal.kind refusal.at) }
     {
         if STACK_ROOM < text.len() {
-            return Ok(false);
+            return Ok(Room::Unread);
         }
         front.put::<L, _>(text, &mut self.builder)?;
-        Ok(self.builder.lost == 0)
+        if self.builder.lost != 0 {
+            return Ok(Room::Counted(self.builder.len()));
+        }
+        Ok(Room::Enough)
     }
 }

@@ -16,9 +16,7 @@ use crate::differences::{
 use crate::layouts::lay_out;
 use crate::owned_args::OwnedArg;
 use crate::reductions::print_alike;
-use crate::witnesses::{
-    Witness, first_candidate_alone, first_witness, predicted_candidate, witness_at,
-};
+use crate::witnesses::{Witness, first_candidate_alone, first_witness, witness_at};
 use pf_canon::same_text;
 use pf_render::{RenderVecFault, render_vec};
 use pf_text::{Refusal, Side};
@@ -130,12 +128,7 @@ fn compare_lone(
             renderings: 0,
         });
     }
-    match predicted_candidate(model, &difference.first, &difference.second) {
-        Some(candidate_index) => {
-            Ok(compare_at(alloc, model, first, second, difference, candidate_index)?)
-        }
-        None => compare_unpredicted(alloc, model, first, second, difference),
-    }
+    compare_directives(alloc, model, first, second, difference)
 }
 
 fn have_different_types(model: Model, first: &Directive, second: &Directive) -> bool
@@ -168,9 +161,9 @@ fn compare_at(
     }
 }
 
-// Compares two formats for which no candidate is predicted: they are equivalent if the two directives
-// print the same.
-fn compare_unpredicted(
+// Compares two formats that differ in one directive of equal types: they are equivalent if the two
+// directives print the same.
+fn compare_directives(
     alloc: Global,
     model: Model,
     first: &[u8],

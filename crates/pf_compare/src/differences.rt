@@ -1,7 +1,6 @@
 //! Where two formats differ: in which single directive, and in the type of one argument; whether two
 //! directives have the same parts.
 ghost use Rattle.std.specs.Prelude.{◌≡◌, ◌≢◌, ◌≤◌, ◌∷◌, [], ◌++◌, IfSome, IsFalse, IsTrue, List, MatchBool, MatchOption, Some, length, map};
-ghost use Rattle.pf_values.specs.declared.conversions.Conv.{Conv};
 ghost use Rattle.pf_values.specs.declared.models.Model.{Model};
 ghost use Rattle.pf_values.specs.declared.types.ArgType.{ArgType};
 ghost use Rattle.pf_values.specs.meaning.Items.{IsAccepted, Item, Reads, Byte, Directive as item_of, types};
@@ -10,7 +9,6 @@ ghost use Rattle.pf_text.specs.PieceHistory.{items_of};
 ghost use Rattle.pf_text.specs.Signatures.{TakesTypes};
 ghost use Rattle.pf_render.specs.Rendering.{DifferFirstAt};
 ghost use Rattle.pf_compare.specs.Lone.{DifferInItems, DifferInOneAtMost, HasFollowed, IsIndexAfter, item_difference_of};
-ghost use Rattle.pf_compare.specs.Spaces.{with_space};
 ghost use Rattle.pf_compare.specs.TypeLists.{HasGivenTypes};
 
 use pf_canon::{common_prefix_len, item_start};
@@ -283,32 +281,6 @@ pub(crate) fn are_equal(first: &Directive, second: &Directive) -> bool
         && same_number(first.precision(), second.precision())
         && same_length(first.length(), second.length())
         && same_conv(first.conv(), second.conv())
-}
-
-/// Returns whether two directives have the same parts, except for the flag ` `.
-pub(crate) fn are_equal_beside_space(first: &Directive, second: &Directive) -> bool
-    ensures { IsTrue result → with_space first.now ≡ with_space second.now }
-{
-    are_alike_beside_conv(first, second) && same_conv(first.conv(), second.conv())
-}
-
-/// Whether two directives are of one kind, and differ in the flag ` ` at most. These print the same
-/// for most arguments, or for all.
-pub(crate) fn are_mostly_alike(first: &Directive, second: &Directive) -> bool {
-    are_alike_beside_conv(first, second) && first.conv().kind() == second.conv().kind()
-}
-
-// Returns whether two directives have the same parts, except for the flag ` ` and the conversion.
-fn are_alike_beside_conv(first: &Directive, second: &Directive) -> bool
-    ensures { IsTrue result → (conv : Conv)
-        → record (with_space first.now) { conv = conv } ≡ record (with_space second.now) { conv = conv } }
-{
-    same_flags(
-        first.flags().with(Flag::Space),
-        second.flags().with(Flag::Space),
-    ) && same_number(first.width(), second.width())
-        && same_number(first.precision(), second.precision())
-        && same_length(first.length(), second.length())
 }
 
 fn same_flags(first: FlagSet, second: FlagSet) -> bool

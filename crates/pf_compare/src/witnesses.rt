@@ -12,15 +12,13 @@ ghost use Rattle.pf_probes.specs.Candidate as probes;
 ghost use Rattle.pf_compare.specs.Answers.{FindsProbe};
 ghost use Rattle.pf_compare.specs.Layouts.{HaveSameTypesAndBytes, HaveSameTypeLists, AreTriedBelow, ReplacementsEqual, ReplacementsDiffer, FindsUnlike, IsFirstUnlike, IsSpanIn, IsLayoutOf, replace_span, span_types};
 ghost use Rattle.pf_compare.specs.Lone.{AreToldApartAt, DifferInOne, span_alone};
-ghost use Rattle.pf_compare.specs.Spaces.{PrintEqualIn};
 ghost use Rattle.pf_compare.specs.Witnesses.{AwaitsCandidate, FindsWitness, HasCandidate, IsWitnessAt};
 
-use crate::differences::{LoneDifference, are_equal, are_mostly_alike, are_unlike};
+use crate::differences::{LoneDifference, are_equal, are_unlike};
 use crate::layouts::{Layout, PrintedSpan, neutrals, neutrals_of, print};
 use crate::owned_args::OwnedArg;
-use crate::predictions::{EqualPrintRange, predict};
 use pf_probes::{Candidate, candidate_row};
-use pf_values::{Arg, ArgType, Directive, Flag, Kind, Length, Model};
+use pf_values::{Arg, ArgType, Directive, Model};
 use std::alloc::{AllocError, Global};
 
 /// Arguments for which two formats print different bytes, and the number of the candidate that is
@@ -219,82 +217,6 @@ pub(crate) fn first_candidate_alone(
     )
 }
 
-/// The index of the first candidate for which two directives print different bytes, where the first
-/// few show it without printing them.
-pub(crate) fn predicted_candidate(
-    model: Model,
-    first: &Directive,
-    second: &Directive,
-) -> Option<usize>
-    requires { arg_type model first.now ≡ arg_type model second.now }
-    ensures { IfSome result (IsFirstUnlike model [] (span_alone first.now) (span_alone second.now)
-        (arg_type model first.now)) }
-{
-    let row = candidate_row(model, first.arg_type(model));
-    let equal_range = EqualPrintRange::of(first, second);
-    let most = predicted_count(first, second, equal_range, row.len());
-    let mut index = 0;
-    while index < most {
-        match predict(model, first, second, equal_range, row[index]) {
-            Some(true) => return Some(index),
-            Some(false) => index += 1,
-            None => return None,
-        }
-    }
-    None
-}
-
-// How many candidates to try before the directives are reduced: all if they can't print the same or
-// trying is fast, none if they are likely to, for example if `+` hides the flag ` `. Otherwise 0 and
-// 1 tell most directives apart, and -1 does if the sign of a number replaces a zero.
-fn predicted_count(
-    first: &Directive,
-    second: &Directive,
-    equal_range: Option<EqualPrintRange>,
-    count: usize,
-) -> usize
-    ensures { result ≤ count }
-{
-    if !may_be_equivalent(first, second) {
-        return count;
-    }
-    if equal_range.is_some() && !first.flags().has(Flag::Plus) {
-        return count;
-    }
-    if are_mostly_alike(first, second) {
-        return 0;
-    }
-    if first.is_zero_filled() != second.is_zero_filled() && has_minus_alone(first) {
-        return count.min(7);
-    }
-    count.min(2)
-}
-
-// Whether a directive prints a sign before negative numbers alone.
-fn has_minus_alone(directive: &Directive) -> bool {
-    let flags = directive.flags();
-    directive.conv().kind() == Kind::Signed && !flags.has(Flag::Plus) && !flags.has(Flag::Space)
-}
-
-// Whether two directives of one type print numbers of one kind and one size. No others are equivalent
-// but strings, whose candidates are few.
-fn may_be_equivalent(first: &Directive, second: &Directive) -> bool {
-    let kind = first.conv().kind();
-    kind == second.conv().kind()
-        && have_one_size(first.length(), second.length())
-        && kind != Kind::String
-}
-
-// Whether two length modifiers of one type are of numbers of one size.
-fn have_one_size(first: Length, second: Length) -> bool {
-    first == second || !is_narrowing(first) && !is_narrowing(second)
-}
-
-// Whether a length modifier makes a number smaller than its type.
-fn is_narrowing(length: Length) -> bool {
-    matches!(length, Length::Hh | Length::H)
-}
-
 fn span_alone(directive: &Directive) -> PrintedSpan
     ensures { result ≡ span_alone directive.now }
 {
@@ -337,19 +259,9 @@ fn first_candidate_from(
     ensures { IfOk result (FindsUnlike model whole.now first.now second.now wanted) }
 {
     let row = candidate_row(model, wanted);
-    let equal_range = EqualPrintRange::of(&first.directive, &second.directive);
     let mut index = from;
     while index < row.len() {
-        if candidate_differs(
-            alloc,
-            model,
-            whole,
-            first,
-            second,
-            equal_range,
-            wanted,
-            row[index],
-        )? {
+        if candidate_differs(alloc, model, whole, first, second, wanted, row[index])? {
             return Ok(Some(index));
         }
         index += 1;
@@ -364,11 +276,9 @@ fn candidate_differs(
     whole: &[u8],
     first: &PrintedSpan,
     second: &PrintedSpan,
-    equal_range: Option<EqualPrintRange>,
     wanted: ArgType,
     candidate: Candidate,
 ) -> Result<bool, AllocError>
-    requires equal_range { IfSome equal_range (PrintEqualIn first.now.directive second.now.directive) }
     requires first_type { arg_type model first.now.directive ≡ wanted }
     requires second_type { arg_type model second.now.directive ≡ wanted }
     requires typed { HasType model (probes.candidate_argument candidate) wanted }
@@ -379,17 +289,6 @@ fn candidate_differs(
         (ReplacementsDiffer model whole.now first.now second.now (probes.candidate_argument candidate))
         (ReplacementsEqual model whole.now first.now second.now (probes.candidate_argument candidate))) }
 {
-    if have_same_offsets(first, second) {
-        if let Some(told) = predict(
-            model,
-            &first.directive,
-            &second.directive,
-            equal_range,
-            candidate,
-        ) {
-            return Ok(told);
-        }
-    }
     let argument = OwnedArg::of(alloc, wanted, candidate)?;
     printed_differ(alloc, model, whole, first, second, argument.as_arg())
 }

@@ -1,5 +1,5 @@
 -- How many arguments stretches and opaque directives take.
-use Rattle.std.proofs.Common.{◌≡◌, ℕ, ◌+◌, ◌-◌, ◌<◌, ◌≤◌, List, [], ◌∷◌, ◌++◌, map, length, length-append, replicate, refl, sym, ap, ◌∙◌, arith, subst}
+use Rattle.std.proofs.Common.{◌≡◌, ℕ, ◌+◌, ◌-◌, ◌<◌, ◌≤◌, List, [], ◌∷◌, ◌++◌, map, length, length-append, replicate, refl, sym, ap, ◌∙◌, arith, subst, take}
 use Rattle.std.specs.Prelude.{Option, Some, None}
 use Rattle.std.proofs.lemmas.List.{append-nil, append_assoc, replicate-append-replicate}
 use Rattle.pf_values.specs.declared.limits.TheConstants.{MAX_TEXT_LEN}
@@ -10,6 +10,7 @@ use Rattle.pf_values.specs.meaning.Text.{Text}
 use Rattle.pf_canon.proofs.TextLemmas.{items_few}
 use Rattle.pf_posix.specs.declared.types.ArgumentType.{ArgumentType}
 use Rattle.pf_posix.specs.Items.{HasArguments}
+use Rattle.pf_posix.specs.Laws.{HasCount, filled}
 use Rattle.pf_posix.specs.Opaque.{SpellsOpaque}
 use Rattle.pf_posix.specs.Specifications.{Amount, Given, Fetched, PosixSpecification, conversion_letter, modifier_letters}
 use Rattle.pf_posix.specs.Spelling.{SpellsPosixPrecision, SpellsPosixWidth}
@@ -97,3 +98,19 @@ none_more start before after count left h g few some =
 pub no_items : {X : Type 0} (xs : List X) → length xs ≡ 0 → xs ≡ []
 no_items [] e = refl
 no_items (x ∷ xs) e = absurd (omega (arith, e))
+
+-- the elements at the front of a slice that has room for them
+taken_front : {X : Type 0} (old more : List X) → length more ≤ length old → take (length more) (filled old more) ≡ more
+taken_front [] [] few = refl
+taken_front [] (x ∷ more) few = absurd (omega (arith, few))
+taken_front (o ∷ old) [] few = refl
+taken_front (o ∷ old) (x ∷ more) few = ap (λ l. x ∷ l) (taken_front old more (omega (arith, few)))
+
+-- the elements that a call has put there
+pub taken : {X : Type 0} (old new found : List X) (count : ℕ) → count ≡ length found → new ≡ filled old found → length found ≤ length old
+    → take count new ≡ found
+taken old new found count count_is front few = ap (λ n. take n new) count_is ∙ ap (take (length found)) front ∙ taken_front old found few
+
+pub taken_types : (model : Model) (t : Text) (old new : List ArgumentType) (count : ℕ) (h : HasCount model t old new count) → length h.types ≤ length old
+    → take count new ≡ h.types
+taken_types model t old new count h few = taken old new h.types count h.count_is h.front few

@@ -4,7 +4,7 @@ use Rattle.std.specs.Prelude.{Some, ◌⊎◌, slice_get, slice_set}
 use Rattle.pf_values.specs.declared.models.Model.{Model}
 use Rattle.pf_values.specs.Candidates.{candidates, neutral, neutrals}
 use Rattle.pf_values.specs.meaning.Arguments.{Argument}
-use Rattle.pf_values.specs.meaning.Items.{HasItems, Item, types}
+use Rattle.pf_values.specs.meaning.Items.{HasItems, Item, Reads, types}
 use Rattle.pf_values.specs.meaning.Printing.{PrintAlike}
 use Rattle.pf_values.specs.meaning.Text.{Text}
 use Rattle.pf_text.proofs.Texts.{Reads-unique}
@@ -15,11 +15,17 @@ use Rattle.pf_compare.specs.Answers.{IsComparisonOf, IsNeutralProbe, IsOtherProb
 use Rattle.pf_compare.proofs.CandidateLemmas.{neutral_first, set_neutral}
 use Rattle.pf_whole.specs.Findings.{IsTellingProbe}
 use Rattle.pf_whole.proofs.Loops.{stretches_equivalent}
+use Rattle.pf_whole.proofs.OneCanonical.{print_refl}
 
 pub same_difference : (model : Model) (t u : Text) (comparison : Comparison) (xs ys : List Item) → IsComparisonOf model t u comparison
     → comparison.verdict ≡ Same
     → HasItems t xs → HasItems u ys → PrintAlike model xs ys
 same_difference model t u comparison xs ys h e k l = (stretches_equivalent model t u xs ys k.reads l.reads).0 (h.same.0 e)
+
+-- stretches of equal bytes are read as the same items
+pub equal_stretches : (model : Model) (t u : Text) (xs ys : List Item) → t ≡ u → HasItems t xs → HasItems u ys → PrintAlike model xs ys
+equal_stretches model t u xs ys e k l =
+    subst (PrintAlike model xs) (Reads-unique t xs ys k.reads (subst (λ v. Reads v ys) (sym e) l.reads)) (print_refl model xs)
 
 -- the verdict is about the items that the stretches are read as
 pub verdict_of_items : (model : Model) (t u : Text) (comparison : Comparison) (verdict : Verdict) (xs ys : List Item) → IsComparisonOf model t u comparison

@@ -1,5 +1,5 @@
 //! How two formats of the whole language compare.
-ghost use Rattle.std.specs.Prelude.{◌≡◌, ◌++◌, IfOk, List, MatchResult, None, Some, map, replicate};
+ghost use Rattle.std.specs.Prelude.{◌≡◌, ◌++◌, IfOk, IsTrue, List, MatchResult, None, Some, map, replicate};
 ghost use Rattle.std.specs.List.{AllZip};
 ghost use Rattle.pf_values.specs.meaning.Items.{HasItems, Item, types};
 ghost use Rattle.pf_compare.specs.Answers.{IsComparisonOf};
@@ -212,6 +212,7 @@ enum Difference {
     Probe(Vec<OwnedArg>),
 }
 
+// Equal ones need no comparison.
 fn compare_stretches(
     alloc: Global,
     model: Model,
@@ -222,10 +223,19 @@ fn compare_stretches(
         × (types model xs ≡ types model ys) }
     ensures { IfOk result (IsDifference model first.now second.now) }
 {
+    if are_equal(first, second) {
+        return Ok(Difference::None);
+    }
     match pf_compare::compare(alloc, model, first, second) {
         Ok(comparison) => Ok(difference_of(model, first, second, comparison)),
         Err(_) => Err(AllocError),
     }
+}
+
+fn are_equal(first: &[u8], second: &[u8]) -> bool
+    ensures { IsTrue result → first.now ≡ second.now }
+{
+    first == second
 }
 
 fn difference_of(model: Model, first: &[u8], second: &[u8], comparison: Comparison) -> Difference

@@ -5,7 +5,7 @@ use Rattle.pf_values.specs.declared.models.Model.TheVariants.{Lp64}
 use Rattle.fmtcanon.specs.Answers.{AcceptsBoth, IsPairFault}
 use Rattle.fmtcanon.specs.Lines.{line, output_bytes}
 use Rattle.fmtcanon.specs.PairAnswers.{IsPairAnswer}
-use Rattle.fmtcanon.specs.declared.outcome.Fault.TheVariants.{Memory}
+use Rattle.fmtcanon.specs.declared.outcome.Outcome.TheVariants.{Memory}
 use Rattle.fmtcanon.proofs.ComparisonLemmas.{verdict_pushed}
 use Rattle.pf_whole.proofs.ModelLists.{all_more, first_at}
 use Rattle.fmtcanon.proofs.PairLemmas.{accepts_both, several_fault}

@@ -4,7 +4,7 @@ use Rattle.std.proofs.lemmas.Int.{ints}
 use Rattle.pf_posix.specs.TypeNumbers.{number_of_type}
 use Rattle.fmtcanon_c.specs.Buffers.{put}
 use Rattle.fmtcanon_c.proofs.ModelAnswers.{in_model}
-use Rattle.fmtcanon_c.proofs.RelationLemmas.{taken_types}
+use Rattle.pf_whole.proofs.CountLemmas.{taken_types}
 use Rattle.fmtcanon_c.proofs.argument_types.fmtcanon_arguments.Goals as goal
 
 pub returns-then-count : goal.returns-then-count

@@ -1,6 +1,6 @@
 //! What the C library calls instead of `canonical`: verbatim fronts, canonical texts on the stack, and
 //! reductions where they are called.
-use pf_canon::{Profile, ShortText, VerbatimFront};
+use pf_canon::{Profile, Room, ShortText, VerbatimFront};
 use pf_reduce::{Change, Core, Reduced, change_of, reduce};
 use pf_text::{Refusal, directive_at, spell};
 use pf_values::{Model, RefusalKind};
@@ -13,8 +13,8 @@ fn is_verbatim(format: &[u8]) -> bool {
 fn is_put(format: &[u8], wanted: &[u8]) -> Result<bool, Refusal> {
     let front = VerbatimFront::of(Model::Lp64, format);
     let mut text = ShortText::new();
-    let has_room = text.put::<Profile>(&front, format)?;
-    Ok(has_room && text.as_slice() == wanted)
+    let room = text.put::<Profile>(&front, format)?;
+    Ok(room == Room::Enough && text.as_slice() == wanted)
 }
 
 #[test]
