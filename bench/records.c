@@ -1,9 +1,10 @@
 /* What a program does that answers records by calls of the library: it reads them from standard input
- * and writes the replies of `fmtcanon canon -z` or `same -z`, also with `--whole`. And calls about string
- * literals, made many times.
+ * and writes the replies of `fmtcanon canon -z` or `same -z`, also with `--whole`, or of `types --whole -z`.
+ * And calls about string literals, made many times.
  *
  *     records canon | records same              on records of standard input
  *     records canon whole | records same whole  on those of the whole language
+ *     records types whole                       the same
  *     records decode N | records encode N       N calls, on all of standard input
  */
 #include "fmtcanon.h"
@@ -79,6 +80,32 @@ static void same(void)
     }
 }
 
+static void types(void)
+{
+    static const char *const names[] = {
+        "",           "int",           "unsigned int",    "long",             "unsigned long",   "long long",
+        "unsigned long long", "string", "double",         "long double",      "wide character",  "wide string",
+        "pointer",    "pointer to signed char", "pointer to short", "pointer to int", "pointer to long",
+        "pointer to long long",
+    };
+    unsigned char *kinds = (unsigned char *)out;
+    long size;
+    while ((size = next(&record, &record_room)) >= 0) {
+        fmtcanon_error e;
+        int64_t count = fmtcanon_arguments(FMTCANON_LP64, record, (size_t)size, kinds, out_room, &e);
+        if (count < 0) {
+            refuse(&e, "");
+            continue;
+        }
+        fputs("0 ", stdout);
+        for (int64_t i = 0; i < count; i++) {
+            if (i > 0) putchar('\n');
+            fputs(names[kinds[i]], stdout);
+        }
+        putchar(0);
+    }
+}
+
 static void calls(int decodes, long count)
 {
     size_t size = fread(out, 1, out_room, stdin);
@@ -102,6 +129,8 @@ int main(int argc, char **argv)
         canon();
     else if (argc == 2 && !strcmp(argv[1], "same"))
         same();
+    else if (argc == 2 && !strcmp(argv[1], "types"))
+        types();
     else if (argc == 3)
         calls(!strcmp(argv[1], "decode"), atol(argv[2]));
     else

@@ -61,6 +61,7 @@ def records(program, driver):
         ("same", [], ", a format and itself", twins(shapes())),
         ("same", [], ", a format and the next one", SHAPES),
         ("canon", ["whole"], "", WHOLE_SHAPES),
+        ("types", ["whole"], "", WHOLE_SHAPES),
         ("same", ["whole"], ", a format and itself", twins(whole_shapes())),
         ("same", ["whole"], ", a format and the next one", WHOLE_SHAPES[: WHOLE_SHAPES.rindex(b"\0", 0, -1) + 1]),
     ]

@@ -55,7 +55,7 @@ point_few t None h = omega arith
 point_few t (Some (Given n)) h = omega arith
 point_few t (Some (Fetched number)) h = omega (arith, ap length h.2, ap length h.1.whole)
 
-opaque_count : (model : Model) (s : PosixSpecification)
+pub opaque_count : (model : Model) (s : PosixSpecification)
     → length (types_of_opaque model s) ≡ length (star_fetches s.width) + length (star_fetches s.precision) + 1
 opaque_count model s =
     let last = fetch s.position (conversion_type model s.modifier s.conversion) ∷ [] in

@@ -2,11 +2,14 @@
 ghost use Rattle.std.specs.Prelude.{◌≤◌, ◌≡◌, List, drop, length};
 ghost use Rattle.pf_posix.specs.declared.types.ArgumentType.{ArgumentType};
 ghost use Rattle.pf_posix.specs.Items.{HasArguments};
-ghost use Rattle.pf_posix.specs.Stretches.{IsWholeAccepted, ReadsWhole, Stretches};
+ghost use Rattle.pf_values.specs.declared.models.Model.{Model as ModelOf};
+ghost use Rattle.pf_posix.specs.OpaqueParts.{amount_of, parts_of_opaque};
+ghost use Rattle.pf_posix.specs.Stretches.{IsWholeAccepted, ReadsWhole, Stretches, types_of_opaque};
+ghost use Rattle.pf_posix.specs.Types.{star_fetches};
 ghost use Rattle.pf_whole.specs.Calls.{CallsDiffer, IsNextCall};
 
 use crate::comparison::make_one_call;
-use pf_posix::{OpaqueDirective, arguments, next_stretch};
+use pf_posix::{OpaqueAmount, OpaqueDirective, arguments, next_stretch};
 use pf_values::Model;
 
 /// A directive that the profile lacks, and the index of the first argument of its call.
@@ -67,7 +70,7 @@ fn next_call(model: Model, text: &[u8], rest: Rest) -> Option<(PlacedDirective, 
         return None;
     };
     let index = rest.index + argument_count(model, &text[rest.at..stretch.end]);
-    let own = argument_count(model, &text[stretch.end..stretch.after]);
+    let own = call_argument_count(directive);
     let call = PlacedDirective { index, directive };
     let after = Rest {
         at: stretch.after,
@@ -76,8 +79,8 @@ fn next_call(model: Model, text: &[u8], rest: Rest) -> Option<(PlacedDirective, 
     Some((call, after))
 }
 
-/// Returns how many arguments an accepted format takes.
-pub(crate) fn argument_count(model: Model, text: &[u8]) -> u64
+// Returns how many arguments an accepted format takes.
+fn argument_count(model: Model, text: &[u8]) -> u64
     requires { (types : List ArgumentType) × HasArguments model text.now types }
     ensures { (types : List ArgumentType) × HasArguments model text.now types
         × (result ≡ length types) }
@@ -85,5 +88,24 @@ pub(crate) fn argument_count(model: Model, text: &[u8]) -> u64
     match arguments(model, text, &mut []) {
         Ok(count) => count,
         Err(_) => unreachable!(),
+    }
+}
+
+/// Returns how many arguments a directive takes that the profile lacks: one for each `*`, and the one that it
+/// converts.
+pub(crate) fn call_argument_count(directive: OpaqueDirective) -> u64
+    ensures { (model : ModelOf) → result ≡ length (types_of_opaque model (parts_of_opaque directive)) }
+{
+    1 + star_count(directive.width) + star_count(directive.precision)
+}
+
+fn star_count(amount: Option<OpaqueAmount>) -> u64
+    ensures count { result ≡ length (star_fetches (amount_of amount)) }
+    ensures few { result ≤ 1 }
+{
+    match amount {
+        Some(OpaqueAmount::Star) => 1,
+        Some(OpaqueAmount::Number(_)) => 0,
+        None => 0,
     }
 }

@@ -8,7 +8,7 @@ ghost use Rattle.pf_whole.specs.Answers.{HaveOneShape, neutral_shown};
 ghost use Rattle.pf_whole.specs.Comparisons.{AreShownNext, FaultForWholeCompare, GivesArguments, HasShownType, IsComparison, IsDifference, IsVerdictOf, ShowsDifference, shown_as};
 ghost use Rattle.pf_whole.specs.meaning.Traces.{AreWholeAlike};
 
-use crate::calls::{argument_count, first_call_difference};
+use crate::calls::{call_argument_count, first_call_difference};
 use crate::comparison::same_text;
 use pf_compare::{CompareFault, Comparison, OwnedArg, Verdict, neutrals_of};
 use pf_posix::{fits, next_stretch};
@@ -154,13 +154,10 @@ fn first_difference(
                 is_found = found;
             }
         }
-        let Some(_) = stretch.opaque else {
+        let Some(directive) = stretch.opaque else {
             return Ok(shown);
         };
-        push_any(
-            argument_count(model, &first[stretch.end..stretch.after]),
-            &mut shown,
-        )?;
+        push_any(call_argument_count(directive), &mut shown)?;
         at = stretch.after;
         from = other.after;
     }
@@ -279,13 +276,10 @@ fn neutral_arguments(
             neutrals_of(alloc, model, &text[at..stretch.end])?,
             &mut shown,
         )?;
-        let Some(_) = stretch.opaque else {
+        let Some(directive) = stretch.opaque else {
             return Ok(shown);
         };
-        push_any(
-            argument_count(model, &text[stretch.end..stretch.after]),
-            &mut shown,
-        )?;
+        push_any(call_argument_count(directive), &mut shown)?;
         at = stretch.after;
     }
     unreachable!()

@@ -2,12 +2,11 @@ use Rattle.std.proofs.Common.{◌≡◌, ◌+◌, map, sym, ap, ◌∙◌, arith
 use Rattle.std.specs.Prelude.{Some}
 use Rattle.pf_values.specs.meaning.Items.{types}
 use Rattle.pf_posix.specs.OpaqueParts.{parts_of_opaque}
-use Rattle.pf_posix.specs.Stretches.{types_of_opaque}
 use Rattle.pf_posix.specs.Types.{widened}
 use Rattle.pf_whole.specs.declared.calls.PlacedDirective.{PlacedDirective}
 use Rattle.pf_whole.specs.declared.calls.Rest.{Rest}
 use Rattle.pf_whole.specs.Calls.{IsNextCall}
-use Rattle.pf_whole.proofs.CountLemmas.{counted, opaque_args, opaque_args_few, stretch_args, stretch_args_few}
+use Rattle.pf_whole.proofs.CountLemmas.{counted, opaque_args_few, stretch_args, stretch_args_few}
 use Rattle.pf_whole.proofs.HeadLemmas.{before_directive, between, between_few, between_long, first_items, goes_further, stretch_has}
 use Rattle.pf_whole.proofs.TraceLemmas.{length_map}
 use Rattle.pf_whole.proofs.calls.next_call.Goals as goal
@@ -21,18 +20,6 @@ argument_count-requires c =
     let t = c.args.text.now in
     let has = stretch_has t c.args.rest.at r.0 c.in-Some.stretch (c.in-Some.ensures.head r.0 r.1) c.requires.accepted.limit in
     (map widened (types c.args.model (first_items r.0)), stretch_args c.args.model (between t c.args.rest.at c.in-Some.stretch.end) (first_items r.0) has)
-
-pub argument_count-own-requires : goal.argument_count-own-requires
-argument_count-own-requires c =
-    let r = c.requires.reads in
-    let t = c.args.text.now in
-    let stretch = c.in-Some.stretch in
-    let before = before_directive t c.args.rest.at r.0 stretch c.in-Some-opaque.directive (c.in-Some.ensures.head r.0 r.1) c.in-Some-opaque.is in
-    let s = parts_of_opaque c.in-Some-opaque.directive in (
-      types_of_opaque c.args.model s,
-      opaque_args c.args.model (between t stretch.end stretch.after) s before.spells
-          (between_few t stretch.end stretch.after _ c.requires.accepted.limit),
-    )
 
 pub overflow_add-index : goal.overflow_add-index
 overflow_add-index c =
@@ -67,8 +54,7 @@ overflow_add-after c =
     let s = parts_of_opaque c.in-Some-opaque.directive in
     let own = between t stretch.end stretch.after in
     let few = between_few t stretch.end stretch.after _ c.requires.accepted.limit in
-    let more = counted c.args.model own (types_of_opaque c.args.model s) c.argument_count-own.result
-    (opaque_args c.args.model own s before.spells few) c.argument_count-own.ensures in
+    let more = c.call_argument_count-own.ensures c.args.model in
     omega (
       arith,
       count,
@@ -99,11 +85,9 @@ returns c = λ left reads.
     (stretch_args model part (first_items left) has) c.argument_count.ensures in
     let many : length (map widened (types model (first_items left))) ≡ length (types model before.items) =
     length_map widened (types model (first_items left)) ∙ ap (λ l. length (types model l)) items_are in
-    let more = counted model own (types_of_opaque model s) c.argument_count-own.result
-    (opaque_args model own s before.spells (between_few t stretch.end stretch.after _ c.requires.accepted.limit))
-    c.argument_count-own.ensures in
+    let more = c.call_argument_count-own.ensures model in
     let call : PlacedDirective = record { index = c.args.rest.index + c.argument_count.result; directive = directive } in
-    let after : Rest = record { at = stretch.after; index = c.args.rest.index + c.argument_count.result + c.argument_count-own.result } in
+    let after : Rest = record { at = stretch.after; index = c.args.rest.index + c.argument_count.result + c.call_argument_count-own.result } in
     subst (λ l. IsNextCall model t l c.args.rest (Some (call, after))) (sym before.left_is) (record {
       index_is = omega (arith, count, many);
       parts_are = refl;

@@ -1,12 +1,11 @@
 use Rattle.std.proofs.Common.{◌++◌, false, None, Some, map, replicate, sym, ap, ◌∙◌, arith, subst, inl, inr}
 use Rattle.pf_posix.specs.OpaqueParts.{parts_of_opaque}
-use Rattle.pf_posix.specs.Stretches.{Before, Last, types_of_opaque}
+use Rattle.pf_posix.specs.Stretches.{Before, Last}
 use Rattle.std.proofs.lemmas.Result.{IfOk-weaker}
 use Rattle.pf_whole.specs.Answers.{HaveOneShape, ShowsNeutral}
 use Rattle.pf_whole.specs.Comparisons.{AreShownNext, shown_as}
 use Rattle.pf_whole.specs.Laws.{Correspond}
 use Rattle.pf_whole.proofs.Corresponding.{alike_is_corresponding}
-use Rattle.pf_whole.proofs.CountLemmas.{counted, opaque_args}
 use Rattle.pf_whole.proofs.FindingLemmas.{shows_neutral, shows_probe}
 use Rattle.pf_whole.proofs.FindingLoops.{IsComparedUpTo, compared_from}
 use Rattle.pf_whole.proofs.HeadLemmas.{at_last, before_directive, between, between_few, first_items, less_left, stretch_has}
@@ -116,18 +115,6 @@ returns-in_default-opaque c = λ x y k l.
     shown_once model t u i.0 i.1 x y c.push_all.new.shown.items i.4 i.5 k l
     (subst (HasShownDifference model i.0 i.1) (sym c.in_ok-push_all-in-Shown.ensures) (inr probe, typed))
 
-pub argument_count-requires : goal.argument_count-requires
-argument_count-requires c =
-    let i = c.loop-stretch.invariant in
-    let t = c.args.first.now in
-    let stretch = c.in-Some.stretch in
-    let before = before_directive t c.loop-stretch.at i.2 stretch c.in-Some-opaque.field-0 (c.in-Some.ensures.head i.2 i.6) c.in-Some-opaque.is in
-    let s = parts_of_opaque c.in-Some-opaque.field-0 in (
-      types_of_opaque c.args.model s,
-      opaque_args c.args.model (between t stretch.end stretch.after) s before.spells
-          (between_few t stretch.end stretch.after _ c.requires.accepted_first.limit),
-    )
-
 pub loop-stretch-smaller : goal.loop-stretch-smaller
 loop-stretch-smaller c = less_left c.args.first.now c.loop-stretch.at c.in-Some.stretch _ c.in-Some.ensures.placed c.in-Some-opaque.is
 
@@ -138,7 +125,7 @@ loop-stretch-preserved c =
     let u = c.args.second.now in
     let model = c.args.model in
     let stretch = c.in-Some.stretch in
-    let directive = c.in-Some-opaque.field-0 in
+    let directive = c.in-Some-opaque.directive in
     let s = parts_of_opaque directive in
     let head_other = c.in-Some-next_stretch.ensures.head i.3 i.7 in
     let before = before_directive t c.loop-stretch.at i.2 stretch directive (c.in-Some.ensures.head i.2 i.6) c.in-Some-opaque.is in
@@ -152,12 +139,10 @@ loop-stretch-preserved c =
     let next = subst (AreShownNext model (between t c.loop-stretch.at stretch.end) (between u c.loop-stretch.from c.in-Some-next_stretch.other.end) found)
     c.in-Shown.is c.in_ok-stretch_arguments.ensures in
     let both = next before.items other.items (record { reads = before.reads; limit = few }) (record { reads = other.reads; limit = few_other }) in
-    let own = opaque_args model (between t stretch.end stretch.after) s before.spells
-    (between_few t stretch.end stretch.after _ c.requires.accepted_first.limit) in
-    let count = counted model (between t stretch.end stretch.after) (types_of_opaque model s) c.argument_count.result own c.argument_count.ensures in
+    let count = c.call_argument_count.ensures model in
     let compared = subst (λ b. IsComparedUpTo model i.0 i.1 (Before before.items s before.rest) b (shown_as shown) found) other.more_is
     (subst (λ a. IsComparedUpTo model i.0 i.1 a i.3 (shown_as shown) found) before.left_is i.11) in
-    let given = sym (c.in_ok-push_any.ensures ∙ ap (λ l. l ++ replicate c.argument_count.result None) c.in_ok-push_all-in-Shown.ensures) in (
+    let given = sym (c.in_ok-push_any.ensures ∙ ap (λ l. l ++ replicate c.call_argument_count.result None) c.in_ok-push_all-in-Shown.ensures) in (
       i.0,
       i.1,
       before.rest,
@@ -170,11 +155,11 @@ loop-stretch-preserved c =
       c.in-Some-next_stretch.ensures.placed.within,
       other.shape,
       subst (λ l. IsComparedUpTo model i.0 i.1 before.rest other.others (shown_as l) c.in-Shown.found) given
-          (compared_past model i.0 i.1 before.rest other.others before.items other.items s other.parts shown args c.argument_count.result found
+          (compared_past model i.0 i.1 before.rest other.others before.items other.items s other.parts shown args c.call_argument_count.result found
           c.in-Shown.found compared both.1
           other.spelling count),
       subst (IsTypedUpTo model i.0 before.rest) given
-          (typed_past model i.0 before.rest before.items s shown args c.argument_count.result
+          (typed_past model i.0 before.rest before.items s shown args c.call_argument_count.result
           (subst (λ a. IsTypedUpTo model i.0 a shown) before.left_is i.12) both.0 count),
     )
 

@@ -1,8 +1,7 @@
 use Rattle.std.proofs.Common.{◌++◌, None, replicate, refl, sym, ap, ◌∙◌, arith, subst}
 use Rattle.pf_posix.specs.OpaqueParts.{parts_of_opaque}
-use Rattle.pf_posix.specs.Stretches.{types_of_opaque}
 use Rattle.pf_posix.proofs.ReadOnce.{read_once}
-use Rattle.pf_whole.proofs.CountLemmas.{counted, opaque_args}
+use Rattle.pf_whole.proofs.CountLemmas.{opaque_args}
 use Rattle.pf_whole.proofs.HeadLemmas.{at_last, before_directive, between, between_few, first_items, less_left, stretch_has}
 use Rattle.pf_whole.proofs.ShownLoops.{AreShownNeutrally, IsNeutralUpTo, IsTypedUpTo, neutral_end, neutral_past, typed_end, typed_from, typed_past}
 use Rattle.pf_whole.proofs.verdicts.neutral_arguments.Goals as goal
@@ -46,18 +45,6 @@ returns-in_default-opaque c = λ a reads.
     subst (λ b. AreShownNeutrally model b c.push_all.new.shown.items) (read_once t i.0 a i.2 reads)
     (subst (AreShownNeutrally model i.0) given (all, typed))
 
-pub argument_count-requires : goal.argument_count-requires
-argument_count-requires c =
-    let i = c.loop-stretch.invariant in
-    let t = c.args.text.now in
-    let stretch = c.in-Some.stretch in
-    let before = before_directive t c.loop-stretch.at i.1 stretch c.in-Some-opaque.field-0 (c.in-Some.ensures.head i.1 i.3) c.in-Some-opaque.is in
-    let s = parts_of_opaque c.in-Some-opaque.field-0 in (
-      types_of_opaque c.args.model s,
-      opaque_args c.args.model (between t stretch.end stretch.after) s before.spells
-          (between_few t stretch.end stretch.after _ c.requires.limit),
-    )
-
 pub loop-stretch-smaller : goal.loop-stretch-smaller
 loop-stretch-smaller c = less_left c.args.text.now c.loop-stretch.at c.in-Some.stretch _ c.in-Some.ensures.placed c.in-Some-opaque.is
 
@@ -67,24 +54,24 @@ loop-stretch-preserved c =
     let t = c.args.text.now in
     let model = c.args.model in
     let stretch = c.in-Some.stretch in
-    let before = before_directive t c.loop-stretch.at i.1 stretch c.in-Some-opaque.field-0 (c.in-Some.ensures.head i.1 i.3) c.in-Some-opaque.is in
-    let s = parts_of_opaque c.in-Some-opaque.field-0 in
+    let before = before_directive t c.loop-stretch.at i.1 stretch c.in-Some-opaque.directive (c.in-Some.ensures.head i.1 i.3) c.in-Some-opaque.is in
+    let s = parts_of_opaque c.in-Some-opaque.directive in
     let own = opaque_args model (between t stretch.end stretch.after) s before.spells (between_few t stretch.end stretch.after _ c.requires.limit) in
-    let count = counted model (between t stretch.end stretch.after) (types_of_opaque model s) c.argument_count.result own c.argument_count.ensures in
+    let count = c.call_argument_count.ensures model in
     let neutral = c.in_ok-neutrals_of.ensures before.items before.reads in
     let shown = c.loop-stretch.shown.items in
     let args = c.in_ok-neutrals_of.field-0.items in
-    let given = sym (c.in_ok-push_any.ensures ∙ ap (λ l. l ++ replicate c.argument_count.result None) c.in_ok-push_all.ensures) in (
+    let given = sym (c.in_ok-push_any.ensures ∙ ap (λ l. l ++ replicate c.call_argument_count.result None) c.in_ok-push_all.ensures) in (
       i.0,
       before.rest,
       i.2,
       before.later,
       c.in-Some.ensures.placed.within,
       subst (IsNeutralUpTo model i.0 before.rest) given
-          (neutral_past model i.0 before.rest before.items s shown args c.argument_count.result
+          (neutral_past model i.0 before.rest before.items s shown args c.call_argument_count.result
           (subst (λ l. IsNeutralUpTo model i.0 l shown) before.left_is i.5) neutral.args_are count),
       subst (IsTypedUpTo model i.0 before.rest) given
-          (typed_past model i.0 before.rest before.items s shown args c.argument_count.result
+          (typed_past model i.0 before.rest before.items s shown args c.call_argument_count.result
           (subst (λ l. IsTypedUpTo model i.0 l shown) before.left_is i.6) neutral.types_are count),
     )
 
