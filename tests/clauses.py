@@ -25,8 +25,7 @@ from unedited import exported, has_body, is_public, sources_of  # noqa: E402
 CLAUSE = re.compile(r"\bensures\s+(\w*)\s*(?=\{)")
 # Clauses that no mutant breaks, each with the reason.
 EXCEPTIONS = {
-    "fmtcanon::answer::Ending::status: digit": "it says something of the definition alone",
-    "fmtcanon::outcome::Fault::status: digit": "it says something of the definition alone",
+    "fmtcanon::answer::Ending::outcome: digit": "it says something of the definition alone",
     "pf_posix::argument_types::arguments: length": "no body changes the length of a slice that it is given",
     "pf_posix::directive_spans::directives: length": "no body changes the length of a slice that it is given",
     "pf_reduce::results::Normal::directive: normal": "what it reads always has it",

@@ -1,6 +1,6 @@
 //! Arguments for which two formats print different bytes: the first of the probes that tell them apart.
 //! One is searched only where the formats print the same for neutral arguments.
-ghost use Rattle.std.specs.Prelude.{◌≡◌, ◌≢◌, ◌≤◌, ◌+◌, ◌-◌, [], ◌++◌, IfOk, IfSome, IsTrue, List, MatchBool, Some, drop, length, take};
+ghost use Rattle.std.specs.Prelude.{◌≡◌, ◌≢◌, ◌≤◌, ◌+◌, ◌-◌, [], ◌++◌, IfOk, IsTrue, List, MatchBool, Some, drop, length, take};
 ghost use Rattle.pf_values.specs.Arg.{argument_of};
 ghost use Rattle.pf_values.specs.Candidates.{neutral};
 ghost use Rattle.pf_values.specs.declared.models.Model.TheVariants.{Lp64};
@@ -10,7 +10,7 @@ ghost use Rattle.pf_values.specs.meaning.DataModel.{arg_type};
 ghost use Rattle.pf_values.specs.meaning.Items.{HasItems, Item, Reads, types};
 ghost use Rattle.pf_probes.specs.Candidate as probes;
 ghost use Rattle.pf_compare.specs.Answers.{FindsProbe};
-ghost use Rattle.pf_compare.specs.Layouts.{HaveSameTypesAndBytes, HaveSameTypeLists, AreTriedBelow, ReplacementsEqual, ReplacementsDiffer, FindsUnlike, IsFirstUnlike, IsSpanIn, IsLayoutOf, replace_span, span_types};
+ghost use Rattle.pf_compare.specs.Layouts.{HaveSameTypesAndBytes, HaveSameTypeLists, AreTriedBelow, ReplacementsEqual, ReplacementsDiffer, FindsUnlike, IsSpanIn, IsLayoutOf, replace_span, span_types};
 ghost use Rattle.pf_compare.specs.Lone.{AreToldApartAt, DifferInOne, span_alone};
 ghost use Rattle.pf_compare.specs.Witnesses.{AwaitsCandidate, FindsWitness, HasCandidate, IsWitnessAt};
 
