@@ -16,6 +16,8 @@ from collections import Counter
 from pathlib import Path
 
 from harness import NO_PROGRAM, PACKAGES, SONAME, TIMEOUT, TOP, examples, page_examples
+from typed_calls import try_typed_calls
+from typed_headers import try_typed_headers
 
 SOURCE = TOP / "tests/platforms/expressions.c"
 LARGE = ["-D_TIME_BITS=64", "-D_FILE_OFFSET_BITS=64"]
@@ -38,11 +40,12 @@ MESSAGE = re.compile(r"expects (?:argument of type|a matching)")
 FUNCTIONS = {"printf": (1, 2), "fprintf": (2, 3), "sprintf": (2, 3)}
 # Typedefs that the C library of a platform hasn't, or which are others there.
 OF_GLIBC = re.compile(
-    r"__.*|.*(?:off|loff|blkcnt|suseconds|ino|dev|nlink|rlim|fsblkcnt|fsfilcnt)(?:64)?_t|u?int_fast16_t"
+    r"__.*|.*(?:off|loff|blkcnt|suseconds|ino|dev|nlink|rlim|fsblkcnt|fsfilcnt)(?:64)?_t|(?:elf_)?greg_t"
 )
-# With a 64-bit time_t the GNU C library keeps the old types under these names, and has members of other names.
-OLD_NAMES = re.compile(r"__(?:time|off|blkcnt|suseconds|ino|rlim|fsblkcnt|fsfilcnt)_t")
-HEADERS = ["stdint.h", "inttypes.h", "limits.h", "stddef.h", "time.h", "sys/types.h"]
+# Typedefs that aren't of numbers or pointers, and one that another header defines as a macro.
+NO_NUMBERS = re.compile(r"__jmp_buf|fpos_t|__size_t")
+HEADERS = ["stdint.h", "inttypes.h", "limits.h", "stddef.h", "time.h", "wctype.h", "wchar.h", "sys/types.h"]
+OF_LINUX = ["sys/resource.h", "sys/procfs.h", "sys/ucontext.h", "sys/vfs.h", "linux/types.h"]
 
 
 class Tool:
@@ -105,7 +108,7 @@ def windows_text(tool, name):
         "import sys; from fmtcanon.checker.platforms import PLATFORMS; from fmtcanon.checker.retargeting import *; "
         "import subprocess; words = ['gcc', '-D_GNU_SOURCE', *write_headers(sys.argv[2]), '-E', sys.argv[1]]; "
         "text = subprocess.run(words, capture_output=True, text=True).stdout; "
-        "sys.stdout.write(retargeted(text, PLATFORMS[3]))"
+        "sys.stdout.write(retargeted(text, PLATFORMS[3], {}))"
     )
     words = [tool.python, "-c", script, name, tool.work / "headers"]
     text = subprocess.run(
@@ -165,26 +168,24 @@ def generic(name, type, value=""):
 def facts(tool, platform):
     """A program that states the table of a platform, of what its C library has."""
     script = (
-        "import json, sys; from fmtcanon.checker.platforms import PLATFORMS, OF_FILES; "
-        "print(json.dumps([[it.types, it.modifiers, it.constants] for it in PLATFORMS] + [OF_FILES]))"
+        "import json, sys; from fmtcanon.checker.platforms import PLATFORMS; "
+        "print(json.dumps([[it.types, it.modifiers, it.constants] for it in PLATFORMS]))"
     )
     found = subprocess.run(
         [tool.python, "-c", script], env=tool.environment, capture_output=True, check=True, timeout=TIMEOUT
     ).stdout
-    *tables, large = json.loads(found)
-    types, modifiers, constants = tables[list(COMPILERS).index(platform)]
-    types = {**types, **(large if platform.endswith("time_t") else {})}
+    types, modifiers, constants = json.loads(found)[list(COMPILERS).index(platform)]
     is_windows = platform == "LLP64"
-    lines = [f"#include <{it}>\n" for it in HEADERS + ([] if is_windows else ["sys/resource.h"])]
+    lines = [f"#include <{it}>\n" for it in HEADERS + ([] if is_windows else OF_LINUX)]
     count = 0
-    others = OF_GLIBC if is_windows else OLD_NAMES if platform.endswith("time_t") else re.compile("")
+    others = OF_GLIBC if is_windows else NO_NUMBERS
     for name, type in types.items():
         if not others.fullmatch(name):
             count, lines = count + 1, [*lines, generic(f"({name})0", type)]
     for name, value in constants.items():
         if name.endswith("_C"):
             text = generic(f"{name}(5)", generic_type(value), f"5{value}")
-        elif not (is_windows and name.startswith(("INT_FAST16", "UINT_FAST16", "SSIZE"))):
+        elif not (is_windows and name.startswith("SSIZE")):
             text = generic(name, generic_type(re.sub(r"^-?\d+| - 1$", "", value)), value)
             text = f"#ifdef {name}\n{text}#endif\n"
         else:
@@ -192,9 +193,8 @@ def facts(tool, platform):
         count, lines = count + 1, [*lines, text]
     for end, modifier in modifiers.items():
         for letter in "diouxX":
-            if not (is_windows and end == "FAST16"):
-                name, count = f"PRI{letter}{end}", count + 1
-                lines.append(f'const char *of_{name} = "<{name}=" {name} ">{modifier}{letter}";\n')
+            name, count = f"PRI{letter}{end}", count + 1
+            lines.append(f'const char *of_{name} = "<{name}=" {name} ">{modifier}{letter}";\n')
     return "".join(lines), count
 
 
@@ -466,6 +466,13 @@ def try_diff(tool, trials):
     trials.expect("-p nowhere", diff.run("-p", "nowhere", "old.c", "new.c")[0], 2)
 
 
+def try_types(tool, trials):
+    """The types of arguments are those that the compilers see, in all sorts of expressions and in all headers."""
+    compilers, jobs = {platform: words for platform, (words, _) in COMPILERS.items()}, min(4, os.cpu_count() or 1)
+    try_typed_calls(tool, compilers, trials, jobs)
+    try_typed_headers(tool, compilers, trials, jobs)
+
+
 def try_examples(tool, trials):
     """The examples of the page and of the manual page print what these show."""
     script = f"fmtcanon-check() {{ '{tool.python}' -m fmtcanon.checker \"$@\"; }}\n"
@@ -494,4 +501,4 @@ def try_checking(folder, python, tools, trials):
                 part(Tool(folder, os.path.realpath(work), python), trials)
 
 
-PARTS = [try_tables, try_compilers, try_calls, try_files, try_outputs, try_fix, try_not_fixed, try_visitor, try_diff, try_examples]
+PARTS = [try_tables, try_compilers, try_calls, try_files, try_outputs, try_fix, try_not_fixed, try_visitor, try_diff, try_types, try_examples]

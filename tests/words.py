@@ -71,7 +71,8 @@ LIMITS = {
     "docs/USING.md": 2280,
     "docs/TRANSLATIONS.md": 1100,
     "docs/EXPLAINING.md": 420,
-    "docs/PORTING.md": 1200,
+    # With the figures of real sources and of compilers.
+    "docs/PORTING.md": 1300,
     "docs/REFACTORING.md": 1400,
     # With a part for each kind, the table of flags, and the grammar.
     "docs/REFUSALS.md": 2000,
@@ -91,7 +92,7 @@ LIMITS = {
     # With what rt prints for an open goal, and what is inlined.
     "docs/CONTRIBUTING.md": 1350,
     "SECURITY.md": 150,
-    "CHANGELOG.md": 1100,
+    "CHANGELOG.md": 1200,
     CALLING: 9200,
 }
 MARGIN = 10

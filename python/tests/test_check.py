@@ -5,6 +5,7 @@ import io
 import itertools
 import os
 import pkgutil
+import re
 import subprocess
 import tempfile
 import unittest
@@ -71,15 +72,24 @@ OTHERS = [
     (Type.DOUBLE, "double", True),
     (Type.DOUBLE, "long double", False),
     (Type.LONG_DOUBLE, "double", False),
-    (Type.WIDE_STRING, "const int *", True),
     (Type.WIDE_STRING, "const char *", False),
+    (Type.POINTER_TO_SCHAR, "char *", True),
+    (Type.POINTER_TO_SCHAR, "unsigned char *", True),
+    (Type.POINTER_TO_SCHAR, "signed char *", True),
+    (Type.POINTER_TO_SCHAR, "short *", False),
     (Type.POINTER_TO_LONG, "unsigned long *", True),
     (Type.POINTER_TO_LONG, "long long *", False),
     (Type.INT, "char *", False),
     (Type.ULONG, "double", False),
     (Type.INT, "", False),
 ]
-# The text of a unit, and what it is on each platform.
+# What `%ls` takes in each data model.
+WIDE_STRINGS = {
+    Model.LP64: ["const int *", "int *const", "unsigned int *"],
+    Model.ILP32: ["const long *", "unsigned long *"],
+    Model.LLP64: ["const unsigned short *", "short *"],
+}
+# A typedef of a system header, and what it is on each platform.
 TEXTS = [
     ("typedef unsigned long size_t;", ["unsigned long", "unsigned int", "unsigned int", "unsigned long long"]),
     ("typedef __size_t size_t;", ["unsigned long", "unsigned int", "unsigned int", "unsigned long long"]),
@@ -88,8 +98,47 @@ TEXTS = [
     ("typedef struct time_t time_t;", ["struct time_t"] * 4),
     ("typedef long off_t;", ["long", "long", "long long", "long long"]),
     ("typedef __off64_t off_t;", ["long", "long long", "long long", "long long"]),
+    ("typedef __off_t off_t;", ["long", "long", "long long", "long long"]),
+    ("typedef long int suseconds_t;", ["long"] * 4),
+    ("typedef __suseconds_t mine;", ["__suseconds_t", "__suseconds_t", "long long", "__suseconds_t"]),
+    ("typedef __fsblkcnt64_t fsblkcnt64_t;", ["unsigned long", *["unsigned long long"] * 3]),
+    ("typedef unsigned long int wctype_t;", [*["unsigned long"] * 3, "unsigned short"]),
+    ("typedef const __int32_t * wctrans_t;", [*["const int *"] * 3, "unsigned short"]),
+    ("typedef fmtcanon_type_size_t mine;", ["unsigned long", "unsigned int", "unsigned int", "unsigned long long"]),
+    (
+        "typedef unsigned fmtcanon_type_ptrdiff_t mine;",
+        [f"unsigned {it}" for it in ("long", "int", "int", "long long")],
+    ),
+    ("typedef fmtcanon_type_wchar_t mine;", ["int", "long", "long", "unsigned short"]),
     ("typedef __typeof__(long) _Atomic mine;", ["__typeof__(long) "] * 4),
     ("typedef _Atomic(long) mine;", ["__typeof__(long)"] * 4),
+]
+# A struct of a system header, and what the type of its member is on each platform.
+STRUCTS = [
+    ("struct stat64 { __ino64_t st_ino; __off_t st_size; };", "st_size", ["__off_t", *["long long"] * 2, "__off_t"]),
+    ("struct stat { __off_t st_size; };", "st_size", ["__off_t", "__off_t", "long long", "__off_t"]),
+    (
+        "struct timeval { __time_t tv_sec; __suseconds_t tv_usec; };",
+        "tv_usec",
+        ["__suseconds_t"] * 2 + ["long long", "long"],
+    ),
+    ("struct timeval { __time_t tv_sec; int x[2]; };", "tv_sec", ["__time_t", "__time_t", "long long", "long"]),
+    (
+        "struct r_debug { enum { A, B } r_state; Elf64_Addr r_ldbase; };",
+        "r_ldbase",
+        ["Elf64_Addr", *["unsigned int"] * 2, "Elf64_Addr"],
+    ),
+    ("typedef struct { long int quot; long int rem; } imaxdiv_t;", "rem", ["long int", *["long long"] * 3]),
+    (
+        "struct user { unsigned long int u_debugreg [8]; };",
+        "u_debugreg",
+        ["unsigned long int", "int", "int", "unsigned long int"],
+    ),
+    (
+        'struct _IO_FILE { int x;\n# 9 "b.h" 3 4\n __off_t _old_offset; };',
+        "_old_offset",
+        ["__off_t", "__off_t", "long", "__off_t"],
+    ),
 ]
 # What some macros are on each platform.
 MACROS = [
@@ -142,6 +191,10 @@ class Judging(unittest.TestCase):
         for (wanted, spelling, is_right), model in itertools.product(OTHERS, Model):
             fit = fit_of(wanted, Argument(None, spelling, spelling), model)
             self.assertEqual(fit, Fit.EQUAL if is_right else Fit.KIND, (wanted, spelling))
+        for model, other in itertools.product(Model, Model):
+            for spelling in WIDE_STRINGS[other]:
+                fit = fit_of(Type.WIDE_STRING, Argument(None, spelling, spelling), model)
+                self.assertEqual(fit, Fit.EQUAL if model is other else Fit.KIND, (model, spelling))
         self.assertEqual(fit_of(Type.STRING, Argument(I, "int", "int"), Model.LP64), Fit.KIND)
         self.assertEqual(fit_of(Type.WIDE_CHAR, Argument(U, "unsigned int", "wint_t"), Model.LP64), Fit.EQUAL)
         self.assertEqual(fit_of(Type.WIDE_CHAR, Argument(I, "int", "wchar_t"), Model.LP64), Fit.EQUAL)
@@ -252,13 +305,50 @@ class Merged(unittest.TestCase):
             self.assertEqual(fixing.merged(listed), wanted, listed)
 
 
+# The marker before the text of a system header.
+SYSTEM = '# 1 "/usr/include/a.h" 1 3 4\n'
+
+
 class Texts(unittest.TestCase):
     def test_typedefs(self):
         for text, types in TEXTS:
             for platform, type in zip(PLATFORMS, types):
                 name = text.rstrip(";").split()[-1]
                 wanted = f"typedef {type}{'' if type.endswith(chr(10)) else ' '}{name};"
-                self.assertEqual(" ".join(retargeted(text, platform).split(" ")), wanted, platform.name)
+                found = retargeted(SYSTEM + text, platform, {})
+                self.assertEqual(" ".join(found[len(SYSTEM) :].split(" ")), wanted, platform.name)
+
+    def test_members(self):
+        for text, name, types in STRUCTS:
+            for platform, type in zip(PLATFORMS, types):
+                found = retargeted(SYSTEM + text, platform, {})
+                [given] = re.findall(rf"(?:[{{;]|\n)\s*([\w ]+?) +{name}\b", found)
+                self.assertEqual((given, found.count("\n")), (type, (SYSTEM + text).count("\n")), (platform.name, text))
+
+    def test_bit_fields(self):
+        """Where `long` has 32 bits, a bit-field of all of them is a `long`."""
+        for text, is_whole in [
+            ("unsigned long b : 32;", True),
+            ("long int b:32;", True),
+            ("long b : 31;", False),
+            ("unsigned long long b : 32;", False),
+            ("unsigned b : 32;", False),
+        ]:
+            whole = text.partition(":")[0].rstrip() + ";"
+            for platform in PLATFORMS:
+                wanted = whole if is_whole and platform.model is not Model.LP64 else text
+                self.assertEqual(retargeted(text, platform, {}), wanted, (text, platform.name))
+
+    def test_own_names(self):
+        """A typedef or a struct of the source that has a name of the C library's is the source's."""
+        after = '# 7 "a.c" 2\n'
+        for platform in PLATFORMS:
+            for text in ("typedef unsigned short off_t;", "struct stat64 { int st_size; };", "typedef __off_t mine;"):
+                for front in ('# 1 "a.c"\n', SYSTEM + "typedef long size_t;\n" + after):
+                    found = retargeted(front + text, platform, {})
+                    self.assertEqual(found.splitlines()[-1], text, platform.name)
+            found = retargeted("typedef long mine;\n", platform, {"mine": "int"})
+            self.assertEqual(found, "typedef int mine;\n")
 
     def preprocessed(self, source):
         """What gcc makes of a source with the headers of the command, and without them."""
@@ -274,7 +364,8 @@ class Texts(unittest.TestCase):
         front = "#include <inttypes.h>\n#include <limits.h>\n"
         macros = "f(PRIu64 PRIdPTR PRIxFAST16, INT64_C(5), UINTMAX_C(7), SIZE_MAX, INT64_MIN, LONG_MAX)"
         text = self.preprocessed(front + macros)[0]
-        plain = [" ".join(retargeted(text, it).replace("/*PRI*/", "").partition("f(")[2].split()) for it in PLATFORMS]
+        texts = [retargeted(text, it, {}).replace("/*PRI*/", "") for it in PLATFORMS]
+        plain = [" ".join(it.partition("f(")[2].split()) for it in texts]
         joined = ["".join(it for it in one.split("\n") if not it.startswith("#")) for one in plain]
         for one, parts in zip(joined, MACROS):
             self.assertEqual([it for it in parts if it not in one], [], one)

@@ -10,6 +10,7 @@ from ..compiling.known import GETTEXT, KNOWN
 from ..compiling.libclang import cindex
 from ..compiling.parsing import CALL_EXPR, FUNCTION_DECL, LINE_MARKER, VISIT_INSIDE, VISIT_NEXT, Parsed, Shape
 from ..kinds import Type
+from ..models import Model
 from .platforms import Platform
 from .retargeting import PRI_MARK
 
@@ -17,6 +18,11 @@ from .retargeting import PRI_MARK
 CALLED = ("FUNCTION_DECL", "VAR_DECL", "FIELD_DECL", "PARM_DECL")
 AROUND = ("UNEXPOSED_EXPR", "PAREN_EXPR")
 TOKEN = re.compile(r'("(?:[^"\\]|\\.)*")(' + re.escape(PRI_MARK) + ")?", re.DOTALL)
+# Types that gcc has, and no directive takes: each is another than what it is in memory. Where there is no `__int128`, no
+# compiler reads what names it.
+OF_GCC = [f"-D{it}=__float128" for it in ("_Float32", "_Float32x", "_Float64", "_Float64x")]
+WITHOUT_INT128 = ["-D__int128=long long", "-D__int128_t=long long", "-D__uint128_t=unsigned long long"]
+ARRAYS = ("CONSTANTARRAY", "INCOMPLETEARRAY", "VARIABLEARRAY")
 INTEGERS = {
     "INT": Type.INT,
     "UINT": Type.UINT,
@@ -71,7 +77,8 @@ class Calls(Parsed):
     def __init__(
         self, command: CompileCommand, text: bytes, platform: Platform, functions: Mapping[str, Shape]
     ) -> None:
-        super().__init__(command, text, [f"--target={platform.target}", "-D__int128=long long"])
+        words = WITHOUT_INT128 if platform.model is Model.ILP32 else []
+        super().__init__(command, text, [f"--target={platform.target}", *OF_GCC, *words])
         self.functions = functions
         self.shapes: Dict[Any, Optional[Shape]] = {}
         self.found: Dict[Key, Call] = {}
@@ -169,4 +176,6 @@ def argument_of(cursor: Any) -> Argument:
     while inside.kind.name in AROUND and len(children) == 1:
         children = list(inside.get_children())
         inside = children[0] if len(children) == 1 else inside
-    return Argument(INTEGERS.get(type.kind.name), type.spelling, inside.type.spelling)
+    # A parameter that is declared as an array is a pointer.
+    spelling = f"{type.element_type.spelling} *" if type.kind.name in ARRAYS else type.spelling
+    return Argument(INTEGERS.get(type.kind.name), spelling, inside.type.spelling)

@@ -15,7 +15,7 @@ SIGNED = {Type.UINT: Type.INT, Type.ULONG: Type.LONG, Type.ULONG_LONG: Type.LONG
 INTEGERS = (*SIGNED.values(), *SIGNED)
 # What C calls the types that aren't integers, without qualifiers.
 POINTERS = {
-    Type.POINTER_TO_SCHAR: "signed char",
+    Type.POINTER_TO_SCHAR: "(?:signed )?char",
     Type.POINTER_TO_SHORT: "short",
     Type.POINTER_TO_INT: "int",
     Type.POINTER_TO_LONG: "long",
@@ -25,12 +25,16 @@ OTHERS = {
     Type.DOUBLE: re.compile("double"),
     Type.LONG_DOUBLE: re.compile("long double"),
     Type.STRING: re.compile(r"(?:(?:un)?signed )?char \*"),
-    Type.WIDE_STRING: re.compile(r"(?:int|long|unsigned short) \*"),
     Type.POINTER_TO_VOID: re.compile(r".*\*.*"),
     **{type: re.compile(rf"(?:unsigned )?{name} \*") for type, name in POINTERS.items()},
 }
 QUALIFIER = re.compile(r"\b(?:const|volatile|restrict) ?|(?<=\*)(?:const|volatile|restrict)\b")
+# What the data models have for `long` and for `wchar_t`, which may be signed or not.
 LONG_BITS = {Model.LP64: 64, Model.ILP32: 32, Model.LLP64: 32}
+WIDE_STRINGS = {
+    model: re.compile(rf"(?:unsigned )?{type} \*")
+    for model, type in [(Model.LP64, "int"), (Model.ILP32, "long"), (Model.LLP64, "short")]
+}
 
 
 class Fit(enum.Enum):
@@ -118,7 +122,7 @@ def fit_of(wanted: Type, given: Argument, model: Model) -> Fit:
         fit = fit_of(Type.UINT, given, model)
         return Fit.EQUAL if fit is Fit.SIGN else fit
     if wanted not in INTEGERS or given.type is None:
-        pattern = OTHERS.get(wanted)
+        pattern = WIDE_STRINGS[model] if wanted is Type.WIDE_STRING else OTHERS.get(wanted)
         is_right = pattern is not None and pattern.fullmatch(QUALIFIER.sub("", given.spelling).strip())
         return Fit.EQUAL if is_right else Fit.KIND
     if wanted is given.type:

@@ -46,9 +46,8 @@ class Unit:
         return as_utf8(self.command.preprocessed(stand_in)).decode()
 
     def parsed(self, text: str, platform: Platform) -> Calls:
-        types = {name: platform.types.get(type, type) for name, type in self.settings.types.items()}
-        here = platform._replace(types={**platform.types, **types})
-        return Calls(self.command, retargeted(text, here).encode(), platform, self.settings.functions)
+        own = {name: platform.types.get(type, type) for name, type in self.settings.types.items()}
+        return Calls(self.command, retargeted(text, platform, own).encode(), platform, self.settings.functions)
 
     def marked(self, stand_in: StandIn) -> Dict[Key, Call]:
         """Returns the calls of a stand-in of the file, as it is compiled."""
