@@ -112,6 +112,7 @@ TEXTS = [
     ("typedef fmtcanon_type_wchar_t mine;", ["int", "long", "long", "unsigned short"]),
     ("typedef __typeof__(long) _Atomic mine;", ["__typeof__(long) "] * 4),
     ("typedef _Atomic(long) mine;", ["__typeof__(long)"] * 4),
+    ("typedef an_Atomic mine;", ["an_Atomic"] * 4),
 ]
 # A struct of a system header, and what the type of its member is on each platform.
 STRUCTS = [
@@ -333,6 +334,9 @@ class Texts(unittest.TestCase):
             ("long b : 31;", False),
             ("unsigned long long b : 32;", False),
             ("unsigned b : 32;", False),
+            ("long long : 32;", False),
+            ("long unsigned int b : 32;", True),
+            ("prolong b : 32;", False),
         ]:
             whole = text.partition(":")[0].rstrip() + ";"
             for platform in PLATFORMS:

@@ -28,18 +28,23 @@ MEMBER = re.compile(rf"([{{;]{SPACE})((?:\w+\s+)+)(\w+)(?=\s*(?:\[[^;]*\])?;)")
 PRI = re.compile(r'"fmtcanon:(\w*):(\w+)"')
 # What is put after the length modifier of a PRI macro.
 PRI_MARK = "/*PRI*/"
-TYPE = re.compile(r"\bfmtcanon_type_(\w+)")
-CONSTANT = re.compile(rf"\(fmtcanon_(?P<name>\w+){GAP}\+{GAP}(?:(?P<number>[^()]*?)[uU]?[lL]*|-\s*\w+\s*-\s*1){GAP}\)")
+# Patterns that begin with a plain word are found several times faster than those that begin with anything else.
+TYPE = re.compile(r"fmtcanon_type_(\w+)")
+# An expression in a constant, with parentheses in parentheses.
+NUMBER = r"(?:[^()]|\((?:[^()]|\([^()]*\))*\))*?"
+CONSTANT = re.compile(
+    rf"\(fmtcanon_(?P<name>\w+){GAP}\+{GAP}(?:(?P<number>{NUMBER})[uU]?[lL]*|-\s*\w+\s*-\s*1){GAP}\)"
+)
 # gcc takes atomic types for its atomic functions, and clang doesn't. Without the word, the types are the same. The
 # headers of clang have functions of its own.
-ATOMIC = re.compile(r"\b_Atomic\b(\s*\()?")
+ATOMIC = re.compile(r"_Atomic(?<!\w_Atomic)\b(\s*\()?")
 OF_CLANG = "__c11_atomic_"
 # The definition that is there on 64-bit systems, too, if a unit asks for 64-bit offsets in files.
 LARGE_FILES = re.compile(r"typedef\s+__off64_t\s+off_t\s*;")
 # A bit-field of 32 bits. Where that is all of `long`, gcc takes it for one, and clang for `int`.
-BIT_FIELD = re.compile(r"\b((?:(?:long|int|unsigned|signed)\s+)+\w+)\s*:\s*32\b")
+BIT_FIELD = re.compile(r"(long(?<!\wlong)(?<!long\slong)(?:\s+(?:int|unsigned|signed))*\s+(?!long\b)\w+)\s*:\s*32\b")
 # A function of the GNU C library whose result has another type in that of Windows.
-CHARACTER_SIZE = re.compile(r"\bsize_t(\s+__ctype_get_mb_cur_max\b)")
+CHARACTER_SIZE = re.compile(r"size_t(\s+__ctype_get_mb_cur_max\b)")
 LETTERS = "diouxX"
 # The types that compilers have macros for, and the constants of each header.
 BUILT_IN = (
@@ -162,7 +167,7 @@ def retargeted(text: str, platform: Platform, own: Mapping[str, str]) -> str:
     if platform.model is Model.ILP32 and LARGE_FILES.search(text):
         types, wider = {**types, **FILE_TYPES}, {**wider, **OF_FILES}
     if platform.model is not Model.LP64:
-        text = BIT_FIELD.sub(lambda it: it[1] if it[1].split().count("long") == 1 else it[0], text)
+        text = BIT_FIELD.sub(r"\1", text)
     if platform.model is Model.LLP64:
         text = CHARACTER_SIZE.sub(r"int\1", text)
     return "".join(
