@@ -186,7 +186,7 @@ def facts(tool, platform):
         if name.endswith("_C"):
             text = generic(f"{name}(5)", generic_type(value), f"5{value}")
         elif not (is_windows and name.startswith("SSIZE")):
-            text = generic(name, generic_type(re.sub(r"^-?\d+| - 1$", "", value)), value)
+            text = generic(f"+{name}", generic_type(re.sub(r"^-?\d+| - 1$", "", value)), value)
             text = f"#ifdef {name}\n{text}#endif\n"
         else:
             continue

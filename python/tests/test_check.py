@@ -147,8 +147,27 @@ MACROS = [
     *[['"llu" "d" "x"', "5LL", "7ULL", "4294967295U)", "-9223372036854775807LL - 1", "2147483647L)"]] * 2,
     ['"llu" "lld" "x"', "5LL", "7ULL", "18446744073709551615ULL)", "-9223372036854775807LL - 1", "2147483647L)"],
 ]
+# Macros of the compiler and of headers, and what they are on each platform.
+BUILT_IN = {
+    "unsigned __PTRDIFF_TYPE__": ["unsigned long", "unsigned int", "unsigned int", "unsigned long long"],
+    "__INT64_TYPE__": ["long", "long long", "long long", "long long"],
+    "__WCHAR_TYPE__": ["int", "long", "long", "unsigned short"],
+    "__UINT_FAST16_TYPE__": ["unsigned long", "unsigned int", "unsigned int", "unsigned short"],
+    "__SIZE_MAX__": ["(18446744073709551615UL)", *["(4294967295U)"] * 2, "(18446744073709551615ULL)"],
+    "__LONG_MAX__": ["(9223372036854775807L)", *["(2147483647L)"] * 3],
+    "__INT64_C(5)": ["(5L)", "(5LL)", "(5LL)", "(5LL)"],
+    "UINT64_C(1024 * 2)": ["(1024 * 2UL)", *["(1024 * 2ULL)"] * 3],
+    "UINT64_C((1 << (2)) * 3)": ["((1 << (2)) * 3UL)", *["((1 << (2)) * 3ULL)"] * 3],
+    "__WCHAR_MAX__": ["(2147483647)", *["(2147483647L)"] * 2, "(65535)"],
+    "WCHAR_MIN": ["(-2147483647 - 1)", *["(-2147483647L - 1)"] * 2, "(0U)"],
+    "WEOF": [*["(4294967295U)"] * 3, "(65535)"],
+    "CLOCKS_PER_SEC": [*["(1000000L)"] * 3, "(1000)"],
+}
 CONSTANTS = (
     "INT64_MAX INT64_MIN UINT64_MAX SIZE_MAX PTRDIFF_MIN INTPTR_MAX UINTMAX_MAX LONG_MAX LONG_MIN ULONG_MAX SSIZE_MAX"
+)
+OF_COMPILER = (
+    "__SIZE_MAX__ __LONG_MAX__ __INT_FAST16_MAX__ __WCHAR_MAX__ __WCHAR_MIN__ __INT64_C(-1) __UINT64_C(7) WCHAR_MAX"
 )
 
 
@@ -374,10 +393,20 @@ class Texts(unittest.TestCase):
         for one, parts in zip(joined, MACROS):
             self.assertEqual([it for it in parts if it not in one], [], one)
 
+    def test_built_in(self):
+        """The compiler's own macros, and an expression in a constant, are those of each platform."""
+        front = "#include <stdint.h>\n#include <time.h>\n#include <wchar.h>\n"
+        text = self.preprocessed(front + "".join(f"between {it}\n" for it in BUILT_IN))[0]
+        for at, platform in enumerate(PLATFORMS):
+            parts = re.sub(r"(?m)^#.*\n", "", retargeted(text, platform, {})).split("between ")[1:]
+            found = [" ".join(it.split()).replace("( ", "(").replace(" )", ")") for it in parts]
+            self.assertEqual(found, [it[at] for it in BUILT_IN.values()], platform.name)
+
     def test_conditions(self):
         """In `#if` the constants have their values."""
         pairs = list(itertools.permutations(CONSTANTS.split(), 2))
         tests = [f"#if {a} < {b}\nyes_{a}_{b}\n#endif\n" for a, b in pairs]
+        tests += [f"#if {a} < {b}\nyes\n#endif\n" for a, b in itertools.permutations(OF_COMPILER.split(), 2)]
         tests.append("#if INT64_C(9) > INTMAX_C(8) && UINT64_C(1) && SIZE_MAX == 18446744073709551615UL\nyes\n#endif\n")
         texts = self.preprocessed("#include <stdint.h>\n#include <limits.h>\n" + "".join(tests))
         found = [[it for it in text.split("\n") if it.startswith("yes")] for text in texts]

@@ -104,7 +104,10 @@ CONSTANTS = {
 UNSIGNED_NAMES = {"PTRDIFF": "SIZE", "SSIZE": ""}
 # Constants of other kinds, in LP64, ILP32 and LLP64.
 OTHER_CONSTANTS = {
+    "__WCHAR_MAX__": ("2147483647", "2147483647L", "65535"),
     "WCHAR_MAX": ("2147483647", "2147483647L", "65535U"),
+    "WCHAR_MIN": ("-2147483647 - 1", "-2147483647L - 1", "0U"),
+    "WEOF": ("4294967295U", "4294967295U", "65535"),
     "CLOCKS_PER_SEC": ("1000000L", "1000000L", "1000"),
 }
 # Members of structs of 32-bit x86 whose types follow from no typedef.

@@ -32,9 +32,7 @@ PRI_MARK = "/*PRI*/"
 TYPE = re.compile(r"fmtcanon_type_(\w+)")
 # An expression in a constant, with parentheses in parentheses.
 NUMBER = r"(?:[^()]|\((?:[^()]|\([^()]*\))*\))*?"
-CONSTANT = re.compile(
-    rf"\(fmtcanon_(?P<name>\w+){GAP}\+{GAP}(?:(?P<number>{NUMBER})[uU]?[lL]*|-\s*\w+\s*-\s*1){GAP}\)"
-)
+CONSTANT = re.compile(rf"\(fmtcanon_(?P<name>\w+){GAP}\+{GAP}(?:(?P<number>{NUMBER})[uU]?[lL]*|-\s*\w+\s*-\s*1){GAP}\)")
 # gcc takes atomic types for its atomic functions, and clang doesn't. Without the word, the types are the same. The
 # headers of clang have functions of its own.
 ATOMIC = re.compile(r"_Atomic(?<!\w_Atomic)\b(\s*\()?")
@@ -51,8 +49,12 @@ BUILT_IN = (
     "size ptrdiff wchar wint intmax uintmax intptr uintptr int64 uint64 int_least64 uint_least64 int_fast16 uint_fast16 "
     "int_fast32 uint_fast32 int_fast64 uint_fast64"
 )
-OF_LIMITS = ("LONG_MAX", "LONG_MIN", "ULONG_MAX", "SSIZE_MAX")
-OF_TIME = ("CLOCKS_PER_SEC",)
+OF_HEADERS = {
+    "limits.h": "LONG_MAX LONG_MIN ULONG_MAX SSIZE_MAX",
+    "time.h": "CLOCKS_PER_SEC",
+    "wchar.h": "WCHAR_MAX WCHAR_MIN WEOF",
+    "wctype.h": "WEOF",
+}
 # The header of the compiler's macros.
 OF_COMPILER = "fmtcanon_macros.h"
 
@@ -81,10 +83,11 @@ def headers() -> Iterator[Tuple[str, str]]:
         if name.endswith("_C"):
             constants[f"{name}(c)"] = built_in[f"__{name}(c)"] = f"(fmtcanon_{name} + c ## {value})"
         else:
-            constants[name] = built_in[f"__{name}__"] = f"(fmtcanon_{name} + {value})"
+            constants[name] = f"(fmtcanon_{name} + {value})"
+            built_in[name if name.startswith("__") else f"__{name}__"] = constants[name]
     yield "stdint.h", header("stdint.h", {**constants, **{it: built_in[it] for it in built_in if it.endswith("(c)")}})
-    yield "limits.h", header("limits.h", {it: constants[it] for it in OF_LIMITS})
-    yield "time.h", header("time.h", {it: constants[it] for it in OF_TIME})
+    for file, names in OF_HEADERS.items():
+        yield file, header(file, {it: constants[it] for it in names.split()})
     yield "math.h", header("math.h", {"__FP_LONG_MAX": constants["LONG_MAX"]})
     types = {f"__{name.upper()}_TYPE__": f"fmtcanon_type_{name}_t" for name in BUILT_IN.split()}
     yield OF_COMPILER, "\n".join(redefined({**types, **built_in})) + "\n"
