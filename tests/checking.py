@@ -45,6 +45,7 @@ OF_GLIBC = re.compile(
 # Typedefs that aren't of numbers or pointers, and one that another header defines as a macro.
 NO_NUMBERS = re.compile(r"__jmp_buf|fpos_t|__size_t")
 HEADERS = ["stdint.h", "inttypes.h", "limits.h", "stddef.h", "time.h", "wctype.h", "wchar.h", "sys/types.h"]
+OF_WINDOWS = ["dirent.h", "sys/time.h"]
 OF_LINUX = ["sys/resource.h", "sys/procfs.h", "sys/ucontext.h", "sys/vfs.h", "linux/types.h"]
 
 
@@ -169,15 +170,20 @@ def facts(tool, platform):
     """A program that states the table of a platform, of what its C library has."""
     script = (
         "import json, sys; from fmtcanon.checker.platforms import PLATFORMS; "
-        "print(json.dumps([[it.types, it.modifiers, it.constants] for it in PLATFORMS]))"
+        "print(json.dumps([[it.types, it.modifiers, it.constants, it.members] for it in PLATFORMS]))"
     )
     found = subprocess.run(
         [tool.python, "-c", script], env=tool.environment, capture_output=True, check=True, timeout=TIMEOUT
     ).stdout
-    types, modifiers, constants = json.loads(found)[list(COMPILERS).index(platform)]
+    types, modifiers, constants, structs = json.loads(found)[list(COMPILERS).index(platform)]
     is_windows = platform == "LLP64"
-    lines = [f"#include <{it}>\n" for it in HEADERS + ([] if is_windows else OF_LINUX)]
+    lines = [f"#include <{it}>\n" for it in HEADERS + (OF_WINDOWS if is_windows else OF_LINUX)]
     count = 0
+    # Those of Linux are tried by tests/typed_headers.py.
+    for struct, members in structs.items() if is_windows else ():
+        whole = struct if struct.endswith("_t") else f"struct {struct}"
+        for name, type in members.items():
+            count, lines = count + 1, [*lines, generic(f"(({whole} *)0)->{name}", type)]
     others = OF_GLIBC if is_windows else NO_NUMBERS
     for name, type in types.items():
         if not others.fullmatch(name):
@@ -240,6 +246,15 @@ CALLS = [
     ('void f(uint64_t n) { printf("%" PRIu64 " %lu", n, n); }', [], [(5, 42, "size", "PRIu64")]),
     ('void f(time_t n) { printf("%ld", n); }', [], [(5, 28, "size", "%jd with a cast to intmax_t")]),
     ('void f(size_t n) { printf("%*d", n, 1); }', [], [(5, 29, "size", "a cast to int")]),
+    ('typedef __SIZE_TYPE__ mine;\nvoid f(mine n) { printf("%lu", n); }', [], [(6, 26, "size", "%zu")]),
+    ('void f(void) { printf("%ld", (__PTRDIFF_TYPE__)1); }', [], [(5, 24, "size", "%td")]),
+    ('void f(void) { printf("%zu %jd", (__SIZE_TYPE__)1, imaxdiv(1, 2).quot); }', [], []),
+    ('void f(const char a[], char b[2], int n[3]) { printf("%s %s %p", a, b, n); }', [], []),
+    ('void f(char *a, unsigned char *b) { printf("%hhn%hhn", a, b); }', [], []),
+    ('void f(void) { printf("%d", UINT64_C(1024 * 2) > 5); }', [], []),
+    ('void f(_Float64 n) { printf("%f", n); }', [], [(5, 30, "kind", None)]),
+    ('void f(__int128 n) { printf("%lld", n); }', [], [(5, 30, "kind", None)]),
+    ('typedef unsigned char dev_t; typedef int fpos64_t;\nvoid f(dev_t n) { printf("%d", n); }', [], []),
     ('void f(size_t n) { printf("%d"); }', [], [(5, 28, "kind", None)]),
     ('void f(size_t n) { printf("%s", n); }', [], [(5, 28, "kind", None)]),
     ('void f(size_t n) { printf("%lu", n); }', ["--model", "lp64"], []),

@@ -104,12 +104,12 @@ TEXTS = [
     ("typedef __fsblkcnt64_t fsblkcnt64_t;", ["unsigned long", *["unsigned long long"] * 3]),
     ("typedef unsigned long int wctype_t;", [*["unsigned long"] * 3, "unsigned short"]),
     ("typedef const __int32_t * wctrans_t;", [*["const int *"] * 3, "unsigned short"]),
-    ("typedef fmtcanon_type_size_t mine;", ["unsigned long", "unsigned int", "unsigned int", "unsigned long long"]),
+    ("typedef fmtcanon_type_size_t size_t;", ["unsigned long", "unsigned int", "unsigned int", "unsigned long long"]),
+    ("typedef fmtcanon_type_size_t mine;", ["fmtcanon_type_size_t"] * 4),
     (
         "typedef unsigned fmtcanon_type_ptrdiff_t mine;",
         [f"unsigned {it}" for it in ("long", "int", "int", "long long")],
     ),
-    ("typedef fmtcanon_type_wchar_t mine;", ["int", "long", "long", "unsigned short"]),
     ("typedef __typeof__(long) _Atomic mine;", ["__typeof__(long) "] * 4),
     ("typedef _Atomic(long) mine;", ["__typeof__(long)"] * 4),
     ("typedef an_Atomic mine;", ["an_Atomic"] * 4),
@@ -147,12 +147,19 @@ MACROS = [
     *[['"llu" "d" "x"', "5LL", "7ULL", "4294967295U)", "-9223372036854775807LL - 1", "2147483647L)"]] * 2,
     ['"llu" "lld" "x"', "5LL", "7ULL", "18446744073709551615ULL)", "-9223372036854775807LL - 1", "2147483647L)"],
 ]
+# The types that the compiler has macros for, on each platform.
+DECLARED = {
+    "size_t": ["unsigned long", "unsigned int", "unsigned int", "unsigned long long"],
+    "ptrdiff_t": ["long", "int", "int", "long long"],
+    "int64_t": ["long", "long long", "long long", "long long"],
+    "uintmax_t": ["unsigned long", "unsigned long long", "unsigned long long", "unsigned long long"],
+    "wchar_t": ["int", "long", "long", "unsigned short"],
+    "uint_fast16_t": ["unsigned long", "unsigned int", "unsigned int", "unsigned short"],
+}
 # Macros of the compiler and of headers, and what they are on each platform.
 BUILT_IN = {
     "unsigned __PTRDIFF_TYPE__": ["unsigned long", "unsigned int", "unsigned int", "unsigned long long"],
-    "__INT64_TYPE__": ["long", "long long", "long long", "long long"],
-    "__WCHAR_TYPE__": ["int", "long", "long", "unsigned short"],
-    "__UINT_FAST16_TYPE__": ["unsigned long", "unsigned int", "unsigned int", "unsigned short"],
+    "signed __INT64_TYPE__": ["signed long", *["signed long long"] * 3],
     "__SIZE_MAX__": ["(18446744073709551615UL)", *["(4294967295U)"] * 2, "(18446744073709551615ULL)"],
     "__LONG_MAX__": ["(9223372036854775807L)", *["(2147483647L)"] * 3],
     "__INT64_C(5)": ["(5L)", "(5LL)", "(5LL)", "(5LL)"],
@@ -336,7 +343,7 @@ class Texts(unittest.TestCase):
                 name = text.rstrip(";").split()[-1]
                 wanted = f"typedef {type}{'' if type.endswith(chr(10)) else ' '}{name};"
                 found = retargeted(SYSTEM + text, platform, {})
-                self.assertEqual(" ".join(found[len(SYSTEM) :].split(" ")), wanted, platform.name)
+                self.assertEqual(" ".join(found.partition(SYSTEM)[2].split(" ")), wanted, platform.name)
 
     def test_members(self):
         for text, name, types in STRUCTS:
@@ -401,6 +408,14 @@ class Texts(unittest.TestCase):
             parts = re.sub(r"(?m)^#.*\n", "", retargeted(text, platform, {})).split("between ")[1:]
             found = [" ".join(it.split()).replace("( ", "(").replace(" )", ")") for it in parts]
             self.assertEqual(found, [it[at] for it in BUILT_IN.values()], platform.name)
+
+    def test_declarations(self):
+        """The types of the compiler's macros are declared in one line before the others."""
+        for at, platform in enumerate(PLATFORMS):
+            line, rest = retargeted("fmtcanon_type_int64_t a;", platform, {}).split("\n")
+            self.assertEqual(rest, "fmtcanon_type_int64_t a;")
+            for name, types in DECLARED.items():
+                self.assertIn(f"typedef {types[at]} fmtcanon_type_{name};", line)
 
     def test_conditions(self):
         """In `#if` the constants have their values."""

@@ -12,7 +12,7 @@ from ..compiling.parsing import CALL_EXPR, FUNCTION_DECL, LINE_MARKER, VISIT_INS
 from ..kinds import Type
 from ..models import Model
 from .platforms import Platform
-from .retargeting import PRI_MARK
+from .retargeting import PRI_MARK, TYPE_MARK
 
 # Kinds of what a call may call, of what is around an expression without a change of its value, and of types.
 CALLED = ("FUNCTION_DECL", "VAR_DECL", "FIELD_DECL", "PARM_DECL")
@@ -178,4 +178,4 @@ def argument_of(cursor: Any) -> Argument:
         inside = children[0] if len(children) == 1 else inside
     # A parameter that is declared as an array is a pointer.
     spelling = f"{type.element_type.spelling} *" if type.kind.name in ARRAYS else type.spelling
-    return Argument(INTEGERS.get(type.kind.name), spelling, inside.type.spelling)
+    return Argument(INTEGERS.get(type.kind.name), spelling, inside.type.spelling.replace(TYPE_MARK, ""))

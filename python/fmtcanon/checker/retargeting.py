@@ -29,7 +29,8 @@ PRI = re.compile(r'"fmtcanon:(\w*):(\w+)"')
 # What is put after the length modifier of a PRI macro.
 PRI_MARK = "/*PRI*/"
 # Patterns that begin with a plain word are found several times faster than those that begin with anything else.
-TYPE = re.compile(r"fmtcanon_type_(\w+)")
+TYPE_MARK = "fmtcanon_type_"
+SIGNED_TYPE = re.compile(rf"signed\s+{TYPE_MARK}(\w+)")
 # An expression in a constant, with parentheses in parentheses.
 NUMBER = r"(?:[^()]|\((?:[^()]|\([^()]*\))*\))*?"
 CONSTANT = re.compile(rf"\(fmtcanon_(?P<name>\w+){GAP}\+{GAP}(?:(?P<number>{NUMBER})[uU]?[lL]*|-\s*\w+\s*-\s*1){GAP}\)")
@@ -89,7 +90,7 @@ def headers() -> Iterator[Tuple[str, str]]:
     for file, names in OF_HEADERS.items():
         yield file, header(file, {it: constants[it] for it in names.split()})
     yield "math.h", header("math.h", {"__FP_LONG_MAX": constants["LONG_MAX"]})
-    types = {f"__{name.upper()}_TYPE__": f"fmtcanon_type_{name}_t" for name in BUILT_IN.split()}
+    types = {f"__{name.upper()}_TYPE__": f"{TYPE_MARK}{name}_t" for name in BUILT_IN.split()}
     yield OF_COMPILER, "\n".join(redefined({**types, **built_in})) + "\n"
 
 
@@ -150,14 +151,17 @@ def with_members(text: str, structs: Mapping[str, Mapping[str, str]]) -> str:
     return STRUCT.sub(changed, text) if structs else text
 
 
+def declarations(platform: Platform) -> str:
+    """Returns the line that declares the types that compilers have macros for."""
+    return "".join(f"typedef {platform.types[f'{it}_t']} {TYPE_MARK}{it}_t;" for it in BUILT_IN.split()) + "\n"
+
+
 def retargeted(text: str, platform: Platform, own: Mapping[str, str]) -> str:
-    """Returns the text of a unit as it is on a platform, with the same lines. `own` are types of typedefs anywhere;
-    typedefs and structs of the C library are changed in system headers only.
+    """Returns the text of a unit as it is on a platform, with the same lines, after one of declarations if it needs
+    these. `own` are types of typedefs anywhere; typedefs and structs of the C library are changed in system headers
+    only.
     """
     types, wider = {**platform.types, **own}, platform.wider
-
-    def type_of(found: "re.Match[str]") -> str:
-        return platform.types.get(found[1], found[0])
 
     def constant(found: "re.Match[str]") -> str:
         number = found["number"] if found["name"].endswith("_C") else ""
@@ -166,14 +170,15 @@ def retargeted(text: str, platform: Platform, own: Mapping[str, str]) -> str:
     text = PRI.sub(lambda it: f'"{platform.modifiers[it[2]]}{it[1]}"{PRI_MARK}', text)
     if OF_CLANG not in text:
         text = ATOMIC.sub(lambda it: f"__typeof__{it[1]}" if it[1] else "", text)
-    text = CONSTANT.sub(constant, TYPE.sub(type_of, text))
+    text = SIGNED_TYPE.sub(lambda it: f"signed {platform.types[it[1]]}", CONSTANT.sub(constant, text))
     if platform.model is Model.ILP32 and LARGE_FILES.search(text):
         types, wider = {**types, **FILE_TYPES}, {**wider, **OF_FILES}
     if platform.model is not Model.LP64:
         text = BIT_FIELD.sub(r"\1", text)
     if platform.model is Model.LLP64:
         text = CHARACTER_SIZE.sub(r"int\1", text)
-    return "".join(
+    front = declarations(platform) if TYPE_MARK in text else ""
+    return front + "".join(
         with_types(with_members(it, platform.members), types, wider) if is_system else with_types(it, own, {})
         for is_system, it in chunks(text)
     )
