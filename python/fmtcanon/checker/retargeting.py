@@ -14,8 +14,8 @@ from .platforms import COMPILED, OF_FILES, Platform
 
 TYPEDEF = re.compile(r"\btypedef(\s+[A-Za-z_][\w\s]*?\s+)(\w+)(?=\s*;)")
 PRI = re.compile(r'"fmtcanon:(\w*):(\w+)"')
-# What is put after the length modifier of a PRI macro.
-PRI_MARK = "/*PRI*/"
+# What is put after the length modifier of a PRI macro: its name.
+PRI_MARK = r"/\*((?:__)?PRI\w+)\*/"
 # White space and line markers, which stay.
 GAP = r"((?:\s|(?<=\n)# \d+ [^\n]*)*)"
 CONSTANT = re.compile(rf"\(fmtcanon_(?P<name>\w+){GAP}\+{GAP}(?:(?P<number>\w*?)[uU]?[lL]*|-\s*\w+\s*-\s*1){GAP}\)")
@@ -57,6 +57,10 @@ def write_headers(folder: str) -> List[str]:
     return [f"-I{folder}"]
 
 
+def macro_of(letter: str, end: str) -> str:
+    return f"PRI{letter}{end}" if letter else f"__PRI{end}_PREFIX"
+
+
 def retargeted(text: str, platform: Platform) -> str:
     """Returns the text of a unit as it is on a platform, with the same lines."""
     types = platform.types
@@ -73,6 +77,6 @@ def retargeted(text: str, platform: Platform) -> str:
         number = found["number"] if found["name"].endswith("_C") else ""
         return f"({found[2]}{found[3]}{number}{platform.constants[found['name']]}{found[5]})"
 
-    text = PRI.sub(lambda it: f'"{platform.modifiers[it[2]]}{it[1]}"{PRI_MARK}', text)
+    text = PRI.sub(lambda it: f'"{platform.modifiers[it[2]]}{it[1]}"/*{macro_of(it[1], it[2])}*/', text)
     text = ATOMIC.sub(lambda it: f"__typeof__{it[1]}" if it[1] else "", text)
     return TYPEDEF.sub(typedef, CONSTANT.sub(constant, text))
