@@ -182,26 +182,17 @@ def try_counted(tool, trials):
 
 
 OWN = "#define OWN PRIi64\n"
-# Sources, and the columns and what is shown of the directives that are errors, and of those that only --composed adds.
+CHOSEN = '#if __SIZEOF_LONG__ == 8\n# define {0} {1}\n#else\n# define {0} "li"\n#endif\n'
+# Sources, and what is shown of the directives that are errors, and of those that only --composed adds.
 MACROS = [
     ('void f(size_t n) { printf("%10" PRIi64 "a", n); }', ['%10" PRIi64 "'], []),
-    (
-        "#if __SIZEOF_LONG__ == 8\n"
-        + OWN
-        + '#else\n#define OWN "li"\n#endif\nvoid f(time_t n) { printf("%10"OWN"\\n", n); }',
-        [],
-        ['%10" PRIi64 "'],
-    ),
-    (
-        "#if __SIZEOF_LONG__ == 8\n"
-        + OWN
-        + '#else\n#define OWN "li"\n#endif\nvoid f(time_t n) { printf("%10"OWN, n); }',
-        [],
-        ['%10" PRIi64 "'],
-    ),
+    (CHOSEN.format("OWN", "PRIi64") + 'void f(time_t n) { printf("%10"OWN"\\n", n); }', [], ['%10" PRIi64 "']),
+    (CHOSEN.format("OWN", "PRIi64") + 'void f(time_t n) { printf("%10"OWN, n); }', [], ['%10" PRIi64 "']),
     ('#define FULL "%" PRIu64\nvoid f(size_t n) { printf("a " FULL, n); }', ['%" PRIu64 "'], []),
     ('#define LINE(f) "%" f "\\n"\nvoid f(size_t n) { printf(LINE(PRIu64), n); }', ['%" PRIu64 "'], []),
     (OWN + '#include "log.h"\nvoid f(size_t n) { LOG(n); }', ['%" PRIu64 "'], []),
+    (CHOSEN.format("FULL", '"%" PRIu64') + 'void f(size_t n) { printf("a " FULL, n); }', [], ['%" PRIu64 "']),
+    ('#include "full.h"\nvoid f(size_t n) { printf(FULL "\\n", n); }', [], ['%" PRIu64 "']),
     (OWN.replace("PRIi64", "PRIu64") + '#include "log.h"\nvoid f(size_t n) { LOG(n); }', [], ['%" PRIu64 "']),
 ]
 
@@ -209,6 +200,7 @@ MACROS = [
 def try_macros(tool, trials):
     """A directive whose end is the program's own macro is composed; one whose end is a macro of <inttypes.h> isn't."""
     tool.put("log.h", '#define LOG(n) printf("%" PRIu64, n)\n')
+    tool.put("full.h", CHOSEN.format("FULL", '"%" PRIu64'))
     for body, errors, composed in MACROS:
         tool.put("macros.c", f"{SAYS}{body}\n")
         found = [json.loads(it) for it in tool.run("--composed", "--output", "json", "macros.c")[1].splitlines()]

@@ -54,6 +54,7 @@ ROWS = [
     ("%lx", "uint64_t", "equal size size size", '%" PRIx64 "'),
     ("%#lo", "uintptr_t", "equal rank rank size", '%#" PRIoPTR "'),
     ("%ld", "time_t", "equal equal size size", "%jd with a cast to intmax_t"),
+    ("%zu", "off_t", "sign rank size sign", "%jd with a cast to intmax_t"),
     ("%lx", "off_t", "sign sign size size", "%jx with a cast to uintmax_t"),
     ("%lu", "dev_t", "equal size size size", "%ju with a cast to uintmax_t"),
     ("%ld", "long long", "rank size size size", "%lld"),
@@ -254,7 +255,14 @@ class Judging(unittest.TestCase):
             (b'"%" PRI_SIZE', b"", False),
             (b'"%" f', own, False),
             (None, own, True),
-            (None, b'#define FULL "%" PRIu64\n', False),
+            (None, b'#define FULL "%" PRIu64\n', True),
+            (None, b'#define LOG(n) printf("%" PRIu64, n)\n', False),
+            (None, b'#define LOG printf("%" PRIu64, n)\n', False),
+            (b'#define F "%" PRIu64', own, False),
+            (b'#if A\n# define F "%" PRIu64\n#endif', own, True),
+            (b'#if A\n#define F \\\n"%" PRIu64\n#endif', own, True),
+            (b'#if A\n#endif\n#define F "%" PRIu64\n', own, False),
+            (b'#if A\nf("%" PRIu64);\n#endif', own, False),
             (None, b"#define OTHER PRIu32\n", False),
         ]:
             fault = fault_in([('"%"', ""), ('"lu"', "PRIu64")])

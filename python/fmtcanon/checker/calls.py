@@ -5,9 +5,7 @@ format, and the types of the arguments after promotion.
 import collections
 from typing import Any, Counter, Dict, Mapping, NamedTuple, Optional, Sequence, Tuple
 
-from ..compiling.attributes import FORMAT as OF_FORMAT
 from ..compiling.compile_commands import CompileCommand
-from ..compiling.known import KNOWN
 from ..compiling.libclang import cindex
 from ..compiling.parsing import (
     CALL_EXPR,
@@ -92,13 +90,14 @@ class Calls(Parsed):
         callee = self.shapes.callee(cursor)
         if callee is None:
             return
-        arguments = list(cursor.get_arguments())
-        if callee.shape is None:
-            self.note_other(callee, arguments)
-        elif callee.shape is UNREADABLE:
+        if callee.shape is UNREADABLE:
             self.unread += 1
-        elif callee.shape.first is not None and len(arguments) > callee.shape.format:
-            self.note_format(cursor, callee.name, callee.shape, arguments)
+        elif callee.shape is None:
+            self.note_other(cursor, callee)
+        elif callee.shape.first is not None:
+            arguments = list(cursor.get_arguments())
+            if len(arguments) > callee.shape.format:
+                self.note_format(cursor, callee.name, callee.shape, arguments)
 
     def note_format(self, cursor: Any, name: str, shape: Shape, arguments: Sequence[Any]) -> None:
         """Notes the call of a function that has a format."""
@@ -115,21 +114,16 @@ class Calls(Parsed):
             tuple(map(argument_of, arguments[shape.first :])),
         )
 
-    def note_other(self, callee: Callee, arguments: Sequence[Any]) -> None:
+    def note_other(self, cursor: Any, callee: Callee) -> None:
         """Notes the call of another function that is given a literal with a percent sign: if it has no prototype, and a
         name of the C library; or as its last parameter, before more arguments.
         """
-        type = callee.declaration.type.get_canonical() if callee.declaration is not None else None
-        if type is None or cindex.conf.lib.clang_Location_isInSystemHeader(callee.declaration.location):
-            return
-        type = type.get_pointee() if type.kind.name == "POINTER" else type
-        if type.kind.name == "FUNCTIONNOPROTO":
-            self.unread += callee.name in KNOWN and any(map(self.has_percent, arguments))
-        elif type.kind.name == "FUNCTIONPROTO" and type.is_function_variadic():
-            last = len(list(type.argument_types()))
-            is_other = any(map(OF_FORMAT.match, self.attributes_of(callee.declaration)))
-            if 0 < last <= len(arguments) and not is_other and self.has_percent(arguments[last - 1]):
-                self.others[f"{callee.name}:{last - 1}:{last}"] += 1
+        if not callee.has_prototype:
+            self.unread += any(map(self.has_percent, cursor.get_arguments()))
+        elif callee.last is not None:
+            given = list(cursor.get_arguments())[callee.last : callee.last + 1]
+            if given and self.has_percent(given[0]):
+                self.others[f"{callee.name}:{callee.last}:{callee.last + 1}"] += 1
 
     def has_percent(self, argument: Any) -> bool:
         """Returns whether an argument is a literal with a percent sign."""

@@ -95,7 +95,8 @@ def proposals(fault: Fault) -> Iterator[Proposal]:
         yield Proposal(f"{bare}{end}{letter}", True)
     if is_sign and end in UNSIGNED:
         yield Proposal("", False, UNSIGNED[end])
-    yield Proposal(f"{bare}j{letter}", False, "intmax_t" if letter in "di" else "uintmax_t")
+    letter = letter if letter not in "diu" else "u" if is_unsigned else "d"
+    yield Proposal(f"{bare}j{letter}", False, "intmax_t" if letter == "d" else "uintmax_t")
 
 
 def is_right(fault: Fault, made: Proposal) -> bool:
