@@ -52,6 +52,8 @@ WAYS = [
     'printf(_Generic(c, int: "%lu", default: "%d"), n);',
     'printf(_Generic(n, size_t: "%lu", long: "%ld"), n);',
     'printf(_Generic((n), char *: "%s", default: "%lu"), n);',
+    'printf(_Generic(s, const char *: "%s", char *: "%lu"), n);',
+    'printf(_Generic((const char *)s, char *: "%s", char const *: "%lu"), n);',
     'printf(__builtin_choose_expr(1, "%lu", "%d"), n);',
     'printf(__builtin_choose_expr(sizeof(int) == 3, "%s", "%lu"), n);',
     'printf(c ? "%lu" : "%zu", n);',

@@ -81,7 +81,7 @@ class Calls(Parsed):
             is_system = cindex.conf.lib.clang_Location_isInSystemHeader(cursor.location)
             return VISIT_NEXT if is_system else VISIT_INSIDE
         if cursor._kind_id == TYPEDEF_DECL:
-            self.formats.typedefs[cursor.spelling] = cursor
+            self.formats.typedefs.append(cursor)
         elif cursor._kind_id == CALL_EXPR:
             self.note_call(cursor)
         return VISIT_INSIDE

@@ -21,8 +21,8 @@ from .retargeting import write_headers
 from .unit import Settings
 
 
-# How many functions that aren't known the last line names.
-MOST_NAMED = 3
+# How many functions that aren't known the last line names, if they get this many times the formats that were judged.
+MOST_NAMED, TIMES = 3, 4
 
 
 def jobs_of(files: Files, question: Question) -> Iterator[Job]:
@@ -55,8 +55,8 @@ def counted(count: int, word: str) -> str:
 
 
 def summary(counts: Counter[str], others: Counter[str]) -> str:
-    """Returns what is said at the end: how much was judged and wasn't, and what was found. If more calls have formats of
-    functions that aren't known than were judged, it names these functions.
+    """Returns what is said at the end: how much was judged and wasn't, and what was found. If hardly anything was judged,
+    it names the functions that aren't known and get most formats.
     """
     judged = ", ".join(counted(counts[f"{it}s"], it) for it in ("file", "format", "argument"))
     found = ", ".join(f"{counts[it]} {it}" for it in RULES if counts[it])
@@ -64,7 +64,7 @@ def summary(counts: Counter[str], others: Counter[str]) -> str:
     if counts["unread"]:
         calls = counted(counts["unread"], "call")
         parts.append(f"{calls} with {'a format that wasn' if counts['unread'] == 1 else 'formats that weren'}'t read")
-    if sum(others.values()) > counts["formats"]:
+    if sum(others.values()) > TIMES * counts["formats"]:
         names = [f"{counted(count, 'call')} of {it.split(':')[0]} (--function {it})" for it, count in named(others)]
         parts.append(f"functions that aren't known get literals with %: {', '.join(names)}")
     return "; ".join(parts)

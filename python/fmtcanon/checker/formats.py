@@ -18,6 +18,7 @@ MARK_AFTER = re.compile(r"\s*" + PRI_MARK)
 LONGEST_MARK = 64
 CHOOSE = "__builtin_choose_expr"
 IS_TYPE = re.compile(r"(?:(?:const|volatile|(?:un)?signed|char|short|int|long|float|double|_Bool|void|\*)\s*)+")
+QUALIFIERS = ("const", "volatile", "restrict")
 # How the C interface of libclang numbers an integer as the result of an evaluation.
 IS_INTEGER = 1
 
@@ -44,11 +45,11 @@ Inside = Tuple[Any, int]
 
 
 class Formats:
-    """Reads what may be the formats in the text of a unit. Typedefs are known by their names."""
+    """Reads what may be the formats in the text of a unit, whose typedefs are noted."""
 
     def __init__(self, unit: Parsed) -> None:
         self.unit = unit
-        self.typedefs: Dict[str, Any] = {}
+        self.typedefs: List[Any] = []
 
     def read(self, cursor: Any, skipped: int = 0) -> Iterator[Optional[Format]]:
         """Yields the formats that the value of an expression may be, and None for what can't be read."""
@@ -122,13 +123,14 @@ class Formats:
     def selected(self, cursor: Any, children: Sequence[Any]) -> Sequence[Any]:
         """Returns the expression that `_Generic` selects by the names of types before each; none if that isn't known."""
         wanted, default = type_name_of(children[0].type.get_canonical().spelling), []
+        typedefs: Dict[str, Any] = {it.spelling: it for it in self.typedefs}
         for before, child in zip(children, children[1:]):
             text = self.unit.text[before.extent.end.offset : child.extent.start.offset].decode(errors="replace")
             name = LINE_MARKER.sub("", text).strip().lstrip(",)").strip().rstrip("(").strip()[:-1].strip()
             if name == "default":
                 default = [child]
                 continue
-            known = self.typedefs.get(name)
+            known = typedefs.get(name)
             spelled = known.underlying_typedef_type.get_canonical().spelling if known else name
             if type_name_of(spelled) == wanted:
                 return [child]
@@ -152,14 +154,16 @@ class Formats:
 
 
 def type_name_of(spelling: str) -> str:
-    """Returns a name of a type that all spellings of it have in common."""
+    """Returns a name of an unqualified type that all spellings of it have in common."""
     words = re.findall(r"\w+|\S", spelling)
-    while words and words[0] in ("const", "volatile"):
-        words.pop(0)
-    is_long = "long" in words or "short" in words or "unsigned" in words
-    kept = [it for it in words if it != "signed" or "char" in words]
+    at = words.index("*") if "*" in words else len(words)
+    base, rest = [it for it in words[:at] if at < len(words) or it not in QUALIFIERS], words[at:]
+    while rest and rest[-1] in QUALIFIERS:
+        rest.pop()
+    is_long = any(it in base for it in ("long", "short", "unsigned"))
+    kept = [it for it in base if it != "signed" or "char" in base]
     kept = [it for it in kept if it != "int" or not is_long] or ["int"]
-    return " ".join(sorted(kept))
+    return " ".join([*sorted(kept), *rest])
 
 
 def moved(pointer: Any, number: Any, sign: int) -> List[Inside]:

@@ -32,8 +32,8 @@ Functions of the C library's printf family, as its headers declare them, and tho
 format(printf, m, n) are known. Integers are compared by size, rank and sign; other arguments must have the type that \
 the directive takes. In JSON, the arguments of a format are counted from 1, as in %1$d.
 
-Calls whose formats can't be read are counted in the last line. If other variadic functions get more literals with % \
-than were judged, it names the most frequent of them, with the option --function for each.
+Calls whose formats can't be read are counted in the last line. If other variadic functions get four times as many \
+literals with % as were judged, it names the most frequent of them, with the option --function for each.
 
 The kinds of findings are {', '.join(RULES)}.
 
