@@ -66,7 +66,11 @@ WAYS = [
     'printf("x %" PRIu64 "\\n", n);',
 ]
 # The same, which gcc doesn't report.
-MORE = ['printf(({ int z = 0; (void) z; "%lu"; }), n);', 'printf((c, "%lu"), n);']
+MORE = [
+    'printf(({ int z = 0; (void) z; "%lu"; }), n);',
+    'printf((c, "%lu"), n);',
+    'printf((const char[]){"%lu"}, n);',
+]
 # Calls that gcc -m32 doesn't report, and nobody should.
 RIGHT = [
     'plus("%d of %s", c, "x");',

@@ -51,6 +51,8 @@ ROWS = [
     ("%ld", "ssize_t", "equal rank rank size", "%zd"),
     ("%-8.3ld", "ptrdiff_t", "equal rank rank size", "%-8.3td"),
     ("%d", "size_t", "size sign sign size", "%zu"),
+    ("%+-5d", "size_t", "size sign sign size", "%-5zu"),
+    ("%+ld", "ssize_t", "equal rank rank size", "%+zd"),
     ("%lx", "uint64_t", "equal size size size", '%" PRIx64 "'),
     ("%#lo", "uintptr_t", "equal rank rank size", '%#" PRIoPTR "'),
     ("%ld", "time_t", "equal equal size size", "%jd with a cast to intmax_t"),

@@ -88,6 +88,8 @@ class Formats:
             return [(it, 0) for it in (children[1:] if value is None else [children[1 if value else 2]])]
         if kind == "GENERIC_SELECTION_EXPR":
             return [(it, 0) for it in self.selected(cursor, children)]
+        if kind in ("COMPOUND_LITERAL_EXPR", "INIT_LIST_EXPR") and len(children) <= 2:
+            return [(it, 0) for it in children[-1:] if it.kind.name in ("INIT_LIST_EXPR", "STRING_LITERAL")]
         if kind == "StmtExpr":
             return [(it, 0) for it in list(children[-1].get_children())[-1:]]
         if kind in ("BINARY_OPERATOR", "UNARY_OPERATOR"):

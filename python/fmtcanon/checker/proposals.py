@@ -87,6 +87,9 @@ def proposals(fault: Fault) -> Iterator[Proposal]:
     if letter in "cC":
         yield Proposal("", False, CHARACTERS["lc" if directive[-2:] == "lc" else letter])
         return
+    if letter in "di" and is_unsigned:
+        # Flags for a sign do nothing there.
+        bare = re.sub("[+ ]", "", bare)
     if letter in "diu" and (is_unsigned or is_sign):
         letter = "u" if is_unsigned else "d"
     if end in MACROS:
