@@ -40,7 +40,9 @@ The kinds of findings are {', '.join(RULES)}.
 Exit status:
   0  nothing is an error
   1  something is an error
-  2  usage error, a file was left, or an output can't be written; a header that is given is skipped, and not left"""
+  2  usage error, a file was left, or an output can't be written
+
+A header that is given is skipped, and not left."""
 # Types of C that --type may name, apart from typedefs of the C library.
 INTEGER = re.compile(r"(?:(?:un)?signed )?(?:char|short|int|long|long long)")
 
