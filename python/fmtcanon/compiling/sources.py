@@ -48,8 +48,8 @@ class Files:
         """
         if os.path.isfile(name.path) and not SOURCES.fullmatch(name.path):
             return "it isn't compiled by itself; a header is judged with the files that include it"
-        is_given = any(os.path.realpath(it) == name.path for it in self.options.files)
-        if self.options.files and not is_given and self.options.database and name.path not in self.database:
+        is_given = not self.options.files or name.shown in self.options.files
+        if not is_given and self.options.database and name.path not in self.database:
             return "compile_commands.json has no command for it"
         return ""
 
