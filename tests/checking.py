@@ -261,7 +261,7 @@ CALLS = [
     ('void f(size_t n) { printf("%lu", n); }', ["--model", "ilp32"], []),
     ('void f(size_t n) { printf("%lu", n); }', ["--model", "ilp32", "--rank"], [(5, 28, "rank", "%zu")]),
     ('void f(int n) { printf("%u", n); }', [], []),
-    ('void f(int n) { printf("%u", n); }', ["--sign"], [(5, 25, "sign", "%u")]),
+    ('void f(int n) { printf("%u", n); }', ["--sign"], [(5, 25, "sign", "%d")]),
     ('#define F "l" "u"\nvoid f(size_t n) { printf("%" F, n); }', [], []),
     ('#define F "l" "u"\nvoid f(size_t n) { printf("%" F, n); }', ["--composed"], [(6, 28, "composed", "%zu")]),
     ('void failf(void *p, const char *f, ...);\nvoid f(size_t n) { failf(0, "%lu", n); }', [], []),
@@ -289,7 +289,6 @@ CALLS = [
     ),
     ('void f(long a[sizeof(long) == 8 ? 1 : -1]) { printf("%ld", a[0]); }', [], [(5, None, "lost", None)]),
     ('void f(int n) { printf("%y", n); }', [], [(5, None, "unjudged", None)]),
-    ('void f(size_t n) { printf(_Generic(n, default: "%lu"), n); }', [], []),
 ]
 
 

@@ -72,7 +72,7 @@ LIMITS = {
     "docs/TRANSLATIONS.md": 1100,
     "docs/EXPLAINING.md": 420,
     # With the figures of real sources and of compilers.
-    "docs/PORTING.md": 1300,
+    "docs/PORTING.md": 1400,
     "docs/REFACTORING.md": 1400,
     # With a part for each kind, the table of flags, and the grammar.
     "docs/REFUSALS.md": 2000,
@@ -85,7 +85,7 @@ LIMITS = {
     "docs/DEFINITIONS.md": 4750,
     "docs/PERFORMANCE.md": 980,
     # With a walk through one call, tables of files by what they do, and words of the sources.
-    "docs/internals/ARCHITECTURE.md": 3150,
+    "docs/internals/ARCHITECTURE.md": 3200,
     "docs/internals/DECISIONS.md": 2200,
     # With an index by what rt prints.
     "docs/internals/PROOF_NOTES.md": 4000,

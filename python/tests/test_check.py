@@ -13,13 +13,15 @@ from pathlib import Path
 
 import fmtcanon
 from fmtcanon import Model, Type
-from fmtcanon.checker import fitting, fixing, judging, options, proposals, reporting
-from fmtcanon.checker.calls import Argument, Call, Format, Token
+from fmtcanon.checker import composing, fitting, fixing, options, proposals, reporting
+from fmtcanon.checker.calls import Argument, Call
+from fmtcanon.checker.formats import Format, Token
 from fmtcanon.checker.judging import Fit, fit_of, judged, without_errno
-from fmtcanon.checker.locating import with_markers
+from fmtcanon.checker.locating import Located, Piece, with_markers
 from fmtcanon.checker.platforms import PLATFORMS
 from fmtcanon.checker.retargeting import retargeted, write_headers
 from fmtcanon.compiling.parsing import Shape
+from fmtcanon.compiling.stand_ins import Original
 from fmtcanon.findings import Finding
 from fmtcanon.replace.calls import Marker
 from fmtcanon.replace.places import places_in
@@ -39,6 +41,8 @@ TYPES = {
     "unsigned long": (UL, UL, UL, UL),
     "long long": (LL, LL, LL, LL),
     "int": (I, I, I, I),
+    "unsigned int": (U, U, U, U),
+    "pid_t": (I, I, I, I),
 }
 # A directive, the name of its argument's type, how it fits on each platform, and what is proposed.
 ROWS = [
@@ -47,15 +51,31 @@ ROWS = [
     ("%ld", "ssize_t", "equal rank rank size", "%zd"),
     ("%-8.3ld", "ptrdiff_t", "equal rank rank size", "%-8.3td"),
     ("%d", "size_t", "size sign sign size", "%zu"),
+    ("%+-5d", "size_t", "size sign sign size", "%-5zu"),
+    ("%+ld", "ssize_t", "equal rank rank size", "%+zd"),
     ("%lx", "uint64_t", "equal size size size", '%" PRIx64 "'),
     ("%#lo", "uintptr_t", "equal rank rank size", '%#" PRIoPTR "'),
     ("%ld", "time_t", "equal equal size size", "%jd with a cast to intmax_t"),
+    ("%zu", "off_t", "sign rank size sign", "%jd with a cast to intmax_t"),
     ("%lx", "off_t", "sign sign size size", "%jx with a cast to uintmax_t"),
     ("%lu", "dev_t", "equal size size size", "%ju with a cast to uintmax_t"),
     ("%ld", "long long", "rank size size size", "%lld"),
     ("%ld", "int", "size rank rank rank", "%d"),
     ("%hhd", "long", "size rank rank rank", "%ld"),
-    ("%u", "int", "sign sign sign sign", "%u"),
+    ("%u", "int", "sign sign sign sign", "%d"),
+    ("%d", "unsigned int", "sign sign sign sign", "%u"),
+    ("%02x", "int", "sign sign sign sign", "a cast to unsigned int"),
+    ("%#lX", "long", "sign sign sign sign", "a cast to unsigned long"),
+    ("%zx", "ssize_t", "sign sign sign sign", "a cast to size_t"),
+    ("%tx", "ptrdiff_t", "sign sign sign sign", "%jx with a cast to uintmax_t"),
+    ("%u", "pid_t", "sign sign sign sign", "%jd with a cast to intmax_t"),
+    ("%hhx", "int", "", None),
+    ("%hu", "int", "", None),
+    ("%zu", "unsigned long", "equal rank rank size", "%lu"),
+    ("%c", "long", "size rank rank rank", "a cast to int"),
+    ("%-3c", "uint64_t", "size size size size", "a cast to int"),
+    ("%lc", "long", "size rank rank rank", "a cast to wint_t"),
+    ("%C", "size_t", "size equal equal size", "a cast to wint_t"),
     ("%*d", "size_t", "size sign sign size", "a cast to int"),
     ("%.*s", "ssize_t", "size equal equal size", "a cast to int"),
 ]
@@ -181,7 +201,7 @@ OF_COMPILER = (
 def calls_of(format, name, count=1, tokens=None):
     """A call on each platform with arguments whose types have a name."""
     source = f'"{format}"'
-    written = Format(source, tokens or (Token(source, False),))
+    written = Format(source, tokens or (Token(source),))
     number = format.count("*") + 1
     return [
         Call("a.c", 1, "printf", (written,), tuple(Argument(type, name, name) for _ in range(number * count)))
@@ -191,6 +211,26 @@ def calls_of(format, name, count=1, tokens=None):
 
 def faults_of(format, name, **more):
     return judged([{(1, "printf", 0): it} for it in calls_of(format, name, **more)]).faults
+
+
+def fault_in(tokens):
+    """The fault of a size_t in a format of these literals, each with the PRI macro that made it."""
+    text = "".join(it.strip('"') for it, _ in tokens)
+    return faults_of(text, "size_t", tokens=tuple(Token(*it) for it in tokens))[0]
+
+
+class Defined:
+    """A unit with definitions of macros."""
+
+    def __init__(self, text):
+        self.text = text
+
+    def definitions(self):
+        return self.text
+
+
+def never(_):
+    return False
 
 
 def text_of(proposal):
@@ -232,6 +272,23 @@ class Judging(unittest.TestCase):
         found = faults_of("%ld %ld", "long")
         self.assertEqual([(it.number, set(it.fits)) for it in found], [(1, {Fit.KIND})])
         self.assertIsNone(proposals.proposal(found[0]))
+        details = reporting.details_of(found[0])
+        self.assertEqual([details["type"], details["platforms"]["LP64"]["is"]], [None, None])
+
+    def test_never_negative(self):
+        """An int that can't be negative fits %u, and a long doesn't."""
+        for format, is_unsigned, is_fitting in [("%u", True, True), ("%02x", True, True), ("%u", False, False)]:
+            given = Argument(I, "int", "uint16_t", is_unsigned)
+            calls = [it._replace(arguments=(given,)) for it in calls_of(format, "int")]
+            self.assertEqual(judged([{(1, "printf", 0): it} for it in calls]).faults == [], is_fitting, format)
+
+    def test_skipped(self):
+        """What is left out in front of a format isn't judged, and the rest is at its place."""
+        calls = [
+            it._replace(formats=(Format('"%d %lu"', (Token('"%d %lu"'),), 3),)) for it in calls_of("%lu", "size_t")
+        ]
+        [fault] = judged([{(1, "printf", 0): it} for it in calls]).faults
+        self.assertEqual((fault.text, fault.directive, fault.shown, fault.range), (b"%lu", "%lu", "%lu", (0, 3)))
 
     def test_stars(self):
         first, second = faults_of("%*.*f", "size_t")[:2]
@@ -259,23 +316,65 @@ class Judging(unittest.TestCase):
 
     def test_composed(self):
         for tokens, is_composed in [
-            ([('"%lu"', False)], False),
-            ([('"%"', False), ('"lu"', True)], False),
-            ([('"%"', False), ('"lu"', False)], True),
-            ([('"%"', False), ('"l"', False), ('"u"', False)], True),
-            ([('"%lu"', False), ('" "', False)], False),
+            ([('"%lu"', "")], False),
+            ([('"%"', ""), ('"lu"', "PRIu64")], False),
+            ([('"%"', ""), ('"lu"', "")], True),
+            ([('"%"', ""), ('"l"', ""), ('"u"', "")], True),
+            ([('"%lu"', ""), ('" "', "")], False),
         ]:
-            listed = tuple(Token(*it) for it in tokens)
-            fault = faults_of("%lu", "size_t", tokens=listed)[0]
-            self.assertEqual(judging.is_composed(fault), is_composed, tokens)
+            fault = fault_in(tokens)
+            self.assertEqual(composing.is_composed(fault, Defined(b""), None), is_composed, tokens)
+
+    def test_own_macros(self):
+        """A macro of the program that is one of <inttypes.h> may be another after `#if`."""
+        own = b'#define PRI_SIZE PRIu64\n#define SIZE PRI_SIZE\n#define FULL "%" PRIu64\n'
+        for source, definitions, is_composed in [
+            (b'"%" PRIu64', own, False),
+            (b'"%" /* x */ PRIu64 "a"', own, False),
+            (b'"%" PRI_SIZE', own, True),
+            (b'"%"SIZE', own, True),
+            (b'"%" PRI_SIZE', b"", False),
+            (b'"%" f', own, False),
+            (None, own, True),
+            (None, b'#define FULL "%" PRIu64\n', True),
+            (None, b'#define LOG(n) printf("%" PRIu64, n)\n', False),
+            (None, b'#define LOG printf("%" PRIu64, n)\n', False),
+            (b'#define F "%" PRIu64', own, False),
+            (b'#if A\n# define F "%" PRIu64\n#endif', own, True),
+            (b'#if A\n#define F \\\n"%" PRIu64\n#endif', own, True),
+            (b'#if A\n#endif\n#define F "%" PRIu64\n', own, False),
+            (b'#if A\nf("%" PRIu64);\n#endif', own, False),
+            (None, b"#define OTHER PRIu32\n", False),
+        ]:
+            fault = fault_in([('"%"', ""), ('"lu"', "PRIu64")])
+            places = list(places_in(source)) if source else []
+            pieces = [Piece(it, 0) for it in places[:1]]
+            where = Located(Original("a.c", source or b"", os.stat(".")), {(fault.key, 0): (b"%lu", pieces)})
+            found = composing.is_composed(fault, Defined(definitions), where)
+            self.assertEqual(found, is_composed, (source, definitions))
+
+    def test_shown(self):
+        """A PRI macro is shown by its name, and not by what it is in LP64."""
+        for tokens, shown in [
+            ([('"%lu"', "")], "%lu"),
+            ([('"%"', ""), ('"lu"', "PRIu64")], '%" PRIu64 "'),
+            ([('"a %"', ""), ('"l"', "__PRI64_PREFIX"), ('"u b"', "")], "%lu"),
+            ([('"%-5"', ""), ('"lu"', "PRIuPTR"), ('" x"', "")], '%-5" PRIuPTR "'),
+        ]:
+            fault = fault_in(tokens)
+            self.assertEqual(fault.shown, shown, tokens)
+            self.assertIn(f"{shown} takes unsigned long", reporting.message_of(fault, list(Model)))
+            self.assertEqual(reporting.details_of(fault)["directive"], shown)
 
 
 class Reporting(unittest.TestCase):
     def test_kinds(self):
         fault = faults_of("%lu", "size_t")[0]
-        kinds = [reporting.kind_of(fault, models) for models in ([Model.LP64], [Model.ILP32], list(Model))]
+        kinds = [reporting.kind_of(fault, models, never) for models in ([Model.LP64], [Model.ILP32], list(Model))]
         self.assertEqual(kinds, [None, "rank", "size"])
-        self.assertEqual(reporting.kind_of(faults_of("%u", "int")[0], list(Model)), "sign")
+        self.assertEqual(reporting.kind_of(faults_of("%u", "int")[0], list(Model), never), "sign")
+        kinds = [reporting.kind_of(faults_of(it, "size_t")[0], list(Model), bool) for it in ("%lu", "%zd")]
+        self.assertEqual(kinds, ["composed", "sign"])
 
     def test_messages(self):
         fault = faults_of("%lu", "size_t")[0]
@@ -286,7 +385,7 @@ class Reporting(unittest.TestCase):
         said = "a * of %*d takes int, and the argument is ptrdiff_t: another size in LP64; write a cast to int"
         self.assertEqual(reporting.message_of(fault, [Model.LP64]), said)
         fault = faults_of("%zd", "long")[0]
-        said = "takes long in LP64, int in ILP32, int in ILP32 with 64-bit time_t, long long in LLP64"
+        said = "takes long in LP64, int in ILP32, long long in LLP64, and"
         self.assertIn(said, reporting.message_of(fault, list(Model)))
 
     def test_source(self):
@@ -394,7 +493,7 @@ class Texts(unittest.TestCase):
         front = "#include <inttypes.h>\n#include <limits.h>\n"
         macros = "f(PRIu64 PRIdPTR PRIxFAST16, INT64_C(5), UINTMAX_C(7), SIZE_MAX, INT64_MIN, LONG_MAX)"
         text = self.preprocessed(front + macros)[0]
-        texts = [retargeted(text, it, {}).replace("/*PRI*/", "") for it in PLATFORMS]
+        texts = [re.sub(r"/\*PRI\w+\*/", "", retargeted(text, it, {})) for it in PLATFORMS]
         plain = [" ".join(it.partition("f(")[2].split()) for it in texts]
         joined = ["".join(it for it in one.split("\n") if not it.startswith("#")) for one in plain]
         for one, parts in zip(joined, MACROS):

@@ -26,8 +26,8 @@ TYPEDEF = r"\btypedef(?P<words>\s+[A-Za-z_][\w\s]*?[\s*]+)(?P<name>\w+)(?=\s*(?:
 STRUCT = re.compile(r"\bstruct\s*(\w*)\s*\{[^{}]*(?:\{[^{}]*\}[^{}]*)*\}\s*(\w*)")
 MEMBER = re.compile(rf"([{{;]{SPACE})((?:\w+\s+)+)(\w+)(?=\s*(?:\[[^;]*\])?;)")
 PRI = re.compile(r'"fmtcanon:(\w*):(\w+)"')
-# What is put after the length modifier of a PRI macro.
-PRI_MARK = "/*PRI*/"
+# What is put after the length modifier of a PRI macro: its name.
+PRI_MARK = r"/\*((?:__)?PRI\w+)\*/"
 # Patterns that begin with a plain word are found several times faster than those that begin with anything else.
 TYPE_MARK = "fmtcanon_type_"
 SIGNED_TYPE = re.compile(rf"signed\s+{TYPE_MARK}(\w+)")
@@ -112,6 +112,10 @@ def chunks(text: str) -> Iterator[Tuple[bool, str]]:
     yield is_system, text[start:]
 
 
+
+def macro_of(letter: str, end: str) -> str:
+    return f"PRI{letter}{end}" if letter else f"__PRI{end}_PREFIX"
+
 @functools.lru_cache(maxsize=None)
 def names_pattern(names: Tuple[str, ...]) -> "re.Pattern[str]":
     """Returns the pattern of a typedef, and of these names elsewhere."""
@@ -167,7 +171,7 @@ def retargeted(text: str, platform: Platform, own: Mapping[str, str]) -> str:
         number = found["number"] if found["name"].endswith("_C") else ""
         return f"({found[2]}{found[3]}{number}{platform.constants[found['name']]}{found[5]})"
 
-    text = PRI.sub(lambda it: f'"{platform.modifiers[it[2]]}{it[1]}"{PRI_MARK}', text)
+    text = PRI.sub(lambda it: f'"{platform.modifiers[it[2]]}{it[1]}"/*{macro_of(it[1], it[2])}*/', text)
     if OF_CLANG not in text:
         text = ATOMIC.sub(lambda it: f"__typeof__{it[1]}" if it[1] else "", text)
     text = SIGNED_TYPE.sub(lambda it: f"signed {platform.types[it[1]]}", CONSTANT.sub(constant, text))
