@@ -5,7 +5,7 @@ from dataclasses import replace
 from typing import Dict, List, Sequence, Tuple
 
 from ..compiling.compile_commands import CompileCommand, commands_in
-from ..compiling.left import Left
+from ..compiling.left import Left, own_trouble
 from ..findings import NOTE, Finding
 from ..replace.replacer import column_of
 from ..verdicts import Kind, shown
@@ -29,10 +29,11 @@ class Fitting:
         found: Dict[Position, bool] = {}
         for command in self.commands.get(os.path.realpath(path), []):
             try:
-                unit = Unit(command, self.settings)
+                with own_trouble():
+                    unit = Unit(command, self.settings)
+                    where, fitting = located(unit), judged(unit.calls).fitting
             except Left:
                 return {}
-            where, fitting = located(unit), judged(unit.calls).fitting
             for start, uses in where.uses().items() if where else ():
                 at = position_of(where.file.source, start) if where else (0, 0)
                 found[at] = found.get(at, True) and all((it.key, it.format) in fitting for it in uses)

@@ -5,11 +5,13 @@ from typing import Dict, List, NamedTuple, Optional, Sequence, Tuple
 
 from .. import BadLiteral, decode_literal, source_offset
 from ..compiling.left import Left
+from ..compiling.parsing import OTHER_BYTES
 from ..compiling.stand_ins import Original, StandIn, original
 from ..replace.calls import Marker
 from ..replace.places import Place, places_in
 from ..replace.tokens import plain_literals
-from .calls import Format, Key
+from .calls import Key
+from .formats import Format
 from .judging import Fault, without_errno
 from .unit import Unit
 
@@ -55,7 +57,7 @@ class Located(NamedTuple):
         found: Dict[int, List[Use]] = {}
         for (key, number), (text, pieces) in self.formats.items():
             for piece in pieces:
-                is_whole = len(pieces) == 1 and without_errno(piece.place.text) == text
+                is_whole = len(pieces) == 1 and in_ascii(without_errno(piece.place.text)) == in_ascii(text)
                 found.setdefault(piece.place.start, []).append(Use(key, number, is_whole))
         return found
 
@@ -102,5 +104,10 @@ def unmarked(
     for found in pattern.finditer(text):
         parts.append(text[done : found.start()])
         done = found.end()
-        pieces.append(Piece(places[int(found[1])], sum(map(len, parts))))
-    return without_errno(b"".join([*parts, text[done:]])), pieces
+        pieces.append(Piece(places[int(found[1])], sum(map(len, parts)) - format.skipped))
+    return without_errno(b"".join([*parts, text[done:]])[format.skipped :]), pieces
+
+
+def in_ascii(text: bytes) -> bytes:
+    """Returns a text in which `_` replaces each byte that libclang may not have got."""
+    return OTHER_BYTES.sub(b"_", text)
