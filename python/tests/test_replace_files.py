@@ -15,8 +15,8 @@ from fmtcanon.compiling import running
 from fmtcanon.compiling.left import Left
 from fmtcanon.compiling.sources import Files
 from fmtcanon.compiling.stand_ins import StandIn, original
+from fmtcanon.interrupting import Interrupted, interruptible
 from fmtcanon.replace.files import put_in_place
-from fmtcanon.replace.interrupting import Interrupted, interruptible
 
 # The seconds in which the command ends after a signal.
 SOON = 2

@@ -7,6 +7,7 @@ import threading
 from contextlib import contextmanager
 from typing import Dict, Iterator, Mapping, Optional, Sequence, Set
 
+from ..interrupting import CLEANING
 from .left import Left
 
 # The seconds that a run of a compiler may take.
@@ -89,3 +90,6 @@ def stop() -> None:
         STOPPING.set()
         for process in RUNNING:
             kill(process)
+
+
+CLEANING.append(stop)

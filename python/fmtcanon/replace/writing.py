@@ -2,20 +2,17 @@
 is ended early it says what was.
 """
 
-import os
 import sys
 from concurrent.futures import ThreadPoolExecutor
 from typing import Any, List, NoReturn, Sequence
 
 from ..command_line import USAGE
 from ..compiling.left import Left
-from ..compiling.running import stop
 from ..compiling.sources import Name
-from ..compiling.stand_ins import StandIn
 from ..findings import Printer
+from ..interrupting import Interrupted, Signals, clean, end, interruptible
 from ..output import Unwritable, complain, write
 from .files import put_in_place
-from .interrupting import Interrupted, Signals, interruptible
 from .replacer import Report, Rewriter
 
 
@@ -34,7 +31,7 @@ def replace(options: Any, replacer: Rewriter, names: Sequence[Name]) -> int:
                 return max(status, put_all_in_place(reports, signals, changed))
         except Interrupted as interrupted:
             replacer.progress.clear()
-            end(pool, replacer.name, interrupted.number, changed)
+            end_early(pool, replacer.name, interrupted.number, changed)
         finally:
             pool.shutdown(wait=False)
 
@@ -80,11 +77,9 @@ def put_all_in_place(reports: Sequence[Report], signals: Signals, changed: List[
     return status
 
 
-def end(pool: ThreadPoolExecutor, name: str, number: int, changed: Sequence[str]) -> NoReturn:
+def end_early(pool: ThreadPoolExecutor, name: str, number: int, changed: Sequence[str]) -> NoReturn:
     """Ends the command early, without its copies of files, and says what was changed."""
     pool.shutdown(wait=False)
-    stop()
-    StandIn.remove_all()
+    clean()
     complain(f"{name}: interrupted; " + (f"changed: {', '.join(changed)}" if changed else "no file was changed"))
-    # libclang can't be interrupted, and Python would wait for it.
-    os._exit(128 + number)
+    end(number)
