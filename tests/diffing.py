@@ -110,7 +110,7 @@ class Tool:
     """The command in a folder."""
 
     def __init__(self, folder, work):
-        self.work = Path(work)
+        self.library, self.work = folder, Path(work)
         self.words = [sys.executable, "-m", "fmtcanon.diff"]
         self.environment = {
             **os.environ,

@@ -72,7 +72,7 @@ LIMITS = {
     "docs/TRANSLATIONS.md": 1100,
     "docs/EXPLAINING.md": 420,
     "docs/PORTING.md": 1200,
-    "docs/REFACTORING.md": 1400,
+    "docs/REFACTORING.md": 1450,
     # With a part for each kind, the table of flags, and the grammar.
     "docs/REFUSALS.md": 2000,
     # With an example of each error.

@@ -104,6 +104,15 @@ class Place:
             self._texts[model] = joined(self.parts, self.source.macros, model)
         return self._texts[model]
 
+    def unknown_names(self) -> Set[bytes]:
+        """Returns the macros in it whose text isn't known."""
+        names = {it.source for it in self.parts if it.kind == "name"}
+        return {it for it in names if it not in self.source.macros and expansion(it, Model.LP64) is None}
+
+    def define(self, macros: Dict[bytes, Tuple[Part, ...]], model: Model) -> None:
+        """Makes the text in a data model with more macros than those of the file."""
+        self._texts = {model: joined(self.parts, {**macros, **self.source.macros}, model)}
+
     @property
     def key(self) -> bytes:
         """The source of the parts, without what is between them."""

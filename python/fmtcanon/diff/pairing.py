@@ -39,11 +39,19 @@ Range = Tuple[int, int, int, int]
 
 
 class Pairs(NamedTuple):
-    """The pairs of places that changed, in the order of the new source, and how many places came and went."""
+    """The pairs of places that changed, in the order of the new source, and the places that came and went."""
 
     changed: List[Pair]
-    came: int
-    went: int
+    added: Sequence[Place]
+    removed: Sequence[Place]
+
+    @property
+    def came(self) -> int:
+        return len(self.added)
+
+    @property
+    def went(self) -> int:
+        return len(self.removed)
 
 
 def common(first: Sequence[Hashable], second: Sequence[Hashable], span: Range) -> Range:
@@ -210,6 +218,7 @@ def paired(old: Source, new: Source) -> Pairs:
         for side, rest in zip(left, without(found, before, after)):
             side += rest
     found = moved(*left)
+    removed, added = without(found, *left)
     pairs += found
     is_redefined = old.macros != new.macros
     if is_redefined:
@@ -218,7 +227,7 @@ def paired(old: Source, new: Source) -> Pairs:
         pairs += [it for a, b in equal for it in zip(first.places.get(a, ()), second.places.get(b, ()))]
     changed = [it for it in pairs if it[0].parts != it[1].parts or (is_redefined and depends(*it))]
     changed.sort(key=lambda it: it[1].start)
-    return Pairs(changed, len(left[1]) - len(found), len(left[0]) - len(found))
+    return Pairs(changed, added, removed)
 
 
 def depends(old: Place, new: Place) -> bool:
