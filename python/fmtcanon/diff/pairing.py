@@ -24,6 +24,9 @@ ARGUMENT = re.compile(rb"[A-Za-z_]")
 TELLING = re.compile(rb"[A-Za-z]{3}")
 # How many comparisons difflib may make of two sequences, how many pairs of places are tried, and the longest texts.
 MANY, MANY_PAIRS, LONG_TEXT = 250_000, 4_000, 4_000
+# How much longer than a back that two texts share what is before it must be, so that looking for the back takes more than
+# reading it.
+WORTH = 4
 # How alike two texts must be: less if what follows them is equal.
 ALIKE, ALIKE_IN_PLACE = 0.6, 0.4
 
@@ -148,6 +151,10 @@ def read_changes(old: Source, new: Source) -> None:
         itertools.chain([] if end is None else [end], ends),
         statement_ends(second, begin),
     )
+    if WORTH * back < min(lengths) - front - back:
+        old.read(begin)
+        new.read(begin)
+        return
     at = [next((it for it in one if it >= length - back), length) for one, length in zip(following, lengths)]
     while lengths[0] - at[0] != lengths[1] - at[1]:
         # The one that is farther from its end goes on.
