@@ -12,7 +12,7 @@ import time
 import traceback
 from typing import TYPE_CHECKING, Any, Callable, Deque, Iterable, Iterator, List, NamedTuple, Tuple, TypeVar
 
-from .interrupting import CLEANING, NUMBERS, clean
+from .interrupting import CLEANING, LOOK, NUMBERS, clean
 
 if TYPE_CHECKING:
     from multiprocessing.connection import Connection
@@ -108,7 +108,9 @@ class Workers:
         """Waits until a process has a result, and notes the results that are there."""
         from multiprocessing.connection import wait
 
-        ready = wait([worker.connection for worker, _ in self.busy])
+        ready: List[Any] = []
+        while not ready:
+            ready = wait([worker.connection for worker, _ in self.busy], LOOK)
         for worker, slot in [it for it in self.busy if it[0].connection in ready]:
             try:
                 is_done, result = worker.connection.recv()

@@ -15,7 +15,7 @@ from fmtcanon.processes import Ended, in_order
 SOON, LATE = 2, 60
 # A command whose work takes long, and runs a program.
 SLOW = """
-import subprocess, sys, time
+import signal, subprocess, sys, threading, time
 from fmtcanon.command_line import status_of
 from fmtcanon.compiling import running
 from fmtcanon.processes import in_order
@@ -26,6 +26,12 @@ def work(item):
     while True:
         time.sleep(1000)
 
+def kill():
+    time.sleep(1)
+    signal.pthread_kill(threading.get_ident(), signal.SIGTERM)
+
+if sys.argv[1] == "kill":
+    threading.Thread(target=kill, daemon=True).start()
 sys.exit(status_of("slow", lambda: print(list(in_order(work, range(9), 2)))))
 """
 
@@ -147,6 +153,9 @@ class Ends(unittest.TestCase):
 
     def test_work(self):
         self.all_ends([sys.executable, "-B", "-c", SLOW, "wait"])
+
+    def test_a_signal_to_another_thread(self):
+        self.ends_by([sys.executable, "-B", "-c", SLOW, "kill"], 128 + signal.SIGTERM)
 
     def test_what_work_runs(self):
         self.all_ends([sys.executable, "-B", "-c", SLOW, "run"], each=2)

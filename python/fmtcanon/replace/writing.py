@@ -3,22 +3,34 @@ is ended early it says what was.
 """
 
 import sys
-from concurrent.futures import ThreadPoolExecutor
-from typing import Any, List, NoReturn, Sequence
+from concurrent.futures import ThreadPoolExecutor, wait
+from typing import Any, Callable, Iterable, Iterator, List, NoReturn, Sequence, TypeVar
 
 from ..command_line import USAGE
 from ..compiling.left import Left
 from ..compiling.sources import Name
 from ..findings import Printer
-from ..interrupting import Interrupted, Signals, clean, end, interruptible
+from ..interrupting import LOOK, Interrupted, Signals, clean, end, interruptible
 from ..output import Unwritable, complain, write
 from .files import put_in_place
 from .replacer import Report, Rewriter
 
+_Result = TypeVar("_Result")
+
+
+class Threads(ThreadPoolExecutor):
+    """Threads whose results can be waited for with an end by a signal."""
+
+    def map(self, fn: Callable[..., _Result], *iterables: Iterable[Any], **_: Any) -> Iterator[_Result]:
+        for future in [self.submit(fn, *it) for it in zip(*iterables)]:
+            while not future.done():
+                wait([future], LOOK)
+            yield future.result()
+
 
 def replace(options: Any, replacer: Rewriter, names: Sequence[Name]) -> int:
     """Judges the files, reports each in its order, and replaces them. Returns the exit status."""
-    pool = ThreadPoolExecutor(max(options.jobs, 1))
+    pool = Threads(max(options.jobs, 1))
     changed: List[str] = []
     with interruptible() as signals:
         try:
