@@ -181,10 +181,10 @@ def try_promised(tool, trials):
 
 def try_submodule(tool, trials):
     """A submodule that changed is named, and not compared."""
+    repository(tool, a_c=OLD)
     (tool.work / "inner").mkdir()
     inner = Tool(tool.library, tool.work / "inner")
     repository(inner, a_c=OLD)
-    repository(tool, a_c=OLD)
     tool.git("-c", "protocol.file.allow=always", "submodule", "--quiet", "add", "./inner", "lib")
     tool.git("commit", "-qm", "second")
     trials.expect("a submodule as it was", tool.run("--git"), (0, "", ""))
@@ -198,7 +198,11 @@ def try_submodule(tool, trials):
     trials.expect("as JSON", (status, found["file"], found["kind"], found["level"]), (1, "lib", "unjudged", "error"))
     trials.expect("other paths", tool.run("--git", "--", "a.c")[:2], (0, ""))
     trials.expect("--exclude", tool.run("--git", "--exclude", "lib")[:2], (0, ""))
-    made = Tool(tool.library, tool.work / "lib")
+    made, mark = Tool(tool.library, tool.work / "lib"), tool.work / "mark"
+    tool.put("watch", WATCHER.format(mark)).chmod(0o755)
+    made.git("config", "core.fsmonitor", str(tool.work / "watch"))
+    trials.expect("with a program that watches its files", (tool.run("--git")[:2], mark.exists()), ((0, line), False))
+    made.git("config", "--unset", "core.fsmonitor")
     made.git("commit", "-qam", "third")
     trials.expect("a submodule with another commit", tool.run("--git")[:2], (0, line))
     tool.git("add", "lib")

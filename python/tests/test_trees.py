@@ -54,26 +54,19 @@ class Asked(InFolder):
         finally:
             self.assertLess(time.monotonic() - began, SOON)
 
-    def test_a_filter_that_waits(self):
-        self.git("init", "-q")
-        self.put("a.c", "int a;\n")
-        self.git("add", ".")
-        self.git("commit", "-qm", "first")
-        self.put(".gitattributes", "*.c filter=slow\n")
-        self.put("a.c", "int b;\n")
-        self.git("config", "filter.slow.clean", "sleep 9; cat")
-        self.assertEqual(self.soon(), f"git took more than {LIMIT} seconds")
-
-    def test_an_object_that_waits(self):
+    def test_git_waits(self):
+        """As for a filter that a repository names, which runs on if git alone is ended."""
         self.git("init", "-q")
         self.put("a.c", "int a;\n")
         self.git("add", ".")
         self.git("commit", "-qm", "first")
         self.put("a.c", "int b;\n")
-        script = f'#!/bin/sh\ncase "$*" in *cat-file*) sleep 9;; *) exec {shutil.which("git")} "$@";; esac\n'
-        self.put("bin/git", script).chmod(0o755)
-        os.environ["PATH"] = f"{self.work}/bin:{os.environ['PATH']}"
-        self.assertEqual(self.soon(), f"git took more than {LIMIT} seconds")
+        real, path = shutil.which("git"), os.environ["PATH"]
+        os.environ["PATH"] = f"{self.work}/bin:{path}"
+        for command in ["rev-parse", "diff-index", "cat-file"]:
+            script = f'#!/bin/sh\ncase "$*" in *{command}*) sleep 9 & sleep 9;; *) exec {real} "$@";; esac\n'
+            self.put("bin/git", script).chmod(0o755)
+            self.assertEqual(self.soon(), f"git took more than {LIMIT} seconds", command)
 
 
 def text_of(chosen, count):

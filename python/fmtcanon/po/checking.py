@@ -148,9 +148,10 @@ class Checker:
         is_shown: bool = False,
     ) -> None:
         self.add = add
-        # Whether findings are to have excerpts of the catalog, and its lines.
+        # Whether findings are to have excerpts of the catalog, its bytes with their charset, and its lines.
         self.is_shown = is_shown
-        self.source = CatalogSource(lambda: b"")
+        self.data, self.charset = b"", ""
+        self.lines: Optional[CatalogSource] = None
         self.right: Right = set() if right is None else right
         self.models = models
         self.is_all = is_all
@@ -233,6 +234,13 @@ class Checker:
         texts = [rejected] if rejected else ()
         self.found(file, message, WARNING, Reason(UNJUDGED, text, refusal=refusal), texts, source=places)
 
+    @property
+    def source(self) -> CatalogSource:
+        """The lines of the catalog, once they are needed."""
+        if self.lines is None:
+            self.lines = CatalogSource(charset_named(self.charset).decode(self.data) if self.data else b"")
+        return self.lines
+
     def check_data(self, file: str, data: bytes) -> None:
         """Checks the catalog in a file's bytes."""
         try:
@@ -244,7 +252,7 @@ class Checker:
             self.report(file, 0, f"it can't be read: {error}")
         else:
             # A .mo file has no lines.
-            self.source = CatalogSource(lambda: charset_named(catalog.charset).decode(data) if catalog.has_flags else b"")
+            self.data, self.charset, self.lines = data if catalog.has_flags else b"", catalog.charset, None
             self.check_catalog(file, catalog, rule)
 
     def check_catalog(self, file: str, catalog: Catalog, rule: Optional[PluralRule]) -> None:

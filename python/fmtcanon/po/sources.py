@@ -2,9 +2,8 @@
 
 from __future__ import annotations
 
-import functools
 import re
-from typing import Callable, List, NamedTuple, Optional
+from typing import List, NamedTuple, Optional
 
 from ..excerpts import Excerpt, literal_excerpt
 from .tokens import ESCAPE, Scanner, Token, Unreadable
@@ -27,14 +26,10 @@ class Mark(NamedTuple):
 
 
 class CatalogSource:
-    """The lines of a .po file in UTF-8, once they are needed."""
+    """The lines of a .po file in UTF-8."""
 
-    def __init__(self, read: Callable[[], bytes]) -> None:
-        self.read = read
-
-    @functools.cached_property
-    def lines(self) -> List[bytes]:
-        return self.read().split(b"\n")
+    def __init__(self, data: bytes) -> None:
+        self.lines = data.split(b"\n")
 
     def references(self, line: int) -> List[str]:
         """Returns the places in the program, by the comments `#:`, of the message whose translation is in this line."""
