@@ -12,7 +12,6 @@ import re
 import subprocess
 import sys
 import tempfile
-import time
 from collections import Counter
 from pathlib import Path
 
@@ -43,8 +42,6 @@ OF_GLIBC = re.compile(
 )
 # With a 64-bit time_t the GNU C library keeps the old types under these names, and has members of other names.
 OLD_NAMES = re.compile(r"__(?:time|off|blkcnt|suseconds|ino|rlim|fsblkcnt|fsfilcnt)_t")
-# The seconds in which the command ends after a signal.
-SOON = 2
 HEADERS = ["stdint.h", "inttypes.h", "limits.h", "stddef.h", "time.h", "sys/types.h"]
 
 
@@ -469,103 +466,6 @@ def try_diff(tool, trials):
     trials.expect("-p nowhere", diff.run("-p", "nowhere", "old.c", "new.c")[0], 2)
 
 
-SIGN = "types differ at argument 1, counted from 1: %d takes int and %u takes unsigned int, in "
-# The same with more of what the compiler knows: how what is said begins and ends. None is nothing.
-KNOWN_HERE = [
-    ('printf("%d a", n);', 'printf("%u a", n);', SIGN, '"%d a" and "%u a"'),
-    ('printf("%x b", n);', 'printf("%lx b", m);', "types differ, and the call fits: ", '"%x b" and "%lx b"'),
-    ('printf("%d c", n);', 'printf("%lx c", m);', "types differ at argument 1, counted from 1: ", '"%lx c"'),
-    ('printf("%u d", u);', 'printf("%d d", n);', "types differ, and the call fits: ", '"%u d" and "%d d"'),
-    ("#ifdef NEVER\n", "#ifdef NEVER\n", None, None),
-    ('printf("%d e", n);', 'printf("%u e", u);', SIGN, "; the call isn't compiled here"),
-    ("#endif\n", "#endif\n", None, None),
-    ('other("%d f", n);', 'other("%u f", u);', SIGN, "; no call of a known function has it as its format"),
-    ('printf(PREFIX "%d", n);', 'printf(PREFIX "%ld", m);', "types differ, and the call fits: ", "; with PREFIX as it is compiled here"),
-    ('printf("long %" LONG "d", m);', 'printf("long %ld", m);', "same: ", "; with LONG as it is compiled here"),
-    ('printf("%" NUMBER, n);', 'printf("%" NUMBER "!", n);', "not judged: the macro NUMBER is part of it", ""),
-    ('other("CPU% ");', 'other("MEM% ");', None, None),
-    ("", 'printf("%lu g", strlen(s));', "%lu takes unsigned long, and the argument is size_t: ", "; write %zu"),
-    ("", 'printf("%zu h %d", strlen(s));', "%d takes int, and the argument is missing", ""),
-    ("", 'printf("%zu i", strlen(s));', None, None),
-    ("", 'other("%lu j", strlen(s));', None, None),
-]
-MACROS = '#define PREFIX "prefix: "\n#define LONG "l"\n#define NUMBER number()\n#define number() "d"\n'
-
-
-def try_known_here(tool, trials):
-    """With -p, a sign isn't another unseen, added formats are judged in their calls, and macros are the compiler's."""
-    front = f'{SAYS}#include "macros.h"\nint other(const char *, ...);\n'
-    front += "void f(const char *s, int n, unsigned u, long m) {\n"
-    for name, side in [("old.c", 0), ("new.c", 1)]:
-        tool.put(name, front + "".join(f"{it[side]}\n" for it in KNOWN_HERE) + "}\n")
-    tool.put("macros.h", MACROS)
-    tool.put_commands(["gcc", "-c", "new.c"])
-    diff = Tool(tool.folder, tool.work, tool.python, "diff")
-    status, output, fault = diff.run("-p", ".", "--verbose", "old.c", "new.c")
-    said = [it.split(": ", 1)[1] for it in output.splitlines()]
-    wanted = [it[2:] for it in KNOWN_HERE if it[2] is not None]
-    trials.expect(f"how much is said: {output} {fault}", (status, len(said)), (1, len(wanted)))
-    for line, (begin, end) in zip(said, wanted):
-        trials.expect(f"{begin}: {line}", (line.startswith(begin), line.endswith(end)), (True, True))
-    trials.expect("the counts", "; 4 literals added, with 3 of 4 formats judged in their calls, 0 removed" in fault, True)
-    options = ["--not-printf", "other", "--not-printf", "printf"]
-    trials.expect("no printf", diff.run("-p", ".", "--verbose", *options, "old.c", "new.c")[1], "")
-    status, output, _ = diff.run("-p", ".", "--fail-on", "different", "--output", "json", "old.c", "new.c")
-    levels = {(it["kind"], it["level"]) for it in map(json.loads, output.splitlines())}
-    trials.expect("levels", (status, {("size", "warning"), ("kind", "warning")} <= levels), (0, True))
-    status, output, _ = diff.run("-p", ".", "--model", "lp64", "old.c", "new.c")
-    trials.expect("in one data model", ("%lu g" in output, "argument is missing" in output), (False, True))
-    # A file without a command, one that can't be preprocessed, and a new one.
-    tool.put("old/a.c", 'void f(int n) { printf("%d", n); }')
-    tool.put("new/a.c", 'void f(int n) { printf("%ld", n); }')
-    tool.put("new/b.c", f'{SAYS}void g(void) {{ printf("%d", 1.0); }}\n')
-    for words, why in [
-        ([["gcc", "-c", "new.c"]], "compile_commands.json has no command for it"),
-        ([["gcc", "-c", "-include", "nothing.h", "new/a.c"]], "its compiler can't preprocess it: "),
-        ([["gcc", "-c", "new/b.c"]], "compile_commands.json has no command for it"),
-    ]:
-        tool.put_commands(*words)
-        status, output, _ = diff.run("-p", ".", "old", "new")
-        trials.expect(f"{why}: {output}", (status, f"; the call isn't judged: {why}" in output), (1, True))
-    trials.expect("a new file", "new/b.c:5:24: %d takes int, and the argument is double: " in output, True)
-
-
-def try_signals(tool, trials):
-    """A signal, or two, ends the command with its processes and the compilers, and leaves no copy."""
-    for number in range(40):
-        tool.put(f"{number}.c", f'{SAYS}void f(size_t n) {{ printf("%lu", n); }}\n')
-    tool.put_commands(*(["gcc", "-c", f"{number}.c"] for number in range(40)))
-    names = {it.name for it in tool.work.iterdir()}
-    for signals in [[(2, False)], [(2, True)], [(15, False)], [(15, True)], [(1, False)], [(2, True)] * 2, [(2, False), (2, True)]]:
-        words = [tool.python, "-m", "fmtcanon.checker", "-p", ".", "-j2"]
-        running = subprocess.Popen(
-            words, cwd=tool.work, env=tool.environment, stdout=subprocess.DEVNULL, stderr=subprocess.PIPE, start_new_session=True
-        )
-        children = Path(f"/proc/{running.pid}/task/{running.pid}/children")
-        while running.poll() is None and len(children.read_text().split()) < 2:
-            time.sleep(0.01)
-        time.sleep(0.3)
-        there = children.read_text().split()
-        for number, is_of_group in signals:
-            (os.killpg if is_of_group else os.kill)(running.pid, number)
-            time.sleep(0.1)
-        began = time.monotonic()
-        errors = running.communicate(timeout=TIMEOUT)[1]
-        while time.monotonic() < began + SOON and any(map(runs, there)):
-            time.sleep(0.01)
-        left = {it.name for it in tool.work.iterdir()} - names
-        found = (running.returncode, len(there), any(map(runs, there)), errors, left, time.monotonic() - began < SOON)
-        trials.expect(f"signals {signals}", found, (128 + signals[0][0], 2, False, b"", set(), True))
-
-
-def runs(process):
-    """Whether a process is there, and hasn't ended."""
-    try:
-        return Path(f"/proc/{process}/stat").read_bytes().rpartition(b")")[2].split()[0] != b"Z"
-    except (FileNotFoundError, ProcessLookupError):
-        return False
-
-
 def try_examples(tool, trials):
     """The examples of the page and of the manual page print what these show."""
     script = f"fmtcanon-check() {{ '{tool.python}' -m fmtcanon.checker \"$@\"; }}\n"
@@ -594,5 +494,4 @@ def try_checking(folder, python, tools, trials):
                 part(Tool(folder, os.path.realpath(work), python), trials)
 
 
-PARTS = [try_tables, try_compilers, try_calls, try_files, try_outputs, try_fix, try_not_fixed, try_visitor, try_diff]
-PARTS += [try_known_here, try_signals, try_examples]
+PARTS = [try_tables, try_compilers, try_calls, try_files, try_outputs, try_fix, try_not_fixed, try_visitor, try_diff, try_examples]

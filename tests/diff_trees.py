@@ -171,10 +171,10 @@ def try_promised(tool, trials):
         found = (status, output, fault.endswith("; 2 literals added, 0 removed\n"), mark.exists())
         trials.expect(f"a missing object of a folder, {url}", found, (0, "", True, False))
         status, output, fault = made.run("--git")
-        trials.expect(f"a missing object of a repository, {url}: {fault}", (status, output, mark.exists()), (2, "", False))
-        subprocess.run(
-            ["git", "cat-file", "-e", f"{'1' * 40}"], cwd=made.work, env=made.environment, check=False, stderr=subprocess.DEVNULL
-        )
+        found = (status, output, mark.exists())
+        trials.expect(f"a missing object of a repository, {url}: {fault}", found, (2, "", False))
+        words = ["git", "cat-file", "-e", "1" * 40]
+        subprocess.run(words, cwd=made.work, env=made.environment, check=False, stderr=subprocess.DEVNULL)
         trials.expect(f"git runs it otherwise, {url}", mark.exists(), True)
         mark.unlink()
 

@@ -24,6 +24,7 @@ from catalog_edges import try_msgfmt_edges  # noqa: E402
 from catalog_plurals import try_counts, try_plurals  # noqa: E402
 from catalog_reading import try_speed  # noqa: E402
 from checking import try_checking  # noqa: E402
+from checking_changes import try_changes  # noqa: E402
 from diffing import try_pairs, try_times  # noqa: E402
 from fewer_peers import try_fmtcheck  # noqa: E402
 from harness import SONAME, main  # noqa: E402
@@ -181,6 +182,7 @@ def try_libclang(folder, tools, trials):
         try_screens(folder, python, trials)
         try_programs(folder, python, trials)
         try_checking(folder, python, tools, trials)
+        try_changes(folder, python, trials)
 
 
 def try_shells(tools, trials):

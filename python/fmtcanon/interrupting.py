@@ -7,7 +7,7 @@ from types import FrameType
 from typing import Callable, Iterator, List, NoReturn, Optional
 
 NUMBERS = (signal.SIGINT, signal.SIGTERM, signal.SIGHUP)
-# How often a wait is interrupted, in seconds: a signal that comes just before one, or to another thread, doesn't end it.
+# How often a wait ends, in seconds, to see a signal that came just before it, or to another thread.
 LOOK = 0.2
 # What is done before a process ends early, whatever its main thread does meanwhile.
 CLEANING: List[Callable[[], None]] = []

@@ -103,8 +103,8 @@ class Ends(unittest.TestCase):
     """A signal ends a command and all of its processes, whatever they do."""
 
     def ends_by(self, words, expected, *signals, each=1):
-        """Runs a command until its two processes work, sends it signals, and tries how it ends. A signal is a number, and
-        whether the group of the command gets it.
+        """Runs a command until its two processes work, sends it signals, and tries how it ends. A signal is a number,
+        whether the group of the command gets it, and the seconds after it.
         """
         running = subprocess.Popen(
             words,

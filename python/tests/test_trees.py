@@ -1,4 +1,4 @@
-"""Tests of how fmtcanon-diff asks git, and of files that have another name: python3 -m unittest, in the folder above."""
+"""Tests of how fmtcanon-diff asks git, and of files that were renamed: python3 -m unittest, in the folder above."""
 
 import os
 import random

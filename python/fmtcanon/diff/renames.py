@@ -23,7 +23,7 @@ class Rename(NamedTuple):
 
 
 def renamed(old: Mapping[str, bytes], new: Mapping[str, bytes]) -> Dict[str, str]:
-    """Returns the old names of new files that are the same or alike, by the new ones. Each old file has one new name."""
+    """Returns the old names of files that are equal or alike, by the new ones. Each old name is that of one file."""
     found: Dict[str, str] = {}
     taken: Set[str] = set()
     for find in (equal, similar):
