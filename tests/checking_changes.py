@@ -1,5 +1,5 @@
-"""Tries fmtcanon-diff with compile commands: signs, added formats, and macros that the compiler knows; and how signals end
-fmtcanon-check.
+"""Tries fmtcanon-diff with compile commands: signs, added formats, and macros that the compiler knows; and how signals
+end fmtcanon-check.
 
 It needs libclang and gcc, so `tests/outside_tools.py` runs it.
 """
@@ -28,7 +28,12 @@ KNOWN_HERE = [
     ('printf("%d e", n);', 'printf("%u e", u);', SIGN, "; the call isn't compiled here"),
     ("#endif\n", "#endif\n", None, None),
     ('other("%d f", n);', 'other("%u f", u);', SIGN, "; no call of a known function has it as its format"),
-    ('printf(PREFIX "%d", n);', 'printf(PREFIX "%ld", m);', "types differ, and the call fits: ", "; with PREFIX as it is compiled here"),
+    (
+        'printf(PREFIX "%d", n);',
+        'printf(PREFIX "%ld", m);',
+        "types differ, and the call fits: ",
+        "; with PREFIX as it is compiled here",
+    ),
     ('printf("long %" LONG "d", m);', 'printf("long %ld", m);', "same: ", "; with LONG as it is compiled here"),
     ('printf("%" NUMBER, n);', 'printf("%" NUMBER "!", n);', "not judged: the macro NUMBER is part of it", ""),
     ('other("CPU% ");', 'other("MEM% ");', None, None),
@@ -55,7 +60,9 @@ def try_known_here(tool, trials):
     trials.expect(f"how much is said: {output} {fault}", (status, len(said)), (1, len(wanted)))
     for line, (begin, end) in zip(said, wanted):
         trials.expect(f"{begin}: {line}", (line.startswith(begin), line.endswith(end)), (True, True))
-    trials.expect("the counts", "; 4 literals added, with 3 of 4 formats judged in their calls, 0 removed" in fault, True)
+    trials.expect(
+        "the counts", "; 4 literals added, with 3 of 4 formats judged in their calls, 0 removed" in fault, True
+    )
     options = ["--not-printf", "other", "--not-printf", "printf"]
     trials.expect("no printf", diff.run("-p", ".", "--verbose", *options, "old.c", "new.c")[1], "")
     status, output, _ = diff.run("-p", ".", "--fail-on", "different", "--output", "json", "old.c", "new.c")
@@ -81,7 +88,11 @@ def try_known_here(tool, trials):
 # Signals that come one after the other, and whether the group of the command gets each.
 INTERRUPT, INTERRUPT_ALL = (signal.SIGINT, False), (signal.SIGINT, True)
 SIGNALS = [
-    *([(number, is_of_group)] for number in [signal.SIGINT, signal.SIGTERM, signal.SIGHUP] for is_of_group in [False, True]),
+    *(
+        [(number, is_of_group)]
+        for number in [signal.SIGINT, signal.SIGTERM, signal.SIGHUP]
+        for is_of_group in [False, True]
+    ),
     [INTERRUPT_ALL, INTERRUPT_ALL],
     [INTERRUPT, INTERRUPT_ALL],
 ]

@@ -48,7 +48,7 @@ class Worker(NamedTuple):
 
 
 def in_order(work: Callable[[_Item], _Result], items: Iterable[_Item], jobs: int, few: int = FEW) -> Iterator[_Result]:
-    """Yields what the work returns for each item, in order. Several processes share the work if there are `few` items."""
+    """Yields what the work returns for each item, in order. Several processes share it if there are `few` items."""
     given = iter(items)
     first = list(itertools.islice(given, few))
     if len(first) < few or jobs < 2:

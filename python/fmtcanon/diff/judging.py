@@ -65,8 +65,8 @@ class Judged(NamedTuple):
 
 
 def may_be_format(place: Place, others: AbstractSet[bytes] = frozenset()) -> bool:
-    """Returns whether nothing says that a place isn't a format: it isn't an argument of a function that takes none, also
-    not of those that are given, and of printf it is the argument that is one.
+    """Returns whether nothing says that a place isn't a format: it isn't an argument of a function that takes none, or
+    of those that are given, and of printf it is the argument that is one.
     """
     name = place.call.function
     known = KNOWN.get(printable(name)) if OF_STDIO.search(name) else None

@@ -24,8 +24,8 @@ ARGUMENT = re.compile(rb"[A-Za-z_]")
 TELLING = re.compile(rb"[A-Za-z]{3}")
 # How many comparisons difflib may make of two sequences, how many pairs of places are tried, and the longest texts.
 MANY, MANY_PAIRS, LONG_TEXT = 250_000, 4_000, 4_000
-# How much longer than a back that two texts share the part before it is, if looking for the back takes more than reading
-# it.
+# How much longer than a back that two texts share the part before it is if looking for the back takes more than
+# reading it.
 WORTH = 4
 # How alike two texts must be: less if what follows them is equal.
 ALIKE, ALIKE_IN_PLACE = 0.6, 0.4

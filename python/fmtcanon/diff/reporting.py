@@ -104,8 +104,8 @@ class Judge:
                 yield finding
 
     def defined(self, pair: Pair) -> Sequence[bytes]:
-        """Gives a pair of places the macros that only the compiler knows, with their text in LP64. Returns the names, if it
-        knows all.
+        """Gives a pair of places the macros that only the compiler knows, with their text in LP64, if it knows all.
+        Returns their names.
         """
         names = sorted(pair[0].unknown_names() | pair[1].unknown_names())
         if not names or not self.question.fitting or Model.LP64 not in self.question.models:

@@ -276,7 +276,7 @@ class Checker:
             self.add(Finding(file, line, column, CHARSET, ERROR, text))
 
     def check_forms(self, file: str, message: Message, rule: Optional[PluralRule]) -> None:
-        """Reports a translation of more or fewer forms than the header says. Warns of a message with some forms empty: if
+        """Reports a translation of more or fewer forms than the header says, and warns of one with some forms empty: if
         the first one is, no form is ever shown.
         """
         count = rule.count if rule and message.plural is not None and message.is_translated else None
