@@ -1,7 +1,7 @@
 """Finds where the directives of a unit are in its source, by a marker that is put before each string literal."""
 
 import re
-from typing import Dict, List, NamedTuple, Optional, Sequence, Set, Tuple
+from typing import AbstractSet, Dict, List, NamedTuple, Optional, Sequence, Tuple
 
 from .. import BadLiteral, decode_literal, source_offset
 from ..compiling.left import Left
@@ -36,7 +36,7 @@ class Located(NamedTuple):
 
     file: Original
     formats: Dict[Tuple[Key, int], Tuple[bytes, List[Piece]]]
-    compiled: Set[int]
+    compiled: AbstractSet[int] = frozenset()
 
     def offset_of(self, fault: Fault, index: int) -> Optional[int]:
         """Returns where the byte of this index of a fault's format is in the source, or None."""
