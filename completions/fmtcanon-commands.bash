@@ -16,7 +16,7 @@ _fmtcanon_commands() {
     COMPREPLY=()
     case ${1##*/} in
         fmtcanon-check) options+=' -p --flag --function --type --rank --sign --composed --attribute --fix --diff -j --jobs' ;;
-        fmtcanon-diff) options+=' -p --git --cached --exclude --verbose --fail-on -j --jobs' ;;
+        fmtcanon-diff) options+=' -p --git --cached --exclude --not-printf --verbose --fail-on -j --jobs' ;;
         fmtcanon-explain) options+=' --literal --kind' ;;
         fmtcanon-po) options+=' --c-format --strict -j --jobs' ;;
         fmtcanon-replace)

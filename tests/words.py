@@ -73,7 +73,7 @@ LIMITS = {
     "docs/EXPLAINING.md": 420,
     # With the figures of real sources and of compilers.
     "docs/PORTING.md": 1400,
-    "docs/REFACTORING.md": 1400,
+    "docs/REFACTORING.md": 1450,
     # With a part for each kind, the table of flags, and the grammar.
     "docs/REFUSALS.md": 2000,
     # With an example of each error.
@@ -92,7 +92,7 @@ LIMITS = {
     # With what rt prints for an open goal, and what is inlined.
     "docs/CONTRIBUTING.md": 1350,
     "SECURITY.md": 150,
-    "CHANGELOG.md": 1200,
+    "CHANGELOG.md": 1400,
     CALLING: 9200,
 }
 MARGIN = 10

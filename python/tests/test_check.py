@@ -403,15 +403,6 @@ class Reporting(unittest.TestCase):
 class Changes(unittest.TestCase):
     def test_fitting(self):
         found = Finding("a.c", 3, 10, "types", "error", "wrong", (3, 20), ("%d", "%zu"))
-        for places, does in [
-            ({}, False),
-            ({(3, 10): True}, True),
-            ({(3, 10): False}, False),
-            ({(3, 12): True, (3, 18): True}, True),
-            ({(3, 12): True, (3, 18): False}, False),
-            ({(3, 9): True, (3, 20): True, (4, 11): True}, False),
-        ]:
-            self.assertEqual(fitting.fits(found, places), does, places)
         note = fitting.as_note(found)
         self.assertEqual((note.level, note.message), ("note", 'types differ, and the call fits: "%d" and "%zu"'))
 

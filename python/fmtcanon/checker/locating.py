@@ -1,7 +1,7 @@
 """Finds where the directives of a unit are in its source, by a marker that is put before each string literal."""
 
 import re
-from typing import Dict, List, NamedTuple, Optional, Sequence, Tuple
+from typing import AbstractSet, Dict, List, NamedTuple, Optional, Sequence, Tuple
 
 from .. import BadLiteral, decode_literal, source_offset
 from ..compiling.left import Left
@@ -32,10 +32,13 @@ class Piece(NamedTuple):
 
 
 class Located(NamedTuple):
-    """The source of a unit, and of each format the text and the pieces that are in the source."""
+    """The source of a unit, of each format the text and the pieces that are in the source, and where the places start
+    that are compiled.
+    """
 
     file: Original
     formats: Dict[Tuple[Key, int], Tuple[bytes, List[Piece]]]
+    compiled: AbstractSet[int] = frozenset()
 
     def offset_of(self, fault: Fault, index: int) -> Optional[int]:
         """Returns where the byte of this index of a fault's format is in the source, or None."""
@@ -70,17 +73,19 @@ def located(unit: Unit) -> Optional[Located]:
         marker = Marker()
         with StandIn(file.path) as stand_in:
             stand_in.write(with_markers(file.source, places, marker))
-            calls = unit.marked(stand_in)
+            text = unit.text(stand_in)
+        calls = unit.marked(text)
     except (Left, OSError):
         return None
     pattern = re.compile(f"fmtcanon_{marker.tag}_(\\d+)_".encode())
+    compiled = {places[int(it)].start for it in pattern.findall(text.encode())}
     found = {}
     for key, call in calls.items():
         for number, format in enumerate(call.formats):
             one = unmarked(format, pattern, places)
             if one:
                 found[key, number] = one
-    return Located(file, found)
+    return Located(file, found, compiled)
 
 
 def with_markers(source: bytes, places: Sequence[Place], marker: Marker) -> bytes:

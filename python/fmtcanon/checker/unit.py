@@ -57,6 +57,6 @@ class Unit:
         own = {name: platform.types.get(type, type) for name, type in self.settings.types.items()}
         return Calls(self.command, retargeted(text, platform, own).encode(), platform, self.settings.functions)
 
-    def marked(self, stand_in: StandIn) -> Dict[Key, Call]:
-        """Returns the calls of a stand-in of the file, as it is compiled."""
-        return self.parsed(self.text(stand_in), COMPILED).found
+    def marked(self, text: str) -> Dict[Key, Call]:
+        """Returns the calls in the text of a stand-in of the file, as it is compiled."""
+        return self.parsed(text, COMPILED).found
