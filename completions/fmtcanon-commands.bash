@@ -15,8 +15,8 @@ _fmtcanon_commands() {
     local word=${COMP_WORDS[COMP_CWORD]} before=${COMP_WORDS[COMP_CWORD - 1]} options='-h --help --version --model --output --color' at
     COMPREPLY=()
     case ${1##*/} in
-        fmtcanon-check) options+=' -p --flag --function --type --rank --sign --composed --fix --diff -j --jobs' ;;
-        fmtcanon-diff) options+=' -p --git --cached --exclude --verbose --fail-on -j --jobs' ;;
+        fmtcanon-check) options+=' -p --flag --function --type --rank --sign --composed --attribute --fix --diff -j --jobs' ;;
+        fmtcanon-diff) options+=' -p --git --cached --exclude --not-printf --verbose --fail-on -j --jobs' ;;
         fmtcanon-explain) options+=' --literal --kind' ;;
         fmtcanon-po) options+=' --c-format --strict -j --jobs' ;;
         fmtcanon-replace)

@@ -383,8 +383,9 @@ __attribute__((__format_arg__(2)))
 #endif
 static inline const char *fmtcanon_fmtcheck(const char *suspect, const char *fallback)
 {
-    if (suspect != NULL
-        && fmtcanon_fits_fewer(FMTCANON_NATIVE, fallback, strlen(fallback), suspect, strlen(suspect), NULL) == 1)
+    fmtcanon_error error;
+    if (suspect
+        && fmtcanon_fits_fewer(FMTCANON_NATIVE, fallback, strlen(fallback), suspect, strlen(suspect), &error) == 1)
         return suspect;
     return fallback;
 }

@@ -4,7 +4,10 @@
 """
 
 import io
+import itertools
+import os
 import random
+import subprocess
 import tempfile
 from pathlib import Path
 
@@ -41,14 +44,38 @@ def span(generator):
     return generator.choice(["", f" range: {first}..{first + generator.randrange(count)}"])
 
 
-def catalog(generator, count, rule):
-    parts = [HEADER % (count, rule)]
-    for number in range(MESSAGES):
+def catalog(generator, count, rule, said=None, messages=MESSAGES):
+    """A catalog whose messages have `count` forms; its header says that there are another number, if that is given."""
+    parts = [HEADER % (count if said is None else said, rule)]
+    for number in range(messages):
         text = generator.choice(TEXTS)
         forms = [generator.choice([text, text, generator.choice(TEXTS)]) for _ in range(count)]
         parts.append(f'#, c-format,{span(generator)}\nmsgid "{number} {text}"\nmsgid_plural "{number} {text}"\n')
         parts += [f'msgstr[{form}] "{one}"\n' for form, one in enumerate(forms)] + ["\n"]
     return "".join(parts)
+
+
+def try_counts(module, trials):
+    """Both find that there are more or fewer forms than the header says."""
+    from fmtcanon.po.checking import PLURALS, Checker
+
+    generator, seen = random.Random(SEED), set()
+    for said, count, first in itertools.product(range(1, 5), range(1, 5), ["", "#, fuzzy\n"]):
+        text = catalog(generator, count, f"n%{said}", said, 2).replace("#, c-format", first + "#, c-format", 1)
+        text = text.replace("#, c-format", "#, no-c-format")
+        # A form after the others, and a message that isn't translated.
+        text += 'msgid "a"\nmsgid_plural "b"\nmsgstr[0] ""\n'
+        found = []
+        Checker(found.append, list(module.Model)).check_data("a.po", text.encode())
+        with tempfile.TemporaryDirectory() as work:
+            file = Path(work) / "a.po"
+            file.write_text(text)
+            words = ["msgfmt", "-c", "-o", "/dev/null", str(file)]
+            theirs = subprocess.run(words, capture_output=True, check=False, env={**os.environ, "LC_ALL": "C"}).stderr
+        is_theirs = b"...but some messages have" in theirs
+        trials.expect(f"{count} forms of {said} {first}", any(it.kind == PLURALS for it in found), is_theirs)
+        seen.add(is_theirs)
+    trials.expect("catalogs with and without the fault", seen, {False, True})
 
 
 def try_plurals(module, trials):

@@ -16,6 +16,8 @@ from collections import Counter
 from pathlib import Path
 
 from harness import NO_PROGRAM, PACKAGES, SONAME, TIMEOUT, TOP, examples, page_examples
+from typed_calls import try_typed_calls
+from typed_headers import try_typed_headers
 
 SOURCE = TOP / "tests/platforms/expressions.c"
 LARGE = ["-D_TIME_BITS=64", "-D_FILE_OFFSET_BITS=64"]
@@ -38,11 +40,13 @@ MESSAGE = re.compile(r"expects (?:argument of type|a matching)")
 FUNCTIONS = {"printf": (1, 2), "fprintf": (2, 3), "sprintf": (2, 3)}
 # Typedefs that the C library of a platform hasn't, or which are others there.
 OF_GLIBC = re.compile(
-    r"__.*|.*(?:off|loff|blkcnt|suseconds|ino|dev|nlink|rlim|fsblkcnt|fsfilcnt)(?:64)?_t|u?int_fast16_t"
+    r"__.*|.*(?:off|loff|blkcnt|suseconds|ino|dev|nlink|rlim|fsblkcnt|fsfilcnt)(?:64)?_t|(?:elf_)?greg_t"
 )
-# With a 64-bit time_t the GNU C library keeps the old types under these names, and has members of other names.
-OLD_NAMES = re.compile(r"__(?:time|off|blkcnt|suseconds|ino|rlim|fsblkcnt|fsfilcnt)_t")
-HEADERS = ["stdint.h", "inttypes.h", "limits.h", "stddef.h", "time.h", "sys/types.h"]
+# Typedefs that aren't of numbers or pointers, and one that another header defines as a macro.
+NO_NUMBERS = re.compile(r"__jmp_buf|fpos_t|__size_t")
+HEADERS = ["stdint.h", "inttypes.h", "limits.h", "stddef.h", "time.h", "wctype.h", "wchar.h", "sys/types.h"]
+OF_WINDOWS = ["dirent.h", "sys/time.h"]
+OF_LINUX = ["sys/resource.h", "sys/procfs.h", "sys/ucontext.h", "sys/vfs.h", "linux/types.h"]
 
 
 class Tool:
@@ -105,7 +109,7 @@ def windows_text(tool, name):
         "import sys; from fmtcanon.checker.platforms import PLATFORMS; from fmtcanon.checker.retargeting import *; "
         "import subprocess; words = ['gcc', '-D_GNU_SOURCE', *write_headers(sys.argv[2]), '-E', sys.argv[1]]; "
         "text = subprocess.run(words, capture_output=True, text=True).stdout; "
-        "sys.stdout.write(retargeted(text, PLATFORMS[3]))"
+        "sys.stdout.write(retargeted(text, PLATFORMS[3], {}))"
     )
     words = [tool.python, "-c", script, name, tool.work / "headers"]
     text = subprocess.run(
@@ -165,36 +169,38 @@ def generic(name, type, value=""):
 def facts(tool, platform):
     """A program that states the table of a platform, of what its C library has."""
     script = (
-        "import json, sys; from fmtcanon.checker.platforms import PLATFORMS, OF_FILES; "
-        "print(json.dumps([[it.types, it.modifiers, it.constants] for it in PLATFORMS] + [OF_FILES]))"
+        "import json, sys; from fmtcanon.checker.platforms import PLATFORMS; "
+        "print(json.dumps([[it.types, it.modifiers, it.constants, it.members] for it in PLATFORMS]))"
     )
     found = subprocess.run(
         [tool.python, "-c", script], env=tool.environment, capture_output=True, check=True, timeout=TIMEOUT
     ).stdout
-    *tables, large = json.loads(found)
-    types, modifiers, constants = tables[list(COMPILERS).index(platform)]
-    types = {**types, **(large if platform.endswith("time_t") else {})}
+    types, modifiers, constants, structs = json.loads(found)[list(COMPILERS).index(platform)]
     is_windows = platform == "LLP64"
-    lines = [f"#include <{it}>\n" for it in HEADERS + ([] if is_windows else ["sys/resource.h"])]
+    lines = [f"#include <{it}>\n" for it in HEADERS + (OF_WINDOWS if is_windows else OF_LINUX)]
     count = 0
-    others = OF_GLIBC if is_windows else OLD_NAMES if platform.endswith("time_t") else re.compile("")
+    # Those of Linux are tried by tests/typed_headers.py.
+    for struct, members in structs.items() if is_windows else ():
+        whole = struct if struct.endswith("_t") else f"struct {struct}"
+        for name, type in members.items():
+            count, lines = count + 1, [*lines, generic(f"(({whole} *)0)->{name}", type)]
+    others = OF_GLIBC if is_windows else NO_NUMBERS
     for name, type in types.items():
         if not others.fullmatch(name):
             count, lines = count + 1, [*lines, generic(f"({name})0", type)]
     for name, value in constants.items():
         if name.endswith("_C"):
             text = generic(f"{name}(5)", generic_type(value), f"5{value}")
-        elif not (is_windows and name.startswith(("INT_FAST16", "UINT_FAST16", "SSIZE"))):
-            text = generic(name, generic_type(re.sub(r"^-?\d+| - 1$", "", value)), value)
+        elif not (is_windows and name.startswith("SSIZE")):
+            text = generic(f"+{name}", generic_type(re.sub(r"^-?\d+| - 1$", "", value)), value)
             text = f"#ifdef {name}\n{text}#endif\n"
         else:
             continue
         count, lines = count + 1, [*lines, text]
     for end, modifier in modifiers.items():
         for letter in "diouxX":
-            if not (is_windows and end == "FAST16"):
-                name, count = f"PRI{letter}{end}", count + 1
-                lines.append(f'const char *of_{name} = "<{name}=" {name} ">{modifier}{letter}";\n')
+            name, count = f"PRI{letter}{end}", count + 1
+            lines.append(f'const char *of_{name} = "<{name}=" {name} ">{modifier}{letter}";\n')
     return "".join(lines), count
 
 
@@ -240,13 +246,22 @@ CALLS = [
     ('void f(uint64_t n) { printf("%" PRIu64 " %lu", n, n); }', [], [(5, 42, "size", "PRIu64")]),
     ('void f(time_t n) { printf("%ld", n); }', [], [(5, 28, "size", "%jd with a cast to intmax_t")]),
     ('void f(size_t n) { printf("%*d", n, 1); }', [], [(5, 29, "size", "a cast to int")]),
+    ('typedef __SIZE_TYPE__ mine;\nvoid f(mine n) { printf("%lu", n); }', [], [(6, 26, "size", "%zu")]),
+    ('void f(void) { printf("%ld", (__PTRDIFF_TYPE__)1); }', [], [(5, 24, "size", "%td")]),
+    ('void f(void) { printf("%zu %jd", (__SIZE_TYPE__)1, imaxdiv(1, 2).quot); }', [], []),
+    ('void f(const char a[], char b[2], int n[3]) { printf("%s %s %p", a, b, n); }', [], []),
+    ('void f(char *a, unsigned char *b) { printf("%hhn%hhn", a, b); }', [], []),
+    ('void f(void) { printf("%d", UINT64_C(1024 * 2) > 5); }', [], []),
+    ('void f(_Float64 n) { printf("%f", n); }', [], [(5, 30, "kind", None)]),
+    ('void f(__int128 n) { printf("%lld", n); }', [], [(5, 30, "kind", None)]),
+    ('typedef unsigned char dev_t; typedef int fpos64_t;\nvoid f(dev_t n) { printf("%d", n); }', [], []),
     ('void f(size_t n) { printf("%d"); }', [], [(5, 28, "kind", None)]),
     ('void f(size_t n) { printf("%s", n); }', [], [(5, 28, "kind", None)]),
     ('void f(size_t n) { printf("%lu", n); }', ["--model", "lp64"], []),
     ('void f(size_t n) { printf("%lu", n); }', ["--model", "ilp32"], []),
     ('void f(size_t n) { printf("%lu", n); }', ["--model", "ilp32", "--rank"], [(5, 28, "rank", "%zu")]),
     ('void f(int n) { printf("%u", n); }', [], []),
-    ('void f(int n) { printf("%u", n); }', ["--sign"], [(5, 25, "sign", "%u")]),
+    ('void f(int n) { printf("%u", n); }', ["--sign"], [(5, 25, "sign", "%d")]),
     ('#define F "l" "u"\nvoid f(size_t n) { printf("%" F, n); }', [], []),
     ('#define F "l" "u"\nvoid f(size_t n) { printf("%" F, n); }', ["--composed"], [(6, 28, "composed", "%zu")]),
     ('void failf(void *p, const char *f, ...);\nvoid f(size_t n) { failf(0, "%lu", n); }', [], []),
@@ -274,7 +289,6 @@ CALLS = [
     ),
     ('void f(long a[sizeof(long) == 8 ? 1 : -1]) { printf("%ld", a[0]); }', [], [(5, None, "lost", None)]),
     ('void f(int n) { printf("%y", n); }', [], [(5, None, "unjudged", None)]),
-    ('void f(size_t n) { printf(_Generic(n, default: "%lu"), n); }', [], []),
 ]
 
 
@@ -466,6 +480,13 @@ def try_diff(tool, trials):
     trials.expect("-p nowhere", diff.run("-p", "nowhere", "old.c", "new.c")[0], 2)
 
 
+def try_types(tool, trials):
+    """The types of arguments are those that the compilers see, in all sorts of expressions and in all headers."""
+    compilers, jobs = {platform: words for platform, (words, _) in COMPILERS.items()}, min(4, os.cpu_count() or 1)
+    try_typed_calls(tool, compilers, trials, jobs)
+    try_typed_headers(tool, compilers, trials, jobs)
+
+
 def try_examples(tool, trials):
     """The examples of the page and of the manual page print what these show."""
     script = f"fmtcanon-check() {{ '{tool.python}' -m fmtcanon.checker \"$@\"; }}\n"
@@ -494,4 +515,4 @@ def try_checking(folder, python, tools, trials):
                 part(Tool(folder, os.path.realpath(work), python), trials)
 
 
-PARTS = [try_tables, try_compilers, try_calls, try_files, try_outputs, try_fix, try_not_fixed, try_visitor, try_diff, try_examples]
+PARTS = [try_tables, try_compilers, try_calls, try_files, try_outputs, try_fix, try_not_fixed, try_visitor, try_diff, try_types, try_examples]

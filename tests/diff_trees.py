@@ -141,6 +141,91 @@ def try_configuration(tool, trials):
     trials.expect("git runs it otherwise", mark.exists(), True)
 
 
+def try_promised(tool, trials):
+    """An object that is missing isn't fetched: for that git would run what the repository names."""
+    (tool.work / "new").mkdir()
+    made = Tool(tool.library, tool.work / "new")
+    repository(made, a_c=OLD, b_c=OLD)
+    made.put(".gitignore", "*.o\n")
+    made.git("add", ".")
+    made.git("commit", "-qm", "second")
+    made.git("update-index", "--skip-worktree", ".gitignore")
+    (made.work / ".gitignore").unlink()
+    for folder in (made.work / ".git/objects").glob("??"):
+        shutil.rmtree(folder)
+    mark = tool.work / "mark"
+    for name, value in [
+        ("core.repositoryformatversion", "1"),
+        ("extensions.partialClone", "o"),
+        ("remote.o.promisor", "true"),
+        ("remote.o.url", "ssh://x/y"),
+        ("core.sshCommand", f"touch {mark}; false"),
+        ("protocol.ext.allow", "always"),
+    ]:
+        made.git("config", name, value)
+    made.put("c.c", OLD)
+    tool.put("old/c.c", OLD)
+    for url in ["ssh://x/y", f"ext::touch {mark}"]:
+        made.git("config", "remote.o.url", url)
+        status, output, fault = tool.run("old", "new")
+        found = (status, output, fault.endswith("; 2 literals added, 0 removed\n"), mark.exists())
+        trials.expect(f"a missing object of a folder, {url}", found, (0, "", True, False))
+        status, output, fault = made.run("--git")
+        found = (status, output, mark.exists())
+        trials.expect(f"a missing object of a repository, {url}: {fault}", found, (2, "", False))
+        words = ["git", "cat-file", "-e", "1" * 40]
+        subprocess.run(words, cwd=made.work, env=made.environment, check=False, stderr=subprocess.DEVNULL)
+        trials.expect(f"git runs it otherwise, {url}", mark.exists(), True)
+        mark.unlink()
+
+
+def try_submodule(tool, trials):
+    """A submodule that changed is named, and not compared."""
+    repository(tool, a_c=OLD)
+    (tool.work / "inner").mkdir()
+    inner = Tool(tool.library, tool.work / "inner")
+    repository(inner, a_c=OLD)
+    tool.git("-c", "protocol.file.allow=always", "submodule", "--quiet", "add", "./inner", "lib")
+    tool.git("commit", "-qm", "second")
+    trials.expect("a submodule as it was", tool.run("--git"), (0, "", ""))
+    line = "lib: a submodule that changed isn't compared\n"
+    tool.put("lib/new.c", OLD)
+    trials.expect("a submodule with a file that git doesn't know", tool.run("--git")[:2], (0, ""))
+    tool.put("lib/a.c", WRONG)
+    trials.expect("a submodule with changes", tool.run("--git"), (0, line, ""))
+    status, output, _ = tool.run("--git", "--fail-on", "unjudged", "--output", "json")
+    found = json.loads(output)
+    trials.expect("as JSON", (status, found["file"], found["kind"], found["level"]), (1, "lib", "unjudged", "error"))
+    trials.expect("other paths", tool.run("--git", "--", "a.c")[:2], (0, ""))
+    trials.expect("--exclude", tool.run("--git", "--exclude", "lib")[:2], (0, ""))
+    made, mark = Tool(tool.library, tool.work / "lib"), tool.work / "mark"
+    tool.put("watch", WATCHER.format(mark)).chmod(0o755)
+    made.git("config", "core.fsmonitor", str(tool.work / "watch"))
+    trials.expect("with a program that watches its files", (tool.run("--git")[:2], mark.exists()), ((0, line), False))
+    made.git("config", "--unset", "core.fsmonitor")
+    made.git("commit", "-qam", "third")
+    trials.expect("a submodule with another commit", tool.run("--git")[:2], (0, line))
+    tool.git("add", "lib")
+    for words in [["--git"], ["--git", "--cached"]]:
+        trials.expect(f"fmtcanon-diff {words}", tool.run(*words)[:2], (0, line))
+    tool.git("commit", "-qm", "fourth")
+    trials.expect("two revisions", tool.run("--git", "HEAD~1", "HEAD")[:2], (0, line))
+
+
+def try_moved(tool, trials):
+    """Of two folders, a file that has another name is compared by what it contains."""
+    for number in range(RENAMED):
+        text = BODY.replace("name", f"n{number}")
+        tool.put(f"old/f{number}.c", OLD + text)
+        tool.put(f"new/src/f{number}.c", OLD + text)
+    tool.put("new/src/f1.c", WRONG + BODY.replace("name", "n1"))
+    tool.put("old/gone.c", OLD + BODY.replace("name", "gone"))
+    tool.put("new/more.c", OLD)
+    status, output, fault = tool.run("old", "new")
+    found = (status, output, fault.endswith("; 1 literals added, 1 removed\n"))
+    trials.expect(f"files in another folder: {fault}", found, (1, TYPES.format("new/src/f1.c"), True))
+
+
 def try_ignored(tool, trials):
     """In folders, what git ignores is left out, unless it ignores the whole folder."""
     tool.git("init", "-q")
@@ -252,9 +337,10 @@ def try_outputs(tool, trials):
 
 def try_trees(folder, trials):
     with_git = [try_cached, try_renamed, try_revisions, try_configuration, try_ignored, try_excluded]
+    with_git += [try_promised, try_submodule]
     if not shutil.which("git"):
         print(f"not run, since there is no git here: {', '.join(it.__name__ for it in with_git)}")
         with_git = []
-    for part in [try_statuses, try_left_out, try_names, try_outputs, *with_git]:
+    for part in [try_statuses, try_left_out, try_moved, try_names, try_outputs, *with_git]:
         with tempfile.TemporaryDirectory() as work:
             part(Tool(folder, os.path.realpath(work)), trials)

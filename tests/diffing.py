@@ -110,7 +110,7 @@ class Tool:
     """The command in a folder."""
 
     def __init__(self, folder, work):
-        self.work = Path(work)
+        self.library, self.work = folder, Path(work)
         self.words = [sys.executable, "-m", "fmtcanon.diff"]
         self.environment = {
             **os.environ,
@@ -236,6 +236,12 @@ def try_lines(tool, trials):
         tool.run("d.c", "c.c")[:2],
         (0, 'c.c:1:8: not judged: refused 3 Unexpected at byte 4 of "%d %y\\n"\n'),
     )
+    tool.put("c.c", 'log_error("%d", x); printf("%d", x); { "CPU% ", 1 };')
+    tool.put("d.c", 'log_error("%V", x); printf("%s", x); { "MEM% ", 1 };')
+    words = [["--not-printf", "log_error"], ["--not-printf=other", "--not-printf=log_error"], ["--not-printf", "log_err"]]
+    for given, count in zip(words, [1, 1, 2]):
+        lines = tool.run(*given, "c.c", "d.c")[1].splitlines()
+        trials.expect(f"fmtcanon-diff {given}: {lines}", len(lines), count)
     status, output, _ = tool.run("--output", "sarif", "--verbose", "old", "new")
     log = json.loads(output)
     results = log["runs"][0]["results"]

@@ -5,12 +5,15 @@ import inspect
 import json
 import re
 import shlex
+import signal
 import subprocess
 import sys
 from pathlib import Path
 
 TOP = Path(__file__).resolve().parent.parent
 TIMEOUT = 60
+# In the background of a script this signal is ignored, and by all that is started there.
+signal.signal(signal.SIGINT, signal.default_int_handler)
 VERSION = (TOP / "VERSION").read_text(encoding="utf-8").strip()
 # The name by which programs ask for the C library.
 SONAME = f"libfmtcanon.so.{VERSION.split('.')[0]}"

@@ -135,6 +135,9 @@ def try_other_compilers(folder, tools, trials, work):
     ]:
         if tools.has(compiler, package):
             try_compiler(compiler, standards, folder, trials, work)
+    if tools.has("clang++", "clang"):
+        words = ["clang++", "-std=c++11", "-Wzero-as-null-pointer-constant", "-Wold-style-cast"]
+        trials.expect("the header has no NULL that C++ warns of", compiled(words, f"{HEAD}int unused;\n", work), (0, []))
     for words, package, model in OTHER_MACHINES:
         if tools.has(words[0], package):
             name = " ".join(words)

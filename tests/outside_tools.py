@@ -21,9 +21,11 @@ import header  # noqa: E402
 import packages  # noqa: E402
 from bounds_peers import try_printed  # noqa: E402
 from catalog_edges import try_msgfmt_edges  # noqa: E402
-from catalog_plurals import try_plurals  # noqa: E402
+from catalog_plurals import try_counts, try_plurals  # noqa: E402
 from catalog_reading import try_speed  # noqa: E402
 from checking import try_checking  # noqa: E402
+from checking_calls import try_checking_calls  # noqa: E402
+from checking_changes import try_changes  # noqa: E402
 from diffing import try_pairs, try_times  # noqa: E402
 from fewer_peers import try_fmtcheck  # noqa: E402
 from harness import SONAME, main  # noqa: E402
@@ -134,6 +136,7 @@ def try_gettext(folder, tools, module, trials):
         try_msgfmt_edges(trials)
         try_speed(folder, trials)
         try_plurals(module, trials)
+        try_counts(module, trials)
 
 
 def try_locale(program, folder, trials):
@@ -180,6 +183,8 @@ def try_libclang(folder, tools, trials):
         try_screens(folder, python, trials)
         try_programs(folder, python, trials)
         try_checking(folder, python, tools, trials)
+        try_checking_calls(folder, python, tools, trials)
+        try_changes(folder, python, trials)
 
 
 def try_shells(tools, trials):

@@ -104,7 +104,7 @@ SOURCES = [
         "void say(const char *, ...) __attribute__((format(printf, 1, 2)));",
         'say("%i\\n", 1);',
         [],
-        "left: it is an argument of say, which isn't known",
+        "left: it is an argument of say, which isn't known without --attribute",
     ),
     (
         "void say(const char *, ...) __attribute__((format(printf, 1, 2)));",

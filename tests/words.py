@@ -71,8 +71,9 @@ LIMITS = {
     "docs/USING.md": 2280,
     "docs/TRANSLATIONS.md": 1100,
     "docs/EXPLAINING.md": 420,
-    "docs/PORTING.md": 1200,
-    "docs/REFACTORING.md": 1400,
+    # With the figures of real sources and of compilers.
+    "docs/PORTING.md": 1400,
+    "docs/REFACTORING.md": 1450,
     # With a part for each kind, the table of flags, and the grammar.
     "docs/REFUSALS.md": 2000,
     # With an example of each error.
@@ -84,14 +85,14 @@ LIMITS = {
     "docs/DEFINITIONS.md": 4750,
     "docs/PERFORMANCE.md": 980,
     # With a walk through one call, tables of files by what they do, and words of the sources.
-    "docs/internals/ARCHITECTURE.md": 3150,
+    "docs/internals/ARCHITECTURE.md": 3200,
     "docs/internals/DECISIONS.md": 2200,
     # With an index by what rt prints.
     "docs/internals/PROOF_NOTES.md": 4000,
     # With what rt prints for an open goal, and what is inlined.
     "docs/CONTRIBUTING.md": 1350,
     "SECURITY.md": 150,
-    "CHANGELOG.md": 1100,
+    "CHANGELOG.md": 1400,
     CALLING: 9200,
 }
 MARGIN = 10

@@ -11,7 +11,9 @@ from typing import IO, Callable, Dict, List, NoReturn, Optional, Sequence, Tuple
 
 from . import Model, __version__
 from .findings import OUTPUTS
+from .interrupting import Interrupted, end, interruptible
 from .output import Unwritable, complain, drop, occupy, write
+from .processes import Ended
 from .terminals import COLORS
 
 MODELS: Dict[str, List[Model]] = {
@@ -111,15 +113,19 @@ class Parser(argparse.ArgumentParser):
 
 
 def status_of(name: str, run: Callable[[], int]) -> int:
-    """Runs a command. Returns its exit status, also if it can't write, is interrupted or the library is missing."""
+    """Runs a command. Returns its exit status, also if it can't write or the library is missing. A signal ends it."""
     occupy()
     try:
-        return run()
+        with interruptible() as signals:
+            try:
+                with signals.raised():
+                    return run()
+            except Interrupted as interrupted:
+                # The signals are still taken, so that no second one keeps this from ending.
+                end(interrupted.number)
     except (BrokenPipeError, Unwritable) as error:
         return status_of_output(name, error)
-    except KeyboardInterrupt:
-        return 128 + signal.SIGINT
-    except ImportError as error:
+    except (Ended, ImportError) as error:
         complain(f"{name}: {error}")
         return USAGE
 

@@ -3,9 +3,15 @@ above.
 """
 
 import itertools
+import json
+import os
 import random
+import subprocess
+import sys
+import tempfile
 import time
 import unittest
+from pathlib import Path
 from unittest import mock
 
 import fmtcanon
@@ -191,6 +197,91 @@ class Shapes(unittest.TestCase):
             self.assertEqual(len(answers), 1, text)
         others = [it for it in singles if it not in plain]
         self.assertTrue(any(len({answer(it.encode(), model) for model in Model}) > 1 for it in others))
+
+
+HEADER = 'msgid ""\nmsgstr ""\n"Content-Type: text/plain; charset=UTF-8\\n"\n"Plural-Forms: %s\\n"\n\n'
+ENTRY = '%smsgid "%s"\nmsgid_plural "%s"\n%s\n'
+
+
+def run(texts, *words):
+    """What fmtcanon-po finds in catalogs, as JSON, and what it says at the end."""
+    with tempfile.TemporaryDirectory() as work:
+        names = []
+        for number, text in enumerate(texts):
+            names.append(os.path.join(work, f"{number}.po"))
+            Path(names[-1]).write_text(text, encoding="utf-8")
+        words = [sys.executable, "-B", "-m", "fmtcanon.po", "--output", "json", *words, *names]
+        done = subprocess.run(words, capture_output=True, check=False, timeout=60)
+    return [json.loads(it) for it in done.stdout.splitlines()], done.stderr.decode().splitlines(), done.returncode
+
+
+class Plurals(unittest.TestCase):
+    """The number of forms is that of the header, as msgfmt -c demands."""
+
+    def faults(self, rule, entries):
+        """The faults of messages, each with the number of its forms, and what comes before it."""
+        text = HEADER % rule
+        for number, (count, comments) in enumerate(entries):
+            forms = "".join(f'msgstr[{form}] "x"\n' for form in range(count))
+            text += ENTRY % (comments, f"a{number}", f"b{number}", forms)
+        found, _, status = run([text])
+        self.assertEqual(status, int(bool(found)))
+        return [(it["msgid"], it["kind"], it["message"].partition(" [")[0]) for it in found]
+
+    def test_counts(self):
+        two = "it has 2 plural forms, and nplurals is 1"
+        one = "it has one plural form, and nplurals is 3"
+        for rule, entries, wanted in [
+            ("nplurals=1; plural=0;", [(1, ""), (2, ""), (1, "")], [("a1", "plurals", two)]),
+            ("nplurals=3; plural=n%3;", [(3, ""), (1, "#, c-format\n")], [("a1", "plurals", one)]),
+            ("nplurals = 2; plural=n!=1;", [(1, "")], []),
+            ("nplurals=\t2; plural=n!=1;", [(2, "")], []),
+            ("nplurals=2; plural=n!=1;", [(1, "#, fuzzy\n")], []),
+            ("nplurals=INTEGER; plural=EXPRESSION;".replace("EXPRESSION", "0"), [(2, "")], []),
+            ("nplurals=2;", [(1, "")], []),
+            ("plural=0;", [(2, "")], []),
+        ]:
+            self.assertEqual(self.faults(rule, entries), wanted, (rule, entries))
+
+    def test_untranslated(self):
+        text = HEADER % "nplurals=2; plural=n!=1;" + ENTRY % ("", "a", "b", 'msgstr[0] ""\n')
+        self.assertEqual(run([text])[0], [])
+
+
+class Once(unittest.TestCase):
+    """A message of the program that isn't a format is named once for all catalogs, with its place in the source."""
+
+    def test_catalogs(self):
+        front = HEADER % "nplurals=1; plural=0;"
+        texts = []
+        for number in range(12):
+            first = f'#: a.c:{number} b.c:7\n#: c.c:8\n#, c-format\nmsgid "%Zd x"\nmsgstr "%Zd {number}"\n\n'
+            second = '#. said\n#: "d.c":9\n#, c-format\nmsgctxt "e"\nmsgid ""\n"%Zd y"\nmsgstr "%d"\n\n'
+            third = '#, c-format\nmsgid "%Zd z"\nmsgid_plural "%Zd zs"\nmsgstr[0] "%d"\n\n'
+            fourth = '#, c-format\nmsgid "%d"\nmsgstr "%s"\n\n'
+            texts.append(front + first + second + third + fourth)
+        for jobs in ["-j1", "-j3"]:
+            found, said, status = run(texts, jobs)
+            unjudged = [it for it in found if it["kind"] == "unjudged"]
+            listed = [(Path(it["file"]).name, it["line"], it["msgid"], it["source"]) for it in unjudged]
+            wanted = [
+                ("0.po", 10, "%Zd x", ["a.c:0", "b.c:7", "c.c:8"]),
+                ("0.po", 18, "%Zd y", ['"d.c":9']),
+                ("0.po", 23, "%Zd z", []),
+            ]
+            self.assertEqual((listed, len(found) - len(unjudged), status), (wanted, 12, 1))
+            self.assertIn("; the message is from a.c:0 and 2 more [", unjudged[0]["message"])
+            self.assertIn('; the message is from "d.c":9 [', unjudged[1]["message"])
+            counts = ["12 messages judged, 36 not judged", "33 more warnings about the same messages"]
+            self.assertEqual(said, [*counts, "found 12 fatal errors"])
+
+    def test_names_with_blanks(self):
+        text = '#: \u2068a b.c\u2069:7 d.c:1\n#, c-format\nmsgid "%Zd"\nmsgstr "x"\n'
+        self.assertEqual([it["source"] for it in run([text])[0]], [["a b.c:7", "d.c:1"]])
+
+    def test_the_message_before(self):
+        text = '#: a.c:1\nmsgid "a"\nmsgstr ""\n"b"\n#, c-format\nmsgid "%Zd"\nmsgstr "x"\n'
+        self.assertEqual([it["source"] for it in run([text])[0]], [[]])
 
 
 if __name__ == "__main__":

@@ -5,6 +5,7 @@ import io
 import itertools
 import os
 import pkgutil
+import re
 import subprocess
 import tempfile
 import unittest
@@ -12,13 +13,15 @@ from pathlib import Path
 
 import fmtcanon
 from fmtcanon import Model, Type
-from fmtcanon.checker import fitting, fixing, judging, options, proposals, reporting
-from fmtcanon.checker.calls import Argument, Call, Format, Token
+from fmtcanon.checker import composing, fitting, fixing, options, proposals, reporting
+from fmtcanon.checker.calls import Argument, Call
+from fmtcanon.checker.formats import Format, Token
 from fmtcanon.checker.judging import Fit, fit_of, judged, without_errno
-from fmtcanon.checker.locating import with_markers
+from fmtcanon.checker.locating import Located, Piece, with_markers
 from fmtcanon.checker.platforms import PLATFORMS
 from fmtcanon.checker.retargeting import retargeted, write_headers
 from fmtcanon.compiling.parsing import Shape
+from fmtcanon.compiling.stand_ins import Original
 from fmtcanon.findings import Finding
 from fmtcanon.replace.calls import Marker
 from fmtcanon.replace.places import places_in
@@ -38,6 +41,8 @@ TYPES = {
     "unsigned long": (UL, UL, UL, UL),
     "long long": (LL, LL, LL, LL),
     "int": (I, I, I, I),
+    "unsigned int": (U, U, U, U),
+    "pid_t": (I, I, I, I),
 }
 # A directive, the name of its argument's type, how it fits on each platform, and what is proposed.
 ROWS = [
@@ -46,15 +51,31 @@ ROWS = [
     ("%ld", "ssize_t", "equal rank rank size", "%zd"),
     ("%-8.3ld", "ptrdiff_t", "equal rank rank size", "%-8.3td"),
     ("%d", "size_t", "size sign sign size", "%zu"),
+    ("%+-5d", "size_t", "size sign sign size", "%-5zu"),
+    ("%+ld", "ssize_t", "equal rank rank size", "%+zd"),
     ("%lx", "uint64_t", "equal size size size", '%" PRIx64 "'),
     ("%#lo", "uintptr_t", "equal rank rank size", '%#" PRIoPTR "'),
     ("%ld", "time_t", "equal equal size size", "%jd with a cast to intmax_t"),
+    ("%zu", "off_t", "sign rank size sign", "%jd with a cast to intmax_t"),
     ("%lx", "off_t", "sign sign size size", "%jx with a cast to uintmax_t"),
     ("%lu", "dev_t", "equal size size size", "%ju with a cast to uintmax_t"),
     ("%ld", "long long", "rank size size size", "%lld"),
     ("%ld", "int", "size rank rank rank", "%d"),
     ("%hhd", "long", "size rank rank rank", "%ld"),
-    ("%u", "int", "sign sign sign sign", "%u"),
+    ("%u", "int", "sign sign sign sign", "%d"),
+    ("%d", "unsigned int", "sign sign sign sign", "%u"),
+    ("%02x", "int", "sign sign sign sign", "a cast to unsigned int"),
+    ("%#lX", "long", "sign sign sign sign", "a cast to unsigned long"),
+    ("%zx", "ssize_t", "sign sign sign sign", "a cast to size_t"),
+    ("%tx", "ptrdiff_t", "sign sign sign sign", "%jx with a cast to uintmax_t"),
+    ("%u", "pid_t", "sign sign sign sign", "%jd with a cast to intmax_t"),
+    ("%hhx", "int", "", None),
+    ("%hu", "int", "", None),
+    ("%zu", "unsigned long", "equal rank rank size", "%lu"),
+    ("%c", "long", "size rank rank rank", "a cast to int"),
+    ("%-3c", "uint64_t", "size size size size", "a cast to int"),
+    ("%lc", "long", "size rank rank rank", "a cast to wint_t"),
+    ("%C", "size_t", "size equal equal size", "a cast to wint_t"),
     ("%*d", "size_t", "size sign sign size", "a cast to int"),
     ("%.*s", "ssize_t", "size equal equal size", "a cast to int"),
 ]
@@ -71,15 +92,24 @@ OTHERS = [
     (Type.DOUBLE, "double", True),
     (Type.DOUBLE, "long double", False),
     (Type.LONG_DOUBLE, "double", False),
-    (Type.WIDE_STRING, "const int *", True),
     (Type.WIDE_STRING, "const char *", False),
+    (Type.POINTER_TO_SCHAR, "char *", True),
+    (Type.POINTER_TO_SCHAR, "unsigned char *", True),
+    (Type.POINTER_TO_SCHAR, "signed char *", True),
+    (Type.POINTER_TO_SCHAR, "short *", False),
     (Type.POINTER_TO_LONG, "unsigned long *", True),
     (Type.POINTER_TO_LONG, "long long *", False),
     (Type.INT, "char *", False),
     (Type.ULONG, "double", False),
     (Type.INT, "", False),
 ]
-# The text of a unit, and what it is on each platform.
+# What `%ls` takes in each data model.
+WIDE_STRINGS = {
+    Model.LP64: ["const int *", "int *const", "unsigned int *"],
+    Model.ILP32: ["const long *", "unsigned long *"],
+    Model.LLP64: ["const unsigned short *", "short *"],
+}
+# A typedef of a system header, and what it is on each platform.
 TEXTS = [
     ("typedef unsigned long size_t;", ["unsigned long", "unsigned int", "unsigned int", "unsigned long long"]),
     ("typedef __size_t size_t;", ["unsigned long", "unsigned int", "unsigned int", "unsigned long long"]),
@@ -88,8 +118,48 @@ TEXTS = [
     ("typedef struct time_t time_t;", ["struct time_t"] * 4),
     ("typedef long off_t;", ["long", "long", "long long", "long long"]),
     ("typedef __off64_t off_t;", ["long", "long long", "long long", "long long"]),
+    ("typedef __off_t off_t;", ["long", "long", "long long", "long long"]),
+    ("typedef long int suseconds_t;", ["long"] * 4),
+    ("typedef __suseconds_t mine;", ["__suseconds_t", "__suseconds_t", "long long", "__suseconds_t"]),
+    ("typedef __fsblkcnt64_t fsblkcnt64_t;", ["unsigned long", *["unsigned long long"] * 3]),
+    ("typedef unsigned long int wctype_t;", [*["unsigned long"] * 3, "unsigned short"]),
+    ("typedef const __int32_t * wctrans_t;", [*["const int *"] * 3, "unsigned short"]),
+    ("typedef fmtcanon_type_size_t size_t;", ["unsigned long", "unsigned int", "unsigned int", "unsigned long long"]),
+    ("typedef fmtcanon_type_size_t mine;", ["fmtcanon_type_size_t"] * 4),
+    (
+        "typedef unsigned fmtcanon_type_ptrdiff_t mine;",
+        [f"unsigned {it}" for it in ("long", "int", "int", "long long")],
+    ),
     ("typedef __typeof__(long) _Atomic mine;", ["__typeof__(long) "] * 4),
     ("typedef _Atomic(long) mine;", ["__typeof__(long)"] * 4),
+    ("typedef an_Atomic mine;", ["an_Atomic"] * 4),
+]
+# A struct of a system header, and what the type of its member is on each platform.
+STRUCTS = [
+    ("struct stat64 { __ino64_t st_ino; __off_t st_size; };", "st_size", ["__off_t", *["long long"] * 2, "__off_t"]),
+    ("struct stat { __off_t st_size; };", "st_size", ["__off_t", "__off_t", "long long", "__off_t"]),
+    (
+        "struct timeval { __time_t tv_sec; __suseconds_t tv_usec; };",
+        "tv_usec",
+        ["__suseconds_t"] * 2 + ["long long", "long"],
+    ),
+    ("struct timeval { __time_t tv_sec; int x[2]; };", "tv_sec", ["__time_t", "__time_t", "long long", "long"]),
+    (
+        "struct r_debug { enum { A, B } r_state; Elf64_Addr r_ldbase; };",
+        "r_ldbase",
+        ["Elf64_Addr", *["unsigned int"] * 2, "Elf64_Addr"],
+    ),
+    ("typedef struct { long int quot; long int rem; } imaxdiv_t;", "rem", ["long int", *["long long"] * 3]),
+    (
+        "struct user { unsigned long int u_debugreg [8]; };",
+        "u_debugreg",
+        ["unsigned long int", "int", "int", "unsigned long int"],
+    ),
+    (
+        'struct _IO_FILE { int x;\n# 9 "b.h" 3 4\n __off_t _old_offset; };',
+        "_old_offset",
+        ["__off_t", "__off_t", "long", "__off_t"],
+    ),
 ]
 # What some macros are on each platform.
 MACROS = [
@@ -97,15 +167,41 @@ MACROS = [
     *[['"llu" "d" "x"', "5LL", "7ULL", "4294967295U)", "-9223372036854775807LL - 1", "2147483647L)"]] * 2,
     ['"llu" "lld" "x"', "5LL", "7ULL", "18446744073709551615ULL)", "-9223372036854775807LL - 1", "2147483647L)"],
 ]
+# The types that the compiler has macros for, on each platform.
+DECLARED = {
+    "size_t": ["unsigned long", "unsigned int", "unsigned int", "unsigned long long"],
+    "ptrdiff_t": ["long", "int", "int", "long long"],
+    "int64_t": ["long", "long long", "long long", "long long"],
+    "uintmax_t": ["unsigned long", "unsigned long long", "unsigned long long", "unsigned long long"],
+    "wchar_t": ["int", "long", "long", "unsigned short"],
+    "uint_fast16_t": ["unsigned long", "unsigned int", "unsigned int", "unsigned short"],
+}
+# Macros of the compiler and of headers, and what they are on each platform.
+BUILT_IN = {
+    "unsigned __PTRDIFF_TYPE__": ["unsigned long", "unsigned int", "unsigned int", "unsigned long long"],
+    "signed __INT64_TYPE__": ["signed long", *["signed long long"] * 3],
+    "__SIZE_MAX__": ["(18446744073709551615UL)", *["(4294967295U)"] * 2, "(18446744073709551615ULL)"],
+    "__LONG_MAX__": ["(9223372036854775807L)", *["(2147483647L)"] * 3],
+    "__INT64_C(5)": ["(5L)", "(5LL)", "(5LL)", "(5LL)"],
+    "UINT64_C(1024 * 2)": ["(1024 * 2UL)", *["(1024 * 2ULL)"] * 3],
+    "UINT64_C((1 << (2)) * 3)": ["((1 << (2)) * 3UL)", *["((1 << (2)) * 3ULL)"] * 3],
+    "__WCHAR_MAX__": ["(2147483647)", *["(2147483647L)"] * 2, "(65535)"],
+    "WCHAR_MIN": ["(-2147483647 - 1)", *["(-2147483647L - 1)"] * 2, "(0U)"],
+    "WEOF": [*["(4294967295U)"] * 3, "(65535)"],
+    "CLOCKS_PER_SEC": [*["(1000000L)"] * 3, "(1000)"],
+}
 CONSTANTS = (
     "INT64_MAX INT64_MIN UINT64_MAX SIZE_MAX PTRDIFF_MIN INTPTR_MAX UINTMAX_MAX LONG_MAX LONG_MIN ULONG_MAX SSIZE_MAX"
+)
+OF_COMPILER = (
+    "__SIZE_MAX__ __LONG_MAX__ __INT_FAST16_MAX__ __WCHAR_MAX__ __WCHAR_MIN__ __INT64_C(-1) __UINT64_C(7) WCHAR_MAX"
 )
 
 
 def calls_of(format, name, count=1, tokens=None):
     """A call on each platform with arguments whose types have a name."""
     source = f'"{format}"'
-    written = Format(source, tokens or (Token(source, False),))
+    written = Format(source, tokens or (Token(source),))
     number = format.count("*") + 1
     return [
         Call("a.c", 1, "printf", (written,), tuple(Argument(type, name, name) for _ in range(number * count)))
@@ -115,6 +211,26 @@ def calls_of(format, name, count=1, tokens=None):
 
 def faults_of(format, name, **more):
     return judged([{(1, "printf", 0): it} for it in calls_of(format, name, **more)]).faults
+
+
+def fault_in(tokens):
+    """The fault of a size_t in a format of these literals, each with the PRI macro that made it."""
+    text = "".join(it.strip('"') for it, _ in tokens)
+    return faults_of(text, "size_t", tokens=tuple(Token(*it) for it in tokens))[0]
+
+
+class Defined:
+    """A unit with definitions of macros."""
+
+    def __init__(self, text):
+        self.text = text
+
+    def definitions(self):
+        return self.text
+
+
+def never(_):
+    return False
 
 
 def text_of(proposal):
@@ -142,6 +258,10 @@ class Judging(unittest.TestCase):
         for (wanted, spelling, is_right), model in itertools.product(OTHERS, Model):
             fit = fit_of(wanted, Argument(None, spelling, spelling), model)
             self.assertEqual(fit, Fit.EQUAL if is_right else Fit.KIND, (wanted, spelling))
+        for model, other in itertools.product(Model, Model):
+            for spelling in WIDE_STRINGS[other]:
+                fit = fit_of(Type.WIDE_STRING, Argument(None, spelling, spelling), model)
+                self.assertEqual(fit, Fit.EQUAL if model is other else Fit.KIND, (model, spelling))
         self.assertEqual(fit_of(Type.STRING, Argument(I, "int", "int"), Model.LP64), Fit.KIND)
         self.assertEqual(fit_of(Type.WIDE_CHAR, Argument(U, "unsigned int", "wint_t"), Model.LP64), Fit.EQUAL)
         self.assertEqual(fit_of(Type.WIDE_CHAR, Argument(I, "int", "wchar_t"), Model.LP64), Fit.EQUAL)
@@ -152,6 +272,23 @@ class Judging(unittest.TestCase):
         found = faults_of("%ld %ld", "long")
         self.assertEqual([(it.number, set(it.fits)) for it in found], [(1, {Fit.KIND})])
         self.assertIsNone(proposals.proposal(found[0]))
+        details = reporting.details_of(found[0])
+        self.assertEqual([details["type"], details["platforms"]["LP64"]["is"]], [None, None])
+
+    def test_never_negative(self):
+        """An int that can't be negative fits %u, and a long doesn't."""
+        for format, is_unsigned, is_fitting in [("%u", True, True), ("%02x", True, True), ("%u", False, False)]:
+            given = Argument(I, "int", "uint16_t", is_unsigned)
+            calls = [it._replace(arguments=(given,)) for it in calls_of(format, "int")]
+            self.assertEqual(judged([{(1, "printf", 0): it} for it in calls]).faults == [], is_fitting, format)
+
+    def test_skipped(self):
+        """What is left out in front of a format isn't judged, and the rest is at its place."""
+        calls = [
+            it._replace(formats=(Format('"%d %lu"', (Token('"%d %lu"'),), 3),)) for it in calls_of("%lu", "size_t")
+        ]
+        [fault] = judged([{(1, "printf", 0): it} for it in calls]).faults
+        self.assertEqual((fault.text, fault.directive, fault.shown, fault.range), (b"%lu", "%lu", "%lu", (0, 3)))
 
     def test_stars(self):
         first, second = faults_of("%*.*f", "size_t")[:2]
@@ -179,23 +316,65 @@ class Judging(unittest.TestCase):
 
     def test_composed(self):
         for tokens, is_composed in [
-            ([('"%lu"', False)], False),
-            ([('"%"', False), ('"lu"', True)], False),
-            ([('"%"', False), ('"lu"', False)], True),
-            ([('"%"', False), ('"l"', False), ('"u"', False)], True),
-            ([('"%lu"', False), ('" "', False)], False),
+            ([('"%lu"', "")], False),
+            ([('"%"', ""), ('"lu"', "PRIu64")], False),
+            ([('"%"', ""), ('"lu"', "")], True),
+            ([('"%"', ""), ('"l"', ""), ('"u"', "")], True),
+            ([('"%lu"', ""), ('" "', "")], False),
         ]:
-            listed = tuple(Token(*it) for it in tokens)
-            fault = faults_of("%lu", "size_t", tokens=listed)[0]
-            self.assertEqual(judging.is_composed(fault), is_composed, tokens)
+            fault = fault_in(tokens)
+            self.assertEqual(composing.is_composed(fault, Defined(b""), None), is_composed, tokens)
+
+    def test_own_macros(self):
+        """A macro of the program that is one of <inttypes.h> may be another after `#if`."""
+        own = b'#define PRI_SIZE PRIu64\n#define SIZE PRI_SIZE\n#define FULL "%" PRIu64\n'
+        for source, definitions, is_composed in [
+            (b'"%" PRIu64', own, False),
+            (b'"%" /* x */ PRIu64 "a"', own, False),
+            (b'"%" PRI_SIZE', own, True),
+            (b'"%"SIZE', own, True),
+            (b'"%" PRI_SIZE', b"", False),
+            (b'"%" f', own, False),
+            (None, own, True),
+            (None, b'#define FULL "%" PRIu64\n', True),
+            (None, b'#define LOG(n) printf("%" PRIu64, n)\n', False),
+            (None, b'#define LOG printf("%" PRIu64, n)\n', False),
+            (b'#define F "%" PRIu64', own, False),
+            (b'#if A\n# define F "%" PRIu64\n#endif', own, True),
+            (b'#if A\n#define F \\\n"%" PRIu64\n#endif', own, True),
+            (b'#if A\n#endif\n#define F "%" PRIu64\n', own, False),
+            (b'#if A\nf("%" PRIu64);\n#endif', own, False),
+            (None, b"#define OTHER PRIu32\n", False),
+        ]:
+            fault = fault_in([('"%"', ""), ('"lu"', "PRIu64")])
+            places = list(places_in(source)) if source else []
+            pieces = [Piece(it, 0) for it in places[:1]]
+            where = Located(Original("a.c", source or b"", os.stat(".")), {(fault.key, 0): (b"%lu", pieces)})
+            found = composing.is_composed(fault, Defined(definitions), where)
+            self.assertEqual(found, is_composed, (source, definitions))
+
+    def test_shown(self):
+        """A PRI macro is shown by its name, and not by what it is in LP64."""
+        for tokens, shown in [
+            ([('"%lu"', "")], "%lu"),
+            ([('"%"', ""), ('"lu"', "PRIu64")], '%" PRIu64 "'),
+            ([('"a %"', ""), ('"l"', "__PRI64_PREFIX"), ('"u b"', "")], "%lu"),
+            ([('"%-5"', ""), ('"lu"', "PRIuPTR"), ('" x"', "")], '%-5" PRIuPTR "'),
+        ]:
+            fault = fault_in(tokens)
+            self.assertEqual(fault.shown, shown, tokens)
+            self.assertIn(f"{shown} takes unsigned long", reporting.message_of(fault, list(Model)))
+            self.assertEqual(reporting.details_of(fault)["directive"], shown)
 
 
 class Reporting(unittest.TestCase):
     def test_kinds(self):
         fault = faults_of("%lu", "size_t")[0]
-        kinds = [reporting.kind_of(fault, models) for models in ([Model.LP64], [Model.ILP32], list(Model))]
+        kinds = [reporting.kind_of(fault, models, never) for models in ([Model.LP64], [Model.ILP32], list(Model))]
         self.assertEqual(kinds, [None, "rank", "size"])
-        self.assertEqual(reporting.kind_of(faults_of("%u", "int")[0], list(Model)), "sign")
+        self.assertEqual(reporting.kind_of(faults_of("%u", "int")[0], list(Model), never), "sign")
+        kinds = [reporting.kind_of(faults_of(it, "size_t")[0], list(Model), bool) for it in ("%lu", "%zd")]
+        self.assertEqual(kinds, ["composed", "sign"])
 
     def test_messages(self):
         fault = faults_of("%lu", "size_t")[0]
@@ -206,7 +385,7 @@ class Reporting(unittest.TestCase):
         said = "a * of %*d takes int, and the argument is ptrdiff_t: another size in LP64; write a cast to int"
         self.assertEqual(reporting.message_of(fault, [Model.LP64]), said)
         fault = faults_of("%zd", "long")[0]
-        said = "takes long in LP64, int in ILP32, int in ILP32 with 64-bit time_t, long long in LLP64"
+        said = "takes long in LP64, int in ILP32, long long in LLP64, and"
         self.assertIn(said, reporting.message_of(fault, list(Model)))
 
     def test_source(self):
@@ -224,15 +403,6 @@ class Reporting(unittest.TestCase):
 class Changes(unittest.TestCase):
     def test_fitting(self):
         found = Finding("a.c", 3, 10, "types", "error", "wrong", (3, 20), ("%d", "%zu"))
-        for places, does in [
-            ({}, False),
-            ({(3, 10): True}, True),
-            ({(3, 10): False}, False),
-            ({(3, 12): True, (3, 18): True}, True),
-            ({(3, 12): True, (3, 18): False}, False),
-            ({(3, 9): True, (3, 20): True, (4, 11): True}, False),
-        ]:
-            self.assertEqual(fitting.fits(found, places), does, places)
         note = fitting.as_note(found)
         self.assertEqual((note.level, note.message), ("note", 'types differ, and the call fits: "%d" and "%zu"'))
 
@@ -252,13 +422,53 @@ class Merged(unittest.TestCase):
             self.assertEqual(fixing.merged(listed), wanted, listed)
 
 
+# The marker before the text of a system header.
+SYSTEM = '# 1 "/usr/include/a.h" 1 3 4\n'
+
+
 class Texts(unittest.TestCase):
     def test_typedefs(self):
         for text, types in TEXTS:
             for platform, type in zip(PLATFORMS, types):
                 name = text.rstrip(";").split()[-1]
                 wanted = f"typedef {type}{'' if type.endswith(chr(10)) else ' '}{name};"
-                self.assertEqual(" ".join(retargeted(text, platform).split(" ")), wanted, platform.name)
+                found = retargeted(SYSTEM + text, platform, {})
+                self.assertEqual(" ".join(found.partition(SYSTEM)[2].split(" ")), wanted, platform.name)
+
+    def test_members(self):
+        for text, name, types in STRUCTS:
+            for platform, type in zip(PLATFORMS, types):
+                found = retargeted(SYSTEM + text, platform, {})
+                [given] = re.findall(rf"(?:[{{;]|\n)\s*([\w ]+?) +{name}\b", found)
+                self.assertEqual((given, found.count("\n")), (type, (SYSTEM + text).count("\n")), (platform.name, text))
+
+    def test_bit_fields(self):
+        """Where `long` has 32 bits, a bit-field of all of them is a `long`."""
+        for text, is_whole in [
+            ("unsigned long b : 32;", True),
+            ("long int b:32;", True),
+            ("long b : 31;", False),
+            ("unsigned long long b : 32;", False),
+            ("unsigned b : 32;", False),
+            ("long long : 32;", False),
+            ("long unsigned int b : 32;", True),
+            ("prolong b : 32;", False),
+        ]:
+            whole = text.partition(":")[0].rstrip() + ";"
+            for platform in PLATFORMS:
+                wanted = whole if is_whole and platform.model is not Model.LP64 else text
+                self.assertEqual(retargeted(text, platform, {}), wanted, (text, platform.name))
+
+    def test_own_names(self):
+        """A typedef or a struct of the source that has a name of the C library's is the source's."""
+        after = '# 7 "a.c" 2\n'
+        for platform in PLATFORMS:
+            for text in ("typedef unsigned short off_t;", "struct stat64 { int st_size; };", "typedef __off_t mine;"):
+                for front in ('# 1 "a.c"\n', SYSTEM + "typedef long size_t;\n" + after):
+                    found = retargeted(front + text, platform, {})
+                    self.assertEqual(found.splitlines()[-1], text, platform.name)
+            found = retargeted("typedef long mine;\n", platform, {"mine": "int"})
+            self.assertEqual(found, "typedef int mine;\n")
 
     def preprocessed(self, source):
         """What gcc makes of a source with the headers of the command, and without them."""
@@ -274,15 +484,34 @@ class Texts(unittest.TestCase):
         front = "#include <inttypes.h>\n#include <limits.h>\n"
         macros = "f(PRIu64 PRIdPTR PRIxFAST16, INT64_C(5), UINTMAX_C(7), SIZE_MAX, INT64_MIN, LONG_MAX)"
         text = self.preprocessed(front + macros)[0]
-        plain = [" ".join(retargeted(text, it).replace("/*PRI*/", "").partition("f(")[2].split()) for it in PLATFORMS]
+        texts = [re.sub(r"/\*PRI\w+\*/", "", retargeted(text, it, {})) for it in PLATFORMS]
+        plain = [" ".join(it.partition("f(")[2].split()) for it in texts]
         joined = ["".join(it for it in one.split("\n") if not it.startswith("#")) for one in plain]
         for one, parts in zip(joined, MACROS):
             self.assertEqual([it for it in parts if it not in one], [], one)
+
+    def test_built_in(self):
+        """The compiler's own macros, and an expression in a constant, are those of each platform."""
+        front = "#include <stdint.h>\n#include <time.h>\n#include <wchar.h>\n"
+        text = self.preprocessed(front + "".join(f"between {it}\n" for it in BUILT_IN))[0]
+        for at, platform in enumerate(PLATFORMS):
+            parts = re.sub(r"(?m)^#.*\n", "", retargeted(text, platform, {})).split("between ")[1:]
+            found = [" ".join(it.split()).replace("( ", "(").replace(" )", ")") for it in parts]
+            self.assertEqual(found, [it[at] for it in BUILT_IN.values()], platform.name)
+
+    def test_declarations(self):
+        """The types of the compiler's macros are declared in one line before the others."""
+        for at, platform in enumerate(PLATFORMS):
+            line, rest = retargeted("fmtcanon_type_int64_t a;", platform, {}).split("\n")
+            self.assertEqual(rest, "fmtcanon_type_int64_t a;")
+            for name, types in DECLARED.items():
+                self.assertIn(f"typedef {types[at]} fmtcanon_type_{name};", line)
 
     def test_conditions(self):
         """In `#if` the constants have their values."""
         pairs = list(itertools.permutations(CONSTANTS.split(), 2))
         tests = [f"#if {a} < {b}\nyes_{a}_{b}\n#endif\n" for a, b in pairs]
+        tests += [f"#if {a} < {b}\nyes\n#endif\n" for a, b in itertools.permutations(OF_COMPILER.split(), 2)]
         tests.append("#if INT64_C(9) > INTMAX_C(8) && UINT64_C(1) && SIZE_MAX == 18446744073709551615UL\nyes\n#endif\n")
         texts = self.preprocessed("#include <stdint.h>\n#include <limits.h>\n" + "".join(tests))
         found = [[it for it in text.split("\n") if it.startswith("yes")] for text in texts]

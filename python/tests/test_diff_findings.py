@@ -299,6 +299,20 @@ class Judging(unittest.TestCase):
         found = finding(f'"{front}%f "', f'"{front}%e "').message
         self.assertEqual(found, 'directives differ at argument 5001, counted from 1: "%f" and "%e"')
 
+    def test_titles(self):
+        """What no call takes is no format if it is rejected, as a title may be; otherwise it is judged."""
+        for old, new, call, wanted in [
+            ("CPU% ", "MEM% ", "{ %s, 1 }", None),
+            ("CPU% ", "CPU", "x = _(%s);", None),
+            ("CPU", "CPU% ", "return %s;", None),
+            ("CPU% ", "CPU", "f(%s, x);", "unjudged"),
+            ("CPU% ", "CPU", "#define TITLE %s", "unjudged"),
+            ("%d files", "%s files", "{ %s, 1 }", "types"),
+            ("%d files", "%y files", "{ %s, 1 }", "rejected"),
+        ]:
+            found = finding(f'"{old}"', f'"{new}"', call=call)
+            self.assertEqual(found and found.kind, wanted, (old, new, call))
+
     def test_bytes(self):
         """Formats may have bytes that aren't UTF-8."""
         sources = [Source(b'f("\xe9 ' + it + b'", x)') for it in (b"%05d", b"%.5d")]

@@ -242,9 +242,20 @@ class Judged(unittest.TestCase):
             (b'my_scanf("%d")', b'my_scanf("%i")', True),
             (b'__asm__ volatile ("%0" : )', b'__asm__ volatile ("%1" : )', False),
             (b"f(PRIu64)", b"f(PRId64)", False),
+            # An argument of printf that isn't its format, and functions that a program may have itself.
+            (b'printf(s, "100% d")', b'printf(s, "99% d")', False),
+            (b'fprintf(f, "%d")', b'fprintf(f, "%u")', True),
+            (b'__snprintf_chk(b, 9, 1, 9, "%d")', b'__snprintf_chk(b, 9, 1, 9, "%u")', True),
+            (b'vsnprintf(b, 9, x, "%d")', b'vsnprintf(b, 9, x, "%u")', False),
+            (b'my_printf(s, "%d")', b'my_printf(s, "%u")', True),
+            (b'warn(topic, "%d")', b'warn(topic, "%u")', True),
+            (b'log_error("%V")', b'log_error("%d")', False),
+            (b'_(log_error("%V"))', b'_(log_error("%d"))', False),
+            (b'log_errors("%V")', b'log_errors("%d")', True),
         ]:
             places = [Source(it).read().places for it in (old, new)]
-            self.assertEqual(bool(places[0]) and is_judged(places[0][0], places[1][0]), wanted, (old, new))
+            others = frozenset([b"log_error", b"other"])
+            self.assertEqual(bool(places[0]) and is_judged(places[0][0], places[1][0], others), wanted, (old, new))
 
 
 class Pairing(unittest.TestCase):

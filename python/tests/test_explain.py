@@ -158,6 +158,23 @@ class Lines(unittest.TestCase):
             self.assertEqual(asked("--literal", *words)[1]["refusal"]["at"], at)
 
 
+class LongFormats(unittest.TestCase):
+    def test_linear(self):
+        """Twice the format is at most about twice the text, with all that is said of each directive."""
+        short, long = (run("%5d" * count)[1] for count in (1000, 2000))
+        self.assertLess(sum(map(len, long)), 2.2 * sum(map(len, short)))
+        self.assertLess(max(map(len, long[1:-2])), 100)
+        self.assertEqual(long[0], "%5d" * 2000)
+        at = long.index("%5d at byte 5997")
+        self.assertEqual(long[at + 1], "    argument 2000, int: decimal, on the right of 5 columns")
+
+    def test_shortest(self):
+        """Carets are below all formats of up to 500 columns."""
+        for count, is_marked in [(124, True), (125, True), (126, False)]:
+            lines = run("%5d " * count)[1]
+            self.assertEqual(any(set(it) == {" ", "^"} for it in lines), is_marked, count)
+
+
 class Rejections(unittest.TestCase):
     def test_a_caret(self):
         status, lines = run("%d and %#d")

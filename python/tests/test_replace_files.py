@@ -15,8 +15,8 @@ from fmtcanon.compiling import running
 from fmtcanon.compiling.left import Left
 from fmtcanon.compiling.sources import Files
 from fmtcanon.compiling.stand_ins import StandIn, original
+from fmtcanon.interrupting import Interrupted, interruptible
 from fmtcanon.replace.files import put_in_place
-from fmtcanon.replace.interrupting import Interrupted, interruptible
 
 # The seconds in which the command ends after a signal.
 SOON = 2
@@ -218,7 +218,7 @@ class SignalsOfATest(unittest.TestCase):
 
 # A run of the command whose files are judged by what is put into it.
 SCRIPT = """
-import argparse, os, signal, sys, time
+import argparse, os, signal, sys, threading, time
 from fmtcanon.compiling import running
 from fmtcanon.compiling.stand_ins import StandIn, original
 from fmtcanon.findings import Finding
@@ -247,6 +247,9 @@ class Fake(Replacer):
     def hang(self, name):
         with StandIn(name) as stand_in:
             print("runs", flush=True)
+            if "kill" in how:
+                time.sleep(0.5)
+                signal.pthread_kill(threading.get_ident(), signal.SIGTERM)
             if "parse" in how:
                 # As libclang, it can't be interrupted.
                 time.sleep(30)
@@ -319,6 +322,13 @@ class Ends(InFolder):
             said = "fmtcanon-replace: interrupted; no file was changed\n"
             self.assertEqual((run.returncode, errors, self.texts()), (128 + number, said, ["old\n"] * 3))
             self.assertEqual(sorted(os.listdir(self.work)), ["a.c", "b.c", "c.c"])
+
+    def test_a_signal_to_another_thread(self):
+        began = time.monotonic()
+        run = self.run_of("hang and kill", stdout=subprocess.PIPE)
+        errors = run.communicate(timeout=60)[1].decode()
+        self.assertLess(time.monotonic() - began, 10)
+        self.assertEqual((run.returncode, errors.count("interrupted")), (128 + signal.SIGTERM, 1))
 
     def test_a_signal_between_files(self):
         run = self.run_of("signal", stdout=subprocess.DEVNULL)

@@ -2,21 +2,33 @@
 format, and the types of the arguments after promotion.
 """
 
-import re
-from typing import Any, Dict, Iterator, Mapping, NamedTuple, Optional, Tuple
+import collections
+from typing import Any, Counter, Dict, Mapping, NamedTuple, Optional, Sequence, Tuple
 
 from ..compiling.compile_commands import CompileCommand
-from ..compiling.known import GETTEXT, KNOWN
 from ..compiling.libclang import cindex
-from ..compiling.parsing import CALL_EXPR, FUNCTION_DECL, LINE_MARKER, VISIT_INSIDE, VISIT_NEXT, Parsed, Shape
+from ..compiling.parsing import (
+    CALL_EXPR,
+    FUNCTION_DECL,
+    TYPEDEF_DECL,
+    UNREADABLE,
+    VISIT_INSIDE,
+    VISIT_NEXT,
+    Parsed,
+    Shape,
+)
 from ..kinds import Type
+from ..models import Model
+from .formats import AROUND, Format, Formats
 from .platforms import Platform
-from .retargeting import PRI_MARK
+from .retargeting import TYPE_MARK
+from .shapes import Callee, Shapes
 
-# Kinds of what a call may call, of what is around an expression without a change of its value, and of types.
-CALLED = ("FUNCTION_DECL", "VAR_DECL", "FIELD_DECL", "PARM_DECL")
-AROUND = ("UNEXPOSED_EXPR", "PAREN_EXPR")
-TOKEN = re.compile(r'("(?:[^"\\]|\\.)*")(' + re.escape(PRI_MARK) + ")?", re.DOTALL)
+# Types that gcc has, and no directive takes: each is another than what it is in memory. Where there is no `__int128`, no
+# compiler reads what names it.
+OF_GCC = [f"-D{it}=__float128" for it in ("_Float32", "_Float32x", "_Float64", "_Float64x")]
+WITHOUT_INT128 = ["-D__int128=long long", "-D__int128_t=long long", "-D__uint128_t=unsigned long long"]
+ARRAYS = ("CONSTANTARRAY", "INCOMPLETEARRAY", "VARIABLEARRAY")
 INTEGERS = {
     "INT": Type.INT,
     "UINT": Type.UINT,
@@ -25,30 +37,19 @@ INTEGERS = {
     "LONGLONG": Type.LONG_LONG,
     "ULONGLONG": Type.ULONG_LONG,
 }
+# Those whose values are never negative. A bit-field of the last may be promoted to int.
+UNSIGNED = ("BOOL", "CHAR_U", "UCHAR", "USHORT", "UINT")
 
 
 class Argument(NamedTuple):
-    """An argument of a call: its type after promotion, if that is an integer, the same in C, and its type as the source
-    names it.
+    """An argument of a call: its type after promotion, if that is an integer, the same in C, its type as the source
+    names it, and whether it is an int that can't be negative: a literal, or of an unsigned type before promotion.
     """
 
     type: Optional[Type]
     spelling: str
     name: str
-
-
-class Token(NamedTuple):
-    """A string literal in the text, and whether a PRI macro made it."""
-
-    source: str
-    is_pri: bool
-
-
-class Format(NamedTuple):
-    """What may be the format of a call: its literals together, and as the text has them."""
-
-    source: str
-    tokens: Tuple[Token, ...]
+    is_unsigned: bool = False
 
 
 class Call(NamedTuple):
@@ -71,10 +72,15 @@ class Calls(Parsed):
     def __init__(
         self, command: CompileCommand, text: bytes, platform: Platform, functions: Mapping[str, Shape]
     ) -> None:
-        super().__init__(command, text, [f"--target={platform.target}", "-D__int128=long long"])
-        self.functions = functions
-        self.shapes: Dict[Any, Optional[Shape]] = {}
+        words = WITHOUT_INT128 if platform.model is Model.ILP32 else []
+        super().__init__(command, text, [f"--target={platform.target}", *OF_GCC, *words])
+        self.shapes, self.formats = Shapes(self, functions), Formats(self)
         self.found: Dict[Key, Call] = {}
+        # How many calls of a function are in a line.
+        self.in_line: Counter[Tuple[int, str]] = collections.Counter()
+        # How many calls have a format that isn't read; and of functions that aren't known, by the options for these.
+        self.unread = 0
+        self.others: Counter[str] = collections.Counter()
         self.visit(self.note)
 
     def note(self, cursor: Any) -> int:
@@ -82,83 +88,54 @@ class Calls(Parsed):
         if cursor._kind_id == FUNCTION_DECL:
             is_system = cindex.conf.lib.clang_Location_isInSystemHeader(cursor.location)
             return VISIT_NEXT if is_system else VISIT_INSIDE
-        call = self.call_of(cursor) if cursor._kind_id == CALL_EXPR else None
-        if call:
-            line, number = cursor.location.line, 0
-            while (line, call.function, number) in self.found:
-                number += 1
-            self.found[line, call.function, number] = call
+        if cursor._kind_id == TYPEDEF_DECL:
+            self.formats.typedefs.append(cursor)
+        elif cursor._kind_id == CALL_EXPR:
+            self.note_call(cursor)
         return VISIT_INSIDE
 
-    def call_of(self, cursor: Any) -> Optional[Call]:
-        """Returns the call of a function whose format is known, if that is what a cursor is."""
-        function = cursor.referenced
-        if function is None or function.kind.name not in CALLED:
-            return None
-        if function.hash not in self.shapes:
-            self.shapes[function.hash] = self.shape_of(function)
-        shape = self.shapes[function.hash]
-        arguments = list(cursor.get_arguments()) if shape else []
-        if not shape or shape.first is None or len(arguments) <= shape.format:
-            return None
-        return Call(
+    def note_call(self, cursor: Any) -> None:
+        callee = self.shapes.callee(cursor)
+        if callee is None:
+            return
+        if callee.shape is UNREADABLE:
+            self.unread += 1
+        elif callee.shape is None:
+            self.note_other(cursor, callee)
+        elif callee.shape.first is not None:
+            arguments = list(cursor.get_arguments())
+            if len(arguments) > callee.shape.format:
+                self.note_format(cursor, callee.name, callee.shape, arguments)
+
+    def note_format(self, cursor: Any, name: str, shape: Shape, arguments: Sequence[Any]) -> None:
+        """Notes the call of a function that has a format."""
+        read = list(self.formats.read(arguments[shape.format]))
+        self.unread += None in read
+        line = cursor.location.line
+        number = self.in_line[line, name]
+        self.in_line[line, name] += 1
+        self.found[line, name, number] = Call(
             self.file_of(cursor.location),
             self.line_of(cursor.location),
-            function.spelling,
-            tuple(map(self.format_of, self.literals_of(arguments[shape.format]))),
+            name,
+            tuple(it for it in read if it),
             tuple(map(argument_of, arguments[shape.first :])),
         )
 
-    def shape_of(self, function: Any) -> Optional[Shape]:
-        """Returns where a function has its format: by an option, by its attribute, or since it is the C library's."""
-        given = self.functions.get(function.spelling) or self.format_by_attribute(function)
-        known = KNOWN.get(function.spelling)
-        if given or not known or not known.is_variadic or function.kind.name != "FUNCTION_DECL":
-            return given
-        types = [it.get_canonical().spelling for it in function.type.argument_types()]
-        is_right = len(types) == known.parameters and "const char *" in types[known.index]
-        return Shape(known.index, known.parameters) if is_right and function.type.is_function_variadic() else None
+    def note_other(self, cursor: Any, callee: Callee) -> None:
+        """Notes the call of another function that is given a literal with a percent sign: if it has no prototype, and a
+        name of the C library; or as its last parameter, before more arguments.
+        """
+        if not callee.has_prototype:
+            self.unread += any(map(self.has_percent, cursor.get_arguments()))
+        elif callee.last is not None:
+            given = list(cursor.get_arguments())[callee.last : callee.last + 1]
+            if given and self.has_percent(given[0]):
+                self.others[f"{callee.name}:{callee.last}:{callee.last + 1}"] += 1
 
-    def literals_of(self, cursor: Any) -> Iterator[Any]:
-        """Yields the string literals that the value of an expression may be."""
-        kind, children = cursor.kind.name, list(cursor.get_children())
-        if kind == "STRING_LITERAL":
-            yield cursor
-        elif kind in (*AROUND, "CSTYLE_CAST_EXPR") and children:
-            yield from self.literals_of(children[-1])
-        elif kind == "DECL_REF_EXPR" and is_constant(cursor.referenced):
-            for child in cursor.referenced.get_children():
-                yield from self.literals_of(child)
-        elif kind == "BINARY_OPERATOR" and children[0].type.kind.name == "VOID":
-            # A comma, as ngettext of a program without translations has it.
-            yield from self.literals_of(children[1])
-        elif kind == "CONDITIONAL_OPERATOR":
-            yield from self.literals_of(children[1])
-            yield from self.literals_of(children[2])
-        elif kind == "CALL_EXPR" and cursor.referenced is not None and self.returns_format(cursor.referenced):
-            for argument in cursor.get_arguments():
-                yield from self.literals_of(argument)
-
-    def returns_format(self, function: Any) -> bool:
-        """Returns whether a function returns one of its arguments, or a translation of it."""
-        if GETTEXT.fullmatch(function.spelling):
-            return True
-        return any("format_arg" in it for it in self.attributes_of(function))
-
-    def format_of(self, literal: Any) -> Format:
-        text = LINE_MARKER.sub("", self.text_of(literal))
-        tokens = tuple(Token(it[1], it[2] is not None) for it in TOKEN.finditer(text))
-        return Format(literal.spelling, tokens)
-
-
-def is_constant(variable: Any) -> bool:
-    """Returns whether a cursor is an array of constant characters, or a constant pointer to such."""
-    if variable is None or variable.kind.name != "VAR_DECL":
-        return False
-    type = variable.type
-    if type.kind.name == "CONSTANTARRAY":
-        return bool(type.element_type.is_const_qualified())
-    return bool(type.kind.name == "POINTER" and type.is_const_qualified() and type.get_pointee().is_const_qualified())
+    def has_percent(self, argument: Any) -> bool:
+        """Returns whether an argument is a literal with a percent sign."""
+        return any("%" in it.source for it in self.formats.read(argument) if it)
 
 
 def argument_of(cursor: Any) -> Argument:
@@ -169,4 +146,8 @@ def argument_of(cursor: Any) -> Argument:
     while inside.kind.name in AROUND and len(children) == 1:
         children = list(inside.get_children())
         inside = children[0] if len(children) == 1 else inside
-    return Argument(INTEGERS.get(type.kind.name), type.spelling, inside.type.spelling)
+    # A parameter that is declared as an array is a pointer.
+    spelling = f"{type.element_type.spelling} *" if type.kind.name in ARRAYS else type.spelling
+    is_natural = inside.kind.name == "INTEGER_LITERAL" or inside.type.get_canonical().kind.name in UNSIGNED
+    is_unsigned = type.kind.name == "INT" and is_natural
+    return Argument(INTEGERS.get(type.kind.name), spelling, inside.type.spelling.replace(TYPE_MARK, ""), is_unsigned)

@@ -2,7 +2,7 @@
 
 import collections
 import tempfile
-from typing import Any, Counter, Hashable, Iterable, Iterator, Optional, Sequence, Set
+from typing import Any, Counter, Hashable, Iterable, Iterator, List, Optional, Sequence, Set, Tuple
 
 from ..command_line import MODELS, USAGE, status_of
 from ..compiling.left import Left
@@ -21,13 +21,18 @@ from .retargeting import write_headers
 from .unit import Settings
 
 
+# How many functions that aren't known the last line names, if they get this many times the formats that were judged.
+MOST_NAMED, TIMES = 3, 4
+
+
 def jobs_of(files: Files, question: Question) -> Iterator[Job]:
-    """Yields what is to be checked."""
+    """Yields what is to be checked, and what is left or skipped, and why."""
     for name in files.names():
+        why = files.why_skipped(name)
         try:
-            yield Job(name.path, files.commands(name.path), question)
-        except Left as why:
-            yield Job(name.path, (), question, str(why))
+            yield Job(name.path, () if why else files.commands(name.path), question, why_skipped=why)
+        except Left as left:
+            yield Job(name.path, (), question, str(left))
 
 
 def question_of(options: Any, folder: str) -> Question:
@@ -45,26 +50,46 @@ def each_once(answers: Iterable[Answer], seen: Set[Hashable]) -> Iterator[Answer
         yield one._replace(found=found)
 
 
-def summary(counts: Counter[str]) -> str:
-    """Returns what is said at the end: how much was judged, and what was found."""
-    parts = [f"{counts[it]} {it if counts[it] != 1 else it[:-1]}" for it in ("files", "formats", "arguments")]
+def counted(count: int, word: str) -> str:
+    return f"{count} {word if count == 1 else word + 's'}"
+
+
+def summary(counts: Counter[str], others: Counter[str]) -> str:
+    """Returns what is said at the end: how much was judged and wasn't, and what was found. If hardly anything was judged,
+    it names the functions that aren't known and get most formats.
+    """
+    judged = ", ".join(counted(counts[f"{it}s"], it) for it in ("file", "format", "argument"))
     found = ", ".join(f"{counts[it]} {it}" for it in RULES if counts[it])
-    return f"{', '.join(parts)}: {found or 'nothing found'}"
+    parts = [f"{judged}: {found or 'nothing found'}"]
+    if counts["unread"]:
+        calls = counted(counts["unread"], "call")
+        parts.append(f"{calls} with {'a format that wasn' if counts['unread'] == 1 else 'formats that weren'}'t read")
+    if sum(others.values()) > TIMES * counts["formats"]:
+        names = [f"{counted(count, 'call')} of {it.split(':')[0]} (--function {it})" for it, count in named(others)]
+        parts.append(f"functions that aren't known get literals with %: {', '.join(names)}")
+    return "; ".join(parts)
+
+
+def named(others: Counter[str]) -> List[Tuple[str, int]]:
+    """Returns the functions that are called most, and how often each is."""
+    return sorted(others.items(), key=lambda it: (-it[1], it[0]))[:MOST_NAMED]
 
 
 def check(printer: Printer, answers: Iterable[Answer]) -> int:
     """Prints what is found. Returns the exit status."""
     status = 0
     counts: Counter[str] = collections.Counter()
+    others: Counter[str] = collections.Counter()
     for one in answers:
-        counts.update({it: one.counts[it] for it in ("files", "formats", "arguments")})
+        counts.update({it: one.counts[it] for it in ("files", "formats", "arguments", "unread")})
+        others.update(one.others)
         for found in one.found.values():
             printer.add(with_source(found.finding) if printer.has_excerpts else found.finding)
             counts[found.finding.kind] += 1
             status = max(status, int(found.finding.level == ERROR))
         status = max(status, USAGE if one.counts["left"] else 0)
     printer.end()
-    printer.say(summary(counts))
+    printer.say(summary(counts, others))
     return status
 
 

@@ -22,7 +22,7 @@ class Fixer(Rewriter):
 
     def __init__(self, options: Any, files: Files, answers: Sequence[Answer]) -> None:
         given: Dict[str, Shape] = dict(options.function)
-        functions = Functions({name: it.format for name, it in given.items()}, True)
+        functions = Functions({name: it.format for name, it in given.items()}, options.attribute)
         super().__init__(files, functions, [Model.LP64], options.diff)
         self.answers = {shown_file(it.file): it for it in answers}
 

@@ -22,6 +22,7 @@ Converted = Tuple[Key, int, int]
 NOT_THE_SAME = "its new text prints something else"
 NOT_WHOLE = "it is only a part of a format"
 NOT_EVERYWHERE = "another use of it would be wrong"
+NOT_FROM_NAME = "its length modifier names a type that each platform chooses"
 
 
 def fixes_of(
@@ -51,6 +52,8 @@ def fix_of(
     edits = {start: (it, new.directive) for start, (it, new) in written.items() if new and new.is_plain}
     if not edits:
         return None, ""
+    if any(names_type(it.directive) and not names_type(new) for it, new in edits.values()):
+        return None, NOT_FROM_NAME
     if not all(it.is_whole for it in uses):
         return None, NOT_WHOLE
     text = place.text
@@ -62,6 +65,11 @@ def fix_of(
     fixed = {converted(fault) for fault, _ in edits.values()}
     after = {converted(it) for it in faults_with(unit, text, uses)}
     return (text, "") if after <= before - fixed else (None, NOT_EVERYWHERE)
+
+
+def names_type(directive: str) -> bool:
+    """Returns whether a directive has one of the length modifiers z, j and t."""
+    return directive[-2:-1] in ("z", "j", "t")
 
 
 def is_same(old: bytes, new: bytes) -> bool:

@@ -8,14 +8,15 @@ from .. import BadLiteral, DirectiveSpan, Refused, decode_literal, directives
 from ..items import errno_parts, items_of
 from ..kinds import Type
 from ..models import Model
-from .calls import Argument, Call, Format, Key, Token
+from .calls import Argument, Call, Key
+from .formats import Format, Token
 from .platforms import PLATFORMS, Platform
 
 SIGNED = {Type.UINT: Type.INT, Type.ULONG: Type.LONG, Type.ULONG_LONG: Type.LONG_LONG}
 INTEGERS = (*SIGNED.values(), *SIGNED)
 # What C calls the types that aren't integers, without qualifiers.
 POINTERS = {
-    Type.POINTER_TO_SCHAR: "signed char",
+    Type.POINTER_TO_SCHAR: "(?:signed )?char",
     Type.POINTER_TO_SHORT: "short",
     Type.POINTER_TO_INT: "int",
     Type.POINTER_TO_LONG: "long",
@@ -25,12 +26,16 @@ OTHERS = {
     Type.DOUBLE: re.compile("double"),
     Type.LONG_DOUBLE: re.compile("long double"),
     Type.STRING: re.compile(r"(?:(?:un)?signed )?char \*"),
-    Type.WIDE_STRING: re.compile(r"(?:int|long|unsigned short) \*"),
     Type.POINTER_TO_VOID: re.compile(r".*\*.*"),
     **{type: re.compile(rf"(?:unsigned )?{name} \*") for type, name in POINTERS.items()},
 }
 QUALIFIER = re.compile(r"\b(?:const|volatile|restrict) ?|(?<=\*)(?:const|volatile|restrict)\b")
+# What the data models have for `long` and for `wchar_t`, which may be signed or not.
 LONG_BITS = {Model.LP64: 64, Model.ILP32: 32, Model.LLP64: 32}
+WIDE_STRINGS = {
+    model: re.compile(rf"(?:unsigned )?{type} \*")
+    for model, type in [(Model.LP64, "int"), (Model.ILP32, "long"), (Model.LLP64, "short")]
+}
 
 
 class Fit(enum.Enum):
@@ -86,6 +91,24 @@ class Fault(NamedTuple):
     def directive(self) -> str:
         return self.text[self.span.start : self.span.end].decode(errors="backslashreplace")
 
+    @property
+    def tokens(self) -> List[Tuple[Token, int, int]]:
+        """The literals that the directive is in, with where the bytes of each are in the text."""
+        listed = spans_of(self.call.formats[self.format])
+        return [it for it in listed if it[1] < self.span.end and self.span.start < it[2]]
+
+    @property
+    def shown(self) -> str:
+        """The directive as the source has it between quotes: with the names of PRI macros."""
+        if not any(token.macro for token, _, _ in self.tokens):
+            return self.directive
+        parts = []
+        for token, start, end in self.tokens:
+            part = self.text[max(start, self.span.start) : min(end, self.span.end)]
+            is_named = token.macro.startswith("PRI")
+            parts.append(f'" {token.macro} "' if is_named else part.decode(errors="backslashreplace"))
+        return "".join(parts)
+
 
 class RefusedFormat(NamedTuple):
     """A format that isn't accepted: its call, its text if that is known, and why."""
@@ -118,7 +141,7 @@ def fit_of(wanted: Type, given: Argument, model: Model) -> Fit:
         fit = fit_of(Type.UINT, given, model)
         return Fit.EQUAL if fit is Fit.SIGN else fit
     if wanted not in INTEGERS or given.type is None:
-        pattern = OTHERS.get(wanted)
+        pattern = WIDE_STRINGS[model] if wanted is Type.WIDE_STRING else OTHERS.get(wanted)
         is_right = pattern is not None and pattern.fullmatch(QUALIFIER.sub("", given.spelling).strip())
         return Fit.EQUAL if is_right else Fit.KIND
     if wanted is given.type:
@@ -155,7 +178,8 @@ def text_of(format: Format, platform: Platform) -> Text:
 
 def bytes_of(format: Format) -> bytes:
     """Returns the text of a format, without `%m`. Raises `BadLiteral`."""
-    return without_errno(decode_literal(format.source.encode("utf-8", "surrogateescape")))
+    text = decode_literal(format.source.encode("utf-8", "surrogateescape"))
+    return without_errno(text[format.skipped :])
 
 
 def arguments_of(spans: Sequence[DirectiveSpan]) -> Iterator[Tuple[int, int, Type]]:
@@ -174,9 +198,14 @@ def faults_of(key: Key, calls: Sequence[Call], number: int, texts: Sequence[Text
         index, argument, _ = found[0]
         given = tuple(it.arguments[argument] if argument < len(it.arguments) else MISSING for it in calls)
         wanted = tuple(type for _, _, type in found)
-        fits = tuple(fit_of(it, had, platform.model) for it, had, platform in zip(wanted, given, PLATFORMS))
+        text, spans = texts[0]
+        # The argument of h and hh is converted to a type of this sign.
+        is_short = argument == spans[index].argument and b"h" in text[spans[index].start : spans[index].end]
+        fits = tuple(
+            Fit.EQUAL if fit is Fit.SIGN and (is_short or had.is_unsigned) else fit
+            for fit, had in zip(map(fit_of, wanted, given, [it.model for it in PLATFORMS]), given)
+        )
         if set(fits) != {Fit.EQUAL}:
-            text, spans = texts[0]
             yield Fault(key, calls[0], number, text, spans[index], argument, fits, wanted, given)
 
 
@@ -208,23 +237,10 @@ def judged(units: Sequence[Mapping[Key, Call]]) -> Judged:
     return result._replace(formats=formats, arguments=arguments)
 
 
-def is_composed(fault: Fault) -> bool:
-    """Returns whether a directive is in several literals, and no PRI macro made one of them: then `#if` may have chosen
-    its modifier.
-    """
-    listed = spans_of(fault.call.formats[fault.format].tokens)
-    touched = [it for it, start, end in listed if overlaps(fault.span, start, end)]
-    return len(touched) > 1 and not any(it.is_pri for it in touched)
-
-
-def overlaps(span: DirectiveSpan, start: int, end: int) -> bool:
-    return start < span.end and span.start < end
-
-
-def spans_of(tokens: Sequence[Token]) -> Iterator[Tuple[Token, int, int]]:
+def spans_of(format: Format) -> Iterator[Tuple[Token, int, int]]:
     """Yields the literals of a format, with where the bytes of each are in its text."""
-    at = 0
-    for token in tokens:
+    at = -format.skipped
+    for token in format.tokens:
         size = len(decode_literal(token.source.encode("utf-8", "surrogateescape")))
         yield token, at, at + size
         at += size

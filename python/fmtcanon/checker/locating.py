@@ -1,15 +1,17 @@
 """Finds where the directives of a unit are in its source, by a marker that is put before each string literal."""
 
 import re
-from typing import Dict, List, NamedTuple, Optional, Sequence, Tuple
+from typing import AbstractSet, Dict, List, NamedTuple, Optional, Sequence, Tuple
 
 from .. import BadLiteral, decode_literal, source_offset
 from ..compiling.left import Left
+from ..compiling.parsing import OTHER_BYTES
 from ..compiling.stand_ins import Original, StandIn, original
 from ..replace.calls import Marker
 from ..replace.places import Place, places_in
 from ..replace.tokens import plain_literals
-from .calls import Format, Key
+from .calls import Key
+from .formats import Format
 from .judging import Fault, without_errno
 from .unit import Unit
 
@@ -30,10 +32,13 @@ class Piece(NamedTuple):
 
 
 class Located(NamedTuple):
-    """The source of a unit, and of each format the text and the pieces that are in the source."""
+    """The source of a unit, of each format the text and the pieces that are in the source, and where the places start
+    that are compiled.
+    """
 
     file: Original
     formats: Dict[Tuple[Key, int], Tuple[bytes, List[Piece]]]
+    compiled: AbstractSet[int] = frozenset()
 
     def offset_of(self, fault: Fault, index: int) -> Optional[int]:
         """Returns where the byte of this index of a fault's format is in the source, or None."""
@@ -55,7 +60,7 @@ class Located(NamedTuple):
         found: Dict[int, List[Use]] = {}
         for (key, number), (text, pieces) in self.formats.items():
             for piece in pieces:
-                is_whole = len(pieces) == 1 and without_errno(piece.place.text) == text
+                is_whole = len(pieces) == 1 and in_ascii(without_errno(piece.place.text)) == in_ascii(text)
                 found.setdefault(piece.place.start, []).append(Use(key, number, is_whole))
         return found
 
@@ -68,17 +73,19 @@ def located(unit: Unit) -> Optional[Located]:
         marker = Marker()
         with StandIn(file.path) as stand_in:
             stand_in.write(with_markers(file.source, places, marker))
-            calls = unit.marked(stand_in)
+            text = unit.text(stand_in)
+        calls = unit.marked(text)
     except (Left, OSError):
         return None
     pattern = re.compile(f"fmtcanon_{marker.tag}_(\\d+)_".encode())
+    compiled = {places[int(it)].start for it in pattern.findall(text.encode())}
     found = {}
     for key, call in calls.items():
         for number, format in enumerate(call.formats):
             one = unmarked(format, pattern, places)
             if one:
                 found[key, number] = one
-    return Located(file, found)
+    return Located(file, found, compiled)
 
 
 def with_markers(source: bytes, places: Sequence[Place], marker: Marker) -> bytes:
@@ -102,5 +109,10 @@ def unmarked(
     for found in pattern.finditer(text):
         parts.append(text[done : found.start()])
         done = found.end()
-        pieces.append(Piece(places[int(found[1])], sum(map(len, parts))))
-    return without_errno(b"".join([*parts, text[done:]])), pieces
+        pieces.append(Piece(places[int(found[1])], sum(map(len, parts)) - format.skipped))
+    return without_errno(b"".join([*parts, text[done:]])[format.skipped :]), pieces
+
+
+def in_ascii(text: bytes) -> bytes:
+    """Returns a text in which `_` replaces each byte that libclang may not have got."""
+    return OTHER_BYTES.sub(b"_", text)

@@ -28,16 +28,21 @@ Examples:
   fmtcanon-check -p build --model ilp32
   fmtcanon-check -p build --diff
 
-Functions of the C library's printf family and those with the attribute format(printf, m, n) are known. Integers are \
-compared by size, rank and sign; other arguments must have the type that the directive takes. In JSON, the arguments \
-of a format are counted from 1, as in %1$d.
+Functions of the C library's printf family, as its headers declare them, and those with the attribute \
+format(printf, m, n) are known. Integers are compared by size, rank and sign; other arguments must have the type that \
+the directive takes. In JSON, the arguments of a format are counted from 1, as in %1$d.
+
+Calls whose formats can't be read are counted in the last line. If other variadic functions get four times as many \
+literals with % as were judged, it names the most frequent of them, with the option --function for each.
 
 The kinds of findings are {', '.join(RULES)}.
 
 Exit status:
   0  nothing is an error
   1  something is an error
-  2  usage error, a file was left, or an output can't be written"""
+  2  usage error, a file was left, or an output can't be written
+
+A header that is given is skipped, and not left."""
 # Types of C that --type may name, apart from typedefs of the C library.
 INTEGER = re.compile(r"(?:(?:un)?signed )?(?:char|short|int|long|long long)")
 
@@ -62,6 +67,8 @@ def parser() -> Parser:
         ("--composed", "also report directives of several literals, once for each file and type"),
     ]:
         made.add_argument(option, action="store_true", help=text)
+    attribute = "with --fix and --diff, also write formats of functions with the attribute format(printf, m, n)"
+    made.add_argument("--attribute", action="store_true", help=attribute)
     modes = made.add_mutually_exclusive_group()
     fix = "write what is proposed where only a length modifier changes and the program prints the same"
     modes.add_argument("--fix", action="store_true", help=fix)

@@ -2,12 +2,13 @@
 
 import functools
 import re
-from typing import Dict, NamedTuple, Optional, Tuple
+from typing import Dict, Iterator, NamedTuple, Optional, Tuple
 
-from .. import directives
+from .. import Refused, directives
 from ..kinds import Type
-from .judging import SIGNED, Fault, Fit
-from .platforms import PLATFORMS
+from ..models import Model
+from .judging import SIGNED, Fault, Fit, fit_of
+from .platforms import PLATFORMS, Platform
 
 LENGTHS = ("", "l", "ll", "z", "t", "j")
 # What length modifiers are made of.
@@ -21,6 +22,13 @@ OPEN = re.compile(
 # What is tried first for a type, by its name.
 FIRST = {"size_t": "z", "ssize_t": "z", "ptrdiff_t": "t", "intmax_t": "j", "uintmax_t": "j"}
 FIRST.update(intptr_t="PTR", uintptr_t="PTR")
+# What characters are cast to.
+CHARACTERS = {"c": "int", "C": "wint_t", "lc": "wint_t"}
+# The unsigned types that length modifiers and the ends of PRI macros take, by which a cast can name them.
+UNSIGNED = {"": "unsigned int", "l": "unsigned long", "ll": "unsigned long long", "z": "size_t", "j": "uintmax_t"}
+UNSIGNED.update({"64": "uint64_t", "PTR": "uintptr_t"})
+MACRO = re.compile(r'" PRI([diouxX])(\w+) "$')
+NUMBER = re.compile(r"\d+\$")
 
 
 class Proposal(NamedTuple):
@@ -61,17 +69,62 @@ def fitting(fault: Fault) -> Optional[str]:
 
 
 def proposal(fault: Fault) -> Optional[Proposal]:
-    """Returns what to write instead of a directive whose argument doesn't fit, or None."""
+    """Returns what to write instead of a directive whose argument doesn't fit, or None: a directive that the library
+    accepts and that the argument, or a cast of it, fits on every platform; or a cast alone.
+    """
     if Fit.KIND in fault.fits:
         return None
     if fault.is_star:
         return Proposal("", False, "int")
-    directive, type = fault.directive, fault.given[0].type
-    is_unsigned, letter = type in SIGNED, directive[-1]
-    letter = "u" if is_unsigned and letter in "di" else letter
-    bare, end = directive[:-1].rstrip(LETTERS), fitting(fault)
-    if end is None:
-        return Proposal(f"{bare}j{letter}", False, "uintmax_t" if letter not in "di" else "intmax_t")
+    return next((it for it in proposals(fault) if is_right(fault, it)), None)
+
+
+def proposals(fault: Fault) -> Iterator[Proposal]:
+    """Yields what may be written instead of a directive, the best first."""
+    directive, type, end = fault.directive, fault.given[0].type, fitting(fault)
+    letter, bare = directive[-1], directive[:-1].rstrip(LETTERS)
+    is_unsigned, is_sign = type in SIGNED, fault.worst is Fit.SIGN
+    if letter in "cC":
+        yield Proposal("", False, CHARACTERS["lc" if directive[-2:] == "lc" else letter])
+        return
+    if letter in "di" and is_unsigned:
+        # Flags for a sign do nothing there.
+        bare = re.sub("[+ ]", "", bare)
+    if letter in "diu" and (is_unsigned or is_sign):
+        letter = "u" if is_unsigned else "d"
     if end in MACROS:
-        return Proposal(f'{bare}" PRI{letter}{end} "', False)
-    return Proposal(f"{bare}{end}{letter}", True)
+        yield Proposal(f'{bare}" PRI{letter}{end} "', False)
+    elif end is not None:
+        yield Proposal(f"{bare}{end}{letter}", True)
+    if is_sign and end in UNSIGNED:
+        yield Proposal("", False, UNSIGNED[end])
+    letter = letter if letter not in "diu" else "u" if is_unsigned else "d"
+    yield Proposal(f"{bare}j{letter}", False, "intmax_t" if letter == "d" else "uintmax_t")
+
+
+def is_right(fault: Fault, made: Proposal) -> bool:
+    """Returns whether the library accepts a proposal, and it fits on every platform and differs from what is there."""
+    if not made.directive:
+        return True
+    types = [type_of(made.directive, it) for it in PLATFORMS]
+    if made.cast:
+        return None not in types
+    allowed = (Fit.EQUAL,) if fault.worst is Fit.SIGN else (Fit.EQUAL, Fit.SIGN)
+    pairs = zip(types, fault.given, PLATFORMS)
+    does_fit = all(type is not None and fit_of(type, given, it.model) in allowed for type, given, it in pairs)
+    return does_fit and made.directive != fault.shown
+
+
+def type_of(directive: str, platform: Platform) -> Optional[Type]:
+    """Returns the type that a directive takes, without the numbers of arguments, or None if it isn't accepted."""
+    plain = MACRO.sub(lambda it: f"{platform.modifiers[it[2]]}{it[1]}", NUMBER.sub("", directive))
+    return taken(plain, platform.model)
+
+
+@functools.lru_cache(maxsize=None)
+def taken(directive: str, model: Model) -> Optional[Type]:
+    try:
+        found = directives(directive, model=model)
+    except Refused:
+        return None
+    return found[0].type if len(found) == 1 else None

@@ -3,7 +3,7 @@
 import functools
 import os
 from dataclasses import replace
-from typing import Any, Dict, List, NamedTuple, Optional, Sequence, Tuple
+from typing import Any, Callable, Dict, List, NamedTuple, Optional, Sequence, Tuple
 
 from .. import Refused
 from ..command_line import model_names
@@ -14,13 +14,13 @@ from ..models import Model
 from ..rejections import advice_on, refused_span
 from ..replace.replacer import column_of
 from .calls import Call
-from .judging import ORDER, SIGNED, Fault, Fit, RefusedFormat, is_composed
+from .judging import MISSING, ORDER, SIGNED, Fault, Fit, RefusedFormat
 from .locating import Located
 from .platforms import PLATFORMS
 from .proposals import fitting, proposal
 
 SIZE, KIND, RANK, SIGN, COMPOSED = "size", "kind", "rank", "sign", "composed"
-LOST, UNJUDGED, LEFT, FIXED = "lost", "unjudged", "left", "fixed"
+LOST, UNJUDGED, LEFT, SKIPPED, FIXED = "lost", "unjudged", "left", "skipped", "fixed"
 RULES = {
     SIZE: "An argument has another size than its directive takes on some platform.",
     KIND: "An argument is missing, or of another kind than its directive takes, as a double for %d.",
@@ -30,6 +30,7 @@ RULES = {
     LOST: "A call is only there on some platforms.",
     UNJUDGED: "What may be the format of a call isn't accepted.",
     LEFT: "A file, or a part of it, wasn't judged.",
+    SKIPPED: "A header, or a file of a folder that isn't compiled, wasn't judged by itself.",
     FIXED: "A directive was replaced by one that fits on every platform.",
 }
 LEVELS = {SIZE: ERROR, KIND: ERROR, RANK: NOTE, SIGN: NOTE, COMPOSED: NOTE}
@@ -72,13 +73,13 @@ def spot_of(fault: Fault, where: Optional[Located]) -> Spot:
     return Spot(where.file.path, line, column_of(source, start), end)
 
 
-def kind_of(fault: Fault, models: Sequence[Model]) -> Optional[str]:
+def kind_of(fault: Fault, models: Sequence[Model], composed: Callable[[Fault], bool]) -> Optional[str]:
     """Returns the kind of a finding, by the data models that are asked about; None if there is no fault in these."""
     fits = [fit for fit, it in zip(fault.fits, PLATFORMS) if it.model in models]
     worst = max(fits, key=ORDER.index)
     if worst is Fit.EQUAL:
         return None
-    return COMPOSED if worst is not Fit.SIGN and is_composed(fault) else worst.value
+    return COMPOSED if worst is not Fit.SIGN and composed(fault) else worst.value
 
 
 def type_name(type: Optional[Type], spelling: str) -> str:
@@ -87,10 +88,12 @@ def type_name(type: Optional[Type], spelling: str) -> str:
 
 def taken(fault: Fault) -> str:
     """Returns what a directive takes, by platforms if that isn't the same on all."""
-    names = [TYPE_NAMES[it] for it in fault.wanted]
-    return names[0] if len(set(names)) == 1 else ", ".join(
-        f"{name} in {platform.name}" for name, platform in zip(names, PLATFORMS)
-    )
+    names: Dict[str, List[str]] = {}
+    for type, platform in zip(fault.wanted, PLATFORMS):
+        names.setdefault(TYPE_NAMES[type], []).append(platform.name)
+    if len(names) == 1:
+        return TYPE_NAMES[fault.wanted[0]]
+    return ", ".join(f"{name} in {listed(platforms)}" for name, platforms in names.items())
 
 
 def message_of(fault: Fault, models: Sequence[Model]) -> str:
@@ -100,7 +103,7 @@ def message_of(fault: Fault, models: Sequence[Model]) -> str:
         if platform.model in models and fit is not Fit.EQUAL:
             groups.setdefault(fit, []).append(platform.name)
     wrong = [f"{FITS[it]} in {listed(groups[it])}" for it in reversed(ORDER) if it in groups]
-    what = f"a * of {fault.directive}" if fault.is_star else fault.directive
+    what = f"a * of {fault.shown}" if fault.is_star else fault.shown
     written = proposal(fault)
     return (
         f"{what} takes {taken(fault)}, and the argument is {name_of(fault)}: {', '.join(wrong)}"
@@ -126,16 +129,16 @@ def name_of(fault: Fault) -> str:
 
 def details_of(fault: Fault) -> Dict[str, Any]:
     platforms = {
-        it.name: {"takes": TYPE_NAMES[wanted], "is": type_name(given.type, given.spelling), "fit": fit.value}
+        it.name: {"takes": TYPE_NAMES[wanted], "is": type_name(given.type, given.spelling) or None, "fit": fit.value}
         for it, wanted, given, fit in zip(PLATFORMS, fault.wanted, fault.given, fault.fits)
     }
     written = proposal(fault)
     return {
         "format": fault.text.decode(errors="backslashreplace"),
-        "directive": fault.directive,
+        "directive": fault.shown,
         "function": fault.call.function,
         "argument": fault.number + 1,
-        "type": name_of(fault),
+        "type": None if fault.given[0] is MISSING else name_of(fault),
         "platforms": platforms,
         "proposal": str(written) if written else None,
     }
@@ -196,6 +199,11 @@ def finding_of_call(call: Call, kind: str, message: str, models: Sequence[Model]
 def left(path: str, why: str, models: Sequence[Model]) -> Finding:
     """Returns the finding of a file that is left, as a whole or in part."""
     return Finding(shown_file(path), 0, None, LEFT, WARNING, f"left: {why}", models=model_names(models))
+
+
+def skipped(path: str, why: str, models: Sequence[Model]) -> Finding:
+    """Returns the finding of a file that isn't judged by itself."""
+    return Finding(shown_file(path), 0, None, SKIPPED, NOTE, f"skipped: {why}", models=model_names(models))
 
 
 def with_source(finding: Finding) -> Finding:

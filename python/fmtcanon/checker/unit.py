@@ -40,16 +40,23 @@ class Unit:
         errors = parsed[0].errors()
         self.why_left: Optional[str] = errors[0] if errors else None
         self.calls: List[Dict[Key, Call]] = [it.found for it in parsed]
+        self.unread, self.others = parsed[0].unread, parsed[0].others
+        self.defined: Optional[bytes] = None
 
     def text(self, stand_in: Optional[StandIn] = None) -> str:
         """Returns what the compiler's preprocessor makes of the file, or of a stand-in."""
         return as_utf8(self.command.preprocessed(stand_in)).decode()
 
-    def parsed(self, text: str, platform: Platform) -> Calls:
-        types = {name: platform.types.get(type, type) for name, type in self.settings.types.items()}
-        here = platform._replace(types={**platform.types, **types})
-        return Calls(self.command, retargeted(text, here).encode(), platform, self.settings.functions)
+    def definitions(self) -> bytes:
+        """Returns the text of the unit with the definitions of its macros."""
+        if self.defined is None:
+            self.defined = bytes(self.command.run(None, "-E", "-dD", "-w").stdout)
+        return self.defined
 
-    def marked(self, stand_in: StandIn) -> Dict[Key, Call]:
-        """Returns the calls of a stand-in of the file, as it is compiled."""
-        return self.parsed(self.text(stand_in), COMPILED).found
+    def parsed(self, text: str, platform: Platform) -> Calls:
+        own = {name: platform.types.get(type, type) for name, type in self.settings.types.items()}
+        return Calls(self.command, retargeted(text, platform, own).encode(), platform, self.settings.functions)
+
+    def marked(self, text: str) -> Dict[Key, Call]:
+        """Returns the calls in the text of a stand-in of the file, as it is compiled."""
+        return self.parsed(text, COMPILED).found

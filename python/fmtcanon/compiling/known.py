@@ -66,5 +66,8 @@ def known_functions() -> Dict[str, Known]:
 
 
 KNOWN = known_functions()
+# Those that compilers know by their names, whatever header declares them with their prototypes.
+BUILT_IN = ("printf", "fprintf", "sprintf", "snprintf")
+BUILT_IN_PREFIX = "__builtin_"
 # Functions that return the message for a key: what they are given is a key, and not a format.
 GETTEXT = re.compile(r"_|N_|(?:libintl_|rpl_)?d?c?n?p?gettext(?:_expr|_aux)?")

@@ -8,7 +8,9 @@ import os
 import re
 from typing import Any, Callable, Dict, List, NamedTuple, Optional, Sequence
 
+from .attributes import printf_indexes
 from .compile_commands import CompileCommand
+from .known import Known
 from .left import Left
 from .libclang import cindex
 
@@ -30,11 +32,13 @@ GNU_PRINTF = re.compile(
     # White space, and line markers.
     % {b"gap": rb"(?:\s|(?<=\n)# \d+ [^\n]*)*"}
 )
-FORMAT_ATTRIBUTE = re.compile(r"format\w*\s*\(\s*(?:__)?printf(?:__)?\s*,\s*(\d+)\s*,\s*(\d+)")
+OTHER_BYTES = re.compile(rb"[\x80-\xff]")
 LINE_MARKER = re.compile(r"(?m)^# \d+ .*")
 # The kinds of cursors and the answers of a visitor, as the C interface of libclang numbers them.
-FUNCTION_DECL, CALL_EXPR, VISIT_NEXT, VISIT_INSIDE = 8, 103, 1, 2
+FUNCTION_DECL, TYPEDEF_DECL, CALL_EXPR, VISIT_NEXT, VISIT_INSIDE = 8, 20, 103, 1, 2
 ERROR = 3
+# Where a declaration is that isn't at file scope.
+SCOPES = ("NAMESPACE", "CLASS_DECL", "STRUCT_DECL", "CLASS_TEMPLATE", "UNION_DECL")
 
 
 def as_utf8(text: bytes) -> bytes:
@@ -45,7 +49,7 @@ def as_utf8(text: bytes) -> bytes:
         text.decode()
         return text
     except UnicodeDecodeError:
-        return re.sub(rb"[\x80-\xff]", b"_", text)
+        return OTHER_BYTES.sub(b"_", text)
 
 
 class Shape(NamedTuple):
@@ -53,6 +57,10 @@ class Shape(NamedTuple):
 
     format: int
     first: Optional[int]
+
+
+# That of a function whose attribute has numbers that aren't constants of numbers.
+UNREADABLE = Shape(-1, None)
 
 
 class Parsed:
@@ -115,8 +123,27 @@ class Parsed:
 
     def format_by_attribute(self, declaration: Any) -> Optional[Shape]:
         """Returns what the attribute `format(printf, ..)` of a declaration says, or None."""
-        found = next(filter(None, map(FORMAT_ATTRIBUTE.search, self.attributes_of(declaration))), None)
-        return Shape(int(found[1]) - 1, int(found[2]) - 1 if found[2] != "0" else None) if found else None
+        found = next(filter(None, map(printf_indexes, self.attributes_of(declaration))), None)
+        if found is None:
+            return None
+        format, first = found
+        if format is None or first is None:
+            return UNREADABLE
+        return Shape(format - 1, first - 1 if first else None)
+
+    def is_own_header(self, file: str, header: "re.Pattern[str]") -> bool:
+        """Returns whether a file is the C library's header of this name."""
+        return any(file.startswith(it) and header.fullmatch(file[len(it) :]) for it in self.folders)
+
+    def why_another(self, function: Any, known: Known) -> Optional[str]:
+        """Returns why a function with the name of one of the C library isn't that, or None."""
+        name, first = function.spelling, function.canonical
+        if not self.is_own_header(self.file_of(first.location), known.header):
+            where = os.path.basename(self.file_of(first.location)) or "no file"
+            return f"{name} is declared in {where}, and not in the C library's header"
+        if first.semantic_parent.kind.name in SCOPES:
+            return f"{name} isn't at file scope"
+        return None if has_prototype(first, known) else f"{name} has another prototype"
 
     def visit(self, function: Callable[[Any], int]) -> None:
         """Calls a function for each cursor, which returns whether to go on inside of it.
@@ -137,3 +164,12 @@ class Parsed:
         library.clang_visitChildren(self.unit.cursor, library.clang_visitChildren.argtypes[1](called), None)
         if failures:
             raise failures[0]
+
+
+def has_prototype(function: Any, known: Known) -> bool:
+    """Returns whether the parameters of a function are those of one of the C library."""
+    if function.type.get_canonical().kind.name != "FUNCTIONPROTO":
+        return False
+    types = [it.get_canonical().spelling for it in function.type.get_canonical().argument_types()]
+    is_right = len(types) == known.parameters and "const char *" in types[known.index]
+    return is_right and function.type.is_function_variadic() == known.is_variadic

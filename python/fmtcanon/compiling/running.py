@@ -1,12 +1,13 @@
-"""Runs compilers: each for a limited time, and none once the command is to end."""
+"""Runs compilers and git: each for a limited time, and none once the command is to end."""
 
 import os
 import signal
 import subprocess
 import threading
 from contextlib import contextmanager
-from typing import Dict, Iterator, Mapping, Optional, Sequence, Set
+from typing import Any, Dict, Iterator, Mapping, Optional, Sequence, Set
 
+from ..interrupting import CLEANING
 from .left import Left
 
 # The seconds that a run of a compiler may take.
@@ -29,33 +30,26 @@ def run(
     values: Dict[str, Optional[str]] = {it: os.environ[it] for it in os.environ if not it.startswith(WRITING)}
     values.update(names)
     environment = {name: value for name, value in values.items() if value is not None}
-    with started(words, folder, environment) as process:
-        try:
+    pipe = subprocess.PIPE
+    try:
+        with started(words, folder, environment, stdin=subprocess.DEVNULL, stdout=pipe, stderr=pipe) as process:
             output, errors = process.communicate(timeout=seconds)
-        except subprocess.TimeoutExpired as error:
-            raise Left(f"its compiler took more than {seconds} seconds") from error
+    except subprocess.TimeoutExpired as error:
+        raise Left(f"its compiler took more than {seconds} seconds") from error
+    except (OSError, ValueError) as error:
+        raise Left(f"its compiler can't be run: {error}") from error
     check_stopping()
     return subprocess.CompletedProcess(words, process.returncode, output, errors)
 
 
 @contextmanager
-def started(words: Sequence[str], folder: str, environment: Mapping[str, str]) -> Iterator["subprocess.Popen[bytes]"]:
+def started(
+    words: Sequence[str], folder: str, environment: Mapping[str, str], **streams: Any
+) -> Iterator["subprocess.Popen[bytes]"]:
     """Gives a process in a group of its own, which ends with the block."""
-    pipe = subprocess.PIPE
     with LOCK:
         check_stopping()
-        try:
-            process = subprocess.Popen(
-                words,
-                cwd=folder,
-                env=environment,
-                stdin=subprocess.DEVNULL,
-                stdout=pipe,
-                stderr=pipe,
-                start_new_session=True,
-            )
-        except (OSError, ValueError) as error:
-            raise Left(f"its compiler can't be run: {error}") from error
+        process = subprocess.Popen(words, cwd=folder, env=environment, start_new_session=True, **streams)
         RUNNING.add(process)
     try:
         yield process
@@ -64,7 +58,7 @@ def started(words: Sequence[str], folder: str, environment: Mapping[str, str]) -
             kill(process)
             RUNNING.discard(process)
         process.wait()
-        for stream in (process.stdout, process.stderr):
+        for stream in (process.stdin, process.stdout, process.stderr):
             if stream:
                 stream.close()
 
@@ -89,3 +83,6 @@ def stop() -> None:
         STOPPING.set()
         for process in RUNNING:
             kill(process)
+
+
+CLEANING.append(stop)

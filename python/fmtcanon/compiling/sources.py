@@ -42,8 +42,23 @@ class Files:
             else:
                 yield Name(operand, os.path.realpath(operand))
 
+    def why_skipped(self, name: Name) -> str:
+        """Returns why a file isn't read by itself although nothing is wrong: it is a header, or isn't C; or it is of a
+        folder, and isn't compiled. An empty text if it is read.
+        """
+        if os.path.isfile(name.path) and not SOURCES.fullmatch(name.path):
+            return "it isn't compiled by itself; a header is judged with the files that include it"
+        is_given = not self.options.files or name.shown in self.options.files
+        if not is_given and self.options.database and name.path not in self.database:
+            return "compile_commands.json has no command for it"
+        return ""
+
     def commands(self, path: str) -> List[CompileCommand]:
         """Returns the compile commands of a file."""
+        if not os.path.exists(path):
+            raise Left("there is no such file")
+        if not os.path.isfile(path):
+            raise Left("it isn't a regular file")
         if not SOURCES.fullmatch(path):
             raise Left("a header, or a part of a file, isn't compiled by itself")
         if not self.options.database:

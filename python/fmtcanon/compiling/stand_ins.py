@@ -11,6 +11,7 @@ import tempfile
 from types import TracebackType
 from typing import NamedTuple, Optional, Set, Type
 
+from ..interrupting import CLEANING
 from .left import Left
 from .running import LOCK, check_stopping
 
@@ -135,3 +136,6 @@ class StandIn:
             except OSError:
                 # It is being removed.
                 pass
+
+
+CLEANING.append(StandIn.remove_all)

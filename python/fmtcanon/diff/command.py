@@ -3,21 +3,19 @@
 import argparse
 import collections
 import functools
+import os
 import tempfile
-from typing import Any, Callable, Dict, Iterable, Iterator, NamedTuple, Optional, Sequence, Tuple
+from typing import Any, Callable, Dict, Iterable, Iterator, Optional, Sequence, Tuple
 
 from ..checker.fitting import Fitting
 from ..checker.retargeting import write_headers
 from ..command_line import MODELS, USAGE, Parser, status_of
 from ..compiling.libclang import MISSING, cindex
-from ..findings import ERROR, Finding, Printer
-from ..models import Model
+from ..findings import ERROR, Printer
 from ..processes import in_order
-from ..verdicts import Kind, Library
+from ..verdicts import Kind
 from ..visible import visible
-from .judging import FAULTS, RULES, is_judged, judge
-from .literals import Source
-from .pairing import paired
+from .reporting import FAULTS, RULES, Question, Report, report_on
 from .trees import Change, Git, Unreadable, changes_of
 
 NAME = "fmtcanon-diff"
@@ -37,7 +35,7 @@ Examples:
 A place is one or more adjacent string literals, with macros of <inttypes.h> and those that the file defines as \
 literals. Other macros and wide literals are not judged. Arguments of puts, fputs, asm, and of functions such as scanf \
 and strftime are not formats. Arguments are counted from 1, as in %1$d. Literals that were added or removed are \
-counted. Files are compared one by one.
+counted. Files are compared one by one, renamed ones too. A submodule that changed is named.
 
 The kinds of findings are {', '.join(RULES)}.
 
@@ -75,7 +73,15 @@ def parser() -> Parser:
         "-p",
         metavar="DIR",
         dest="database",
-        help="the folder of the new tree's compile_commands.json: other types are a note if the new call fits",
+        help="the folder of the new tree's compile_commands.json: other types are a note if the new call fits, and "
+        "added formats are judged in their calls",
+    )
+    made.add_argument(
+        "--not-printf",
+        action="append",
+        default=[],
+        metavar="NAME",
+        help="a function whose arguments are not formats of printf; may be given more than once",
     )
     made.add_argument("--verbose", action="store_true", help="also report what is the same")
     made.add_argument(
@@ -95,34 +101,6 @@ def parser() -> Parser:
     return made
 
 
-class Report(NamedTuple):
-    """What is found in a file, how many places came and went, and why it couldn't be read, if so."""
-
-    findings: Sequence[Finding] = ()
-    came: int = 0
-    went: int = 0
-    error: str = ""
-
-
-def report_on(
-    change: Change,
-    models: Sequence[Model],
-    fail_on: Sequence[str] = FAULTS,
-    fitting: Optional[Fitting] = None,
-    is_shown: bool = False,
-) -> Report:
-    """Judges the places of a file that changed, whose findings have excerpts if they are to be shown."""
-    if change.error:
-        return Report(error=change.error)
-    old, new = (Source(b"" if it is None else it) for it in (change.old, change.new))
-    if change.old is None or change.new is None:
-        return Report(came=len(new.read().places), went=len(old.read().places))
-    pairs, library = paired(old, new), Library()
-    found = [it for it in pairs.changed if is_judged(*it)]
-    findings = [judge(library, change.name, it, models, fail_on, is_shown) for it in found]
-    return Report(fitting.noted(change.name, findings) if fitting else findings, pairs.came, pairs.went)
-
-
 def changes_for(options: Any, paths: Sequence[str], expect: Callable[[int], None]) -> Iterator[Change]:
     """Returns what the operands say is to be compared."""
     if options.git:
@@ -138,7 +116,7 @@ def fitting_in(options: Any, folder: str) -> Optional[Fitting]:
     if cindex is None:
         raise Unreadable(MISSING)
     try:
-        return Fitting(options.database, write_headers(folder))
+        return Fitting(options.database, write_headers(folder), MODELS[options.model])
     except OSError as error:
         raise Unreadable(str(error)) from error
 
@@ -159,7 +137,10 @@ def summary(counts: Dict[str, int]) -> str:
     )
     changed = sum(counts[it.value] for it in Kind)
     word = "place" if changed == 1 else "places"
-    return f"{changed} {word} changed: {judged}; {counts['came']} literals added, {counts['went']} removed"
+    came = f"{counts['came']} literals added"
+    if counts["formats"]:
+        came += f", with {counts['judged']} of {counts['formats']} formats judged in their calls"
+    return f"{changed} {word} changed: {judged}; {came}, {counts['went']} removed"
 
 
 def run(changes: Iterable[Report], printer: Printer, counts: Dict[str, int], is_verbose: bool) -> int:
@@ -167,14 +148,15 @@ def run(changes: Iterable[Report], printer: Printer, counts: Dict[str, int], is_
     status = 0
     for report in changes:
         for finding in report.findings:
-            counts[finding.kind] += 1
+            # What isn't compared as a whole isn't a place.
+            counts[finding.kind] += finding.line > 0
             counts["fits"] += "fits" in finding.details
             if is_verbose or finding.kind != Kind.SAME.value or finding.level == ERROR:
                 printer.add(finding)
             if finding.level == ERROR:
                 status = max(status, 1)
-        counts["came"] += report.came
-        counts["went"] += report.went
+        for name in ("came", "went", "formats", "judged"):
+            counts[name] += getattr(report, name)
         if report.error:
             printer.say(f"{NAME}: {visible(report.error)}")
             status = USAGE
@@ -208,9 +190,10 @@ def diff(options: Any, paths: Sequence[str]) -> int:
     counts: Dict[str, int] = collections.Counter()
     try:
         with tempfile.TemporaryDirectory() as folder:
+            others = frozenset(map(os.fsencode, options.not_printf))
             fitting = fitting_in(options, folder)
-            question = {"models": MODELS[options.model], "fail_on": options.fail_on, "fitting": fitting}
-            work = functools.partial(report_on, **question, is_shown=printer.has_excerpts)
+            question = Question(MODELS[options.model], options.fail_on, printer.has_excerpts, others, fitting)
+            work = functools.partial(report_on, question=question)
             changes = changes_for(options, paths, printer.progress.expect)
             found = printer.progress.each(in_order(work, changes, options.jobs))
             status = run(found, printer, counts, options.verbose)

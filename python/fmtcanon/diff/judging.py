@@ -1,6 +1,7 @@
 """Judges a pair of places, and says in words what it found."""
 
-from typing import Any, Dict, Iterable, List, NamedTuple, Optional, Sequence, Tuple
+import re
+from typing import AbstractSet, Any, Dict, Iterable, List, NamedTuple, Optional, Sequence, Tuple
 
 from .. import Refused
 from ..command_line import model_names
@@ -42,6 +43,8 @@ RULES = {
 FAULTS = (Kind.TYPES.value, Kind.DIFFERENT.value, Kind.DIRECTIVES.value, Kind.REJECTED.value)
 # What is a note; of several data models it is reported only if no other has more.
 NOTES = (Kind.SAME, Kind.WORDS)
+# The functions that are known by their names alone: a program may have an own `warn` or `error`.
+OF_STDIO = re.compile(rb"\A(?:__)?v?(?:f|s|sn)?printf(?:_chk)?\Z")
 # A longer format is compared without what it shares with the other.
 LONG = 10_000
 # How the two sides are named on a terminal.
@@ -61,9 +64,18 @@ class Judged(NamedTuple):
     before: int = 0
 
 
-def is_judged(old: Place, new: Place) -> bool:
-    """Returns whether a pair is worth a verdict: one of the two has a specification, and may be a format."""
-    is_format = old.call.function not in NOT_FORMATS and new.call.function not in NOT_FORMATS
+def may_be_format(place: Place, others: AbstractSet[bytes] = frozenset()) -> bool:
+    """Returns whether nothing says that a place isn't a format: it isn't an argument of a function that takes none, or
+    of those that are given, and of printf it is the argument that is one.
+    """
+    name = place.call.function
+    known = KNOWN.get(printable(name)) if OF_STDIO.search(name) else None
+    return name not in NOT_FORMATS and name not in others and (known is None or place.call.argument == known.index)
+
+
+def is_judged(old: Place, new: Place, others: AbstractSet[bytes] = frozenset()) -> bool:
+    """Returns whether a pair is worth a verdict: one of the two has a specification, and both may be formats."""
+    is_format = may_be_format(old, others) and may_be_format(new, others)
     return is_format and (old.has_specification() or new.has_specification())
 
 
@@ -108,12 +120,15 @@ def judge(
     models: Sequence[Model],
     fail_on: Sequence[str] = FAULTS,
     is_shown: bool = False,
-) -> Finding:
+) -> Optional[Finding]:
     """Returns the finding on a pair: that of the first data model in which more than words differ, if there is one. It
-    has excerpts if it is to be shown.
+    has excerpts if it is to be shown. None if the pair isn't one of formats.
     """
     old, new = pair
     found = {model: verdict_in(library, old, new, model) for model in models}
+    if not new.call.function and all(it.verdict.kind is Kind.UNJUDGED and it.verdict.refusal for it in found.values()):
+        # A title, as "CPU% " is, that no call takes.
+        return None
     kinds = {model: it.verdict.kind for model, it in found.items()}
     others = [it for it in models if kinds[it] not in NOTES] or [it for it in models if kinds[it] is not Kind.SAME]
     model = others[0] if others else models[0]

@@ -30,10 +30,12 @@ TOKEN = (
     rb"|(?P<string>(?:u8)?" + STRING + rb")|(?P<raw>" + RAW_START + rb")|(?P<wide>[uUL]" + STRING + rb")"
     rb"|(?P<name>" + NAME + rb")|" + DIRECTIVE + rb"|" + ANY_COMMENT + rb"|" + CHARACTER
 )
+# Statements after the end of another that have nothing of interest: what was before them is over.
+OTHER_STATEMENTS = rb"(?P<over>(?<=[;{}])(?:[^\"'/#;{}]{0,400}[;{}]){1,64})|"
 # Names that are followed by a literal are tokens, and all names if the file has macros that may be formats.
 FEW_TOKENS, ALL_TOKENS = (
-    re.compile(rb"(?:" + plain + rb"){0,64}(?:" + TOKEN + rb")|(?:" + plain + rb"){1,64}|[\s\S]")
-    for plain in (PLAIN + rb"|" + OTHER_NAME, PLAIN)
+    re.compile(front + rb"(?:" + plain + rb"){0,64}(?:" + TOKEN + rb")|(?:" + plain + rb"){1,64}|[\s\S]")
+    for front, plain in ((OTHER_STATEMENTS, PLAIN + rb"|" + OTHER_NAME), (b"", PLAIN))
 )
 GAP = rb"(?:[ \t\n\v\f\r]|" + COMMENT + rb")*"
 SPACE = re.compile(GAP)
@@ -103,6 +105,15 @@ class Place:
         if model not in self._texts:
             self._texts[model] = joined(self.parts, self.source.macros, model)
         return self._texts[model]
+
+    def unknown_names(self) -> Set[bytes]:
+        """Returns the macros in it whose text isn't known."""
+        names = {it.source for it in self.parts if it.kind == "name"}
+        return {it for it in names if it not in self.source.macros and expansion(it, Model.LP64) is None}
+
+    def define(self, macros: Dict[bytes, Tuple[Part, ...]], model: Model) -> None:
+        """Makes the text in a data model with more macros than those of the file."""
+        self._texts = {model: joined(self.parts, {**macros, **self.source.macros}, model)}
 
     @property
     def key(self) -> bytes:
@@ -324,6 +335,8 @@ class Reader:
                     brackets.clear()
                 elif brackets:
                     brackets[-1][1] += 1
+            elif kind == "over":
+                brackets.clear()
             elif kind == "call":
                 name = token["call"]
                 brackets.append([b"" if name in KEYWORDS else name, 0])

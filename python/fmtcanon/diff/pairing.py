@@ -24,6 +24,9 @@ ARGUMENT = re.compile(rb"[A-Za-z_]")
 TELLING = re.compile(rb"[A-Za-z]{3}")
 # How many comparisons difflib may make of two sequences, how many pairs of places are tried, and the longest texts.
 MANY, MANY_PAIRS, LONG_TEXT = 250_000, 4_000, 4_000
+# How much longer than a back that two texts share the part before it is if looking for the back takes more than
+# reading it.
+WORTH = 4
 # How alike two texts must be: less if what follows them is equal.
 ALIKE, ALIKE_IN_PLACE = 0.6, 0.4
 
@@ -39,11 +42,19 @@ Range = Tuple[int, int, int, int]
 
 
 class Pairs(NamedTuple):
-    """The pairs of places that changed, in the order of the new source, and how many places came and went."""
+    """The pairs of places that changed, in the order of the new source, and the places that came and went."""
 
     changed: List[Pair]
-    came: int
-    went: int
+    added: Sequence[Place]
+    removed: Sequence[Place]
+
+    @property
+    def came(self) -> int:
+        return len(self.added)
+
+    @property
+    def went(self) -> int:
+        return len(self.removed)
 
 
 def common(first: Sequence[Hashable], second: Sequence[Hashable], span: Range) -> Range:
@@ -140,6 +151,10 @@ def read_changes(old: Source, new: Source) -> None:
         itertools.chain([] if end is None else [end], ends),
         statement_ends(second, begin),
     )
+    if WORTH * back < min(lengths) - front - back:
+        old.read(begin)
+        new.read(begin)
+        return
     at = [next((it for it in one if it >= length - back), length) for one, length in zip(following, lengths)]
     while lengths[0] - at[0] != lengths[1] - at[1]:
         # The one that is farther from its end goes on.
@@ -210,6 +225,7 @@ def paired(old: Source, new: Source) -> Pairs:
         for side, rest in zip(left, without(found, before, after)):
             side += rest
     found = moved(*left)
+    removed, added = without(found, *left)
     pairs += found
     is_redefined = old.macros != new.macros
     if is_redefined:
@@ -218,7 +234,7 @@ def paired(old: Source, new: Source) -> Pairs:
         pairs += [it for a, b in equal for it in zip(first.places.get(a, ()), second.places.get(b, ()))]
     changed = [it for it in pairs if it[0].parts != it[1].parts or (is_redefined and depends(*it))]
     changed.sort(key=lambda it: it[1].start)
-    return Pairs(changed, len(left[1]) - len(found), len(left[0]) - len(found))
+    return Pairs(changed, added, removed)
 
 
 def depends(old: Place, new: Place) -> bool:

@@ -3,30 +3,48 @@
 import fnmatch
 import os
 import re
+import select
 import subprocess
 from contextlib import contextmanager
-from typing import Any, Callable, Iterator, List, NamedTuple, Optional, Sequence, Set, Tuple
+from typing import Any, Callable, ContextManager, Dict, Iterator, List, NamedTuple, Optional, Sequence, Set, Tuple
+
+from ..compiling.running import started
+from .renames import renamed
 
 # The endings of C and C++, of what they include, and of what is made into them.
 SOURCES = re.compile(r".*\.(?:[chyl]|cc|cpp|cxx|c\+\+|hh|hpp|hxx|h\+\+|inc|inl|ipp|tcc|def|C|H|m|mm|pc|ec)", re.DOTALL)
-# The modes of a file.
+# The modes of a file, and that of a submodule.
 FILES = ("100644", "100755")
-# git, without the program that a repository may name to watch its files. It leaves the index alone.
+SUBMODULE = "160000"
+# git, without the program that a repository may name to watch its files. It leaves the index alone, and gets no objects
+# from elsewhere: for that it would run what a repository names.
 GIT = ["git", "-c", "core.fsmonitor=false"]
-ENVIRONMENT = {"GIT_OPTIONAL_LOCKS": "0"}
+ENVIRONMENT = {"GIT_OPTIONAL_LOCKS": "0", "GIT_ALLOW_PROTOCOL": "", "GIT_NO_LAZY_FETCH": "1"}
+# The seconds that git may take for one answer.
+SECONDS = 300
 
 
 class Unreadable(Exception):
     """Something can't be read, and why."""
 
 
+class Late(Unreadable):
+    """git takes too long, so that nothing more is asked of it."""
+
+    def __init__(self) -> None:
+        super().__init__(f"git took more than {SECONDS} seconds")
+
+
 class Change(NamedTuple):
-    """A file as it was and as it is; None if it wasn't or isn't there. The name is that of the new file."""
+    """A file as it was and as it is; None if it wasn't or isn't there. The name is that of the new file. If it can't be
+    read, or isn't compared, this says why.
+    """
 
     name: str
     old: Optional[bytes]
     new: Optional[bytes]
     error: str = ""
+    why_not: str = ""
 
 
 def read(path: str, name: str = "") -> bytes:
@@ -81,12 +99,25 @@ def ignored(top: str, names: Set[str]) -> Set[str]:
 def checked_by_git(top: str, names: Set[str]) -> Set[str]:
     given = b"".join(os.fsencode(it) + b"\0" for it in sorted(names))
     try:
-        done = subprocess.run(
-            [*GIT, "-C", top, "check-ignore", "-z", "--stdin"], input=given, capture_output=True, check=False
-        )
+        done = run_git(["-C", top, "check-ignore", "-z", "--stdin"], given)
     except OSError:
         return set()
     return set(map(os.fsdecode, done.stdout.split(b"\0")[:-1])) if done.returncode == 0 else set()
+
+
+def started_git(words: Sequence[Any], **streams: Any) -> ContextManager["subprocess.Popen[bytes]"]:
+    return started([*GIT, *words], os.curdir, {**os.environ, **ENVIRONMENT}, **streams)
+
+
+def run_git(words: Sequence[Any], given: bytes = b"") -> "subprocess.CompletedProcess[bytes]":
+    """Runs git on an input. Raises `OSError` if it can't be run, and `Late` if it takes too long."""
+    pipe = subprocess.PIPE
+    with started_git(words, stdin=pipe, stdout=pipe, stderr=pipe) as process:
+        try:
+            output, errors = process.communicate(given, timeout=SECONDS)
+        except subprocess.TimeoutExpired as error:
+            raise Late from error
+    return subprocess.CompletedProcess(words, process.returncode, output, errors)
 
 
 def changes_of(
@@ -104,13 +135,28 @@ def changes_of(
         return
     (first_names, first_errors), (second_names, second_errors) = (compared_below(it, globs) for it in (old, new))
     yield from (Change("", None, None, it) for it in first_errors + second_errors)
-    names = [first_names, second_names]
-    expect(len(first_errors + second_errors) + len(names[0] | names[1]))
-    for name in sorted(names[0] | names[1]):
-        first, second = (os.path.join(top, name) if name in there else None for top, there in zip((old, new), names))
+    expect(len(first_errors + second_errors) + len(first_names | second_names))
+    before = renames_in(old, first_names - second_names, new, second_names - first_names)
+    expect(-len(before))
+    for name in sorted((first_names | second_names) - set(before.values())):
+        other = before.get(name, name)
+        first = os.path.join(old, other) if other in first_names else None
+        second = os.path.join(new, name) if name in second_names else None
         found = list(compared(os.path.join(new, name), first, second))
         expect(len(found) - 1)
         yield from found
+
+
+def renames_in(old: str, went: Set[str], new: str, came: Set[str]) -> Dict[str, str]:
+    """Returns the old names of files that have another name, by the new ones. A file that can't be read has none."""
+    sides: List[Dict[str, bytes]] = [{}, {}]
+    for top, names, side in [(old, went, sides[0]), (new, came, sides[1])]:
+        for name in names if went and came else ():
+            try:
+                side[name] = read(os.path.join(top, name))
+            except Unreadable:
+                continue
+    return renamed(*sides)
 
 
 def compared(name: str, old: Optional[str], new: Optional[str]) -> Iterator[Change]:
@@ -144,13 +190,7 @@ class Git:
     @staticmethod
     def run(words: Sequence[Any]) -> bytes:
         try:
-            done = subprocess.run(
-                [*GIT, *words],
-                stdin=subprocess.DEVNULL,
-                capture_output=True,
-                check=False,
-                env={**os.environ, **ENVIRONMENT},
-            )
+            done = run_git(words)
         except OSError as error:
             raise Unreadable(f"git can't be run: {error.strerror or error}") from error
         if done.returncode:
@@ -189,7 +229,7 @@ class Git:
         """Yields what changed between two trees, or between one and the work tree or the index."""
         command = ["diff-index", *(["--cached"] if is_cached else [])] if len(trees) == 1 else ["diff-tree", "-r"]
         # 0 means no limit: each file that was renamed is found.
-        options = ["--raw", "-z", "-M", "-l0", "--no-abbrev", "--ignore-submodules"]
+        options = ["--raw", "-z", "-M", "-l0", "--no-abbrev", "--ignore-submodules=untracked"]
         fields = self.run([*command, *options, *trees, "--", *paths]).split(b"\0")[:-1]
         while fields:
             old_mode, new_mode, old, new, status = fields.pop(0).decode().lstrip(":").split()
@@ -217,13 +257,18 @@ class Git:
             for entry in entries:
                 below = os.fsdecode(entry.names[-1])
                 path = os.path.join(self.top, below)
-                if is_excluded(below, globs) or (not SOURCES.fullmatch(path) and path not in given):
+                name, is_submodule = os.path.relpath(path), SUBMODULE in entry.modes
+                if is_excluded(below, globs) or not (is_submodule or SOURCES.fullmatch(path) or path in given):
                     expect(-1)
                     continue
-                name = os.path.relpath(path)
+                if is_submodule:
+                    yield Change(name, None, None, why_not="a submodule that changed isn't compared")
+                    continue
                 try:
                     old = self.text(name, entry, 0, blob)
                     new = self.text(name, entry, 1, blob, path if is_of_work_tree else None)
+                except Late:
+                    raise
                 except Unreadable as error:
                     yield Change(name, None, None, str(error))
                     continue
@@ -250,9 +295,6 @@ class Git:
 @contextmanager
 def objects() -> Iterator[Any]:
     """Gives a function that returns the bytes of an object of git, or None if it is missing."""
-    running = subprocess.Popen([*GIT, "cat-file", "--batch"], stdin=subprocess.PIPE, stdout=subprocess.PIPE)
-    assert running.stdin and running.stdout
-    given, taken = running.stdin, running.stdout
 
     def blob(name: str) -> Optional[bytes]:
         try:
@@ -260,6 +302,8 @@ def objects() -> Iterator[Any]:
             given.flush()
         except BrokenPipeError as error:
             raise Unreadable("git: cat-file ended") from error
+        if not select.select([taken], [], [], SECONDS)[0]:
+            raise Late
         header = taken.readline().split()
         if not header:
             raise Unreadable("git: cat-file ended")
@@ -269,11 +313,7 @@ def objects() -> Iterator[Any]:
         taken.read(1)
         return data
 
-    try:
+    with started_git(["cat-file", "--batch"], stdin=subprocess.PIPE, stdout=subprocess.PIPE) as running:
+        assert running.stdin and running.stdout
+        given, taken = running.stdin, running.stdout
         yield blob
-    finally:
-        # Processes that were forked meanwhile have the ends of its pipes, too, so it would wait for more.
-        running.terminate()
-        running.wait()
-        given.close()
-        taken.close()

@@ -16,6 +16,8 @@ from ..visible import visible
 
 # Formats up to this many columns have the words next to the carets; the words of others are on lines of their own.
 BESIDE, GAP, INDENT = 40, 3, 4
+# Of formats of more columns, each directive is shown by itself, without what comes before it.
+LONGEST = 500
 SIDES = ("first: ", "second: ")
 
 
@@ -54,8 +56,12 @@ def explanation_lines(found: Explanation, model: Model, style: Style) -> Iterato
     """Yields the format, each directive with its words, the canonical text, and how many bytes are printed."""
     shown = as_source(found.format)
     yield shown
-    is_short = columns(shown) <= BESIDE
+    is_short, is_long = columns(shown) <= BESIDE, columns(shown) > LONGEST
     for part in found.parts:
+        if is_long:
+            yield f"{as_source(part.text)} at byte {part.start}"
+            yield from beside("", 0, INDENT, part_words(part, model), style.width)
+            continue
         begin = column_of(found.format, part.start)
         count = column_of(found.format, part.end) - begin
         mark = " " * begin + style.carets(count)

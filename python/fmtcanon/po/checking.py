@@ -23,11 +23,12 @@ INTEGERS = {fmtcanon.Type.INT, fmtcanon.Type.UINT}
 # How much of a message a report shows.
 SHOWN = 60
 # The kinds of findings.
-TYPES, NUMBER, FORMAT, NEWLINE, CHARSET, USE, EMPTY, UNJUDGED, UNREADABLE = (
+TYPES, NUMBER, FORMAT, NEWLINE, PLURALS, CHARSET, USE, EMPTY, UNJUDGED, UNREADABLE = (
     "types",
     "number",
     "format",
     "newline",
+    "plurals",
     "charset",
     "use",
     "empty",
@@ -39,6 +40,7 @@ RULES = {
     NUMBER: "A translation takes another number of arguments than its message.",
     FORMAT: "A translation is not a C format, and its message is one.",
     NEWLINE: "A translation begins or ends with a newline, and its message doesn't, or the reverse.",
+    PLURALS: "A translation has another number of plural forms than the header says.",
     CHARSET: "A text has a byte that is not of the catalog's charset.",
     USE: "A translation prints an int as something else.",
     EMPTY: "Some plural forms of a translation are empty, and others are not.",
@@ -146,9 +148,10 @@ class Checker:
         is_shown: bool = False,
     ) -> None:
         self.add = add
-        # Whether findings are to have excerpts of the catalog, and its lines.
+        # Whether findings are to have excerpts of the catalog, its bytes with their charset, and its lines.
         self.is_shown = is_shown
-        self.source = CatalogSource(b"")
+        self.data, self.charset = b"", ""
+        self.lines: Optional[CatalogSource] = None
         self.right: Right = set() if right is None else right
         self.models = models
         self.is_all = is_all
@@ -192,9 +195,10 @@ class Checker:
         reason: Reason,
         texts: Sequence[Text] = (),
         models: Sequence[fmtcanon.Model] = (),
+        **more: Sequence[str],
     ) -> None:
         formats = tuple(it.text.decode(errors="backslashreplace") for it in texts)
-        details = {"msgid": message.msgid.decode(errors="backslashreplace"), "formats": list(formats)}
+        details = {"msgid": message.msgid.decode(errors="backslashreplace"), "formats": list(formats), **more}
         names = model_names(models or self.models)
         self.reports += 1
         text = f"{reason.text} [{shown(message.msgid)}]"
@@ -221,9 +225,21 @@ class Checker:
         rejected: Optional[Text] = None,
         refusal: Optional[fmtcanon.Refused] = None,
     ) -> None:
-        """Warns of a text that isn't judged, and says which format is rejected."""
+        """Warns of a text that isn't judged, and says which format is rejected, and where the program has it."""
         self.is_whole = False
-        self.found(file, message, WARNING, Reason(UNJUDGED, text, refusal=refusal), [rejected] if rejected else ())
+        places = self.source.references(message.line)
+        if places:
+            more = f" and {len(places) - 1} more" if len(places) > 1 else ""
+            text += f"; the message is from {places[0]}{more}"
+        texts = [rejected] if rejected else ()
+        self.found(file, message, WARNING, Reason(UNJUDGED, text, refusal=refusal), texts, source=places)
+
+    @property
+    def source(self) -> CatalogSource:
+        """The lines of the catalog, once they are needed."""
+        if self.lines is None:
+            self.lines = CatalogSource(charset_named(self.charset).decode(self.data) if self.data else b"")
+        return self.lines
 
     def check_data(self, file: str, data: bytes) -> None:
         """Checks the catalog in a file's bytes."""
@@ -235,8 +251,8 @@ class Checker:
         except ValueError as error:
             self.report(file, 0, f"it can't be read: {error}")
         else:
-            if self.is_shown:
-                self.source = CatalogSource(charset_named(catalog.charset).decode(data))
+            # A .mo file has no lines.
+            self.data, self.charset, self.lines = data if catalog.has_flags else b"", catalog.charset, None
             self.check_catalog(file, catalog, rule)
 
     def check_catalog(self, file: str, catalog: Catalog, rule: Optional[PluralRule]) -> None:
@@ -248,7 +264,7 @@ class Checker:
             if message.bad_bytes:
                 self.report_bytes(file, message, catalog.charset)
             elif not message.is_fuzzy:
-                self.check_forms(file, message)
+                self.check_forms(file, message, rule)
                 if message.is_translated:
                     self.check_message(file, message, rule, catalog.has_flags)
 
@@ -259,8 +275,15 @@ class Checker:
             text = f"'{name}' has a byte that is not of the charset {charset}: 0x{byte:02x} [{shown(message.msgid)}]"
             self.add(Finding(file, line, column, CHARSET, ERROR, text))
 
-    def check_forms(self, file: str, message: Message) -> None:
-        """Warns of a message with some forms empty. If the first one is, no form is ever shown."""
+    def check_forms(self, file: str, message: Message, rule: Optional[PluralRule]) -> None:
+        """Reports a translation of more or fewer forms than the header says, and warns of one with some forms empty: if
+        the first one is, no form is ever shown.
+        """
+        count = rule.count if rule and message.plural is not None and message.is_translated else None
+        if count is not None and len(message.forms) != count:
+            forms = "one plural form" if len(message.forms) == 1 else f"{len(message.forms)} plural forms"
+            self.faults += 1
+            self.found(file, message, ERROR, Reason(PLURALS, f"it has {forms}, and nplurals is {count}"))
         if len(message.forms) > 1 and any(message.forms.values()) and not all(message.forms.values()):
             names = ", ".join(f"msgstr[{form}]" for form, text in sorted(message.forms.items()) if not text)
             self.found(file, message, WARNING, Reason(EMPTY, f"{names}: empty, unlike other forms"))

@@ -5,7 +5,7 @@ import errno
 import functools
 import os
 import sys
-from typing import Any, Dict, Iterator, List, NamedTuple, Optional, Sequence, Tuple, Union
+from typing import Any, Dict, Hashable, Iterator, List, NamedTuple, Optional, Sequence, Set, Tuple, Union
 
 from ..command_line import MODELS, Parser, status_of
 from ..findings import WARNING, Finding, Printer
@@ -13,7 +13,7 @@ from ..models import Model
 from ..output import Unwritable
 from ..processes import in_order
 from ..visible import visible
-from .checking import RULES, Checker, Right
+from .checking import RULES, UNJUDGED, Checker, Right
 
 NAME = "fmtcanon-po"
 # Up to fewer catalogs than these are read by one process.
@@ -24,8 +24,8 @@ Checks the C formats of message catalogs.
 FILE is a .po or .mo file, or - for standard input. Each translated message with the flag c-format or \
 possible-c-format is checked, except fuzzy and obsolete ones. The translation must take arguments of the same types, \
 in the same order. A plural form and msgid must take those of msgid_plural. A form that is used for at most four \
-numbers, as 'one file' is, may leave out the last arguments. Message and translation must agree on a leading and a \
-trailing newline.
+numbers, as 'one file' is, may leave out the last arguments. There must be as many forms as nplurals of the header \
+says. Message and translation must agree on a leading and a trailing newline.
 
 A .mo file doesn't say which messages are C formats. Each one with a % is checked, and a fault that only a C format \
 has is a warning unless --c-format is given. Messages of a .mo file have numbers instead of lines.
@@ -39,8 +39,8 @@ Examples:
 
 A fault is reported on standard error, as by `msgfmt -c`: the file, the line, the reason and the message. A terminal \
 also shows the lines of the catalog. Arguments are counted from 1, as in %1$d. If only the message is not a C format, \
-its translation can't be judged, which is a warning. It is a warning, too, if a translation prints an int as something \
-else, as %c for %d, or if some of its plural forms are empty. The last lines count the messages that were judged and \
+its translation can't be judged, which is a warning, once for all catalogs. It is a warning, too, if a translation \
+prints an int as something else, as %c for %d, or if some of its plural forms are empty. The last lines count the messages that were judged and \
 that were not, the faults, and the messages with formats of other languages, which are not judged.
 
 Exit status:
@@ -148,17 +148,25 @@ def check(options: Any, files: Sequence[str]) -> int:
     printer = Printer(NAME, options.output, RULES, stream, as_msgfmt, options.color)
     is_shown = printer.has_excerpts
     work = functools.partial(check_catalog, models=MODELS[options.model], is_all=options.c_format, is_shown=is_shown)
-    judged = unjudged = faults = 0
+    judged = unjudged = faults = repeated = 0
     others: Dict[str, int] = collections.Counter()
+    seen: Set[Hashable] = set()
     printer.progress.expect(len(files))
     for one in printer.progress.each(in_order(work, catalogs(files), options.jobs, FEW)):
         for finding in one.findings:
+            message = finding.details.get("msgid") if finding.kind == UNJUDGED else None
+            if message is not None and (message, finding.formats) in seen:
+                repeated += 1
+                continue
+            seen.add((message, finding.formats))
             printer.add(finding)
         judged, unjudged, faults = judged + one.judged, unjudged + one.unjudged, faults + one.faults
         for flag, count in one.others.items():
             others[flag] += count
     printer.end()
     printer.say(f"{counted(judged, 'message')} judged, {unjudged} not judged")
+    if repeated:
+        printer.say(f"{counted(repeated, 'more warning')} about the same messages")
     if faults:
         printer.say(f"found {counted(faults, 'fatal error')}")
     if others:

@@ -17,6 +17,8 @@ MOST_LENGTH = 100_000
 MOST_KEPT = 10_000
 SPACE = " \t"
 TOKEN = re.compile(r"[ \t]*([0-9]+|n|\|\||&&|[=!<>]=|[-+*/%<>?:()!])")
+# How many forms a header says that there are, as strtoul reads it.
+COUNT = re.compile(r"nplurals=\s*([0-9]+)")
 RANGE = re.compile(r"range:[\s,]+([0-9]+)\.\.([0-9]+)")
 # The operators of C by precedence. `?` and `:` come below all others.
 LEVELS = [["||"], ["&&"], ["==", "!="], ["<", ">", "<=", ">="], ["+", "-"], ["*", "/", "%"]]
@@ -139,9 +141,10 @@ def pop_until(opening: Optional[str], stack: List[str], out: List[str]) -> None:
 
 
 class PluralRule:
-    """An expression, and the form that it gives for each number."""
+    """An expression, the form that it gives for each number, and how many forms there are, if the header says so."""
 
-    def __init__(self, text: str) -> None:
+    def __init__(self, text: str, count: Optional[int] = None) -> None:
+        self.count = count
         self.steps: List[Union[int, str]] = [number_of(it) if it[0].isdigit() else it for it in postfix(text)]
         self.form_of: Dict[int, int] = {}
         for number in NUMBERS:
@@ -215,4 +218,7 @@ def bounded(digits: str) -> int:
 def rule_of(header: str) -> Optional[PluralRule]:
     """Returns the rule of a header, or None if it has none."""
     _, name, expression = header.partition("plural=")
-    return PluralRule(re.split("[;\n]", expression, maxsplit=1)[0]) if name else None
+    count = COUNT.search(header)
+    if not name:
+        return None
+    return PluralRule(re.split("[;\n]", expression, maxsplit=1)[0], number_of(count[1]) if count else None)

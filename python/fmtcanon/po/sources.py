@@ -2,6 +2,7 @@
 
 from __future__ import annotations
 
+import re
 from typing import List, NamedTuple, Optional
 
 from ..excerpts import Excerpt, literal_excerpt
@@ -9,7 +10,9 @@ from .tokens import ESCAPE, Scanner, Token, Unreadable
 
 # How many lines before a translation its message begins at most, and how many bytes after that are read.
 LINES, BYTES = 1_000, 100_000
-CONTEXT = (b"msgctxt", b"msgid")
+# A place in the program. Marks are around a name with blanks.
+WITHOUT_ISOLATES = {0x2068: None, 0x2069: None}
+REFERENCE = re.compile("\u2068[^\u2069]*\u2069\\S*|\\S+")
 
 
 class Mark(NamedTuple):
@@ -27,6 +30,18 @@ class CatalogSource:
 
     def __init__(self, data: bytes) -> None:
         self.lines = data.split(b"\n")
+
+    def references(self, line: int) -> List[str]:
+        """Returns the places in the program, by the comments `#:`, of the message whose translation is in this line."""
+        at = self.begin_of(line)
+        while at and not self.lines[at - 1].lstrip().startswith((b"#", b"msgstr", b"msgid")):
+            at -= 1
+        listed: List[str] = []
+        while at and self.lines[at - 1].lstrip().startswith(b"#"):
+            at -= 1
+            found = REFERENCE.findall(self.lines[at].lstrip()[2:].decode(errors="surrogateescape"))
+            listed[:0] = found if self.lines[at].lstrip().startswith(b"#:") else []
+        return [it.translate(WITHOUT_ISOLATES) for it in listed]
 
     def excerpt(self, line: int, mark: Mark) -> Excerpt:
         """Returns the line with a part of a text of the message whose translation begins in this line, or the text."""

@@ -7,11 +7,10 @@ from typing import Any, Dict, List, NamedTuple, Optional, Set
 from ..compiling.compile_commands import CompileCommand
 from ..compiling.known import GETTEXT, KNOWN
 from ..compiling.left import Left
-from ..compiling.parsing import CALL_EXPR, FUNCTION_DECL, VISIT_INSIDE, Parsed
+from ..compiling.parsing import CALL_EXPR, FUNCTION_DECL, SCOPES, VISIT_INSIDE, Parsed
 
 # An attribute that has another function's code run under a name.
 ALIAS = re.compile(r"(?<![\w$])_*(alias|weakref|ifunc)(?![\w$])")
-SCOPES = ("NAMESPACE", "CLASS_DECL", "STRUCT_DECL", "CLASS_TEMPLATE", "UNION_DECL")
 
 
 class Marker:
@@ -87,10 +86,6 @@ class Calls(Parsed):
                 if alias:
                     self.renamed[function.spelling] = f"has the attribute {alias[1]}"
 
-    def is_own_header(self, file: str, header: "re.Pattern[str]") -> bool:
-        """Returns whether a file is the C library's header of this name."""
-        return any(file.startswith(it) and header.fullmatch(file[len(it) :]) for it in self.folders)
-
     def note_call(self, call: Any) -> None:
         """Notes the markers among the arguments of a call, and why each isn't the format of a known function."""
         for index, argument in enumerate(call.get_arguments()):
@@ -136,17 +131,9 @@ class Calls(Parsed):
             return None if index == KNOWN[name[len("__builtin_") :]].index else f"it isn't the format of {name}"
         known = KNOWN.get(name)
         if known is None:
-            return f"it is an argument of {name}, which isn't known"
-        first = function.canonical
-        if not self.is_own_header(self.file_of(first.location), known.header):
-            return f"{name} is declared in {os.path.basename(self.file_of(first.location)) or 'no file'}, and not in the C library's header"
-        if first.semantic_parent.kind.name in SCOPES:
-            return f"{name} isn't at file scope"
-        types = [it.get_canonical().spelling for it in first.type.argument_types()]
-        is_right = len(types) == known.parameters and "const char *" in types[known.index]
-        if not is_right or first.type.is_function_variadic() != known.is_variadic:
-            return f"{name} has another prototype"
-        return None if index == known.index else f"it isn't the format of {name}"
+            is_attributed = not self.functions.by_attribute and self.format_by_attribute(function)
+            return f"it is an argument of {name}, which isn't known{' without --attribute' if is_attributed else ''}"
+        return self.why_another(function, known) or (None if index == known.index else f"it isn't the format of {name}")
 
     def why_left(self, number: int, count: int) -> Optional[str]:
         """Returns why the place of this number is left, whose marker is in the text so often; None if each is the

@@ -2,26 +2,35 @@
 is ended early it says what was.
 """
 
-import os
 import sys
-from concurrent.futures import ThreadPoolExecutor
-from typing import Any, List, NoReturn, Sequence
+from concurrent.futures import ThreadPoolExecutor, wait
+from typing import Any, Callable, Iterable, Iterator, List, NoReturn, Sequence, TypeVar
 
 from ..command_line import USAGE
 from ..compiling.left import Left
-from ..compiling.running import stop
 from ..compiling.sources import Name
-from ..compiling.stand_ins import StandIn
 from ..findings import Printer
+from ..interrupting import LOOK, Interrupted, Signals, clean, end, interruptible
 from ..output import Unwritable, complain, write
 from .files import put_in_place
-from .interrupting import Interrupted, Signals, interruptible
 from .replacer import Report, Rewriter
+
+_Result = TypeVar("_Result")
+
+
+class Threads(ThreadPoolExecutor):
+    """Threads whose results can be waited for with an end by a signal."""
+
+    def map(self, fn: Callable[..., _Result], *iterables: Iterable[Any], **_: Any) -> Iterator[_Result]:
+        for future in [self.submit(fn, *it) for it in zip(*iterables)]:
+            while not future.done():
+                wait([future], LOOK)
+            yield future.result()
 
 
 def replace(options: Any, replacer: Rewriter, names: Sequence[Name]) -> int:
     """Judges the files, reports each in its order, and replaces them. Returns the exit status."""
-    pool = ThreadPoolExecutor(max(options.jobs, 1))
+    pool = Threads(max(options.jobs, 1))
     changed: List[str] = []
     with interruptible() as signals:
         try:
@@ -34,7 +43,7 @@ def replace(options: Any, replacer: Rewriter, names: Sequence[Name]) -> int:
                 return max(status, put_all_in_place(reports, signals, changed))
         except Interrupted as interrupted:
             replacer.progress.clear()
-            end(pool, replacer.name, interrupted.number, changed)
+            end_early(pool, replacer.name, interrupted.number, changed)
         finally:
             pool.shutdown(wait=False)
 
@@ -80,11 +89,9 @@ def put_all_in_place(reports: Sequence[Report], signals: Signals, changed: List[
     return status
 
 
-def end(pool: ThreadPoolExecutor, name: str, number: int, changed: Sequence[str]) -> NoReturn:
+def end_early(pool: ThreadPoolExecutor, name: str, number: int, changed: Sequence[str]) -> NoReturn:
     """Ends the command early, without its copies of files, and says what was changed."""
     pool.shutdown(wait=False)
-    stop()
-    StandIn.remove_all()
+    clean()
     complain(f"{name}: interrupted; " + (f"changed: {', '.join(changed)}" if changed else "no file was changed"))
-    # libclang can't be interrupted, and Python would wait for it.
-    os._exit(128 + number)
+    end(number)

@@ -1,11 +1,16 @@
-"""Has a signal end the command soon, wherever it is."""
+"""Has a signal end a command soon, wherever it is, with the processes that work for it and what these run."""
 
+import os
 import signal
 from contextlib import contextmanager
 from types import FrameType
-from typing import Iterator, Optional
+from typing import Callable, Iterator, List, NoReturn, Optional
 
 NUMBERS = (signal.SIGINT, signal.SIGTERM, signal.SIGHUP)
+# How often a wait ends, in seconds, to see a signal that came just before it, or to another thread.
+LOOK = 0.2
+# What is done before a process ends early, whatever its main thread does meanwhile.
+CLEANING: List[Callable[[], None]] = []
 
 
 class Interrupted(BaseException):
@@ -55,11 +60,26 @@ class Signals:
 
 @contextmanager
 def interruptible() -> Iterator[Signals]:
-    """Gives what takes the signals during a block, and holds them at first."""
+    """Gives what takes the signals during a block, and holds them at first. One that is ignored stays so, as nohup has
+    it.
+    """
     signals = Signals()
-    before = [signal.signal(number, signals.take) for number in NUMBERS]
+    numbers = [it for it in NUMBERS if signal.getsignal(it) is not signal.SIG_IGN]
+    before = [signal.signal(number, signals.take) for number in numbers]
     try:
         yield signals
     finally:
-        for number, handler in zip(NUMBERS, before):
+        for number, handler in zip(numbers, before):
             signal.signal(number, handler)
+
+
+def clean() -> None:
+    for one in CLEANING:
+        one()
+
+
+def end(number: int) -> NoReturn:
+    """Ends this process by a signal, with the status that shells give for it."""
+    clean()
+    # libclang can't be interrupted, and Python would wait for it.
+    os._exit(128 + number)

@@ -1,0 +1,171 @@
+"""Tests of what fmtcanon-check reads, leaves and counts, without libclang: python3 -m unittest, in the folder above."""
+
+import os
+import tempfile
+import unittest
+from collections import Counter
+from pathlib import Path
+from types import SimpleNamespace
+from unittest import mock
+
+from fmtcanon.checker import checking, command
+from fmtcanon.checker.formats import MARK_AFTER, TOKEN, type_name_of
+from fmtcanon.compiling.attributes import constant_of, printf_indexes, returned_index
+from fmtcanon.compiling.left import Left, own_trouble
+from fmtcanon.compiling.sources import Files
+from fmtcanon.models import Model
+
+# Texts of attributes, and the numbers in them; None if it is another attribute.
+ATTRIBUTES = [
+    ("format(printf, 1, 2)", (1, 2)),
+    ("__format__(__printf__, 2, 3)", (2, 3)),
+    ("format (printf, 1, 0)", (1, 0)),
+    ("format(printf, (1), (2))", (1, 2)),
+    ("__format__(__printf__, 1, 1 +1)", (1, 2)),
+    ("format(printf, (2)-1, ((2 * 1)))", (1, 2)),
+    ("format(printf, 1\n, 0x2u)", (1, 2)),
+    ("format(printf, FIRST, 2)", (None, 2)),
+    ("format(printf, sizeof(int), 5)", (None, 5)),
+    ("format(printf, 1)", None),
+    ("format(scanf, 1, 2)", None),
+    ("format_arg(1)", None),
+    ("printf", None),
+    ("nonnull(1)", None),
+]
+
+
+class Attributes(unittest.TestCase):
+    def test_numbers(self):
+        for text, numbers in ATTRIBUTES:
+            self.assertEqual(printf_indexes(text), numbers, text)
+        for text, number in [("format_arg(2)", 2), ("__format_arg__ ((1 + 1))", 2), ("format(printf, 1, 2)", None)]:
+            self.assertEqual(returned_index(text), number, text)
+
+    def test_constants(self):
+        for text, value in [
+            ("1", 1),
+            (" 2 * (3 + 1)", 8),
+            ("5UL", 5),
+            ("n", None),
+            ("", None),
+            ("1 +", None),
+            ("'a'", None),
+        ]:
+            self.assertEqual(constant_of(text), value, text)
+
+
+class Literals(unittest.TestCase):
+    def test_tokens(self):
+        text = '"%" "lu"/*PRIu64*/ u8"\\" x"'
+        self.assertEqual(
+            [(it[1], it[2]) for it in TOKEN.finditer(text)], [('"%"', None), ('"lu"', "PRIu64"), ('"\\" x"', None)]
+        )
+        self.assertEqual(
+            [MARK_AFTER.match(it) is not None for it in ("/*PRIu64*/", " /*__PRI64_PREFIX*/, n", ", n")],
+            [True, True, False],
+        )
+
+    def test_names_of_types(self):
+        for names in [
+            ["unsigned long", "long unsigned int", "const unsigned long", "unsigned long int"],
+            ["int", "signed", "signed int", "const int"],
+            ["unsigned int", "unsigned"],
+            ["short", "signed short int"],
+            ["char *", "char*", "char *const"],
+            ["const char *", "char const*"],
+        ]:
+            self.assertEqual({type_name_of(it) for it in names}, {type_name_of(names[0])}, names)
+        different = (
+            "char,signed char,unsigned char,int,long,long long,int *,double,long double,char *,const char *,char **"
+        )
+        different = different.split(",")
+        self.assertEqual(len({type_name_of(it) for it in different}), len(different))
+
+
+class Counts(unittest.TestCase):
+    def summary(self, others=(), **counts):
+        return command.summary(Counter(counts), Counter(dict(others)))
+
+    def test_unread(self):
+        said = "1 file, 2 formats, 3 arguments: nothing found"
+        self.assertEqual(self.summary(files=1, formats=2, arguments=3), said)
+        one = self.summary(files=1, formats=2, arguments=3, unread=1)
+        self.assertEqual(one, f"{said}; 1 call with a format that wasn't read")
+        more = self.summary(files=1, formats=2, arguments=3, unread=12)
+        self.assertEqual(more, f"{said}; 12 calls with formats that weren't read")
+
+    def test_others(self):
+        """Functions that aren't known are named if four times as many of their calls have formats as were judged."""
+        others = {"say:0:1": 2, "log_it:1:2": 5, "c:0:1": 1, "b:0:1": 1}
+        said = self.summary(others, files=1, formats=2)
+        self.assertIn(
+            "5 calls of log_it (--function log_it:1:2), 2 calls of say (--function say:0:1), 1 call of b", said
+        )
+        self.assertNotIn("--function c", said)
+        self.assertNotIn("--function", self.summary(others, files=1, formats=3))
+        self.assertNotIn("--function", self.summary({}, files=1))
+
+
+class Troubles(unittest.TestCase):
+    def test_every_exception(self):
+        for raised, said in [
+            (AssertionError("a b"), "it can't be read: AssertionError: a b"),
+            (RecursionError(), "it can't be read: RecursionError:"),
+            (Left("it is C++"), "it is C++"),
+        ]:
+            with self.assertRaises(Left) as found, own_trouble():
+                raise raised
+            self.assertEqual(str(found.exception), said)
+        with self.assertRaises(KeyboardInterrupt), own_trouble():
+            raise KeyboardInterrupt
+
+    def test_one_file(self):
+        """An exception leaves the file, and its reason is said."""
+        question = checking.Question(list(Model), [], None)
+        job = checking.Job(os.path.realpath("a.c"), ("a command",), question)
+        with mock.patch.object(checking, "Unit", side_effect=AssertionError("of libclang")):
+            found = checking.answer(job)
+        [one] = found.found.values()
+        self.assertEqual(one.finding.message, "left: it can't be read: AssertionError: of libclang")
+        self.assertEqual((found.counts["left"], found.counts["files"], found.fixes), (1, 1, {}))
+
+
+class Names(unittest.TestCase):
+    def said_of(self, name, database=True, given=()):
+        """Why a file in a folder is skipped or left, or nothing."""
+        with tempfile.TemporaryDirectory() as work:
+            work = os.path.realpath(work)
+            for one in ("a.c", "b.c", "a.h", "read.me"):
+                Path(work, one).write_text("")
+            os.mkfifo(os.path.join(work, "fifo.c"))
+            options = SimpleNamespace(database=None, files=[os.path.join(work, it) for it in given or (name,)], flag=[])
+            files = Files(options)
+            options.database = database
+            files.database = {os.path.join(work, "a.c"): ["a command"]}
+            jobs = {os.path.basename(it.file): it for it in command.jobs_of(files, None)}
+            job = jobs[name]
+            return job.why_skipped or job.why_left, bool(job.why_left), bool(job.commands)
+
+    def test_names(self):
+        for name, given, said, is_left, is_read in [
+            ("a.c", (), "", False, True),
+            ("a.h", (), "a header is judged with the files that include it", False, False),
+            ("read.me", (), "it isn't compiled by itself", False, False),
+            ("b.c", (), "compile_commands.json has no command for it", True, False),
+            ("b.c", ("",), "compile_commands.json has no command for it", False, False),
+            ("none.c", (), "there is no such file", True, False),
+            ("none.h", (), "there is no such file", True, False),
+            ("fifo.c", (), "it isn't a regular file", True, False),
+        ]:
+            found = self.said_of(name, given=given)
+            self.assertIn(said, found[0], name)
+            self.assertEqual((bool(found[0]), *found[1:]), (bool(said), is_left, is_read), name)
+
+    def test_skipped_is_a_note(self):
+        question = checking.Question(list(Model), [], None)
+        found = checking.answer(checking.Job(os.path.realpath("a.h"), (), question, why_skipped="it is a header"))
+        [one] = found.found.values()
+        self.assertEqual(
+            (one.finding.kind, one.finding.level, one.finding.message), ("skipped", "note", "skipped: it is a header")
+        )
+        self.assertEqual((found.counts["left"], found.counts["files"]), (0, 0))

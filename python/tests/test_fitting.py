@@ -1,0 +1,73 @@
+"""Tests of what compile commands say of a changed place, without libclang: python3 -m unittest, in the folder above."""
+
+import unittest
+
+from fmtcanon import Model, Type
+from fmtcanon.checker.checking import Question
+from fmtcanon.checker.fitting import NO_COMMAND, Compiled, Use
+from fmtcanon.checker.unit import Settings
+from fmtcanon.findings import Finding
+
+from .test_check import faults_of
+
+FOUND = Finding("a.c", 3, 10, "types", "error", "wrong", (3, 20), ("%d", "%zu"))
+# The types that the old and the new format take.
+TYPES = bytes([Type.INT]), bytes([Type.ULONG])
+
+
+def compiled(uses, places=(), models=tuple(Model)):
+    """What is known of a file with these uses of places, and these places that are compiled."""
+    found = Compiled("a.c", (), Question(models, (), Settings((), {}, {})))
+    found.why_not, found.uses, found.compiled = "", uses, {*uses, *places}
+    return found
+
+
+class Notes(unittest.TestCase):
+    def test_places(self):
+        """A finding is a note if there are literals in its place, and all calls fit."""
+        fits, fits_not = [Use((), True)], [Use((), True), Use((), False)]
+        for uses, does in [
+            ({}, False),
+            ({(3, 10): fits}, True),
+            ({(3, 10): fits_not}, False),
+            ({(3, 12): fits, (3, 18): fits}, True),
+            ({(3, 12): fits, (3, 18): fits_not}, False),
+            ({(3, 9): fits, (3, 20): fits, (4, 11): fits}, False),
+        ]:
+            self.assertEqual(compiled(uses).noted(FOUND, *TYPES).level == "note", does, uses)
+
+    def test_why_not(self):
+        """What is said of a call that isn't known."""
+        for found, said in [
+            (Compiled("a.c", (), Question((), (), Settings((), {}, {}))), f"; the call isn't judged: {NO_COMMAND}"),
+            (compiled({}), "; the call isn't compiled here"),
+            (compiled({(3, 9): []}, [(3, 20)]), "; the call isn't compiled here"),
+            (compiled({}, [(3, 10)]), "; no call of a known function has it as its format"),
+            (compiled({(3, 10): [Use((), False)]}), ""),
+        ]:
+            self.assertEqual(found.noted(FOUND, *TYPES).message, "wrong" + said)
+            is_format = said != "; no call of a known function has it as its format"
+            self.assertEqual(found.is_not_format((3, 10), (3, 20)), not is_format)
+
+    def test_signs(self):
+        """An argument of another sign fits only if the old format took that sign, of as many arguments."""
+        signed, unsigned, int_of = bytes([Type.INT]), bytes([Type.ULONG]), faults_of("%u", "int")
+        for faults, before, count, does in [
+            (int_of, signed, 1, False),
+            (int_of, unsigned, 1, True),
+            (int_of, unsigned + signed, 1, False),
+            (int_of, unsigned, 2, False),
+            (faults_of("%lu", "int"), unsigned, 1, False),
+            ([], signed, 1, True),
+        ]:
+            self.assertEqual(Use(faults, True).fits(before, count, list(Model)), does, (before, count))
+
+    def test_models(self):
+        """Only the data models that are asked about count."""
+        faults = faults_of("%lu", "size_t")
+        for models, does in [([Model.LP64], True), ([Model.ILP32], False), (list(Model), False)]:
+            self.assertEqual(Use(faults, True).fits(bytes([Type.ULONG]), 1, models), does, models)
+
+
+if __name__ == "__main__":
+    unittest.main()

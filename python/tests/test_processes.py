@@ -1,0 +1,193 @@
+"""Tests of the processes that share work, and of how they end: python3 -m unittest, in the folder above."""
+
+import os
+import signal
+import subprocess
+import sys
+import tempfile
+import time
+import unittest
+from pathlib import Path
+
+from fmtcanon.processes import Ended, in_order
+
+# The seconds in which a command and its processes end after a signal, and those to wait for something.
+SOON, LATE = 2, 60
+# A command whose work takes long, and runs a program.
+SLOW = """
+import signal, subprocess, sys, threading, time
+from fmtcanon.command_line import status_of
+from fmtcanon.compiling import running
+from fmtcanon.processes import in_order
+
+def work(item):
+    if sys.argv[1] == "run":
+        running.run(["sleep", "1000"], "/", {})
+    while True:
+        time.sleep(1000)
+
+def kill():
+    time.sleep(1)
+    signal.pthread_kill(threading.get_ident(), signal.SIGTERM)
+
+if sys.argv[1] == "kill":
+    threading.Thread(target=kill, daemon=True).start()
+sys.exit(status_of("slow", lambda: print(list(in_order(work, range(9), 2)))))
+"""
+
+
+def children_of(process):
+    """The numbers of the processes that one has started and that haven't ended."""
+    try:
+        return [int(it) for it in Path(f"/proc/{process}/task/{process}/children").read_text().split()]
+    except FileNotFoundError:
+        return []
+
+
+def is_there(process):
+    """Whether a process runs. One that nobody has waited for doesn't."""
+    try:
+        return Path(f"/proc/{process}/stat").read_bytes().rpartition(b")")[2].split()[0] != b"Z"
+    except (FileNotFoundError, ProcessLookupError):
+        return False
+
+
+def wait_until(is_so, seconds):
+    """Waits until something is so, and returns whether it is."""
+    limit = time.monotonic() + seconds
+    while not is_so() and time.monotonic() < limit:
+        time.sleep(0.01)
+    return is_so()
+
+
+def double(number):
+    return number, bytes(1000 * (number % 3000))
+
+
+def fail(number):
+    raise ValueError(f"about {number}")
+
+
+def end(number):
+    os.kill(os.getpid(), signal.SIGKILL)
+
+
+class Results(unittest.TestCase):
+    def test_order(self):
+        for jobs in [1, 2, 5]:
+            for count in [0, 1, 8, 300]:
+                self.assertEqual(list(in_order(double, range(count), jobs)), [double(it) for it in range(count)])
+
+    def test_large_items(self):
+        items = [bytes([it]) * 1_000_000 for it in range(20)]
+        self.assertEqual(list(in_order(bytes.upper, items, 2)), [it.upper() for it in items])
+
+    def test_an_exception(self):
+        with self.assertRaisesRegex(RuntimeError, "ValueError: about 0"):
+            list(in_order(fail, range(20), 2))
+
+    def test_a_process_that_is_killed(self):
+        with self.assertRaisesRegex(Ended, "one of its processes ended by signal 9"):
+            list(in_order(end, range(20), 2))
+
+    def test_results_that_nobody_wants(self):
+        """The processes end with the first result that is taken."""
+        results = in_order(double, range(1000), 2)
+        next(results)
+        there = children_of(os.getpid())
+        results.close()
+        self.assertEqual((len(there), [it for it in there if is_there(it)]), (2, []))
+
+
+class Ends(unittest.TestCase):
+    """A signal ends a command and all of its processes, whatever they do."""
+
+    def ends_by(self, words, expected, *signals, each=1):
+        """Runs a command until its two processes work, sends it signals, and tries how it ends. A signal is a number,
+        whether the group of the command gets it, and the seconds after it.
+        """
+        running = subprocess.Popen(
+            words,
+            stdout=subprocess.DEVNULL,
+            stderr=subprocess.PIPE,
+            start_new_session=True,
+        )
+        self.addCleanup(running.stderr.close)
+        self.addCleanup(running.wait)
+        self.addCleanup(running.kill)
+
+        def all_of_it():
+            workers = children_of(running.pid)
+            return [*workers, *(it for one in workers for it in children_of(one))]
+
+        self.assertTrue(wait_until(lambda: len(all_of_it()) == 2 * each, LATE), "its processes work")
+        time.sleep(0.1)
+        there = all_of_it()
+        began = time.monotonic()
+        for number, is_of_group, pause in signals:
+            try:
+                (os.killpg if is_of_group else os.kill)(running.pid, number)
+            except ProcessLookupError:
+                pass
+            time.sleep(pause)
+        try:
+            status = running.wait(timeout=SOON)
+        except subprocess.TimeoutExpired:
+            status = "it runs on"
+        left = wait_until(lambda: not any(map(is_there, there)), began + SOON - time.monotonic())
+        for one in there:
+            if is_there(one):
+                os.kill(one, signal.SIGKILL)
+        self.assertEqual((status, left), (expected, True), signals)
+        if status == expected:
+            self.assertEqual(running.stderr.read(), b"", signals)
+
+    def all_ends(self, words, each=1):
+        for number in [signal.SIGINT, signal.SIGTERM, signal.SIGHUP]:
+            for is_of_group in [False, True]:
+                self.ends_by(words, 128 + number, (number, is_of_group, 0), each=each)
+        for first, pause in [(True, 0.15), (True, 0.01), (False, 0.01)]:
+            signals = (signal.SIGINT, first, pause), (signal.SIGINT, True, 0)
+            self.ends_by(words, 128 + signal.SIGINT, *signals, each=each)
+        self.ends_by(words, -signal.SIGKILL, (signal.SIGKILL, False, 0), each=each)
+
+    def test_work(self):
+        self.all_ends([sys.executable, "-B", "-c", SLOW, "wait"])
+
+    def test_a_signal_to_another_thread(self):
+        self.ends_by([sys.executable, "-B", "-c", SLOW, "kill"], 128 + signal.SIGTERM)
+
+    def test_what_work_runs(self):
+        self.all_ends([sys.executable, "-B", "-c", SLOW, "run"], each=2)
+
+    def test_catalogs(self):
+        """Nobody writes the catalogs that fmtcanon-po reads."""
+        with tempfile.TemporaryDirectory() as work:
+            names = [os.path.join(work, f"{number}.po") for number in range(9)]
+            for it in names:
+                os.mkfifo(it)
+            self.all_ends([sys.executable, "-B", "-m", "fmtcanon.po", "-j2", *names])
+
+    def test_sources(self):
+        """fmtcanon-diff has much to pair."""
+        with tempfile.TemporaryDirectory() as work:
+            for number in range(9):
+                for side in ["old", "new"]:
+                    os.makedirs(f"{work}/{side}", exist_ok=True)
+                    lines = [f'printf("{side} %d of {it % 7}", {it}{side});\n' for it in range(20_000)]
+                    Path(f"{work}/{side}/{number}.c").write_text("".join(lines))
+            self.all_ends([sys.executable, "-B", "-m", "fmtcanon.diff", "-j2", f"{work}/old", f"{work}/new"])
+
+    def test_a_signal_that_is_ignored(self):
+        """nohup has the command ignore one."""
+        script = SLOW.replace("1000", "0.01").replace("while True:", "for _ in range(30):")
+        words = [sys.executable, "-B", "-c", f"import signal; signal.signal(signal.SIGHUP, signal.SIG_IGN)\n{script}"]
+        running = subprocess.Popen([*words, "wait"], stdout=subprocess.PIPE, start_new_session=True)
+        self.assertTrue(wait_until(lambda: len(children_of(running.pid)) == 2, LATE))
+        os.killpg(running.pid, signal.SIGHUP)
+        output = running.communicate(timeout=LATE)[0]
+        self.assertEqual((running.returncode, output), (0, b"[" + b", ".join([b"None"] * 9) + b"]\n"))
+
+
+if __name__ == "__main__":
+    unittest.main()

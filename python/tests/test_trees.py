@@ -1,0 +1,145 @@
+"""Tests of how fmtcanon-diff asks git, and of files that were renamed: python3 -m unittest, in the folder above."""
+
+import os
+import random
+import shutil
+import subprocess
+import tempfile
+import time
+import unittest
+from pathlib import Path
+from unittest import mock
+
+from fmtcanon.diff import trees
+from fmtcanon.diff.renames import renamed
+from fmtcanon.diff.trees import Git, Unreadable, changes_of
+
+# The seconds that git may take here, and those in which what it runs has ended.
+LIMIT, SOON = 0.5, 5
+IDENTITY = {f"GIT_{who}_{what}": "a@b" for who in ["AUTHOR", "COMMITTER"] for what in ["NAME", "EMAIL"]}
+NO_CONFIGURATION = {f"GIT_CONFIG_{it}": os.devnull for it in ["GLOBAL", "SYSTEM"]}
+
+
+class InFolder(unittest.TestCase):
+    def setUp(self):
+        folder = tempfile.TemporaryDirectory()
+        self.addCleanup(folder.cleanup)
+        self.work = Path(os.path.realpath(folder.name))
+        self.addCleanup(os.chdir, os.getcwd())
+        os.chdir(self.work)
+        environment = mock.patch.dict(os.environ, {**IDENTITY, **NO_CONFIGURATION})
+        environment.start()
+        self.addCleanup(environment.stop)
+
+    def put(self, name, text):
+        file = self.work / name
+        file.parent.mkdir(parents=True, exist_ok=True)
+        file.write_text(text)
+        return file
+
+    def git(self, *words):
+        subprocess.run(["git", *words], check=True, stdout=subprocess.DEVNULL, timeout=60)
+
+
+@unittest.skipUnless(shutil.which("git"), "it needs git")
+class Asked(InFolder):
+    def soon(self):
+        """How git is asked for what changed, within a time."""
+        began = time.monotonic()
+        try:
+            with mock.patch.object(trees, "SECONDS", LIMIT, create=True):
+                return [it.name for it in Git().changes(["HEAD"], [])]
+        except Unreadable as error:
+            return str(error)
+        finally:
+            self.assertLess(time.monotonic() - began, SOON)
+
+    def test_git_waits(self):
+        """As for a filter that a repository names, which runs on if git alone is ended."""
+        self.git("init", "-q")
+        self.put("a.c", "int a;\n")
+        self.git("add", ".")
+        self.git("commit", "-qm", "first")
+        self.put("a.c", "int b;\n")
+        real, path = shutil.which("git"), os.environ["PATH"]
+        os.environ["PATH"] = f"{self.work}/bin:{path}"
+        for command in ["rev-parse", "diff-index", "cat-file"]:
+            script = f'#!/bin/sh\ncase "$*" in *{command}*) sleep 9 & sleep 9;; *) exec {real} "$@";; esac\n'
+            self.put("bin/git", script).chmod(0o755)
+            self.assertEqual(self.soon(), f"git took more than {LIMIT} seconds", command)
+
+
+def text_of(chosen, count):
+    return "".join(f"int {chosen.choice('abcdefgh')}{chosen.randrange(100_000)};\n" for _ in range(count))
+
+
+def with_edits(chosen, text, count):
+    """A text with some of its lines replaced."""
+    lines = text.splitlines(True)
+    for at in chosen.sample(range(len(lines)), count):
+        lines[at] = text_of(chosen, 1)
+    return "".join(lines)
+
+
+class Renames(InFolder):
+    def moved(self):
+        """The files of two folders that differ: the old and the new text of each, by its new name."""
+        return {os.path.relpath(it.name, "new"): (it.old, it.new) for it in changes_of("old", "new")}
+
+    def test_a_folder_that_moved(self):
+        chosen = random.Random(1)
+        texts = {f"{number}.c": text_of(chosen, 40) for number in range(30)}
+        wanted = {}
+        for number, (name, text) in enumerate(texts.items()):
+            after = with_edits(chosen, text, number)
+            self.put(f"old/{name}", text)
+            self.put(f"new/src/{name}", after)
+            # Of 40 lines half are enough.
+            if 0 < number <= 18:
+                wanted[f"src/{name}"] = text.encode(), after.encode()
+        found = {name: it for name, it in self.moved().items() if None not in it}
+        self.assertEqual({name: it for name, it in found.items() if int(Path(name).stem) <= 18}, wanted)
+
+    def test_as_git_does(self):
+        """git finds the same renames."""
+        if not shutil.which("git"):
+            self.skipTest("it needs git")
+        chosen = random.Random(2)
+        for number in range(60):
+            text = text_of(chosen, chosen.randrange(5, 60))
+            self.put(f"old/f{number}.c", text)
+            edits = chosen.randrange(0, text.count("\n"))
+            if abs(edits - 0.5 * text.count("\n")) > 2:
+                self.put(f"new/g{chosen.randrange(10**6)}.c", with_edits(chosen, text, edits))
+        words = ["git", "diff", "--no-index", "--raw", "-z", "-M", "-l0", "old", "new"]
+        fields = subprocess.run(words, capture_output=True, check=False).stdout.decode().split("\0")
+        theirs = {new: old for status, old, new in zip(fields, fields[1:], fields[2:]) if " R" in status}
+        self.assertGreater(len(theirs), 15)
+        sides = [{f"{it}/{name}": Path(it, name).read_bytes() for name in os.listdir(it)} for it in ["old", "new"]]
+        self.assertEqual(renamed(*sides), theirs)
+
+    def test_equal_files(self):
+        for old, new, wanted in [
+            (["a.c"], ["src/a.c"], {"src/a.c": "a.c"}),
+            (["a.c", "b.c"], ["src/b.c"], {"src/b.c": "b.c"}),
+            (["a.c", "b.c"], ["src/b.c", "src/a.c"], {"src/a.c": "a.c", "src/b.c": "b.c"}),
+            (["a.c"], ["src/a.c", "lib/b.c"], {"src/a.c": "a.c"}),
+            (["a.c"], ["x.c", "y.c"], {"x.c": "a.c"}),
+        ]:
+            found = renamed(dict.fromkeys(old, b"int x;\n"), dict.fromkeys(new, b"int x;\n"))
+            self.assertEqual(found, wanted, (old, new))
+        self.assertEqual(renamed({"a.c": b""}, {"b.c": b""}), {})
+
+    def test_time(self):
+        """Thousands of files that share many lines take seconds."""
+        chosen = random.Random(3)
+        shared = "".join(f"#include <h{number}.h>\n" for number in range(100))
+        old = {f"{number}.c": (shared + text_of(chosen, 50)).encode() for number in range(2_000)}
+        new = {f"src/{name}": text + b"int more;\n" for name, text in old.items()}
+        began = time.process_time()
+        self.assertEqual(renamed(old, new), {f"src/{name}": name for name in old})
+        self.assertLess(time.process_time() - began, 20)
+
+
+if __name__ == "__main__":
+    unittest.main()
