@@ -331,6 +331,27 @@ def try_troubles(tool, trials):
     trials.expect(f"fmtcanon-diff -p: {output} {fault}", (status, "Traceback" in fault), (0, False))
 
 
+def try_crashes(tool, trials):
+    """libclang evaluates a variable that is its own value until it crashes, at least in version 14."""
+    crash = 'static const char *const s = s;\nvoid f(size_t n) { printf(s, n); }\n'
+    tool.put("a.c", SAYS + crash)
+    tool.put("b.c", SAYS + 'void f(size_t n) { printf("%lu", n); }\n')
+    left = "a.c: left: it can't be read: the process that read it ended by signal "
+    more = [f"{number}.c" for number in range(8)]
+    for name in more:
+        tool.put(name, SAYS)
+    for words in [["-j1", "a.c", "b.c"], ["-j2", "a.c", *more, "b.c"]]:
+        status, output, fault = tool.run(*words)
+        lines = output.splitlines()
+        is_left = [it[: len(left)] for it in lines[:-1]] == [left]
+        found = ("".join(lines[-1:]).startswith("b.c:5:28: "), is_left or len(lines) == 1, status)
+        trials.expect(f"{words}: {output} {fault}", found, (True, True, 2 if is_left else 1))
+    tool.put_commands(["gcc", "-c", "a.c"])
+    tool.put("old.c", SAYS + crash.replace("= s", '= "%d"'))
+    status, output, fault = Tool(tool.folder, tool.work, tool.python, "diff").run("-p", ".", "old.c", "a.c")
+    trials.expect(f"fmtcanon-diff -p: {output} {fault}", ("its processes" in fault, "literal" in fault), (False, True))
+
+
 def try_long(tool, trials):
     """Many calls on one line take about as long as on lines of their own."""
     times = {}
@@ -353,4 +374,4 @@ def try_checking_calls(folder, python, tools, trials):
                 part(Tool(folder, os.path.realpath(work), python), trials)
 
 
-PARTS = [try_ways, try_counted, try_macros, try_signs, try_proposals, try_written, try_troubles, try_long]
+PARTS = [try_ways, try_counted, try_macros, try_signs, try_proposals, try_written, try_troubles, try_crashes, try_long]

@@ -10,7 +10,7 @@ import signal
 import threading
 import time
 import traceback
-from typing import TYPE_CHECKING, Any, Callable, Deque, Iterable, Iterator, List, NamedTuple, Tuple, TypeVar
+from typing import TYPE_CHECKING, Any, Callable, Deque, Iterable, Iterator, List, NamedTuple, Optional, Tuple, TypeVar
 
 from .interrupting import CLEANING, LOOK, NUMBERS, clean
 
@@ -32,8 +32,8 @@ class Ended(Exception):
 class Slot:
     """The result of an item, once it is there."""
 
-    def __init__(self) -> None:
-        self.is_done = False
+    def __init__(self, item: Any) -> None:
+        self.item, self.is_done = item, False
         self.result: Any = None
 
     def put(self, result: Any) -> None:
@@ -47,14 +47,26 @@ class Worker(NamedTuple):
     connection: Connection
 
 
-def in_order(work: Callable[[_Item], _Result], items: Iterable[_Item], jobs: int, few: int = FEW) -> Iterator[_Result]:
-    """Yields what the work returns for each item, in order. Several processes share it if there are `few` items."""
+def in_order(
+    work: Callable[[_Item], _Result],
+    items: Iterable[_Item],
+    jobs: int,
+    few: int = FEW,
+    instead: Optional[Callable[[_Item, str], _Result]] = None,
+) -> Iterator[_Result]:
+    """Yields what the work returns for each item, in order. Several processes share it if there are `few` items.
+
+    With `instead` no work is done in this process: it returns the result of an item whose process ended, and how that
+    ended.
+    """
     given = iter(items)
     first = list(itertools.islice(given, few))
     if len(first) < few or jobs < 2:
+        jobs = 1
+    if not first or (jobs == 1 and not instead):
         yield from map(work, itertools.chain(first, given))
         return
-    workers = Workers(work, jobs)
+    workers = Workers(work, jobs, instead)
     LIVE.append(workers)
     try:
         yield from workers.results(itertools.chain(first, given))
@@ -66,8 +78,10 @@ def in_order(work: Callable[[_Item], _Result], items: Iterable[_Item], jobs: int
 class Workers:
     """Processes that do one kind of work, each of them on one item at a time."""
 
-    def __init__(self, work: Callable[[Any], Any], jobs: int) -> None:
-        self.work, self.jobs = work, jobs
+    def __init__(
+        self, work: Callable[[Any], Any], jobs: int, instead: Optional[Callable[[Any, str], Any]] = None
+    ) -> None:
+        self.work, self.jobs, self.instead = work, jobs, instead
         self.all: List[Worker] = []
         self.idle: List[Worker] = []
         # What each of the others works on, and all results in order.
@@ -88,21 +102,22 @@ class Workers:
 
     def give(self, item: Any) -> None:
         """Gives an item to a process that is idle, once there is one; or works on it here if none can be started."""
-        slot = Slot()
+        slot = Slot(item)
         self.slots.append(slot)
-        if not self.idle and len(self.all) < self.jobs:
-            self.start()
-        while self.busy and not self.idle:
-            self.take()
-        if not self.idle:
-            slot.put(self.work(item))
-            return
+        while not self.idle:
+            if len(self.all) < self.jobs:
+                self.start()
+            elif self.busy:
+                self.take()
+            else:
+                slot.put(self.work(item))
+                return
         worker = self.idle.pop()
         self.busy.append((worker, slot))
         try:
             worker.connection.send(item)
-        except OSError as error:
-            raise ended(worker) from error
+        except OSError:
+            self.drop(worker, slot)
 
     def take(self) -> None:
         """Waits until a process has a result, and notes the results that are there."""
@@ -114,13 +129,26 @@ class Workers:
         for worker, slot in [it for it in self.busy if it[0].connection in ready]:
             try:
                 is_done, result = worker.connection.recv()
-            except (EOFError, OSError) as error:
-                raise ended(worker) from error
+            except (EOFError, OSError):
+                self.drop(worker, slot)
+                continue
             if not is_done:
                 raise RuntimeError(f"an exception in another process:\n{result}")
             slot.put(result)
             self.busy.remove((worker, slot))
             self.idle.append(worker)
+
+    def drop(self, worker: Worker, slot: Slot) -> None:
+        """Takes note that a process ended while it had an item. Raises Ended if nothing is the result of that."""
+        worker.connection.close()
+        wait_or_kill(worker.process, GRACE)
+        status = worker.process.exitcode
+        how = "ended" + (f" by signal {-status}" if status < 0 else "")
+        if not self.instead:
+            raise Ended(f"one of its processes {how}")
+        slot.put(self.instead(slot.item, how))
+        self.busy.remove((worker, slot))
+        self.all.remove(worker)
 
     def start(self) -> None:
         """Starts one more process, unless the system has no means for it."""
@@ -153,10 +181,15 @@ class Workers:
             one.connection.close()
         limit = time.monotonic() + GRACE
         for one in self.all:
-            one.process.join(max(limit - time.monotonic(), 0))
-            if one.process.is_alive():
-                one.process.kill()
-                one.process.join()
+            wait_or_kill(one.process, max(limit - time.monotonic(), 0))
+
+
+def wait_or_kill(process: Any, seconds: float) -> None:
+    """Waits until a process has ended, and kills it after this time."""
+    process.join(seconds)
+    if process.is_alive():
+        process.kill()
+        process.join()
 
 
 # Those whose processes are there, to be ended when the command ends early.
@@ -169,13 +202,6 @@ def end_all() -> None:
 
 
 CLEANING.append(end_all)
-
-
-def ended(worker: Worker) -> Ended:
-    """Returns that a process ended, and how."""
-    worker.process.join(GRACE)
-    status = worker.process.exitcode
-    return Ended("one of its processes ended" + (f" by signal {-status}" if status is not None and status < 0 else ""))
 
 
 def serve(work: Callable[[Any], Any], own: Connection, others: Iterable[Connection]) -> None:

@@ -129,6 +129,14 @@ class Troubles(unittest.TestCase):
         self.assertEqual(one.finding.message, "left: it can't be read: AssertionError: of libclang")
         self.assertEqual((found.counts["left"], found.counts["files"], found.fixes), (1, 1, {}))
 
+    def test_a_process_that_ends(self):
+        """It leaves the file that it read."""
+        question = checking.Question(list(Model), [], None)
+        found = checking.answer_without(checking.Job(os.path.realpath("a.c"), (), question), "ended by signal 11")
+        [one] = found.found.values()
+        said = "left: it can't be read: the process that read it ended by signal 11"
+        self.assertEqual((one.finding.message, one.finding.level, found.counts["left"]), (said, "warning", 1))
+
 
 class Names(unittest.TestCase):
     def said_of(self, name, database=True, given=()):

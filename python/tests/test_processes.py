@@ -1,5 +1,6 @@
 """Tests of the processes that share work, and of how they end: python3 -m unittest, in the folder above."""
 
+import functools
 import os
 import signal
 import subprocess
@@ -68,6 +69,16 @@ def fail(number):
     raise ValueError(f"about {number}")
 
 
+def end_at(ending, number):
+    if number in ending:
+        end(number)
+    return number
+
+
+def leave(number):
+    os._exit(0)
+
+
 def end(number):
     os.kill(os.getpid(), signal.SIGKILL)
 
@@ -89,6 +100,19 @@ class Results(unittest.TestCase):
     def test_a_process_that_is_killed(self):
         with self.assertRaisesRegex(Ended, "one of its processes ended by signal 9"):
             list(in_order(end, range(20), 2))
+
+    def test_items_that_end_their_processes(self):
+        """Each has a result of its own, and new processes work on the others."""
+        for jobs in [1, 2, 5]:
+            for ending in [(), (0,), (7,), (3, 4, 5, 6), range(20)]:
+                for count in [1, 20]:
+                    work, own = functools.partial(end_at, ending), os.getpid()
+                    found = list(in_order(work, range(count), jobs, instead=lambda *given: given))
+                    wanted = [(it, "ended by signal 9") if it in ending else it for it in range(count)]
+                    self.assertEqual((found, children_of(own)), (wanted, []), (jobs, ending, count))
+
+    def test_a_process_that_ends_by_itself(self):
+        self.assertEqual(list(in_order(leave, [1], 1, instead=lambda *given: given)), [(1, "ended")])
 
     def test_results_that_nobody_wants(self):
         """The processes end with the first result that is taken."""

@@ -60,9 +60,20 @@ class Job(NamedTuple):
     why_skipped: str = ""
 
 
+def empty_answer(job: Job) -> Answer:
+    return Answer(job.file, {}, collections.Counter(files=1), collections.Counter(), {})
+
+
+def answer_without(job: Job, how: str) -> Answer:
+    """Returns the answer about a file that ends each process that reads it, as a crash of libclang does."""
+    result = empty_answer(job)
+    add_left(result, job.question, f"it can't be read: the process that read it {how}")
+    return result
+
+
 def answer(job: Job) -> Answer:
     """Checks a file. An exception leaves it."""
-    result = Answer(job.file, {}, collections.Counter(files=1), collections.Counter(), {})
+    result = empty_answer(job)
     if job.why_skipped:
         result.counts.clear()
         result.found[job.file] = Found(reporting.skipped(job.file, job.why_skipped, job.question.models))

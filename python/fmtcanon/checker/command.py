@@ -13,7 +13,7 @@ from ..findings import ERROR, Printer
 from ..output import complain
 from ..processes import in_order
 from ..replace.writing import replace
-from .checking import Answer, Job, Question, answer
+from .checking import Answer, Job, Question, answer, answer_without
 from .fixer import Fixer
 from .options import NAME, parsed
 from .reporting import COMPOSED, RANK, RULES, SIGN, with_source
@@ -111,7 +111,8 @@ def run(options: Any) -> int:
             printer = Printer(NAME, options.output, RULES, color=options.color)
             jobs = list(jobs_of(files, question_of(options, folder)))
             printer.progress.expect(len(jobs))
-            found = each_once(printer.progress.each(in_order(answer, jobs, options.jobs)), set())
+            answers = in_order(answer, jobs, options.jobs, instead=answer_without)
+            found = each_once(printer.progress.each(answers), set())
             is_writing = options.fix or options.diff
             return fix(options, files, list(found)) if is_writing else check(printer, found)
     except BrokenPipeError:

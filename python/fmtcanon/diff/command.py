@@ -15,7 +15,7 @@ from ..findings import ERROR, Printer
 from ..processes import in_order
 from ..verdicts import Kind
 from ..visible import visible
-from .reporting import FAULTS, RULES, Question, Report, report_on
+from .reporting import FAULTS, RULES, Question, Report, report_on, report_without
 from .trees import Change, Git, Unreadable, changes_of
 
 NAME = "fmtcanon-diff"
@@ -195,7 +195,9 @@ def diff(options: Any, paths: Sequence[str]) -> int:
             question = Question(MODELS[options.model], options.fail_on, printer.has_excerpts, others, fitting)
             work = functools.partial(report_on, question=question)
             changes = changes_for(options, paths, printer.progress.expect)
-            found = printer.progress.each(in_order(work, changes, options.jobs))
+            # Only libclang may end a process.
+            reports = in_order(work, changes, options.jobs, instead=report_without if fitting else None)
+            found = printer.progress.each(reports)
             status = run(found, printer, counts, options.verbose)
     except Unreadable as error:
         printer.say(f"{NAME}: {visible(str(error))}")

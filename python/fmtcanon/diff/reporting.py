@@ -67,6 +67,11 @@ def report_on(change: Change, question: Question) -> Report:
     return Report(findings, pairs.came, pairs.went, len(added), judged)
 
 
+def report_without(change: Change, how: str) -> Report:
+    """Reports on a file that ends each process that reads it, as a crash of libclang does."""
+    return Report(error=f"{change.name}: it can't be read: the process that read it {how}")
+
+
 def not_compared(change: Change, question: Question) -> Finding:
     """Returns the finding of something that changed and isn't compared."""
     kind = Kind.UNJUDGED.value
