@@ -26,12 +26,16 @@ fn direct;
 int (__attribute__((format(printf, 1, 2))) *pointer)(const char *, ...);
 fn *get(void);
 const char *tr(const char *key, const char *f) __attribute__((format_arg(2)));
+[[gnu::format(printf, 1, 2)]] void before(const char *, ...);
+void after [[gnu::__format__(__printf__, 1, 2), gnu::cold]] (const char *, ...);
 """
 WAYS = [
     'plus("%lu", n);',
     'bracketed(1, "%lu", n);',
     'say(1, "%lu", n);',
     'direct("%lu", n);',
+    'before("%lu", n);',
+    'after("%lu", n);',
     'pointer("%lu", n);',
     'get()("%lu", n);',
     '((fn *)o)("%lu", n);',
@@ -56,6 +60,7 @@ WAYS = [
     'printf(_Generic((const char *)s, char *: "%s", char const *: "%lu"), n);',
     'printf(__builtin_choose_expr(1, "%lu", "%d"), n);',
     'printf(__builtin_choose_expr(sizeof(int) == 3, "%s", "%lu"), n);',
+    'printf(__extension__ "%lu", n);',
     'printf(c ? "%lu" : "%zu", n);',
     'printf(c ? "%lu" : 0, n);',
     'printf(sizeof(n) == 77 ? "%s" : "%lu", n);',

@@ -27,6 +27,9 @@ ATTRIBUTES = [
     ("format(printf, FIRST, 2)", (None, 2)),
     ("format(printf, sizeof(int), 5)", (None, 5)),
     ("format(printf, 1)", None),
+    ("gnu::format(printf, 1, 2)", (1, 2)),
+    ("__gnu__ :: __format__(__printf__, 1, 2)", (1, 2)),
+    ("gnu::nonnull(1, 2)", None),
     ("format(scanf, 1, 2)", None),
     ("format_arg(1)", None),
     ("printf", None),
@@ -38,7 +41,12 @@ class Attributes(unittest.TestCase):
     def test_numbers(self):
         for text, numbers in ATTRIBUTES:
             self.assertEqual(printf_indexes(text), numbers, text)
-        for text, number in [("format_arg(2)", 2), ("__format_arg__ ((1 + 1))", 2), ("format(printf, 1, 2)", None)]:
+        for text, number in [
+            ("format_arg(2)", 2),
+            ("gnu::format_arg(1)", 1),
+            ("__format_arg__ ((1 + 1))", 2),
+            ("format(printf, 1, 2)", None),
+        ]:
             self.assertEqual(returned_index(text), number, text)
 
     def test_constants(self):

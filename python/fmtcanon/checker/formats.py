@@ -108,9 +108,12 @@ class Formats:
         return [children[0], children[3]] if len(children) == 4 else []
 
     def computed(self, cursor: Any, children: Sequence[Any]) -> Sequence[Inside]:
-        """Returns what a comma, an addition or the address of an element begins with."""
+        """Returns what a comma, an addition, `__extension__` or the address of an element begins with."""
         if cursor.kind.name == "UNARY_OPERATOR":
-            element, is_address = unparenthesized(children[0]), self.unit.text_of(cursor).startswith("&")
+            text = self.unit.text_of(cursor)
+            if text.startswith("__extension__"):
+                return [(children[0], 0)]
+            element, is_address = unparenthesized(children[0]), text.startswith("&")
             parts = list(element.get_children())
             is_element = is_address and element.kind.name == "ARRAY_SUBSCRIPT_EXPR" and len(parts) == 2
             return moved(parts[0], parts[1], 1) if is_element else []

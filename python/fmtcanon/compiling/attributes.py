@@ -5,8 +5,10 @@ import operator
 import re
 from typing import List, Optional, Tuple
 
-FORMAT = re.compile(r"(?<![\w$])(?:__)?format(?:__)?\s*\(")
-FORMAT_ARGUMENT = re.compile(r"(?<![\w$])(?:__)?format_arg(?:__)?\s*\(")
+# In `[[gnu::format(..)]]` the name has that of its vendor.
+VENDOR = r"(?:(?:__)?gnu(?:__)?\s*::\s*)?"
+FORMAT = re.compile(VENDOR + r"(?:__)?format(?:__)?\s*\(")
+FORMAT_ARGUMENT = re.compile(VENDOR + r"(?:__)?format_arg(?:__)?\s*\(")
 PRINTF = ("printf", "__printf__")
 SUFFIX = re.compile(r"(?<=[\da-fA-F])[uUlL]+\b")
 OPERATORS = {ast.Add: operator.add, ast.Sub: operator.sub, ast.Mult: operator.mul}
