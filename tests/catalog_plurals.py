@@ -55,6 +55,48 @@ def catalog(generator, count, rule, said=None, messages=MESSAGES):
     return "".join(parts)
 
 
+# Fields of a header, which say which of two forms is for a number, or don't.
+FIELDS = [
+    "Plural-Forms: nplurals=2; plural=n != 1;",
+    "plural-forms: plural=n!=1; nplurals=2",
+    "Plural-Forms: nplurals=02junk; plural=n>1",
+    "",
+    "Plural-Forms: nplurals = 2; plural = n != 1;",
+    "Plural-Forms: nplurals=2;",
+    "Plural-Forms: plural=n != 1;",
+    "Plural-Forms: nplurals=INTEGER; plural=0;",
+    "Plural-Forms: nplurals=-2; plural=0;",
+    "Plural-Forms: nplurals=0; plural=0;",
+    "Plural-Forms: nplurals=2; plural=n;",
+    "Plural-Forms: nplurals=2; plural=n==1000 ? 2 : 0;",
+    "Plural-Forms: nplurals=2; plural=n==1001 ? 2 : 0;",
+    "Plural-Forms: nplurals=2; plural=n n;",
+]
+
+
+def try_headers(module, trials):
+    """Both demand of a header that it says which form is for a number, if a translation has forms."""
+    from fmtcanon.po.checking import Checker
+
+    entries = {
+        True: 'msgid "a"\nmsgid_plural "b"\nmsgstr[0] "c"\nmsgstr[1] "d"\n',
+        False: '#, fuzzy\nmsgid "a"\nmsgid_plural "b"\nmsgstr[0] "c"\n\nmsgid "e"\nmsgid_plural "f"\nmsgstr[0] ""\n',
+    }
+    seen = set()
+    for field, has_forms in itertools.product(FIELDS, entries):
+        # Of a rule that no translation needs, only one that can't be read is a fault here.
+        if has_forms or "plural=" not in field.replace("nplurals=", ""):
+            front = 'msgid ""\nmsgstr ""\n"Content-Type: text/plain; charset=UTF-8\\n"\n'
+            text = f'{front}"{field}\\n"\n\n{entries[has_forms]}'
+            found = []
+            Checker(found.append, list(module.Model)).check_data("a.po", text.encode())
+            words = ["msgfmt", "-c", "-o", "/dev/null", "-"]
+            theirs = subprocess.run(words, input=text.encode(), capture_output=True, check=False).returncode
+            trials.expect(f"{field} {has_forms}", bool(found), theirs != 0)
+            seen.add(bool(theirs))
+    trials.expect("headers with and without a fault", seen, {False, True})
+
+
 def try_counts(module, trials):
     """Both find that there are more or fewer forms than the header says."""
     from fmtcanon.po.checking import PLURALS, Checker

@@ -21,7 +21,7 @@ import header  # noqa: E402
 import packages  # noqa: E402
 from bounds_peers import try_printed  # noqa: E402
 from catalog_edges import try_msgfmt_edges  # noqa: E402
-from catalog_plurals import try_counts, try_plurals  # noqa: E402
+from catalog_plurals import try_counts, try_headers, try_plurals  # noqa: E402
 from catalog_reading import try_speed  # noqa: E402
 from checking import try_checking  # noqa: E402
 from checking_calls import try_checking_calls  # noqa: E402
@@ -137,6 +137,7 @@ def try_gettext(folder, tools, module, trials):
         try_speed(folder, trials)
         try_plurals(module, trials)
         try_counts(module, trials)
+        try_headers(module, trials)
 
 
 def try_locale(program, folder, trials):

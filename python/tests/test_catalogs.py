@@ -222,7 +222,7 @@ class Plurals(unittest.TestCase):
         """The faults of messages, each with the number of its forms, and what comes before it."""
         text = HEADER % rule
         for number, (count, comments) in enumerate(entries):
-            forms = "".join(f'msgstr[{form}] "x"\n' for form in range(count))
+            forms = "".join(f'msgstr[{form}] "x"\n' for form in range(count)) or 'msgstr[0] ""\n'
             text += ENTRY % (comments, f"a{number}", f"b{number}", forms)
         found, _, status = run([text])
         self.assertEqual(status, int(bool(found)))
@@ -234,14 +234,35 @@ class Plurals(unittest.TestCase):
         for rule, entries, wanted in [
             ("nplurals=1; plural=0;", [(1, ""), (2, ""), (1, "")], [("a1", "plurals", two)]),
             ("nplurals=3; plural=n%3;", [(3, ""), (1, "#, c-format\n")], [("a1", "plurals", one)]),
-            ("nplurals = 2; plural=n!=1;", [(1, "")], []),
             ("nplurals=\t2; plural=n!=1;", [(2, "")], []),
             ("nplurals=2; plural=n!=1;", [(1, "#, fuzzy\n")], []),
-            ("nplurals=INTEGER; plural=EXPRESSION;".replace("EXPRESSION", "0"), [(2, "")], []),
-            ("nplurals=2;", [(1, "")], []),
-            ("plural=0;", [(2, "")], []),
         ]:
             self.assertEqual(self.faults(rule, entries), wanted, (rule, entries))
+
+    def test_headers(self):
+        """A header that doesn't say which form is for a number is a fault of the first translation that has forms."""
+        beyond = "the expression of the header gives form %d, and nplurals is %d"
+        for rule, fault in [
+            ("", "the header has no nplurals= and no plural="),
+            ("nplurals = 2; plural = n!=1;", "the header has no nplurals= and no plural="),
+            ("plural=0;", "the header has no nplurals="),
+            ("nplurals=2;", "the header has no plural="),
+            ("nplurals=INTEGER; plural=0;", "nplurals of the header is not a number"),
+            ("nplurals=; plural=0;", "nplurals of the header is not a number"),
+            ("nplurals=2; plural=n==7 ? 3 : n!=1;", beyond % (3, 2)),
+            ("nplurals=0; plural=0;", beyond % (0, 0)),
+            ("nplurals=2; plural=n;", beyond % (1000, 2)),
+        ]:
+            entries = [(2, "#, fuzzy\n"), (0, ""), (2, ""), (3, "")]
+            wanted = [("a2", "plurals", f"it has plural forms, but {fault}")]
+            self.assertEqual(self.faults(rule, entries), wanted, rule)
+            self.assertEqual(self.faults(rule, entries[:2]), [], rule)
+        self.assertEqual(len(run([ENTRY % ("", "a", "b", 'msgstr[0] "x"\n')])[0]), 1)
+
+    def test_an_empty_message(self):
+        """msgfmt demands no newlines of a message without text."""
+        text = HEADER % "nplurals=2; plural=n!=1;" + 'msgctxt "a"\nmsgid ""\nmsgstr "b\\n"\n'
+        self.assertEqual(run([text])[0], [])
 
     def test_untranslated(self):
         text = HEADER % "nplurals=2; plural=n!=1;" + ENTRY % ("", "a", "b", 'msgstr[0] ""\n')

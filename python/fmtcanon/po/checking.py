@@ -13,7 +13,7 @@ from ..rejections import advice_on, refused_span
 from ..verdicts import argument_words
 from .charsets import charset_named
 from .formats import DEPENDENT, Format, shape_of, shown_kinds, shown_type
-from .plurals import PluralRule, rule_of
+from .plurals import PluralRule, fault_of, rule_of
 from .reading import Catalog, Message, read_catalog
 from .sources import CatalogSource, Mark
 from .tokens import Unreadable
@@ -40,7 +40,7 @@ RULES = {
     NUMBER: "A translation takes another number of arguments than its message.",
     FORMAT: "A translation is not a C format, and its message is one.",
     NEWLINE: "A translation begins or ends with a newline, and its message doesn't, or the reverse.",
-    PLURALS: "A translation has another number of plural forms than the header says.",
+    PLURALS: "A translation has another number of plural forms than the header says, or the header doesn't say it.",
     CHARSET: "A text has a byte that is not of the catalog's charset.",
     USE: "A translation prints an int as something else.",
     EMPTY: "Some plural forms of a translation are empty, and others are not.",
@@ -121,7 +121,11 @@ def changed_kind(wanted: Format, found: Format, model: fmtcanon.Model) -> Option
 
 
 def newline_faults(message: Message) -> Iterator[str]:
-    """Yields where a message and a translation don't begin or end with newlines alike, which msgfmt demands."""
+    """Yields where a message and a translation don't begin or end with newlines alike, which msgfmt demands, except of
+    a message without text.
+    """
+    if not message.msgid:
+        return
     given = [message.msgid, *message.forms.values(), *([] if message.plural is None else [message.plural])]
     if len({(it[:1] == b"\n", it[-1:] == b"\n") for it in given}) == 1:
         return
@@ -260,13 +264,24 @@ class Checker:
             self.unjudged += catalog.hidden
             text = f"{catalog.hidden} strings depend on the machine, and aren't checked"
             self.add(Finding(file, 0, None, UNJUDGED, WARNING, text))
+        fault = fault_of(catalog.header, rule)
+        if fault:
+            self.report_header(file, catalog, fault)
         for message in catalog.messages:
             if message.bad_bytes:
                 self.report_bytes(file, message, catalog.charset)
             elif not message.is_fuzzy:
-                self.check_forms(file, message, rule)
+                self.check_forms(file, message, None if fault else rule)
                 if message.is_translated:
                     self.check_message(file, message, rule, catalog.has_flags)
+
+    def report_header(self, file: str, catalog: Catalog, fault: str) -> None:
+        """Reports a header without a rule for plural forms, at the first translation that has such, if there is one."""
+        for message in catalog.messages:
+            if message.plural is not None and message.is_translated and not message.is_fuzzy and not message.bad_bytes:
+                self.faults += 1
+                self.found(file, message, ERROR, Reason(PLURALS, f"it has plural forms, but {fault}"))
+                return
 
     def report_bytes(self, file: str, message: Message, charset: str) -> None:
         """Reports bytes that aren't of the charset. Such a message isn't judged further."""

@@ -25,7 +25,7 @@ FILE is a .po or .mo file, or - for standard input. Each translated message with
 possible-c-format is checked, except fuzzy and obsolete ones. The translation must take arguments of the same types, \
 in the same order. A plural form and msgid must take those of msgid_plural. A form that is used for at most four \
 numbers, as 'one file' is, may leave out the last arguments. There must be as many forms as nplurals of the header \
-says. Message and translation must agree on a leading and a trailing newline.
+says, and its expression must give no other. Message and translation must agree on a leading and a trailing newline.
 
 A .mo file doesn't say which messages are C formats. Each one with a % is checked, and a fault that only a C format \
 has is a warning unless --c-format is given. Messages of a .mo file have numbers instead of lines.

@@ -215,6 +215,17 @@ def bounded(digits: str) -> int:
     return INT_MAX if len(digits) > 10 else min(int(digits), INT_MAX)
 
 
+def fault_of(header: str, rule: Optional[PluralRule]) -> str:
+    """Returns why a header doesn't say which of how many forms is for a number, or nothing."""
+    missing = [it for it, is_there in (("nplurals=", "nplurals=" in header), ("plural=", rule)) if not is_there]
+    if missing or rule is None:
+        return f"the header has no {' and no '.join(missing)}"
+    if rule.count is None:
+        return "nplurals of the header is not a number"
+    last = max(rule.counts)
+    return f"the expression of the header gives form {last}, and nplurals is {rule.count}" if last >= rule.count else ""
+
+
 def rule_of(header: str) -> Optional[PluralRule]:
     """Returns the rule of a header, or None if it has none."""
     _, name, expression = header.partition("plural=")
