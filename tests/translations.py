@@ -84,9 +84,10 @@ found 5 fatal errors
         "forms.po",
         1,
         """\
+forms.po:9: it has plural forms, but the header has no nplurals= and no plural= ["%d file"]
 forms.po:16: number of format specifications in 'msgid_plural' and 'msgstr[0]' does not match: 1 and 0 ["%d line"]
 2 messages judged, 0 not judged
-found 1 fatal error
+found 2 fatal errors
 """,
     ),
     (
@@ -387,6 +388,7 @@ def try_msgfmt(folder, trials):
         # Of two faults in one line it shows one, and counts both.
         left = theirs - set(fault_lines(ours))
         trials.expect(f"msgfmt {catalog}", sorted(fault for fault in left if fault[0] not in refused), [])
-        if not unjudged and theirs:
+        # A header that lacks both fields is one fault here and two there.
+        if not unjudged and theirs and "but the header" not in ours:
             found = set(re.findall(r"found \d+ fatal", ours)) & set(re.findall(r"found \d+ fatal", report))
             trials.expect(f"how many faults msgfmt has in {catalog}", len(found), 1)
