@@ -1,7 +1,9 @@
 """Has a signal end a command soon, wherever it is, with the processes that work for it and what these run."""
 
 import os
+import shutil
 import signal
+import tempfile
 from contextlib import contextmanager
 from types import FrameType
 from typing import Callable, Iterator, List, NoReturn, Optional
@@ -76,6 +78,24 @@ def interruptible() -> Iterator[Signals]:
 def clean() -> None:
     for one in CLEANING:
         one()
+
+
+@contextmanager
+def temporary_folder() -> Iterator[str]:
+    """Gives a folder that is removed after a block, and when the command ends early within it."""
+    with tempfile.TemporaryDirectory() as folder:
+        owner = os.getpid()
+
+        def remove() -> None:
+            # A process that works for this one isn't to remove it.
+            if os.getpid() == owner:
+                shutil.rmtree(folder, ignore_errors=True)
+
+        CLEANING.append(remove)
+        try:
+            yield folder
+        finally:
+            CLEANING.remove(remove)
 
 
 def end(number: int) -> NoReturn:

@@ -83,6 +83,28 @@ def end(number):
     os.kill(os.getpid(), signal.SIGKILL)
 
 
+# A command that ends early within another block that ends it, and has a folder that a process works in.
+FOLDER = """
+import os, sys
+from fmtcanon.command_line import status_of
+from fmtcanon.interrupting import clean, end, temporary_folder
+
+def run():
+    with temporary_folder() as folder:
+        child = os.fork()
+        if not child:
+            clean()
+            os._exit(0)
+        os.waitpid(child, 0)
+        print(folder, os.path.isdir(folder), flush=True)
+        if sys.argv[1] == "end":
+            end(15)
+    return 3
+
+sys.exit(status_of("folder", run))
+"""
+
+
 class Results(unittest.TestCase):
     def test_order(self):
         for jobs in [1, 2, 5]:
@@ -180,6 +202,14 @@ class Ends(unittest.TestCase):
 
     def test_a_signal_to_another_thread(self):
         self.ends_by([sys.executable, "-B", "-c", SLOW, "kill"], 128 + signal.SIGTERM)
+
+    def test_a_folder(self):
+        """It is removed however the command ends, by the process that made it alone."""
+        for word, status in [("end", 128 + signal.SIGTERM), ("return", 3)]:
+            words = [sys.executable, "-B", "-c", FOLDER, word]
+            done = subprocess.run(words, stdout=subprocess.PIPE, check=False, timeout=LATE)
+            folder, was_there = done.stdout.decode().split()
+            self.assertEqual((done.returncode, was_there, os.path.exists(folder)), (status, "True", False), word)
 
     def test_what_work_runs(self):
         self.all_ends([sys.executable, "-B", "-c", SLOW, "run"], each=2)

@@ -1,7 +1,6 @@
 """Says whether each printf format fits its call on every platform."""
 
 import collections
-import tempfile
 from typing import Any, Counter, Hashable, Iterable, Iterator, List, Optional, Sequence, Set, Tuple
 
 from ..command_line import MODELS, USAGE, status_of
@@ -10,6 +9,7 @@ from ..compiling.libclang import MISSING, cindex
 from ..compiling.sources import Files
 from ..diff.trees import Unreadable
 from ..findings import ERROR, Printer
+from ..interrupting import temporary_folder
 from ..output import complain
 from ..processes import in_order
 from ..replace.writing import replace
@@ -107,7 +107,7 @@ def run(options: Any) -> int:
         return USAGE
     try:
         files = Files(options)
-        with tempfile.TemporaryDirectory() as folder:
+        with temporary_folder() as folder:
             printer = Printer(NAME, options.output, RULES, color=options.color)
             jobs = list(jobs_of(files, question_of(options, folder)))
             printer.progress.expect(len(jobs))

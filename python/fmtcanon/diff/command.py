@@ -4,7 +4,6 @@ import argparse
 import collections
 import functools
 import os
-import tempfile
 from typing import Any, Callable, Dict, Iterable, Iterator, Optional, Sequence, Tuple
 
 from ..checker.fitting import Fitting
@@ -12,6 +11,7 @@ from ..checker.retargeting import write_headers
 from ..command_line import MODELS, USAGE, Parser, status_of
 from ..compiling.libclang import MISSING, cindex
 from ..findings import ERROR, Printer
+from ..interrupting import temporary_folder
 from ..processes import in_order
 from ..verdicts import Kind
 from ..visible import visible
@@ -189,7 +189,7 @@ def diff(options: Any, paths: Sequence[str]) -> int:
     printer = Printer(NAME, options.output, RULES, color=options.color)
     counts: Dict[str, int] = collections.Counter()
     try:
-        with tempfile.TemporaryDirectory() as folder:
+        with temporary_folder() as folder:
             others = frozenset(map(os.fsencode, options.not_printf))
             fitting = fitting_in(options, folder)
             question = Question(MODELS[options.model], options.fail_on, printer.has_excerpts, others, fitting)
