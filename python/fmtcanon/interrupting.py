@@ -3,6 +3,7 @@
 import os
 import shutil
 import signal
+import sys
 import tempfile
 from contextlib import contextmanager
 from types import FrameType
@@ -25,20 +26,22 @@ class Interrupted(BaseException):
 
 class Signals:
     """The first signal raises `Interrupted` in the main thread, within a block that may be interrupted or after the part
-    of it that holds signals. The next do nothing.
+    of it that holds signals. It is raised again if it got lost, as each exception in a destructor does.
     """
 
     def __init__(self) -> None:
         self.number: Optional[int] = None
         self.is_held = True
 
-    def take(self, number: int, _frame: Optional[FrameType]) -> None:
+    def take(self, number: int, frame: Optional[FrameType]) -> None:
         if self.number is None:
             self.number = number
+            signal.setitimer(signal.ITIMER_REAL, LOOK, LOOK)
+        if not is_destructor(frame):
             self.check()
 
     def check(self) -> None:
-        if self.number is not None and not self.is_held:
+        if self.number is not None and not self.is_held and not is_on_its_way():
             raise Interrupted(self.number)
 
     @contextmanager
@@ -60,17 +63,33 @@ class Signals:
         self.check()
 
 
+def is_destructor(frame: Optional[FrameType]) -> bool:
+    """Returns whether a frame is that of a destructor, or of what one calls."""
+    while frame and frame.f_code.co_name != "__del__":
+        frame = frame.f_back
+    return frame is not None
+
+
+def is_on_its_way() -> bool:
+    """Returns whether `Interrupted` is being handled, perhaps with exceptions that came after it."""
+    error = sys.exc_info()[1]
+    while error and not isinstance(error, Interrupted):
+        error = error.__context__
+    return error is not None
+
+
 @contextmanager
 def interruptible() -> Iterator[Signals]:
     """Gives what takes the signals during a block, and holds them at first. One that is ignored stays so, as nohup has
     it.
     """
     signals = Signals()
-    numbers = [it for it in NUMBERS if signal.getsignal(it) is not signal.SIG_IGN]
+    numbers = [it for it in NUMBERS if signal.getsignal(it) is not signal.SIG_IGN] + [signal.SIGALRM]
     before = [signal.signal(number, signals.take) for number in numbers]
     try:
         yield signals
     finally:
+        signal.setitimer(signal.ITIMER_REAL, 0)
         for number, handler in zip(numbers, before):
             signal.signal(number, handler)
 

@@ -83,6 +83,32 @@ def end(number):
     os.kill(os.getpid(), signal.SIGKILL)
 
 
+# A command that gets a signal where an exception is lost: in a destructor, or in what Python calls for a lost object.
+LOST = """
+import os, signal, sys, time, weakref
+from fmtcanon.command_line import status_of
+
+def kill(_):
+    os.kill(os.getpid(), signal.SIGINT)
+
+class Lost:
+    def __del__(self):
+        if sys.argv[1] == "destructor":
+            kill(self)
+
+def run():
+    it = Lost()
+    reference = weakref.ref(it, kill if sys.argv[1] == "reference" else None)
+    del it
+    try:
+        time.sleep(1000)
+    finally:
+        # It is raised once, though this takes longer than until the next try.
+        time.sleep(0.5)
+        print("cleaned", flush=True)
+
+sys.exit(status_of("lost", run))
+"""
 # A command that ends early within another block that ends it, and has a folder that a process works in.
 FOLDER = """
 import os, sys
@@ -202,6 +228,13 @@ class Ends(unittest.TestCase):
 
     def test_a_signal_to_another_thread(self):
         self.ends_by([sys.executable, "-B", "-c", SLOW, "kill"], 128 + signal.SIGTERM)
+
+    def test_a_signal_in_a_destructor(self):
+        for word in ["destructor", "reference"]:
+            words = [sys.executable, "-B", "-c", LOST, word]
+            done = subprocess.run(words, capture_output=True, check=False, timeout=LATE)
+            self.assertEqual((done.returncode, done.stdout), (128 + signal.SIGINT, b"cleaned\n"), word)
+            self.assertTrue(word == "reference" or not done.stderr, done.stderr)
 
     def test_a_folder(self):
         """It is removed however the command ends, by the process that made it alone."""
