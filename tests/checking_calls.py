@@ -12,6 +12,8 @@ from collections import Counter
 from checking import COMPILERS, SAYS, Tool, compiled
 
 ILP32 = "ILP32"
+# How many expressions are in each other, or names for each other: more than Python allows calls.
+DEEP = 1500
 # Declarations, and calls of size_t as %lu that gcc -m32 reports, each on a line of its own.
 DECLARED = """\
 #define ATTRIBUTE(n) __attribute__((format(__printf__, n, n+1)))
@@ -357,6 +359,21 @@ def try_crashes(tool, trials):
     trials.expect(f"fmtcanon-diff -p: {output} {fault}", ("its processes" in fault, "literal" in fault), (False, True))
 
 
+def try_deep(tool, trials):
+    """An expression as deep as machines write them is read as every other."""
+    names = "".join(f"static const char *const a{it + 1} = a{it};\n" for it in range(DEEP))
+    for name, front, body, count in [
+        ("choices", "", f"""printf({'n ? "%lu" : ' * DEEP}"%zu", n);""", DEEP),
+        ("sums", "", f"""printf("%lu"{" + 0" * DEEP}, n);""", 1),
+        ("names", f'static const char *const a0 = "%lu";\n{names}', f"printf(a{DEEP}, n);", 1),
+        ("functions", "", f"""({"n ? printf : " * DEEP}printf)("%lu", n);""", 1),
+    ]:
+        tool.put("deep.c", f"{SAYS}{front}void f(size_t n) {{ {body} }}\n")
+        status, output, fault = tool.run("deep.c")
+        found = (status, output.count("%lu takes unsigned long"), fault.count("\n"))
+        trials.expect(f"{name}: {output[:200]} {fault[:200]}", found, (1, count, 1))
+
+
 def try_long(tool, trials):
     """Many calls on one line take about as long as on lines of their own."""
     times = {}
@@ -379,4 +396,4 @@ def try_checking_calls(folder, python, tools, trials):
                 part(Tool(folder, os.path.realpath(work), python), trials)
 
 
-PARTS = [try_ways, try_counted, try_macros, try_signs, try_proposals, try_written, try_troubles, try_crashes, try_long]
+PARTS = [try_ways, try_counted, try_macros, try_signs, try_proposals, try_written, try_troubles, try_crashes, try_deep, try_long]

@@ -19,6 +19,8 @@ LONGEST_MARK = 64
 CHOOSE = "__builtin_choose_expr"
 IS_TYPE = re.compile(r"(?:(?:const|volatile|(?:un)?signed|char|short|int|long|float|double|_Bool|void|\*)\s*)+")
 QUALIFIERS = ("const", "volatile", "restrict")
+# The most parts of an expression that are looked at.
+MOST_PARTS = 10_000
 # How the C interface of libclang numbers an integer as the result of an evaluation.
 IS_INTEGER = 1
 
@@ -51,18 +53,23 @@ class Formats:
         self.unit = unit
         self.typedefs: List[Any] = []
 
-    def read(self, cursor: Any, skipped: int = 0) -> Iterator[Optional[Format]]:
-        """Yields the formats that the value of an expression may be, and None for what can't be read."""
-        if cursor.kind.name == "STRING_LITERAL":
-            yield self.format_of(cursor, skipped) if skipped >= 0 else None
-            return
-        if is_null(cursor):
-            return
-        inside = self.inside(cursor)
-        if not inside:
-            yield None
-        for child, more in inside:
-            yield from self.read(child, skipped + more)
+    def read(self, cursor: Any) -> Iterator[Optional[Format]]:
+        """Yields the formats that the value of an expression may be, and None for what can't be read. Exceptions of
+        libclang's visitors are lost, so nothing here is as deep as the expression.
+        """
+        waiting: List[Inside] = [(cursor, 0)]
+        for _ in range(MOST_PARTS):
+            if not waiting:
+                return
+            part, skipped = waiting.pop()
+            if part.kind.name == "STRING_LITERAL":
+                yield self.format_of(part, skipped) if skipped >= 0 else None
+            elif not is_null(part):
+                inside = self.inside(part)
+                if not inside:
+                    yield None
+                waiting += [(child, skipped + more) for child, more in reversed(inside)]
+        yield None
 
     def format_of(self, literal: Any, skipped: int) -> Format:
         text, end = self.unit.text_of(literal), literal.extent.end.offset

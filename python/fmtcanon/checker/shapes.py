@@ -66,15 +66,17 @@ class Shapes:
 
     def callees(self, called: Any) -> Iterator[Callee]:
         """Yields what an expression may call."""
-        kind, children = called.kind.name, list(called.get_children())
-        declaration = called.referenced if kind in REFERENCES else None
-        if declaration is not None:
-            yield self.declared(declaration)[0]
-            return
-        for child in inside(kind, children):
-            yield from self.callees(child)
-        if kind in ("CALL_EXPR", "CSTYLE_CAST_EXPR"):
-            yield Callee(self.unit.text_of(called), self.shape_of_type(called.type))
+        waiting = [called]
+        while waiting:
+            part = waiting.pop()
+            kind, children = part.kind.name, list(part.get_children())
+            declaration = part.referenced if kind in REFERENCES else None
+            if declaration is not None:
+                yield self.declared(declaration)[0]
+                continue
+            if kind in ("CALL_EXPR", "CSTYLE_CAST_EXPR"):
+                yield Callee(self.unit.text_of(part), self.shape_of_type(part.type))
+            waiting += reversed(inside(kind, children))
 
     def shape_of(self, declaration: Any) -> Optional[Shape]:
         """Returns where what is declared has its format."""
