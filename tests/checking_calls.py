@@ -388,6 +388,20 @@ def try_long(tool, trials):
     trials.expect(f"one line: {times}", times[" "] < 1.6 * times["\n"], True)
 
 
+def try_literals(tool, trials):
+    """A format of many literals takes about as long as one of a single literal."""
+    times = {}
+    for between in ("", '" "'):
+        text, arguments = between.join(["%d"] * 1000), ", ".join(["n"] * 1000)
+        tool.put("literals.c", f'{SAYS}void f(size_t n) {{\nprintf("{text}", {arguments});\n}}\n')
+        before = os.times()
+        _, output, _ = tool.run("--output", "json", "literals.c")
+        after = os.times()
+        times[between] = after.children_user - before.children_user
+        trials.expect("all are found", output.count("\n"), 1000)
+    trials.expect(f"literals: {times}", times['" "'] < 3 * times[""], True)
+
+
 def try_checking_calls(folder, python, tools, trials):
     """All of it, if the compilers of the platforms are there."""
     if all([tools.has(words[0], package) for words, package in COMPILERS.values()]):
@@ -396,4 +410,16 @@ def try_checking_calls(folder, python, tools, trials):
                 part(Tool(folder, os.path.realpath(work), python), trials)
 
 
-PARTS = [try_ways, try_counted, try_macros, try_signs, try_proposals, try_written, try_troubles, try_crashes, try_deep, try_long]
+PARTS = [
+    try_ways,
+    try_counted,
+    try_macros,
+    try_signs,
+    try_proposals,
+    try_written,
+    try_troubles,
+    try_crashes,
+    try_deep,
+    try_long,
+    try_literals,
+]

@@ -1,6 +1,7 @@
 """Judges the calls of a unit: whether each argument has the type that its directive takes, on every platform."""
 
 import enum
+import functools
 import re
 from typing import Iterator, List, Mapping, NamedTuple, Sequence, Set, Tuple, Union
 
@@ -237,10 +238,13 @@ def judged(units: Sequence[Mapping[Key, Call]]) -> Judged:
     return result._replace(formats=formats, arguments=arguments)
 
 
-def spans_of(format: Format) -> Iterator[Tuple[Token, int, int]]:
-    """Yields the literals of a format, with where the bytes of each are in its text."""
-    at = -format.skipped
+# Each fault of a format asks for its literals.
+@functools.lru_cache(maxsize=16)
+def spans_of(format: Format) -> List[Tuple[Token, int, int]]:
+    """Returns the literals of a format, with where the bytes of each are in its text."""
+    at, found = -format.skipped, []
     for token in format.tokens:
         size = len(decode_literal(token.source.encode("utf-8", "surrogateescape")))
-        yield token, at, at + size
+        found.append((token, at, at + size))
         at += size
+    return found

@@ -1,5 +1,6 @@
 """The tokens of C: of a source, to find its string literals, and of what a preprocessor makes of it, to compare."""
 
+import functools
 import re
 from typing import List, Sequence, Tuple
 
@@ -130,6 +131,7 @@ def without_splices(text: bytes) -> bytes:
     return SPLICE.sub(b"", text)
 
 
+@functools.lru_cache(maxsize=16)
 def plain_literals(source: bytes) -> Tuple[bytes, Sequence[int]]:
     """Returns string literals with one space for what is between them and without spliced lines, and the offset in the
     source of each byte.
