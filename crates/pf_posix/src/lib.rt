@@ -30,7 +30,7 @@ pub use argument_types::{arguments, arguments_vec};
 pub use comparison::{fits, fits_fewer};
 pub use conversions::{Conversion, Floating, Modifier};
 pub use directive_spans::{DirectiveSpan, directives, directives_vec};
-pub use opaque_directives::{OpaqueAmount, OpaqueDirective};
+pub use opaque_directives::{Opaque, OpaqueAmount, OpaqueDirective};
 pub use stretches::{Stretch, next_stretch};
 pub use types::ArgumentType;
 pub use unnumbered::{check_unnumbered, opaque_at};

@@ -154,10 +154,10 @@ fn first_difference(
                 is_found = found;
             }
         }
-        let Some(directive) = stretch.opaque else {
+        let Some(opaque) = stretch.opaque else {
             return Ok(shown);
         };
-        push_any(call_argument_count(directive), &mut shown)?;
+        push_any(call_argument_count(opaque), &mut shown)?;
         at = stretch.after;
         from = other.after;
     }
@@ -276,10 +276,10 @@ fn neutral_arguments(
             neutrals_of(alloc, model, &text[at..stretch.end])?,
             &mut shown,
         )?;
-        let Some(directive) = stretch.opaque else {
+        let Some(opaque) = stretch.opaque else {
             return Ok(shown);
         };
-        push_any(call_argument_count(directive), &mut shown)?;
+        push_any(call_argument_count(opaque), &mut shown)?;
         at = stretch.after;
     }
     unreachable!()
