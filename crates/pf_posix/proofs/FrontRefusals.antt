@@ -25,7 +25,7 @@ use Rattle.pf_posix.specs.declared.types.ArgumentType.{ArgumentType}
 use Rattle.pf_posix.specs.Beginnings.{IsBegunAs, IsUndecided, TakesAmount}
 use Rattle.pf_posix.specs.Endings.{end_refusal, refusal_of_long}
 use Rattle.pf_posix.specs.Halts.{FollowsBy, IsDefinedAt, IsHalt, IsStarAt}
-use Rattle.pf_posix.specs.Items.{PosixItem, ReadsPosix, Specification, SpellsPosixItem, errno_letter, fetched}
+use Rattle.pf_posix.specs.Items.{PosixItem, ReadsPosix, SpellsPosixItem, errno_letter, fetched}
 use Rattle.pf_posix.specs.Laws.{HasCount}
 use Rattle.pf_posix.specs.PartsInText.{specification_read}
 use Rattle.pf_posix.specs.Readings.{conflicts}

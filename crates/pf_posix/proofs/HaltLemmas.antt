@@ -32,7 +32,7 @@ use Rattle.pf_posix.specs.Types.{star_fetches, fetch, int_type}
 use Rattle.pf_posix.proofs.OneState.{never_empty, one_state, ends_here, from_end, ends, shrinks}
 use Rattle.pf_posix.proofs.OutcomeLemmas.{digits_begun, digits_there, first_too_large, star_digits_at, refused, begins, completes, end_back, step_back, unmixed}
 use Rattle.pf_posix.proofs.PartLemmas.{no_first_digit, numeral_read, head_at, inside_at}
-use Rattle.pf_posix.proofs.PartStates.{PlaceOf, begun_of, place_of, position_is, state_of, StateOf}
+use Rattle.pf_posix.proofs.PartStates.{PlaceOf, begun_of, place_of, state_of, StateOf}
 use Rattle.pf_posix.proofs.Steps.{IsBefore, IsStateAfter, Place, Width, Precision, State, Opened, First, Star, StarDigits, own_before, own_in, position_of}
 use Rattle.pf_posix.proofs.Steps.{too_large, finish, sign_of, step}
 use Rattle.pf_values.specs.declared.models.Model.TheVariants.{Lp64}

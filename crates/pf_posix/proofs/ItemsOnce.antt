@@ -8,7 +8,7 @@ use Rattle.pf_posix.specs.Specifications.{PosixSpecification}
 use Rattle.pf_posix.specs.Spelling.{SpellsPosix}
 use Rattle.pf_posix.proofs.OneState.{some_spelled}
 use Rattle.pf_posix.proofs.SpecificationsOnce.{begins_known, specification_once}
-use Rattle.pf_posix.proofs.Steps.{Strange, sign_of}
+use Rattle.pf_posix.proofs.Steps.{sign_of}
 
 abbrev spelled_byte : ℕ → Text
 spelled_byte byte = if byte == 37 then 37 ∷ 37 ∷ [] else byte ∷ []

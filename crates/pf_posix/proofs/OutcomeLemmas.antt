@@ -28,7 +28,7 @@ use Rattle.pf_posix.proofs.Growing.{finishes, grows}
 use Rattle.pf_posix.proofs.OneState.{never_empty, one_state, Earlier, ends, shrinks}
 use Rattle.pf_posix.proofs.Outcomes.{MayGoOn, Outcome, Begins, EndsOther, Ends, Refuses, begun, by_sign, dollar_fetched, ended, ends_errno, exceeds, exceeds_by, fetched_on}
 use Rattle.pf_posix.proofs.Outcomes.{last_fetch, mixes, mixes_opened, mixes_star, on_percent, outcome, passes, star_fetched}
-use Rattle.pf_posix.proofs.PartStates.{IsMore, PlaceOf, begun_of, known, more_than, place_of, position_is, state_of, takes}
+use Rattle.pf_posix.proofs.PartStates.{IsMore, PlaceOf, begun_of, known, more_than, place_of, state_of, takes}
 use Rattle.pf_posix.proofs.Steps.{IsBefore, IsStateAfter, Place, Width, Precision, Sign, Digit, Dollar, Asterisk, SpellsDigits, State, Opened, First, Digits, Star}
 use Rattle.pf_posix.proofs.Steps.{StarDigits, finish, own_before, own_in, place_in, position_in, position_of, sign_of, step, too_large, Dot, Letter, Strange}
 use Rattle.pf_posix.proofs.LetterLemmas.{digit_of, digits_mix, dollar_of, first_mixes, mixes_after_digits, mixes_after_first, mixes_after_percent, mixes_after_star}

@@ -1,7 +1,6 @@
 -- The text of a specification determines its parts, and where it ends; and what a defined one has.
 use Rattle.std.proofs.Common.{◌≢◌, ◌≤◌, ◌≡◌, ℕ, Bool, false, List, [], ◌∷◌, ◌++◌, map, refl, sym, ap, ◌∙◌, arith, subst, inl, inr, ◌+◌, ◌-◌, drop, take, drop-drop}
-use Rattle.std.specs.Prelude.{Option, Some, None, ◌⊎◌, ◌==◌, is_some, not, ◌&&◌, ◌||◌}
-use Rattle.std.proofs.lemmas.Bool.Decides.{nat_tests}
+use Rattle.std.specs.Prelude.{Option, Some, None, ◌⊎◌, is_some, not, ◌&&◌, ◌||◌}
 use Rattle.std.proofs.lemmas.List.{append_assoc, append-nil, take-append-drop}
 use Rattle.pf_values.specs.declared.flags.Flag.{Flag}
 use Rattle.pf_values.specs.declared.flags.FlagSet.{FlagSet}

@@ -187,9 +187,9 @@ module _ (t : Text) where
   found_errno at first second less left h =
       let split = errno_split t at first second less in
       let r = flat_read FirstErrno (errno ++ drop (at + 2) t) left (subst (λ u. ReadsWhole u left) split h) (λ items reads u.
-          let front = first_item PosixErrno errno (drop (at + 2) t) items refl reads in
-          let all = subst (AllByRecursion IsUnnumbered) front.items_are u in
-          (stretched front.later, reads_whole (drop (at + 2) t) front.later front.reads all.1, ap stretched front.items_are)) in
+      let front = first_item PosixErrno errno (drop (at + 2) t) items refl reads in
+      let all = subst (AllByRecursion IsUnnumbered) front.items_are u in
+      (stretched front.later, reads_whole (drop (at + 2) t) front.later front.reads all.1, ap stretched front.items_are)) in
       (errno, r.0, refl, r.1, split, r.2) where
         FirstErrno : Stretches → Type 0
         FirstErrno made = (later : Stretches) × ReadsWhole (drop (at + 2) t) later × (made ≡ Before [] OpaqueErrno later)

@@ -38,11 +38,7 @@ pub fn check_unnumbered(model: Model, text: &[u8]) -> Result<(), Refusal>
 /// no item of the profile begins there that ends within the limit. `None` at the end of the text. `Err` if the
 /// text is refused there, as by `check_unnumbered`. Allocates nothing.
 #[inline(always)]
-pub fn opaque_at(
-    model: Model,
-    text: &[u8],
-    at: usize,
-) -> Result<Option<(Opaque, usize)>, Refusal>
+pub fn opaque_at(model: Model, text: &[u8], at: usize) -> Result<Option<(Opaque, usize)>, Refusal>
     requires within { at ≤ length text.now }
     requires front { IsWholeAccepted (take at text.now) }
     requires none { BeginsNoItem (drop at (take LIMIT text.now)) }

@@ -1,5 +1,5 @@
 -- Where the lists of calls of two texts differ first.
-use Rattle.std.proofs.Common.{◌≡◌, ◌≢◌, ℕ, List, [], ◌∷◌, ◌++◌, refl, sym, ◌∙◌, inl, inr}
+use Rattle.std.proofs.Common.{◌≡◌, ℕ, List, [], ◌∷◌, ◌++◌, refl, sym, ◌∙◌, inl, inr}
 use Rattle.pf_whole.specs.Answers.{DifferFirstAt}
 use Rattle.pf_whole.specs.meaning.Traces.{PlacedCall}
 

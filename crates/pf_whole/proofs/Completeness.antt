@@ -7,16 +7,14 @@ use Rattle.pf_values.specs.meaning.Printing.{PrintAlike}
 use Rattle.pf_values.specs.meaning.Text.{Text}
 use Rattle.pf_probes.proofs.Unique.{equivalent_formats_one}
 use Rattle.pf_posix.specs.Opaque.{OpaqueItem}
-use Rattle.pf_posix.specs.Stretches.{Stretches, Last, Before, ReadsWhole, whole_types}
+use Rattle.pf_posix.specs.Stretches.{Stretches, Last, Before, ReadsWhole}
 use Rattle.pf_posix.proofs.ReadOnce.{read_once}
 use Rattle.pf_whole.specs.Laws.{AlikeHaveOneCanonical}
-use Rattle.pf_whole.specs.meaning.Traces.{Ends, Calls, HasTrace, Trace, TraceAlike}
+use Rattle.pf_whole.specs.meaning.Traces.{TraceAlike}
 use Rattle.pf_whole.specs.meaning.WholeCanonical.{IsCanonicalStretch, IsPutTogether}
 use Rattle.pf_whole.proofs.Apart.{firsts_alike, one_spelling, rests_alike}
 use Rattle.pf_whole.proofs.ProfileTexts.{alike_last}
-use Rattle.pf_whole.proofs.SomeTrace.{some_trace}
 use Rattle.pf_whole.proofs.TraceLemmas.{trace_sym}
-use Rattle.pf_whole.proofs.TwoValues.{whole_neutrals_typed, whole_neutrals}
 
 -- a canonical stretch is the canonical text of each text that is read as its items
 canonical_of : (model : Model) (t c : Text) (items : List Item) → Reads t items → IsCanonicalStretch model items c → IsCanonicalOf model t c

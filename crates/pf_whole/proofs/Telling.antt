@@ -1,5 +1,5 @@
 -- Arguments for which one stretch prints other bytes tell the traces of whole texts apart.
-use Rattle.std.proofs.Common.{◌≡◌, ◌≢◌, ℕ, ◌+◌, List, [], ◌∷◌, ◌++◌, map, length, refl, sym, ap, ap₂, ◌∙◌, arith, subst, inl, inr}
+use Rattle.std.proofs.Common.{◌≡◌, ◌≢◌, ℕ, ◌+◌, List, [], ◌∷◌, ◌++◌, map, length, refl, sym, ap, ap₂, ◌∙◌, subst, inl, inr}
 use Rattle.std.specs.Prelude.{Option, Some}
 use Rattle.std.specs.List.{AllZip}
 use Rattle.std.proofs.lemmas.List.{append_assoc}
@@ -12,7 +12,6 @@ use Rattle.pf_values.proofs.Alike.{all_printed, PrintsAll-unique}
 use Rattle.pf_posix.specs.Types.{widened}
 use Rattle.pf_posix.specs.Stretches.{Stretches, Last, Before, ReadsWhole, types_of_opaque, whole_types}
 use Rattle.pf_whole.specs.Answers.{Agrees, CallsGiveShape, HaveOneShape, TellSomewhere, TellStretches, TellingIsApart}
-use Rattle.pf_whole.specs.meaning.NormalSpellings.{normal_spelling}
 use Rattle.pf_whole.specs.meaning.Traces.{Ends, Calls, HasTrace, PrintsKnown, Trace, placed_calls}
 use Rattle.pf_whole.specs.meaning.WholeArguments.{WholeArgument, Known, Other, HasWholeType, HasWholeTypes}
 use Rattle.pf_whole.proofs.Apart.{first_calls, same_parts, spelling_types}

@@ -12,15 +12,15 @@ use Rattle.pf_posix.specs.Opaque.{OpaqueErrno, OpaqueItem, OpaqueSpecification, 
 use Rattle.pf_posix.specs.Specifications.{PosixSpecification}
 use Rattle.pf_posix.specs.Types.{conversion_type, fetch, star_fetches, widened}
 use Rattle.pf_posix.specs.Stretches.{Stretches, Last, Before, ReadsWhole, types_of_opaque, whole_types}
-use Rattle.pf_whole.specs.Laws.{Correspond, HasNoErrno, HaveSameTraces, TracesSuffice}
+use Rattle.pf_whole.specs.Laws.{AlikeShareErrno, Correspond, HasNoErrno, HaveSameTraces, TracesSuffice}
 use Rattle.pf_whole.specs.meaning.NormalSpellings.{normal_spelling}
-use Rattle.pf_whole.specs.meaning.Traces.{Ends, Calls, HasTrace, Trace}
+use Rattle.pf_whole.specs.meaning.Traces.{AreWholeAlike, Ends, Calls, HasTrace, Trace}
 use Rattle.pf_whole.specs.meaning.WholeArguments.{WholeArgument, HasWholeTypes}
 use Rattle.pf_whole.proofs.Apart.{rests_traced, spelling_types, stretches_alike}
 use Rattle.pf_whole.proofs.Corresponding.{alike_is_corresponding}
 use Rattle.pf_whole.proofs.ProfileTexts.{traced_last}
 use Rattle.pf_whole.proofs.SomeTrace.{some_trace}
-use Rattle.pf_whole.proofs.TraceLemmas.{known_count, length_map, traces_sym}
+use Rattle.pf_whole.proofs.TraceLemmas.{known_count, length_map, trace_sym, traces_sym}
 use Rattle.pf_whole.proofs.TwoValues.{count, count_is, whole_neutrals_typed, nth, nth_another, nth_behind, nth_neutral, one_other, one_other_typed, two_values}
 use Rattle.pf_whole.proofs.TwoValues.{whole_another, whole_neutral, whole_neutrals}
 
@@ -147,3 +147,30 @@ corresponding model t u (Before items (OpaqueSpecification s) rest) (Before own 
 
 pub traces_suffice : (model : Model) → TracesSuffice model
 traces_suffice model t u a b h g m n same = (alike_is_corresponding model t u a b h g).1 (corresponding model t u a b h g m n same)
+
+-- alike texts share `%m`, since a specification has another normal spelling
+shared : (model : Model) (t u : Text) (a b : Stretches) → ReadsWhole t a → ReadsWhole u b → Correspond model a b → HasNoErrno a → HasNoErrno b
+shared model t u (Last items) (Last own) h g same m = tt
+shared model t u (Last items) (Before own p more) h g same m = absurd same
+shared model t u (Before items s rest) (Last own) h g same m = absurd same
+shared model t u (Before items OpaqueErrno rest) (Before own p more) h g same m = absurd m
+shared model t u (Before items (OpaqueSpecification s) rest) (Before own (OpaqueSpecification p) more) h g same m =
+    shared model h.2 g.2 rest more h.5 g.5 same.2 m
+shared model t u (Before items (OpaqueSpecification s) rest) (Before own OpaqueErrno more) h g same m =
+    no_type model s (sym (spelling_types model h.1 g.1 (OpaqueSpecification s) OpaqueErrno h.4 g.4 same.1)) where
+      no_type : (model : Model) (s : PosixSpecification) → [] ≡ types_of_opaque model (OpaqueSpecification s) → ⊥
+      no_type model s e = let some = some_type model s in let no = e ∙ some.2 in cc
+
+pub alike_share_errno : (model : Model) → AlikeShareErrno model
+alike_share_errno model t u a b h g alike =
+    let same = (alike_is_corresponding model t u a b h g).0 alike in
+    let back = (alike_is_corresponding model u t b a g h).0 (alike_back alike) in
+    (shared model t u a b h g same, shared model u t b a g h back) where
+      alike_back : AreWholeAlike model t u → AreWholeAlike model u t
+      alike_back h = record {
+        first = h.second;
+        second = h.first;
+        reads_first = h.reads_second;
+        reads_second = h.reads_first;
+        alike = trace_sym model h.first h.second h.alike;
+      }

@@ -1,6 +1,6 @@
 -- Examples of verdicts. Each of them computes.
 use Rattle.std.proofs.Common.{◌≡◌, ℕ, zero, suc, ◌<◌, List, [], ◌∷◌, ◌++◌, codes, length, refl, sym, ap, ◌∙◌, arith, inl, inr, subst}
-use Rattle.std.specs.Prelude.{Option, Some, None, Contains, slice_index, slice_get, pos, negsuc}
+use Rattle.std.specs.Prelude.{Option, Some, None, slice_index, slice_get, pos, negsuc}
 use Rattle.std.specs.Fmt.{digits}
 use Rattle.pf_values.specs.declared.conversions.Conv.{Conv}
 use Rattle.pf_values.specs.declared.conversions.Conv.TheVariants as convs

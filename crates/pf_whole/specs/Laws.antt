@@ -124,3 +124,8 @@ pub record HaveSameTraces (model : Model) (a b : Stretches) : Type 0 where
 abbrev pub TracesSuffice : Model → Type 0
 TracesSuffice model = (t u : Text) (a b : Stretches) → ReadsWhole t a → ReadsWhole u b → HasNoErrno a → HasNoErrno b
     → HaveSameTraces model a b → AreWholeAlike model t u
+
+-- of alike texts, both have `%m` or neither; a text and its canonical text are alike
+abbrev pub AlikeShareErrno : Model → Type 0
+AlikeShareErrno model = (t u : Text) (a b : Stretches) → ReadsWhole t a → ReadsWhole u b → AreWholeAlike model t u
+    → (HasNoErrno a ↔ HasNoErrno b)

@@ -96,7 +96,9 @@ pub(crate) fn call_argument_count(opaque: Opaque) -> u64
     ensures { (model : ModelOf) → result ≡ length (types_of_opaque model (item_of_opaque opaque)) }
 {
     match opaque {
-        Opaque::Directive(directive) => 1 + star_count(directive.width) + star_count(directive.precision),
+        Opaque::Directive(directive) => 1
+            + star_count(directive.width)
+            + star_count(directive.precision),
         Opaque::Errno => 0,
     }
 }

@@ -2,7 +2,7 @@
 ghost use Rattle.pf_values.specs.declared.models.Model.{Model};
 ghost use Rattle.pf_whole.specs.Answers.{AgreeingIsTogether, CallsGiveShape, OneVerdict, TellingIsApart};
 ghost use Rattle.pf_whole.specs.meaning.WholeHeadline.{WholeHeadline};
-ghost use Rattle.pf_whole.specs.Laws.{AlikeCallTheSame, AlikeIsCorresponding, CanonicalIsAlike, AlikeHaveOneCanonical, OneCanonicalIsAlike, ProfileCoincides, AlikePrintAlike, ServeFewer, TracesOnce, TracesSuffice};
+ghost use Rattle.pf_whole.specs.Laws.{AlikeCallTheSame, AlikeIsCorresponding, CanonicalIsAlike, AlikeHaveOneCanonical, OneCanonicalIsAlike, ProfileCoincides, AlikePrintAlike, AlikeShareErrno, ServeFewer, TracesOnce, TracesSuffice};
 
 /// Proves that stretches and what is between them have exactly one trace for each list of arguments of
 /// their types.
@@ -59,6 +59,12 @@ pub fn alike_call_the_same()
 /// same traces: their calls are in the same places then.
 pub fn traces_suffice()
     ensures { (model : Model) → TracesSuffice model }
+{}
+
+/// Proves that of alike texts, both have `%m` or neither. So the canonical text of a format without `%m` has
+/// none.
+pub fn alike_share_errno()
+    ensures { (model : Model) → AlikeShareErrno model }
 {}
 
 /// Proves that arguments for a text serve one whose types are a beginning of its own: those that it

@@ -1,8 +1,5 @@
-use Rattle.std.proofs.Common.{◌≡◌, sym, ap, arith, subst, inl, inr}
-use Rattle.std.specs.Prelude.{Some}
+use Rattle.std.proofs.Common.{◌≡◌, sym, ap, arith}
 use Rattle.std.proofs.Math.Nat.{min-eq_left}
-use Rattle.pf_posix.specs.OpaqueParts.{item_of_opaque}
-use Rattle.pf_whole.specs.Calls.{CallsDiffer}
 use Rattle.pf_whole.proofs.CallLoops.{both_call, calls_apart, calls_from_start, calls_together, first_goes_on, next_of, placed_same}
 use Rattle.pf_whole.proofs.CallLoops.{second_goes_on}
 use Rattle.pf_whole.proofs.calls.first_call_difference.Goals as goal
