@@ -35,7 +35,7 @@ same_byte x y r q e = go (x == 37) (y == 37) refl refl e where
   go false true h g e = let first : x ≡ 37 = cc in let no : false ≡ true = sym h ∙ ap (λ k. k == 37) first in cc
   go false false h g e = (cc, cc)
 
--- a byte that begins with `%` is `%%`, and neither a specification nor `%m` is
+-- a byte that begins with `%` is `%%`; a specification and `%m` go on in other ways
 pub percent_twice : (x : ℕ) (rest more : Text) → spelled_byte x ++ rest ≡ 37 ∷ more → more ≡ 37 ∷ rest
 percent_twice x rest more e = go (x == 37) refl e where
   go : (b : Bool) → (x == 37) ≡ b → (if b then 37 ∷ 37 ∷ [] else x ∷ []) ++ rest ≡ 37 ∷ more → more ≡ 37 ∷ rest

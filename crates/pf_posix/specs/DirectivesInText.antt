@@ -9,7 +9,7 @@ use Rattle.pf_posix.specs.Items.{Byte, Errno, PosixItem, ReadsPosix, Specificati
 use Rattle.pf_posix.specs.PartsInText.{specification_read}
 use Rattle.pf_posix.specs.Types.{fetches}
 
--- an item is no specification
+-- an item isn't a specification
 abbrev pub IsOther : PosixItem → Type 0
 IsOther (Byte byte) = ⊤
 IsOther (PosixDirective s) = ⊥

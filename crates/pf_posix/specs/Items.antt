@@ -14,7 +14,7 @@ use Rattle.pf_posix.specs.Types.{HaveTypes, fetches}
 abbrev pub errno_letter : ℕ
 errno_letter = 109
 
--- `%m`, which stands for the message of `errno` (POSIX syslog)
+-- `%m`, which prints the message of `errno` (POSIX syslog)
 abbrev pub errno : Text
 errno = percent ∷ errno_letter ∷ []
 

@@ -1,6 +1,6 @@
 //! The argument types of formats in the whole language of POSIX `fprintf`, with the conversion `b`
-//! of C23: with numbered arguments, `*`, floating and wide conversions, `p` and `n`. Formats without
-//! numbered arguments, split at the directives that the profile lacks.
+//! of C23: with numbered arguments, `*`, floating and wide conversions, `p` and `n`, and the `%m` of `syslog`.
+//! Formats without numbered arguments, split at what the profile lacks.
 //!
 //! The road is `specifications`, which reads a specification part by part, up to its end or to where it can't go
 //! on. `argument_types` goes from one to the next, and `numbered` keeps the arguments of numbered ones in a table.

@@ -11,7 +11,7 @@ use Rattle.pf_posix.specs.Stretches.{Stretches, Last, Before, ReadsWhole}
 use Rattle.pf_posix.proofs.ReadOnce.{read_once}
 use Rattle.pf_whole.specs.declared.calls.PlacedOpaque.{PlacedOpaque}
 use Rattle.pf_whole.specs.declared.calls.Rest.{Rest}
-use Rattle.pf_whole.specs.Answers.{DifferFirstAt}
+use Rattle.pf_whole.specs.Answers.{CallsDifferAt}
 use Rattle.pf_whole.specs.Calls.{CallsDiffer, IsCallNext, IsNextCall}
 use Rattle.pf_whole.specs.meaning.NormalSpellings.{normal_spelling}
 use Rattle.pf_whole.specs.meaning.Traces.{PlacedCall, placed_calls}
@@ -70,15 +70,15 @@ no_next model t (Before items s later) rest h = absurd h
 
 -- the answer for what is left of both texts is the answer for the texts
 told : (model : Model) (t u : Text) (one two : Rest) (index : ℕ) (calls others : List PlacedCall) → (h : IsCallsUpTo model t u one two)
-    → placed_calls model one.index h.left ≡ calls → placed_calls model two.index h.more ≡ others → DifferFirstAt calls others index
+    → placed_calls model one.index h.left ≡ calls → placed_calls model two.index h.more ≡ others → CallsDifferAt calls others index
     → CallsDiffer model t u (Some index)
 told model t u one two index calls others h e f is a b k l =
     let first : h.done ++ calls ≡ placed_calls model 0 a =
     sym (h.calls_are ∙ ap (λ l. h.done ++ l) e) ∙ ap (placed_calls model 0) (read_once t h.a a h.first k) in
     let second : h.done ++ others ≡ placed_calls model 0 b =
     sym (h.others_are ∙ ap (λ l. h.done ++ l) f) ∙ ap (placed_calls model 0) (read_once u h.b b h.second l) in
-    subst (λ x. DifferFirstAt x (placed_calls model 0 b) index) first
-    (subst (λ x. DifferFirstAt (h.done ++ calls) x index) second (after_same h.done calls others index is))
+    subst (λ x. CallsDifferAt x (placed_calls model 0 b) index) first
+    (subst (λ x. CallsDifferAt (h.done ++ calls) x index) second (after_same h.done calls others index is))
 
 module _ (model : Model) (t u : Text) (one two : Rest) where
   -- only the first text has a call left

@@ -20,7 +20,7 @@ use Rattle.pf_posix.specs.Stretches.{Stretches, Last, Before, types_of_opaque, w
 use Rattle.pf_posix.proofs.ReadOnce.{read_once}
 use Rattle.pf_whole.specs.Answers.{
   Agrees,
-  DifferFirstAt,
+  CallsDifferAt,
   IsWholeComparisonOf,
   IsWholeProbe,
   IsWholeVerdict,
@@ -173,8 +173,8 @@ one_difference l m i j h g = by (cases_order i j)
 no_difference : (l m : List ArgumentType) (i : ℕ) → IsFirstDifference l m (Some i) → l ≡ m → ⊥
 no_difference l m i h same = h.0 (ap (λ ts. slice_get ts i) same)
 
-no_call : (calls others : List PlacedCall) (i : ℕ) → DifferFirstAt calls others i → calls ≡ others → ⊥
-no_call calls others i h same = differ_not calls i (subst (λ l. DifferFirstAt calls l i) (sym same) h)
+no_call : (calls others : List PlacedCall) (i : ℕ) → CallsDifferAt calls others i → calls ≡ others → ⊥
+no_call calls others i h same = differ_not calls i (subst (λ l. CallsDifferAt calls l i) (sym same) h)
 
 settled : (model : Model) (a b : Stretches) (v w : WholeVerdict) → {Alike : Type 0} → ((v ≡ Same) ↔ Alike) → ((w ≡ Same) ↔ Alike)
     → IsWholeVerdict model a b v → IsWholeVerdict model a b w → v ≡ w

@@ -61,7 +61,7 @@ pub known_count : (model : Model) (items : List Item) (args : List WholeArgument
 known_count model items args text h = ap length h.1 ∙ length_map Known h.0 ∙ printed_count model items h.0 text h.2
     ∙ sym (length_map widened (types model items))
 
--- calls that come later by so many arguments
+-- calls that come later by a number of arguments
 abbrev moved : ℕ → PlacedCall → PlacedCall
 moved k call = record { index = k + call.index; spelling = call.spelling }
 

@@ -94,12 +94,12 @@ pub record ShowsProbe (model : Model) (a b : Stretches) (shown : List (Option Ar
 
 -- the index is the smaller place of the calls at the first position at which two lists differ, or the place
 -- of the one call, where a list has ended
-abbrev pub DifferFirstAt : List PlacedCall → List PlacedCall → ℕ → Type 0
-DifferFirstAt [] [] index = ⊥
-DifferFirstAt (call ∷ calls) [] index = index ≡ call.index
-DifferFirstAt [] (other ∷ others) index = index ≡ other.index
-DifferFirstAt (call ∷ calls) (other ∷ others) index =
-    ((call ≡ other) × DifferFirstAt calls others index)
+abbrev pub CallsDifferAt : List PlacedCall → List PlacedCall → ℕ → Type 0
+CallsDifferAt [] [] index = ⊥
+CallsDifferAt (call ∷ calls) [] index = index ≡ call.index
+CallsDifferAt [] (other ∷ others) index = index ≡ other.index
+CallsDifferAt (call ∷ calls) (other ∷ others) index =
+    ((call ≡ other) × CallsDifferAt calls others index)
     ⊎ ((call ≢ other) × (index ≡ min call.index other.index))
 
 -- What a verdict says: the stretches are alike; or this is the first index at which their types differ;
@@ -110,7 +110,7 @@ IsWholeVerdict model a b Same = TraceAlike model a b
 IsWholeVerdict model a b (TypesDiffer index) =
     IsFirstDifference (whole_types model a) (whole_types model b) (Some index)
 IsWholeVerdict model a b (DirectivesDiffer index) = (whole_types model a ≡ whole_types model b)
-    × DifferFirstAt (placed_calls model 0 a) (placed_calls model 0 b) index
+    × CallsDifferAt (placed_calls model 0 a) (placed_calls model 0 b) index
 IsWholeVerdict model a b (Different shown) = (whole_types model a ≡ whole_types model b)
     × (placed_calls model 0 a ≡ placed_calls model 0 b)
     × (ShowsNeutral model a b shown ⊎ ShowsProbe model a b shown)

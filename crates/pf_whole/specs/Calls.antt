@@ -7,7 +7,7 @@ use Rattle.pf_posix.specs.Opaque.{OpaqueItem}
 use Rattle.pf_posix.specs.Stretches.{Stretches, Last, Before, ReadsWhole, types_of_opaque}
 use Rattle.pf_whole.specs.declared.calls.PlacedOpaque.{PlacedOpaque}
 use Rattle.pf_whole.specs.declared.calls.Rest.{Rest}
-use Rattle.pf_whole.specs.Answers.{DifferFirstAt}
+use Rattle.pf_whole.specs.Answers.{CallsDifferAt}
 use Rattle.pf_whole.specs.meaning.Traces.{placed_calls}
 use Rattle.pf_posix.specs.OpaqueParts.{item_of_opaque}
 
@@ -33,4 +33,4 @@ IsNextCall model t (Before items other later) rest (Some next) = IsCallNext mode
 abbrev pub CallsDiffer : Model → Text → Text → Option ℕ → Type 0
 CallsDiffer model t u found = (a b : Stretches) → ReadsWhole t a → ReadsWhole u b
     → MatchOption found (placed_calls model 0 a ≡ placed_calls model 0 b)
-    (DifferFirstAt (placed_calls model 0 a) (placed_calls model 0 b))
+    (CallsDifferAt (placed_calls model 0 a) (placed_calls model 0 b))

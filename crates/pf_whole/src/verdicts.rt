@@ -23,8 +23,8 @@ pub enum WholeVerdict {
     /// Their argument types differ first at this index, counted from 0. If one list of types begins
     /// the other, it is the length of the shorter.
     Types(u64),
-    /// Their argument types are equal. This is the index of the first argument with which a call
-    /// begins that only one of them makes.
+    /// Their argument types are equal. This is the place at which their calls differ first: the smaller
+    /// index of the first arguments of two calls.
     Directives(u64),
     /// Their argument types and their calls are equal. For these arguments they print different bytes.
     /// `None` is any argument of a directive that the profile lacks.
