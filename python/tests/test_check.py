@@ -13,18 +13,20 @@ from pathlib import Path
 
 import fmtcanon
 from fmtcanon import Model, Type
-from fmtcanon.checker import composing, fitting, fixing, options, proposals, reporting
-from fmtcanon.checker.calls import Argument, Call
-from fmtcanon.checker.formats import Format, Token
-from fmtcanon.checker.judging import Fit, fit_of, judged, without_errno
-from fmtcanon.checker.locating import Located, Piece, with_markers
-from fmtcanon.checker.platforms import PLATFORMS
-from fmtcanon.checker.retargeting import retargeted, write_headers
+from fmtcanon.checker import options
+from fmtcanon.compiling.calls import Argument, Call
+from fmtcanon.compiling.formats import Format, Token
+from fmtcanon.compiling.markers import Marker
 from fmtcanon.compiling.parsing import Shape
+from fmtcanon.compiling.platforms import PLATFORMS
+from fmtcanon.compiling.retargeting import retargeted, write_headers
 from fmtcanon.compiling.stand_ins import Original
-from fmtcanon.findings import Finding
-from fmtcanon.replace.calls import Marker
-from fmtcanon.replace.places import places_in
+from fmtcanon.diff import compiled as fitting
+from fmtcanon.fitting import composing, fixing, proposals, reporting
+from fmtcanon.fitting.judging import Fit, fit_of, judged, without_errno
+from fmtcanon.fitting.locating import Located, Piece, with_markers
+from fmtcanon.frame.findings import Finding
+from fmtcanon.source.places import places_in
 
 L, UL, LL, ULL, I, U = Type.LONG, Type.ULONG, Type.LONG_LONG, Type.ULONG_LONG, Type.INT, Type.UINT
 # The types of arguments on each platform, by their names.

@@ -10,11 +10,11 @@ import unittest
 import fmtcanon
 from fmtcanon import Model, Type
 from fmtcanon.diff.judging import RULES, judge
-from fmtcanon.diff.literals import Source
 from fmtcanon.diff.pairing import paired
-from fmtcanon.findings import ERROR, NOTE, WARNING, Finding, Printer
+from fmtcanon.formats.verdicts import Kind, Library, Taker, directives_in, narrowed, shortened, specifications, taker_of
+from fmtcanon.frame.findings import ERROR, NOTE, WARNING, Finding, Printer
 from fmtcanon.kinds import TYPE_NAMES
-from fmtcanon.verdicts import Kind, Library, Taker, directives_in, narrowed, shortened, specifications, taker_of
+from fmtcanon.source.literals import Source
 
 ALL = list(Model)
 

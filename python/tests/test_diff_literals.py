@@ -5,9 +5,9 @@ import unittest
 
 from fmtcanon import Model
 from fmtcanon.diff.judging import is_judged
-from fmtcanon.diff.literals import Call, Position, Source
-from fmtcanon.diff.macros import expansion
 from fmtcanon.diff.pairing import matching, paired
+from fmtcanon.source.literals import Call, Position, Source
+from fmtcanon.source.macros import expansion
 
 # A source, and of each place the line and column of its quote, its call and its bytes in LP64, or why there are none.
 READ = [

@@ -3,10 +3,10 @@
 import unittest
 
 from fmtcanon import Model, Type
-from fmtcanon.checker.checking import Question
-from fmtcanon.checker.fitting import NO_COMMAND, Compiled, Use
-from fmtcanon.checker.unit import Settings
-from fmtcanon.findings import Finding
+from fmtcanon.diff.compiled import NO_COMMAND, Compiled, Use
+from fmtcanon.fitting.checking import Question
+from fmtcanon.fitting.unit import Settings
+from fmtcanon.frame.findings import Finding
 
 from .test_check import faults_of
 

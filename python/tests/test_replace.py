@@ -4,14 +4,14 @@ import tempfile
 import time
 import unittest
 
-from fmtcanon.compiling.known import GETTEXT, KNOWN
 from fmtcanon.compiling.left import Left
-from fmtcanon.compiling.targets import assertions_in
-from fmtcanon.replace import doubts
 from fmtcanon.compiling.parsing import GNU_PRINTF, as_utf8
-from fmtcanon.replace.files import with_sources
-from fmtcanon.replace.places import literals_of, places_in, respelled
-from fmtcanon.replace.tokens import Tokens, common_front
+from fmtcanon.compiling.targets import assertions_in
+from fmtcanon.rewriting import doubts
+from fmtcanon.rewriting.files import with_sources
+from fmtcanon.source.known import GETTEXT, KNOWN
+from fmtcanon.source.places import literals_of, places_in, respelled
+from fmtcanon.source.tokens import Tokens, common_front
 
 ASSERTIONS = (b"_Static_assert", b"static_assert")
 # A source, and the bytes of the literals in it.

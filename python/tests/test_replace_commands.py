@@ -12,7 +12,7 @@ from fmtcanon.compiling.compile_commands import SOURCES, CompileCommand, names_i
 from fmtcanon.compiling.left import Left
 from fmtcanon.compiling.stand_ins import StandIn
 from fmtcanon.compiling.targets import check_model, model_in
-from fmtcanon.replace.units import Answer, Units, asked, units_of
+from fmtcanon.rewriting.units import Answer, Units, asked, units_of
 
 SOURCE = "int f(void);\nint f(void) { return 1; }\n"
 # Words that make a compiler write the file `keep`, or one with a name of its own, and what becomes of them.

@@ -11,10 +11,10 @@ import unittest
 from pathlib import Path
 from unittest import mock
 
-from fmtcanon import progress
-from fmtcanon.excerpts import Excerpt, excerpt_lines, shown_finding
+from fmtcanon.frame import progress
+from fmtcanon.frame.excerpts import Excerpt, excerpt_lines, shown_finding
+from fmtcanon.frame.terminals import Style, columns, style_of
 from fmtcanon.po.sources import CatalogSource, Mark
-from fmtcanon.terminals import Style, columns, style_of
 
 from .terminal import on_terminal, plain
 

@@ -20,8 +20,8 @@ sys.path.insert(0, str(TOP / "python"))
 from fmtcanon import Model  # noqa: E402
 from fmtcanon.diff.reporting import Question, report_on  # noqa: E402
 from fmtcanon.diff.trees import changes_of  # noqa: E402
-from fmtcanon.findings import as_text  # noqa: E402
-from fmtcanon.processes import in_order  # noqa: E402
+from fmtcanon.frame.findings import as_text
+from fmtcanon.frame.processes import in_order
 
 COLUMNS = [
     "places",

@@ -25,9 +25,9 @@ import fmtcanon  # noqa: E402
 from fmtcanon.compiling.compile_commands import SOURCES, commands_in  # noqa: E402
 from fmtcanon.compiling.left import Left  # noqa: E402
 from fmtcanon.compiling.stand_ins import original  # noqa: E402
-from fmtcanon.replace.calls import Functions  # noqa: E402
-from fmtcanon.replace.files import Change, File, put_in_place  # noqa: E402
-from fmtcanon.replace.places import places_in, respelled  # noqa: E402
+from fmtcanon.compiling.markers import Functions
+from fmtcanon.rewriting.files import Change, File, put_in_place
+from fmtcanon.source.places import places_in, respelled
 from sources import is_accepted  # noqa: E402
 
 # What a format may be instead: each pattern is tried in turn, once.

@@ -22,9 +22,9 @@ import fmtcanon  # noqa: E402
 from fmtcanon.compiling.compile_commands import SOURCES, commands_in  # noqa: E402
 from fmtcanon.compiling.left import Left  # noqa: E402
 from fmtcanon.compiling.stand_ins import original  # noqa: E402
-from fmtcanon.replace.calls import Functions  # noqa: E402
-from fmtcanon.replace.files import Change, File  # noqa: E402
-from fmtcanon.replace.places import places_in  # noqa: E402
+from fmtcanon.compiling.markers import Functions
+from fmtcanon.rewriting.files import Change, File
+from fmtcanon.source.places import places_in
 
 TRANSLATORS = "it is a key for translators"
 # What a reason has for one place alone.

@@ -2,17 +2,17 @@
 
 from typing import Any, Dict, List, Sequence, Union
 
+from ..compiling.markers import Functions
 from ..compiling.parsing import Shape
 from ..compiling.sources import Files, Name
-from ..findings import ERROR, Finding
+from ..fitting.checking import Answer, Found
+from ..fitting.reporting import RULES, as_fixed, as_not_written, shown_file, with_source
+from ..frame.findings import ERROR, Finding
 from ..models import Model
-from ..replace.calls import Functions
-from ..replace.files import Change
-from ..replace.places import places_in
-from ..replace.replacer import Report, Rewriter, Scanned, change_to
-from .checking import Answer, Found
+from ..rewriting.files import Change
+from ..rewriting.rewriter import Report, Rewriter, Scanned, change_to
+from ..source.places import places_in
 from .options import NAME
-from .reporting import RULES, as_fixed, as_not_written, shown_file, with_source
 
 
 class Fixer(Rewriter):

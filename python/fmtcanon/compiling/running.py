@@ -7,7 +7,7 @@ import threading
 from contextlib import contextmanager
 from typing import Any, Dict, Iterator, Mapping, Optional, Sequence, Set
 
-from ..interrupting import CLEANING
+from ..frame.interrupting import CLEANING
 from .left import Left
 
 # The seconds that a run of a compiler may take.

@@ -6,17 +6,18 @@ import functools
 import os
 from typing import Any, Callable, Dict, Iterable, Iterator, Optional, Sequence, Tuple
 
-from ..checker.fitting import Fitting
-from ..checker.retargeting import write_headers
-from ..command_line import MODELS, USAGE, Parser, status_of
 from ..compiling.libclang import MISSING, cindex
-from ..findings import ERROR, Printer
-from ..interrupting import temporary_folder
-from ..processes import in_order
-from ..verdicts import Kind
-from ..visible import visible
+from ..compiling.retargeting import write_headers
+from ..formats.verdicts import Kind
+from ..frame.command_line import MODELS, USAGE, Parser, status_of
+from ..frame.findings import ERROR, Printer
+from ..frame.interrupting import temporary_folder
+from ..frame.processes import in_order
+from ..frame.visible import visible
+from ..source.files import Unreadable
+from .compiled import Fitting
 from .reporting import FAULTS, RULES, Question, Report, report_on, report_without
-from .trees import Change, Git, Unreadable, changes_of
+from .trees import Change, Git, changes_of
 
 NAME = "fmtcanon-diff"
 DESCRIPTION = """\

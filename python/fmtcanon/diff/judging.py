@@ -4,15 +4,9 @@ import re
 from typing import AbstractSet, Any, Dict, Iterable, List, NamedTuple, Optional, Sequence, Tuple
 
 from .. import Refused
-from ..command_line import model_names
-from ..compiling.known import KNOWN
-from ..excerpts import Excerpt
-from ..explaining import Marked, marked_parts
-from ..findings import ERROR, NOTE, WARNING, Finding
-from ..kinds import TYPE_NAMES
-from ..models import Model
-from ..rejections import advice_on, refused_span
-from ..verdicts import (
+from ..formats.explaining import Marked, marked_parts
+from ..formats.rejections import advice_on, refused_span
+from ..formats.verdicts import (
     Kind,
     Taker,
     Verdict,
@@ -27,7 +21,12 @@ from ..verdicts import (
     taker_of,
     telling_arguments,
 )
-from .literals import NOT_FORMATS, Place
+from ..frame.command_line import model_names
+from ..frame.excerpts import Excerpt
+from ..frame.findings import ERROR, NOTE, WARNING, Finding
+from ..models import Model
+from ..source.known import KNOWN
+from ..source.literals import NOT_FORMATS, Place
 from .pairing import Pair
 
 RULES = {

@@ -12,9 +12,9 @@ import itertools
 import re
 from typing import AbstractSet, Callable, Dict, Hashable, Iterator, List, NamedTuple, Optional, Sequence, Tuple
 
+from ..formats.verdicts import shared_back, shared_front
 from ..models import Model
-from ..verdicts import shared_back, shared_front
-from .literals import UNUSUAL, Place, Source, statement_ends
+from ..source.literals import UNUSUAL, Place, Source, statement_ends
 
 # A line that has no name but `else`, and no literal, says nothing of where it is from.
 WORDS = re.compile(rb"(?!else\b)\b[A-Za-z_]\w")

@@ -3,16 +3,15 @@
 from dataclasses import replace
 from typing import AbstractSet, Iterator, NamedTuple, Optional, Sequence
 
-from ..checker.fitting import Compiled, Fitting
-from ..checker.reporting import KIND, SIZE, with_source
-from ..checker.reporting import RULES as OF_CALLS
-from ..command_line import model_names
-from ..findings import ERROR, WARNING, Finding
+from ..fitting.reporting import KIND, RULES as OF_CALLS, SIZE, with_source
+from ..formats.verdicts import Kind, Library
+from ..frame.command_line import model_names
+from ..frame.findings import ERROR, WARNING, Finding
 from ..models import Model
-from ..verdicts import Kind, Library
+from ..source.literals import Place, Source
 from . import judging
+from .compiled import Compiled, Fitting
 from .judging import is_judged, judge, may_be_format
-from .literals import Place, Source
 from .pairing import Pair, Pairs, paired
 from .trees import Change
 

@@ -2,17 +2,15 @@
 
 import fnmatch
 import os
-import re
 import select
 import subprocess
 from contextlib import contextmanager
 from typing import Any, Callable, ContextManager, Dict, Iterator, List, NamedTuple, Optional, Sequence, Set, Tuple
 
 from ..compiling.running import started
+from ..source.files import SOURCES, Unreadable, as_text, files_below, read
 from .renames import renamed
 
-# The endings of C and C++, of what they include, and of what is made into them.
-SOURCES = re.compile(r".*\.(?:[chyl]|cc|cpp|cxx|c\+\+|hh|hpp|hxx|h\+\+|inc|inl|ipp|tcc|def|C|H|m|mm|pc|ec)", re.DOTALL)
 # The modes of a file, and that of a submodule.
 FILES = ("100644", "100755")
 SUBMODULE = "160000"
@@ -22,10 +20,6 @@ GIT = ["git", "-c", "core.fsmonitor=false"]
 ENVIRONMENT = {"GIT_OPTIONAL_LOCKS": "0", "GIT_ALLOW_PROTOCOL": "", "GIT_NO_LAZY_FETCH": "1"}
 # The seconds that git may take for one answer.
 SECONDS = 300
-
-
-class Unreadable(Exception):
-    """Something can't be read, and why."""
 
 
 class Late(Unreadable):
@@ -45,35 +39,6 @@ class Change(NamedTuple):
     new: Optional[bytes]
     error: str = ""
     why_not: str = ""
-
-
-def read(path: str, name: str = "") -> bytes:
-    """Returns the bytes of a file of text, which may have another name in what is said of it."""
-    name = name or path
-    try:
-        with open(path, "rb") as stream:
-            data = stream.read()
-    except OSError as error:
-        raise Unreadable(f"{name}: {error.strerror or error}") from error
-    return as_text(name, data)
-
-
-def as_text(name: str, data: bytes) -> bytes:
-    if b"\0" in data:
-        raise Unreadable(f"{name}: it is a binary file")
-    return data
-
-
-def files_below(top: str) -> Tuple[Set[str], List[str]]:
-    """Returns the names of the sources below a folder, and what is said of folders that can't be read."""
-    found: Set[str] = set()
-    errors: List[OSError] = []
-    for folder, _, names in os.walk(top, onerror=errors.append):
-        for name in names:
-            path = os.path.join(folder, name)
-            if SOURCES.fullmatch(name) and os.path.isfile(path):
-                found.add(os.path.relpath(path, top))
-    return found, [f"{it.filename}: {it.strerror}" for it in errors]
 
 
 def is_excluded(name: str, globs: Sequence[str]) -> bool:

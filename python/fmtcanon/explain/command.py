@@ -10,14 +10,14 @@ from typing import Any, Dict, List, Optional, Sequence, Union
 import fmtcanon
 from fmtcanon import BadLiteral, Kind, Model, Refused, Verdict
 
-from ..command_line import USAGE, Parser, status_of
-from ..explaining import Difference, Explanation, Part, Rejection, compare, explain, reject
+from ..formats.explaining import Difference, Explanation, Part, Rejection, compare, explain, reject
+from ..formats.layout import difference_lines, explanation_lines, rejection_lines
+from ..formats.rejections import ADVICE, HELP
+from ..frame.command_line import USAGE, Parser, status_of
+from ..frame.output import complain, put
+from ..frame.terminals import Style, style_of, wrapped
 from ..kinds import TYPE_NAMES
 from ..models import model_of
-from ..output import complain, put
-from ..rejections import ADVICE, HELP
-from ..terminals import Style, style_of, wrapped
-from .layout import difference_lines, explanation_lines, rejection_lines
 
 NAME = "fmtcanon-explain"
 USAGE_LINES = """\

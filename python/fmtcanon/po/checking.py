@@ -7,10 +7,10 @@ from typing import Callable, Dict, Iterator, NamedTuple, Optional, Sequence, Set
 
 import fmtcanon
 
-from ..command_line import model_names
-from ..findings import ERROR, WARNING, Finding
-from ..rejections import advice_on, refused_span
-from ..verdicts import argument_words
+from ..formats.rejections import advice_on, refused_span
+from ..formats.verdicts import argument_words
+from ..frame.command_line import model_names
+from ..frame.findings import ERROR, WARNING, Finding
 from .charsets import charset_named
 from .formats import DEPENDENT, Format, shape_of, shown_kinds, shown_type
 from .plurals import PluralRule, fault_of, rule_of

@@ -6,7 +6,7 @@ from typing import Dict, Iterator, List, NamedTuple, Optional
 
 import fmtcanon
 
-from ..items import MACRO, Item, errno_parts, is_unexpected, items_of
+from ..formats.items import MACRO, Item, errno_parts, is_unexpected, items_of
 from ..kinds import TYPE_NAMES
 
 # The conversions for which the GNU C library has the flag I, other digits. It is for translations, and changes no type.

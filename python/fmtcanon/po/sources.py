@@ -5,7 +5,7 @@ from __future__ import annotations
 import re
 from typing import List, NamedTuple, Optional
 
-from ..excerpts import Excerpt, literal_excerpt
+from ..frame.excerpts import Excerpt, literal_excerpt
 from .tokens import ESCAPE, Scanner, Token, Unreadable
 
 # How many lines before a translation its message begins at most, and how many bytes after that are read.

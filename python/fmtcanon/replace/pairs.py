@@ -5,9 +5,18 @@ from typing import Dict, Hashable, List, NamedTuple, Optional, Sequence, Tuple
 
 import fmtcanon
 
-from ..explaining import Marked, marked_parts
-from ..verdicts import Kind, Library, argument_words, both_take, shown, shown_arguments, specifications, taker_of
-from .places import decoded
+from ..formats.explaining import Marked, marked_parts
+from ..formats.verdicts import (
+    Kind,
+    Library,
+    argument_words,
+    both_take,
+    shown,
+    shown_arguments,
+    specifications,
+    taker_of,
+)
+from ..source.places import decoded
 
 LIBRARY = Library()
 OTHERWISE = "it means the same, and is spelled otherwise"

@@ -1,0 +1,144 @@
+"""What calls call, and where it has its format: known by an option, by an attribute, or as the C library's."""
+
+from typing import Any, Dict, Iterator, List, Mapping, NamedTuple, Optional, Sequence, Tuple
+
+from ..source.known import BUILT_IN, BUILT_IN_PREFIX, KNOWN
+from .attributes import FORMAT
+from .formats import AROUND
+from .libclang import cindex
+from .parsing import Parsed, Shape, has_prototype
+
+DECLARED = ("FUNCTION_DECL", "VAR_DECL", "FIELD_DECL", "PARM_DECL")
+REFERENCES = ("DECL_REF_EXPR", "MEMBER_REF_EXPR")
+ARRAYS = ("CONSTANTARRAY", "INCOMPLETEARRAY", "VARIABLEARRAY")
+
+
+class Callee(NamedTuple):
+    """What a call calls: its name, and where it has its format, if it has one.
+
+    `last` is the index of the last parameter of a variadic function that isn't known, and may have a format there.
+    `has_prototype` is whether a function with a name of the C library has one.
+    """
+
+    name: str
+    shape: Optional[Shape]
+    last: Optional[int] = None
+    has_prototype: bool = True
+
+
+class Shapes:
+    """What the calls in the text of a unit call."""
+
+    def __init__(self, unit: Parsed, functions: Mapping[str, Shape]) -> None:
+        self.unit, self.functions = unit, functions
+        # By what is declared: that, and whether a call that refers to it calls nothing else.
+        self.known: Dict[Any, Tuple[Callee, bool]] = {}
+
+    def callee(self, call: Any) -> Optional[Callee]:
+        """Returns what a call calls, of several the first that has a format; None if nothing is known of that."""
+        declaration = call.referenced
+        if declaration is not None and declaration.kind.name in DECLARED:
+            callee, is_all = self.declared(declaration)
+            if is_all:
+                return callee
+        called = next(iter(call.get_children()), None)
+        found = list(self.callees(called)) if called is not None else []
+        return next((it for it in found if it.shape), found[0] if found else None)
+
+    def declared(self, declaration: Any) -> Tuple[Callee, bool]:
+        """Returns a function or a pointer, and whether it returns no pointer that a call could call."""
+        if declaration.hash not in self.known:
+            type, shape = function_of(declaration.type), self.shape_of(declaration)
+            callee = Callee(declaration.spelling, shape)
+            if type and not shape and not is_system(declaration):
+                is_known = type.kind.name == "FUNCTIONPROTO" or callee.name not in KNOWN
+                callee = callee._replace(last=self.last_of(declaration, type), has_prototype=is_known)
+            is_all = type is not None and function_of(type.get_result()) is None
+            self.known[declaration.hash] = callee, is_all
+        return self.known[declaration.hash]
+
+    def last_of(self, declaration: Any, type: Any) -> Optional[int]:
+        """Returns the index of the last parameter of a variadic function without an attribute `format`."""
+        if type.kind.name != "FUNCTIONPROTO" or not type.is_function_variadic():
+            return None
+        is_other = any(map(FORMAT.match, self.unit.attributes_of(declaration)))
+        return None if is_other else len(list(type.argument_types())) - 1
+
+    def callees(self, called: Any) -> Iterator[Callee]:
+        """Yields what an expression may call."""
+        waiting = [called]
+        while waiting:
+            part = waiting.pop()
+            kind, children = part.kind.name, list(part.get_children())
+            declaration = part.referenced if kind in REFERENCES else None
+            if declaration is not None:
+                yield self.declared(declaration)[0]
+                continue
+            if kind in ("CALL_EXPR", "CSTYLE_CAST_EXPR"):
+                yield Callee(self.unit.text_of(part), self.shape_of_type(part.type))
+            waiting += reversed(inside(kind, children))
+
+    def shape_of(self, declaration: Any) -> Optional[Shape]:
+        """Returns where what is declared has its format."""
+        name = declaration.spelling
+        given = self.functions.get(name) or self.unit.format_by_attribute(declaration)
+        given = given or self.unit.format_by_attribute(declaration.canonical) or self.shape_of_type(declaration.type)
+        return given or (self.shape_of_library(declaration) if declaration.kind.name == "FUNCTION_DECL" else None)
+
+    def shape_of_type(self, type: Any) -> Optional[Shape]:
+        """Returns what the attributes of typedefs say that a type is made of."""
+        return next(filter(None, map(self.unit.format_by_attribute, typedefs_of(type))), None)
+
+    def shape_of_library(self, function: Any) -> Optional[Shape]:
+        """Returns where a function has its format if it is the C library's, or one that compilers know by its name."""
+        name = function.spelling
+        is_built_in = name.startswith(BUILT_IN_PREFIX)
+        known = KNOWN.get(name[len(BUILT_IN_PREFIX) :] if is_built_in else name)
+        if not known or not known.is_variadic:
+            return None
+        why = None if is_built_in else self.unit.why_another(function, known)
+        # Without a prototype it has that which compilers know.
+        own = function if function.type.get_canonical().kind.name == "FUNCTIONPROTO" else function.canonical
+        is_known = not why or (name in BUILT_IN and has_prototype(own, known))
+        return Shape(known.index, known.parameters) if is_known else None
+
+
+def function_of(type: Any) -> Any:
+    """Returns the type of a function that a type is or points to, or None."""
+    type = type.get_canonical()
+    while type.kind.name in ("POINTER", *ARRAYS):
+        type = (type.get_pointee() if type.kind.name == "POINTER" else type.element_type).get_canonical()
+    return type if type.kind.name in ("FUNCTIONPROTO", "FUNCTIONNOPROTO") else None
+
+
+def is_system(declaration: Any) -> bool:
+    return bool(cindex.conf.lib.clang_Location_isInSystemHeader(declaration.location))
+
+
+def inside(kind: str, children: Sequence[Any]) -> List[Any]:
+    """Returns the expressions that an expression of this kind may call."""
+    if kind == "CONDITIONAL_OPERATOR":
+        return list(children[1:])
+    if kind == "ARRAY_SUBSCRIPT_EXPR":
+        return list(children[:1])
+    if kind == "StmtExpr":
+        return list(children[-1].get_children())[-1:]
+    return list(children[-1:]) if kind in (*AROUND, "UNARY_OPERATOR", "BINARY_OPERATOR") else []
+
+
+def typedefs_of(type: Any) -> Iterator[Any]:
+    """Yields the typedefs that a type, an element of it, or what it points to is named by."""
+    while True:
+        kind = type.kind.name
+        if kind == "TYPEDEF":
+            declaration = type.get_declaration()
+            yield declaration
+            type = declaration.underlying_typedef_type
+        elif kind == "ELABORATED":
+            type = type.get_named_type()
+        elif kind == "POINTER":
+            type = type.get_pointee()
+        elif kind in ARRAYS:
+            type = type.element_type
+        else:
+            return
