@@ -3,7 +3,7 @@
 import unittest
 
 from fmtcanon import Model, Type
-from fmtcanon.diff.compiled import NO_COMMAND, Compiled, Use
+from fmtcanon.diff.compiled import NO_COMMAND, Compiled, JudgedUse
 from fmtcanon.fitting.checking import Question
 from fmtcanon.fitting.unit import Settings
 from fmtcanon.frame.findings import Finding
@@ -25,7 +25,7 @@ def compiled(uses, places=(), models=tuple(Model)):
 class Notes(unittest.TestCase):
     def test_places(self):
         """A finding is a note if there are literals in its place, and all calls fit."""
-        fits, fits_not = [Use((), True)], [Use((), True), Use((), False)]
+        fits, fits_not = [JudgedUse((), True)], [JudgedUse((), True), JudgedUse((), False)]
         for uses, does in [
             ({}, False),
             ({(3, 10): fits}, True),
@@ -43,7 +43,7 @@ class Notes(unittest.TestCase):
             (compiled({}), "; the call isn't compiled here"),
             (compiled({(3, 9): []}, [(3, 20)]), "; the call isn't compiled here"),
             (compiled({}, [(3, 10)]), "; no call of a known function has it as its format"),
-            (compiled({(3, 10): [Use((), False)]}), ""),
+            (compiled({(3, 10): [JudgedUse((), False)]}), ""),
         ]:
             self.assertEqual(found.noted(FOUND, *TYPES).message, "wrong" + said)
             is_format = said != "; no call of a known function has it as its format"
@@ -60,13 +60,13 @@ class Notes(unittest.TestCase):
             (faults_of("%lu", "int"), unsigned, 1, False),
             ([], signed, 1, True),
         ]:
-            self.assertEqual(Use(faults, True).fits(before, count, list(Model)), does, (before, count))
+            self.assertEqual(JudgedUse(faults, True).fits(before, count, list(Model)), does, (before, count))
 
     def test_models(self):
         """Only the data models that are asked about count."""
         faults = faults_of("%lu", "size_t")
         for models, does in [([Model.LP64], True), ([Model.ILP32], False), (list(Model), False)]:
-            self.assertEqual(Use(faults, True).fits(bytes([Type.ULONG]), 1, models), does, models)
+            self.assertEqual(JudgedUse(faults, True).fits(bytes([Type.ULONG]), 1, models), does, models)
 
 
 if __name__ == "__main__":

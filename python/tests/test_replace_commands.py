@@ -12,7 +12,7 @@ from fmtcanon.compiling.compile_commands import SOURCES, CompileCommand, names_i
 from fmtcanon.compiling.left import Left
 from fmtcanon.compiling.stand_ins import StandIn
 from fmtcanon.compiling.targets import check_model, model_in
-from fmtcanon.rewriting.units import Answer, Units, asked, units_of
+from fmtcanon.rewriting.units import Inclusions, Units, asked, units_of
 
 SOURCE = "int f(void);\nint f(void) { return 1; }\n"
 # Words that make a compiler write the file `keep`, or one with a name of its own, and what becomes of them.
@@ -263,7 +263,7 @@ class Program(unittest.TestCase):
 
     def test_other_languages(self):
         self.assertIsNone(asked(CompileCommand("/", __file__, ("python3", __file__))))
-        Units([None, Answer("/a.c", {"/b.h"})]).check("/c.c")
+        Units([None, Inclusions("/a.c", {"/b.h"})]).check("/c.c")
 
     def test_rules(self):
         rule = "x: a.c in\\ der.h \\\n  b\\#.h \\\n c$$d.h\n"

@@ -11,7 +11,7 @@ from ..frame.findings import ERROR, Finding
 from ..models import Model
 from ..rewriting.files import Change
 from ..rewriting.rewriter import Report, Rewriter, Scanned, change_to
-from ..source.places import places_in
+from ..source.respelling import runs_in
 from .options import NAME
 
 
@@ -36,7 +36,7 @@ class Fixer(Rewriter):
     def changes_in(self, name: Name, source: bytes) -> List[Change]:
         fixes = self.answers[name.shown].fixes
         changes = []
-        for place in places_in(source):
+        for place in runs_in(source):
             text, why = fixes.get(place.start, (None, ""))
             if text is not None:
                 changes.append(change_to(place, text))

@@ -25,7 +25,7 @@ MOST_PARTS = 10_000
 IS_INTEGER = 1
 
 
-class Token(NamedTuple):
+class Literal(NamedTuple):
     """A string literal in the text, and the PRI macro that made it, or an empty name."""
 
     source: str
@@ -38,7 +38,7 @@ class Format(NamedTuple):
     """
 
     source: str
-    tokens: Tuple[Token, ...]
+    tokens: Tuple[Literal, ...]
     skipped: int = 0
 
 
@@ -75,7 +75,7 @@ class Formats:
         text, end = self.unit.text_of(literal), literal.extent.end.offset
         mark = MARK_AFTER.match(self.unit.text[end : end + LONGEST_MARK].decode(errors="replace"))
         text = LINE_MARKER.sub("", text + (mark.group() if mark else ""))
-        tokens = tuple(Token(it[1], it[2] or "") for it in TOKEN.finditer(text))
+        tokens = tuple(Literal(it[1], it[2] or "") for it in TOKEN.finditer(text))
         source = literal.spelling
         return Format(source[source.index('"') :] if source.startswith("u8") else source, tokens, skipped)
 

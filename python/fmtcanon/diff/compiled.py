@@ -25,7 +25,7 @@ Position = Tuple[int, int]
 NO_COMMAND = "compile_commands.json has no command for it"
 
 
-class Use(NamedTuple):
+class JudgedUse(NamedTuple):
     """A call that has a place in its format: what doesn't fit in it, and whether it was judged."""
 
     faults: Sequence[Fault]
@@ -58,7 +58,7 @@ class Compiled:
         self.models = question.models
         # Where literals are that are compiled, and the uses of those that are in formats.
         self.compiled: Set[Position] = set()
-        self.uses: Dict[Position, List[Use]] = {}
+        self.uses: Dict[Position, List[JudgedUse]] = {}
         # What fmtcanon-check finds in the file.
         self.found: Answer = answer(Job(path, (), question))
         for command in commands:
@@ -81,9 +81,9 @@ class Compiled:
         for start, uses in where.uses().items():
             found = [(faults.get((it.key, it.format), []), (it.key, it.format) in result.fitting) for it in uses]
             listed = self.uses.setdefault(position_of(where, start), [])
-            listed += [Use(it, is_fitting or bool(it)) for it, is_fitting in found]
+            listed += [JudgedUse(it, is_fitting or bool(it)) for it, is_fitting in found]
 
-    def uses_in(self, start: Position, end: Position) -> List[Use]:
+    def uses_in(self, start: Position, end: Position) -> List[JudgedUse]:
         return [it for at, uses in self.uses.items() if start <= at < end for it in uses]
 
     def is_compiled(self, start: Position, end: Position) -> bool:

@@ -29,7 +29,7 @@ class Late(Unreadable):
         super().__init__(f"git took more than {SECONDS} seconds")
 
 
-class Change(NamedTuple):
+class FileChange(NamedTuple):
     """A file as it was and as it is; None if it wasn't or isn't there. The name is that of the new file. If it can't be
     read, or isn't compared, this says why.
     """
@@ -87,7 +87,7 @@ def run_git(words: Sequence[Any], given: bytes = b"") -> "subprocess.CompletedPr
 
 def changes_of(
     old: str, new: str, globs: Sequence[str] = (), expect: Callable[[int], None] = lambda _: None
-) -> Iterator[Change]:
+) -> Iterator[FileChange]:
     """Yields what changed between two files or two folders, and tells `expect` how many more it may be, or fewer."""
     kinds = [os.path.isdir(it) for it in (old, new)]
     for path in (old, new):
@@ -99,7 +99,7 @@ def changes_of(
         yield from compared(new, old, new)
         return
     (first_names, first_errors), (second_names, second_errors) = (compared_below(it, globs) for it in (old, new))
-    yield from (Change("", None, None, it) for it in first_errors + second_errors)
+    yield from (FileChange("", None, None, it) for it in first_errors + second_errors)
     expect(len(first_errors + second_errors) + len(first_names | second_names))
     before = renames_in(old, first_names - second_names, new, second_names - first_names)
     expect(-len(before))
@@ -124,15 +124,15 @@ def renames_in(old: str, went: Set[str], new: str, came: Set[str]) -> Dict[str, 
     return renamed(*sides)
 
 
-def compared(name: str, old: Optional[str], new: Optional[str]) -> Iterator[Change]:
+def compared(name: str, old: Optional[str], new: Optional[str]) -> Iterator[FileChange]:
     """Yields the change of one file, if it changed."""
     try:
         texts = [None if it is None else read(it) for it in (old, new)]
     except Unreadable as error:
-        yield Change(name, None, None, str(error))
+        yield FileChange(name, None, None, str(error))
         return
     if texts[0] != texts[1]:
-        yield Change(name, texts[0], texts[1])
+        yield FileChange(name, texts[0], texts[1])
 
 
 class Entry(NamedTuple):
@@ -209,7 +209,7 @@ class Git:
         globs: Sequence[str] = (),
         is_cached: bool = False,
         expect: Callable[[int], None] = lambda _: None,
-    ) -> Iterator[Change]:
+    ) -> Iterator[FileChange]:
         """Yields what changed in the sources among the files of these paths, or of all, and tells `expect` how many more
         it may be, or fewer.
         """
@@ -227,7 +227,7 @@ class Git:
                     expect(-1)
                     continue
                 if is_submodule:
-                    yield Change(name, None, None, why_not="a submodule that changed isn't compared")
+                    yield FileChange(name, None, None, why_not="a submodule that changed isn't compared")
                     continue
                 try:
                     old = self.text(name, entry, 0, blob)
@@ -235,10 +235,10 @@ class Git:
                 except Late:
                     raise
                 except Unreadable as error:
-                    yield Change(name, None, None, str(error))
+                    yield FileChange(name, None, None, str(error))
                     continue
                 if old != new:
-                    yield Change(name, old, new)
+                    yield FileChange(name, old, new)
                 else:
                     expect(-1)
 

@@ -10,7 +10,7 @@ from typing import Any, Dict, List, Optional, Sequence, Union
 import fmtcanon
 from fmtcanon import BadLiteral, Kind, Model, Refused, Verdict
 
-from ..formats.explaining import Difference, Explanation, Part, Rejection, compare, explain, reject
+from ..formats.explaining import Difference, ExplainedDirective, Explanation, Rejection, compare, explain, reject
 from ..formats.layout import difference_lines, explanation_lines, rejection_lines
 from ..formats.rejections import ADVICE, HELP
 from ..frame.command_line import USAGE, Parser, status_of
@@ -147,7 +147,7 @@ def text_in_json(text: bytes) -> str:
     return text.decode("utf-8", "surrogateescape")
 
 
-def part_in_json(part: Optional[Part]) -> Optional[Dict[str, Any]]:
+def part_in_json(part: Optional[ExplainedDirective]) -> Optional[Dict[str, Any]]:
     if part is None:
         return None
     types = {model.name.lower(): TYPE_NAMES[kind] for model, kind in part.types.items()}

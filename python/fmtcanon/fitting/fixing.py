@@ -8,8 +8,8 @@ from .. import Refused, directives, same
 from ..compiling.calls import Key
 from ..compiling.platforms import PLATFORMS
 from ..models import Model
-from ..source.places import Place
-from .judging import Fault, Fit, Text, faults_of, without_errno
+from ..source.respelling import LiteralRun
+from .judging import Fault, Fit, PlatformText, faults_of, without_errno
 from .locating import Located, Use
 from .proposals import proposal
 from .unit import Unit
@@ -29,7 +29,7 @@ def fixes_of(
     unit: Unit, faults: Sequence[Fault], where: Located, kind_of: Callable[[Fault], Optional[str]]
 ) -> Fixes:
     """Returns the new texts of places of a unit's file, which fix the faults that have a kind."""
-    places: Dict[int, Tuple[Place, List[Fault]]] = {}
+    places: Dict[int, Tuple[LiteralRun, List[Fault]]] = {}
     for fault in faults:
         piece = where.piece_of(fault, fault.span.start)
         if piece:
@@ -43,7 +43,7 @@ def fixes_of(
 
 
 def fix_of(
-    unit: Unit, place: Place, faults: Sequence[Fault], asked: Sequence[Fault], uses: Sequence[Use]
+    unit: Unit, place: LiteralRun, faults: Sequence[Fault], asked: Sequence[Fault], uses: Sequence[Use]
 ) -> Tuple[Optional[bytes], str]:
     """Returns the new text of a place, or why it has none; no reason if nothing is to be changed. Some of its faults
     are asked about.
@@ -87,7 +87,7 @@ def converted(fault: Fault) -> Converted:
 def faults_with(unit: Unit, text: bytes, uses: Iterable[Use]) -> Iterable[Fault]:
     """Yields the faults, worse than a sign, that the calls with a place have with another text of it."""
     plain = without_errno(text)
-    texts = [Text(plain, directives(plain, model=it.model)) for it in PLATFORMS]
+    texts = [PlatformText(plain, directives(plain, model=it.model)) for it in PLATFORMS]
     for use in uses:
         calls = [it[use.key] for it in unit.calls if use.key in it]
         if len(calls) == len(PLATFORMS):

@@ -7,7 +7,7 @@ from typing import Iterator, List, Mapping, NamedTuple, Sequence, Set, Tuple, Un
 
 from .. import BadLiteral, DirectiveSpan, Refused, decode_literal, directives
 from ..compiling.calls import Argument, Call, Key
-from ..compiling.formats import Format, Token
+from ..compiling.formats import Format, Literal
 from ..compiling.platforms import PLATFORMS, Platform
 from ..formats.items import errno_parts, items_of
 from ..kinds import Type
@@ -93,7 +93,7 @@ class Fault(NamedTuple):
         return self.text[self.span.start : self.span.end].decode(errors="backslashreplace")
 
     @property
-    def tokens(self) -> List[Tuple[Token, int, int]]:
+    def tokens(self) -> List[Tuple[Literal, int, int]]:
         """The literals that the directive is in, with where the bytes of each are in the text."""
         listed = spans_of(self.call.formats[self.format])
         return [it for it in listed if it[1] < self.span.end and self.span.start < it[2]]
@@ -164,17 +164,17 @@ def without_errno(text: bytes) -> bytes:
     return b"".join([*parts, text[done:]])
 
 
-class Text(NamedTuple):
+class PlatformText(NamedTuple):
     """A format on a platform: its text, and its directives."""
 
     text: bytes
     spans: Sequence[DirectiveSpan]
 
 
-def text_of(format: Format, platform: Platform) -> Text:
+def text_of(format: Format, platform: Platform) -> PlatformText:
     """Returns the text of a format. Raises `Refused` or `BadLiteral`."""
     text = bytes_of(format)
-    return Text(text, directives(text, model=platform.model))
+    return PlatformText(text, directives(text, model=platform.model))
 
 
 def bytes_of(format: Format) -> bytes:
@@ -192,7 +192,7 @@ def arguments_of(spans: Sequence[DirectiveSpan]) -> Iterator[Tuple[int, int, Typ
         yield index, span.argument, span.type
 
 
-def faults_of(key: Key, calls: Sequence[Call], number: int, texts: Sequence[Text]) -> Iterator[Fault]:
+def faults_of(key: Key, calls: Sequence[Call], number: int, texts: Sequence[PlatformText]) -> Iterator[Fault]:
     """Yields the arguments of a call, as it is on each platform, that don't fit one of its formats."""
     listed = [list(arguments_of(it.spans)) for it in texts]
     for found in zip(*listed):
@@ -240,7 +240,7 @@ def judged(units: Sequence[Mapping[Key, Call]]) -> Judged:
 
 # Each fault of a format asks for its literals.
 @functools.lru_cache(maxsize=16)
-def spans_of(format: Format) -> List[Tuple[Token, int, int]]:
+def spans_of(format: Format) -> List[Tuple[Literal, int, int]]:
     """Returns the literals of a format, with where the bytes of each are in its text."""
     at, found = -format.skipped, []
     for token in format.tokens:

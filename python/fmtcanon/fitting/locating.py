@@ -10,7 +10,7 @@ from ..compiling.left import Left
 from ..compiling.markers import Marker
 from ..compiling.parsing import OTHER_BYTES
 from ..compiling.stand_ins import Original, StandIn, original
-from ..source.places import Place, places_in
+from ..source.respelling import LiteralRun, runs_in
 from ..source.tokens import plain_literals
 from .judging import Fault, without_errno
 from .unit import Unit
@@ -27,7 +27,7 @@ class Use(NamedTuple):
 class Piece(NamedTuple):
     """Where the text of a place begins in a format."""
 
-    place: Place
+    place: LiteralRun
     at: int
 
 
@@ -69,7 +69,7 @@ def located(unit: Unit) -> Optional[Located]:
     """Returns where the formats of a unit are, or None if no copy of its file can be made or preprocessed."""
     try:
         file = original(unit.command.file)
-        places = [it for it in places_in(file.source) if b"%" in it.text]
+        places = [it for it in runs_in(file.source) if b"%" in it.text]
         marker = Marker()
         with StandIn(file.path) as stand_in:
             stand_in.write(with_markers(file.source, places, marker))
@@ -88,7 +88,7 @@ def located(unit: Unit) -> Optional[Located]:
     return Located(file, found, compiled)
 
 
-def with_markers(source: bytes, places: Sequence[Place], marker: Marker) -> bytes:
+def with_markers(source: bytes, places: Sequence[LiteralRun], marker: Marker) -> bytes:
     """Returns a source with a marker before each place."""
     parts, done = [], 0
     for number, place in enumerate(places):
@@ -98,7 +98,7 @@ def with_markers(source: bytes, places: Sequence[Place], marker: Marker) -> byte
 
 
 def unmarked(
-    format: Format, pattern: "re.Pattern[bytes]", places: Sequence[Place]
+    format: Format, pattern: "re.Pattern[bytes]", places: Sequence[LiteralRun]
 ) -> Optional[Tuple[bytes, List[Piece]]]:
     """Returns the text of a format without its markers, and what comes after them."""
     try:

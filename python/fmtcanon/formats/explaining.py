@@ -19,7 +19,7 @@ from .verdicts import Argument, Library, shared_front, taker_of, telling_argumen
 from .wording import Stars, meaning, meaning_of_number, note
 
 
-class Part(NamedTuple):
+class ExplainedDirective(NamedTuple):
     """A directive of a format: where it is, its text, its argument from 1, its type by data model, and in words what it
     prints and which of its parts have no effect.
     """
@@ -45,7 +45,7 @@ class Explanation(NamedTuple):
     """What a format does. `canonical` is empty if its arguments are numbered, and `bounds` None outside the profile."""
 
     format: bytes
-    parts: Tuple[Part, ...]
+    parts: Tuple[ExplainedDirective, ...]
     canonical: Dict[Model, bytes]
     bounds: Optional[fmtcanon.Bounds]
 
@@ -64,7 +64,7 @@ class Difference(NamedTuple):
     arguments: Tuple[Argument, ...] = ()
     printed: Tuple[bytes, ...] = ()
     at: Optional[int] = None
-    parts: Tuple[Optional[Part], ...] = ()
+    parts: Tuple[Optional[ExplainedDirective], ...] = ()
 
 
 class Rejection(NamedTuple):
@@ -121,12 +121,12 @@ def bounds_of(text: bytes, model: Model) -> Optional[fmtcanon.Bounds]:
         return None
 
 
-def part_of(text: bytes, span: DirectiveSpan, types: Dict[Model, Type]) -> Part:
+def part_of(text: bytes, span: DirectiveSpan, types: Dict[Model, Type]) -> ExplainedDirective:
     """Returns a directive, whose types are these, with what it prints."""
     spelling = text[span.start : span.end]
     effective, notes = effects(specification_of(spelling))
     stars = Stars(*(None if it is None else it + 1 for it in (span.width_argument, span.precision_argument)))
-    return Part(span.start, span.end, spelling, span.argument + 1, types, meaning(effective, stars), notes)
+    return ExplainedDirective(span.start, span.end, spelling, span.argument + 1, types, meaning(effective, stars), notes)
 
 
 def effects(found: Specification) -> Tuple[Specification, Tuple[str, ...]]:
@@ -183,12 +183,12 @@ def by_types(formats: Tuple[bytes, bytes], model: Model) -> Optional[Difference]
     return Difference(formats, Verdict.TYPES, at=at, parts=parts_at(formats, at, model))
 
 
-def parts_at(formats: Sequence[bytes], index: int, model: Model) -> Tuple[Optional[Part], ...]:
+def parts_at(formats: Sequence[bytes], index: int, model: Model) -> Tuple[Optional[ExplainedDirective], ...]:
     """Returns the directive of each format that takes the argument of this index."""
     return tuple(part_at(it, index, model) for it in formats)
 
 
-def part_at(text: bytes, index: int, model: Model) -> Optional[Part]:
+def part_at(text: bytes, index: int, model: Model) -> Optional[ExplainedDirective]:
     """Returns the directive that takes the argument of this index, converted or as a `*`."""
     taker = taker_of(text, index, model)
     return next((it for it in explain(text, model).parts if taker and it.start == taker.start), None)
@@ -204,29 +204,29 @@ def printed_unlike(formats: Tuple[bytes, bytes], arguments: Tuple[Argument, ...]
     return Difference(formats, Verdict.DIFFERENT, arguments=arguments, printed=printed, parts=parts)
 
 
-def about_argument(part: Part, arguments: Sequence[Argument]) -> Part:
+def about_argument(part: ExplainedDirective, arguments: Sequence[Argument]) -> ExplainedDirective:
     """Returns a directive. If its argument is a number with a sign, its meaning is that for this number."""
     argument = arguments[part.argument - 1]
     said = meaning_of_number(specification_of(part.text), argument) if isinstance(argument, int) else None
     return part._replace(meaning=said or part.meaning)
 
 
-def marked_parts(formats: Tuple[bytes, bytes], verdict: verdicts.Verdict, model: Model) -> Sequence[Optional[Marked]]:
+def marked_parts(formats: Tuple[bytes, bytes], verdict: verdicts.PairVerdict, model: Model) -> Sequence[Optional[Marked]]:
     """Returns the directive of each of two formats that a verdict is about, with its type or what it prints; nothing if
     the verdict is about none.
     """
-    if verdict.kind is verdicts.Kind.TYPES:
+    if verdict.kind is verdicts.PairKind.TYPES:
         takers = [taker_of(it, verdict.at, model) for it in formats]
         return [it and Marked(it.start, it.end, TYPE_NAMES[it.type]) for it in takers]
-    parts: Sequence[Optional[Part]] = ()
-    if verdict.kind is verdicts.Kind.DIRECTIVES:
+    parts: Sequence[Optional[ExplainedDirective]] = ()
+    if verdict.kind is verdicts.PairKind.DIRECTIVES:
         parts = parts_at(formats, verdict.at, model)
-    elif verdict.kind is verdicts.Kind.DIFFERENT:
+    elif verdict.kind is verdicts.PairKind.DIFFERENT:
         parts = printed_unlike(formats, verdict.arguments, model).parts
     return [it and Marked(it.start, it.end, it.meaning) for it in parts]
 
 
-def is_alike(first: Part, second: Part, arguments: Sequence[Argument], model: Model) -> bool:
+def is_alike(first: ExplainedDirective, second: ExplainedDirective, arguments: Sequence[Argument], model: Model) -> bool:
     """Returns whether two directives print the same for their arguments."""
     if arguments[first.argument - 1] is None:
         return True

@@ -11,7 +11,7 @@ from fmtcanon import Model, Type, Verdict
 from ..frame.terminals import Style, beside, columns
 from ..frame.visible import visible
 from ..kinds import TYPE_NAMES
-from .explaining import Difference, Explanation, Part, Rejection
+from .explaining import Difference, ExplainedDirective, Explanation, Rejection
 from .verdicts import argument_words, cut, shared_front, shown_argument, shown_arguments
 
 # Formats up to this many columns have the words next to the carets; the words of others are on lines of their own.
@@ -31,7 +31,7 @@ def column_of(text: bytes, offset: int) -> int:
     return columns(as_source(text[:offset]))
 
 
-def type_names(part: Part, model: Model) -> List[str]:
+def type_names(part: ExplainedDirective, model: Model) -> List[str]:
     """Returns the type of an argument, and the types that it has in other data models, each with these."""
     others: Dict[Type, List[str]] = {}
     for other, kind in part.types.items():
@@ -41,13 +41,13 @@ def type_names(part: Part, model: Model) -> List[str]:
     return [TYPE_NAMES[part.types[model]], *listed]
 
 
-def type_words(part: Part, model: Model) -> str:
+def type_words(part: ExplainedDirective, model: Model) -> str:
     """Returns the type of an argument, and in brackets the types that it has in other data models."""
     own, *others = type_names(part, model)
     return f"{own} ({', '.join(others)})" if others else own
 
 
-def part_words(part: Part, model: Model) -> List[str]:
+def part_words(part: ExplainedDirective, model: Model) -> List[str]:
     words = [f"argument {part.argument}, {type_words(part, model)}: {part.meaning}"]
     return [*words, "; ".join(part.notes)] if part.notes else words
 
@@ -166,7 +166,7 @@ def apart_lines(found: Difference, model: Model, style: Style) -> Iterator[str]:
             yield f"  {line.replace('^', style.carets(1)) if marks else line}".rstrip()
 
 
-def cell(text: bytes, part: Optional[Part], model: Model) -> List[str]:
+def cell(text: bytes, part: Optional[ExplainedDirective], model: Model) -> List[str]:
     """Returns the lines of a format: itself, carets under a directive, and the types that this takes."""
     if part is None:
         return [as_source(text), "", "takes no such argument"]

@@ -24,7 +24,7 @@ SHOWN, BEFORE = 60, 20
 SHORT, LONGEST, ARGUMENTS = 8, 20, 8
 
 
-class Kind(enum.Enum):
+class PairKind(enum.Enum):
     """How two formats compare."""
 
     SAME = "same"
@@ -40,7 +40,7 @@ class Kind(enum.Enum):
 Argument = Union[int, bytes, None]
 
 
-class Verdict(NamedTuple):
+class PairVerdict(NamedTuple):
     """How two formats compare.
 
     `at` is the index of the first argument at which the types or the directives differ. The two print `arguments`
@@ -48,7 +48,7 @@ class Verdict(NamedTuple):
     `refusal` is the one that it is about, if there is one.
     """
 
-    kind: Kind
+    kind: PairKind
     at: int = 0
     arguments: Tuple[Argument, ...] = ()
     reason: str = ""
@@ -110,31 +110,31 @@ class Library:
         """Returns the canonical text of a format. Raises `Refused`."""
         return fmtcanon.canonical(text, model=model, whole=True)
 
-    def verdict(self, old: bytes, new: bytes, model: Model) -> Verdict:
+    def verdict(self, old: bytes, new: bytes, model: Model) -> PairVerdict:
         try:
             return self.compared(old, new, model)
         except fmtcanon.Refused as refusal:
             return self.by_types(old, new, model, refusal)
 
-    def compared(self, old: bytes, new: bytes, model: Model) -> Verdict:
+    def compared(self, old: bytes, new: bytes, model: Model) -> PairVerdict:
         """Returns the verdict. Raises `Refused` for a format that the comparison rejects."""
         found = fmtcanon.compare(old, new, model=model, whole=True)
         at = (found.types_differ_at, found.directives_differ_at)
         index = next((it for it in at if it is not None), 0)
-        return Verdict(Kind[found.verdict.name], at=index, arguments=found.arguments or ())
+        return PairVerdict(PairKind[found.verdict.name], at=index, arguments=found.arguments or ())
 
-    def by_types(self, old: bytes, new: bytes, model: Model, refusal: fmtcanon.Refused) -> Verdict:
+    def by_types(self, old: bytes, new: bytes, model: Model, refusal: fmtcanon.Refused) -> PairVerdict:
         """Returns the verdict on formats if the comparison rejects one of them: only their types can be judged."""
         if old == new:
-            return Verdict(Kind.SAME)
-        unjudged = Verdict(Kind.UNJUDGED, reason=f"{refusal} of {shown([old, new][refusal.side])}", refusal=refusal)
+            return PairVerdict(PairKind.SAME)
+        unjudged = PairVerdict(PairKind.UNJUDGED, reason=f"{refusal} of {shown([old, new][refusal.side])}", refusal=refusal)
         try:
             if fmtcanon.fits(old, new, model=model):
                 return unjudged
         except fmtcanon.Refused as other:
-            kind = Kind.REJECTED if other.side else Kind.UNJUDGED
-            return Verdict(kind, reason=f"{other} of {shown([old, new][other.side])}", refusal=other)
-        return Verdict(Kind.TYPES, at=shared_front(self.types(old, model), self.types(new, model)))
+            kind = PairKind.REJECTED if other.side else PairKind.UNJUDGED
+            return PairVerdict(kind, reason=f"{other} of {shown([old, new][other.side])}", refusal=other)
+        return PairVerdict(PairKind.TYPES, at=shared_front(self.types(old, model), self.types(new, model)))
 
     def types(self, text: bytes, model: Model) -> bytes:
         """Returns the types of the arguments of a format that is accepted, as the number of each."""
@@ -202,8 +202,8 @@ def without_specifications(text: bytes) -> bytes:
 
 def only_words_differ(library: Any, old: bytes, new: bytes, model: Model) -> bool:
     """Returns whether two formats that differ have the same directives."""
-    found: Verdict = library.verdict(specifications(old), specifications(new), model)
-    return found.kind is Kind.SAME
+    found: PairVerdict = library.verdict(specifications(old), specifications(new), model)
+    return found.kind is PairKind.SAME
 
 
 def telling_arguments(
@@ -215,8 +215,8 @@ def telling_arguments(
     """
     if without_specifications(old) != without_specifications(new):
         inner = specifications(old), specifications(new)
-        verdict: Verdict = library.verdict(*inner, model)
-        if verdict.kind is Kind.DIFFERENT:
+        verdict: PairVerdict = library.verdict(*inner, model)
+        if verdict.kind is PairKind.DIFFERENT:
             found = shortened(library, *inner, verdict.arguments, model)
             if is_told_apart(library, old, new, found, model):
                 return found

@@ -9,7 +9,7 @@ from ..frame.command_line import model_names
 from ..frame.findings import NOTE, WARNING, Finding
 from ..models import Model
 from ..source.known import GETTEXT, KNOWN
-from ..source.literals import NOT_FORMATS, Place, Source
+from ..source.places import NOT_FORMATS, Place, Source
 
 FORMAT, FUNCTION, UNJUDGED = "format", "function", "unjudged"
 RULES = {

@@ -9,7 +9,8 @@ from ..frame.excerpts import Excerpt, line_of, literal_excerpt
 from ..frame.findings import NOTE, WARNING, Finding
 from ..rewriting.files import Change
 from ..rewriting.rewriter import Report, Rewriter, change_to
-from ..source.places import Place, column_of, places_in, span_in
+from ..source.places import column_of
+from ..source.respelling import LiteralRun, runs_in, span_in
 from .options import NAME
 from .pairs import Pairs
 
@@ -28,9 +29,9 @@ class Replacer(Rewriter):
         self.pairs = Pairs(options.formats, self.models, options.posix_locale, bool(options.pairs))
 
     def changes_in(self, name: Name, source: bytes) -> List[Change]:
-        return [it for it in map(self.change_of, places_in(source)) if it]
+        return [it for it in map(self.change_of, runs_in(source)) if it]
 
-    def change_of(self, place: Place) -> Optional[Change]:
+    def change_of(self, place: LiteralRun) -> Optional[Change]:
         """Returns what is to be done with a place, or None if nothing is to be said of it."""
         rule = self.pairs.rule(place.text)
         if rule is None:
@@ -81,7 +82,7 @@ class Replacer(Rewriter):
         return tuple(found)
 
 
-def line_excerpt(source: bytes, place: Place, span: Tuple[int, int], words: str) -> Excerpt:
+def line_excerpt(source: bytes, place: LiteralRun, span: Tuple[int, int], words: str) -> Excerpt:
     """Returns the line of a source in which a part of a place begins, with the part marked."""
     line, first = line_of(source, span[0]), column_of(source, span[0]) - 1
     is_short = b"\n" not in source[span[0] : span[1]]

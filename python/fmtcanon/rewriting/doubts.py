@@ -10,7 +10,7 @@ from typing import Iterator, Set, Tuple
 from ..compiling.compile_commands import CompileCommand
 from ..compiling.left import Left
 from ..source.known import KNOWN
-from ..source.places import decoded
+from ..source.respelling import decoded
 from ..source.tokens import PREPROCESSED, without_splices
 
 NAMES = re.compile(rb"(?<![\w$])_*(?:" + b"|".join(sorted(it.encode() for it in KNOWN)) + rb")(?![\w$])")

@@ -10,7 +10,7 @@ from ..compiling.left import Left
 from ..compiling.markers import Calls, Functions, Marker
 from ..compiling.stand_ins import Original, StandIn
 from ..compiling.targets import assertions_in
-from ..source.places import Place, literals_of
+from ..source.respelling import LiteralRun, literals_of
 from ..source.tokens import Tokens, common_front
 from . import doubts
 
@@ -22,7 +22,7 @@ Piece = Union[bytes, int]
 class Change:
     """A place, the source that is to replace its literals, and why that isn't done, if it isn't."""
 
-    place: Place
+    place: LiteralRun
     source: bytes
     why_left: str = ""
     # Whether a compile command was seen to compile the place.
@@ -40,7 +40,7 @@ class Seen(NamedTuple):
     assertions: Sequence[bytes]
 
 
-def with_sources(source: bytes, places: Sequence[Place], sources: Sequence[bytes]) -> bytes:
+def with_sources(source: bytes, places: Sequence[LiteralRun], sources: Sequence[bytes]) -> bytes:
     """Returns the source of a file with these in place of the literals of these places."""
     parts, done = [], 0
     for place, text in zip(places, sources):

@@ -13,7 +13,7 @@ from ..compiling.targets import check_model
 from ..frame.findings import Finding, as_text
 from ..frame.progress import Progress
 from ..models import Model
-from ..source.places import Place, respelled
+from ..source.respelling import LiteralRun, respelled
 from .files import Change, File
 from .units import Units, units_of
 
@@ -113,7 +113,7 @@ class Rewriter:
         return File(read, changes, self.functions).result(commands)
 
 
-def change_to(place: Place, text: bytes) -> Change:
+def change_to(place: LiteralRun, text: bytes) -> Change:
     """Returns the change of a place to another text."""
     source = respelled(place, text)
     if source is None:

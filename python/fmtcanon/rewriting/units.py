@@ -15,7 +15,7 @@ OF_C = re.compile(r".*\.(?:c|cc|cp|cpp|cxx|c\+\+|C|CPP|m|mm|M|S|sx|i|ii)", re.DO
 REGISTERS = re.compile(rb"\bregister_printf_(?:function|specifier|modifier|type)\b")
 
 
-class Answer(NamedTuple):
+class Inclusions(NamedTuple):
     """What a unit includes, which of that changes printf for the whole program, and why it isn't known, if so."""
 
     file: str
@@ -24,16 +24,16 @@ class Answer(NamedTuple):
     why_unknown: str = ""
 
 
-def asked(command: CompileCommand) -> Optional[Answer]:
+def asked(command: CompileCommand) -> Optional[Inclusions]:
     """Asks the compiler what a unit includes. None for a unit that isn't there, or isn't C."""
     if not OF_C.fullmatch(command.file) or not os.path.isfile(command.file):
         return None
     try:
         included, folders = command.included(), tuple(f"{it}/" for it in command.system_folders())
     except Left as left:
-        return Answer(command.file, set(), why_unknown=str(left))
+        return Inclusions(command.file, set(), why_unknown=str(left))
     own = sorted(it for it in {command.file, *included} if not it.startswith(folders))
-    return Answer(command.file, included, next(filter(None, map(name_that_registers, own)), ""))
+    return Inclusions(command.file, included, next(filter(None, map(name_that_registers, own)), ""))
 
 
 @functools.lru_cache(maxsize=None)
@@ -50,7 +50,7 @@ def name_that_registers(file: str) -> str:
 class Units:
     """What all units of a program say of one another."""
 
-    def __init__(self, answers: Iterable[Optional[Answer]]) -> None:
+    def __init__(self, answers: Iterable[Optional[Inclusions]]) -> None:
         self.includers: Dict[str, str] = {}
         self.unknown: Dict[str, str] = {}
         self.registers = ""
@@ -72,6 +72,6 @@ class Units:
                 raise Left(f"{os.path.relpath(file)} may include it: {why}")
 
 
-def units_of(commands: Iterable[CompileCommand], run: Callable[..., Iterable[Optional[Answer]]]) -> Units:
+def units_of(commands: Iterable[CompileCommand], run: Callable[..., Iterable[Optional[Inclusions]]]) -> Units:
     """Asks all units, by a `map` that may ask several at a time."""
     return Units(run(asked, commands))

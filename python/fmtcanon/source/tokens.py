@@ -14,28 +14,6 @@ NAME = rb"[A-Za-z_$\x80-\xff][\w$\x80-\xff]*"
 # Each comment matches in one way only, so that a search that fails takes linear time.
 COMMENT = rb"/\*[^*]*\*+(?:[^/*][^*]*\*+)*/|//(?:[^\\\n]|\\[\s\S])*(?=\n|\Z)"
 GAP = rb"(?:[ \t\n\v\f\r]|\\\r?\n|" + COMMENT + rb")*"
-# Adjacent literals are one. A raw string or one with a prefix is not a literal here. Nothing depends on this reader:
-# what
-# it takes for a literal is confirmed by the compiler's own preprocessor.
-SOURCE = re.compile(
-    COMMENT
-    + rb"|"
-    + RAW
-    + rb"|(?:u8|[uUL])"
-    + STRING
-    + rb"|(?P<literals>"
-    + STRING
-    + rb"(?:"
-    + GAP
-    + STRING
-    + rb")*)|"
-    + CHARACTER
-    + rb"|"
-    + NUMBER
-    + rb"|"
-    + NAME
-    + rb"|[\s\S]"
-)
 SPLICE = re.compile(rb"\\\r?\n")
 LINE_MARKER = rb"^# \d+ \"[^\n]*"
 PREPROCESSED = re.compile(
