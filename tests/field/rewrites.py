@@ -25,7 +25,7 @@ import fmtcanon  # noqa: E402
 from fmtcanon.compiling.compile_commands import SOURCES, commands_in  # noqa: E402
 from fmtcanon.compiling.left import Left  # noqa: E402
 from fmtcanon.compiling.stand_ins import original  # noqa: E402
-from fmtcanon.compiling.markers import Functions
+from fmtcanon.compiling.functions import Functions
 from fmtcanon.rewriting.files import Change, File, put_in_place
 from fmtcanon.source.respelling import runs_in, respelled
 from sources import is_accepted  # noqa: E402

@@ -2,8 +2,7 @@
 
 from typing import Any, Dict, List, Sequence, Union
 
-from ..compiling.markers import Functions
-from ..compiling.parsing import Shape
+from ..compiling.functions import Functions
 from ..compiling.sources import Files, Name
 from ..fitting.checking import Answer, Found
 from ..fitting.reporting import RULES, as_fixed, as_not_written, shown_file, with_source
@@ -21,9 +20,7 @@ class Fixer(Rewriter):
     name, rules = NAME, RULES
 
     def __init__(self, options: Any, files: Files, answers: Sequence[Answer]) -> None:
-        given: Dict[str, Shape] = dict(options.function)
-        functions = Functions({name: it.format for name, it in given.items()}, options.attribute)
-        super().__init__(files, functions, [Model.LP64], options.diff)
+        super().__init__(files, Functions(dict(options.function), options.attribute), [Model.LP64], options.diff)
         self.answers = {shown_file(it.file): it for it in answers}
 
     def names(self) -> List[Name]:

@@ -3,17 +3,17 @@ format, and the types of the arguments after promotion.
 """
 
 import collections
-from typing import Any, Counter, Dict, Mapping, NamedTuple, Optional, Sequence, Tuple
+from typing import Any, Counter, Dict, NamedTuple, Optional, Sequence, Tuple
 
 from ..kinds import Type
 from ..models import Model
 from .compile_commands import CompileCommand
 from .formats import AROUND, Format, Formats
+from .functions import Callee, Callees, Functions
 from .libclang import cindex
 from .parsing import CALL_EXPR, FUNCTION_DECL, TYPEDEF_DECL, UNREADABLE, VISIT_INSIDE, VISIT_NEXT, Parsed, Shape
 from .platforms import Platform
 from .retargeting import TYPE_MARK
-from .shapes import Callee, Shapes
 
 # Types that gcc has, and no directive takes: each is another than what it is in memory. Where there is no `__int128`, no
 # compiler reads what names it.
@@ -58,14 +58,40 @@ Key = Tuple[int, str, int]
 
 
 class Calls(Parsed):
-    """The calls in the text of a unit on a platform, by their keys."""
+    """The calls in preprocessed text, with one rule for which functions are known. A kind of it says what is noted."""
 
-    def __init__(
-        self, command: CompileCommand, text: bytes, platform: Platform, functions: Mapping[str, Shape]
-    ) -> None:
+    def __init__(self, command: CompileCommand, text: bytes, functions: Functions, words: Sequence[str] = ()) -> None:
+        super().__init__(command, text, words)
+        self.callees = Callees(self, functions)
+
+    def note(self, cursor: Any) -> int:
+        """Notes a cursor. Returns whether what is inside is visited, too."""
+        if cursor._kind_id == FUNCTION_DECL:
+            return self.note_function(cursor)
+        if cursor._kind_id == TYPEDEF_DECL:
+            self.note_typedef(cursor)
+        elif cursor._kind_id == CALL_EXPR:
+            self.note_call(cursor)
+        return VISIT_INSIDE
+
+    def note_function(self, cursor: Any) -> int:
+        """Notes a declaration of a function. Returns whether what is inside is visited, too."""
+        return VISIT_INSIDE
+
+    def note_typedef(self, cursor: Any) -> None:
+        """Notes a typedef."""
+
+    def note_call(self, cursor: Any) -> None:
+        raise NotImplementedError
+
+
+class FormatCalls(Calls):
+    """The calls with formats in the text of a unit on a platform, by their keys."""
+
+    def __init__(self, command: CompileCommand, text: bytes, platform: Platform, functions: Functions) -> None:
         words = WITHOUT_INT128 if platform.model is Model.ILP32 else []
-        super().__init__(command, text, [f"--target={platform.target}", *OF_GCC, *words])
-        self.shapes, self.formats = Shapes(self, functions), Formats(self)
+        super().__init__(command, text, functions, [f"--target={platform.target}", *OF_GCC, *words])
+        self.formats = Formats(self)
         self.found: Dict[Key, Call] = {}
         # How many calls of a function are in a line.
         self.in_line: Counter[Tuple[int, str]] = collections.Counter()
@@ -74,19 +100,14 @@ class Calls(Parsed):
         self.others: Counter[str] = collections.Counter()
         self.visit(self.note)
 
-    def note(self, cursor: Any) -> int:
-        """Notes a call. Returns whether what is inside is visited, too."""
-        if cursor._kind_id == FUNCTION_DECL:
-            is_system = cindex.conf.lib.clang_Location_isInSystemHeader(cursor.location)
-            return VISIT_NEXT if is_system else VISIT_INSIDE
-        if cursor._kind_id == TYPEDEF_DECL:
-            self.formats.typedefs.append(cursor)
-        elif cursor._kind_id == CALL_EXPR:
-            self.note_call(cursor)
-        return VISIT_INSIDE
+    def note_function(self, cursor: Any) -> int:
+        return VISIT_NEXT if cindex.conf.lib.clang_Location_isInSystemHeader(cursor.location) else VISIT_INSIDE
+
+    def note_typedef(self, cursor: Any) -> None:
+        self.formats.typedefs.append(cursor)
 
     def note_call(self, cursor: Any) -> None:
-        callee = self.shapes.callee(cursor)
+        callee = self.callees.callee(cursor)
         if callee is None:
             return
         if callee.shape is UNREADABLE:

@@ -2,12 +2,14 @@
 
 import os
 import re
-from typing import Any, Dict, List, NamedTuple, Optional, Set
+from typing import Any, Dict, List, Optional, Set
 
 from ..source.known import GETTEXT, KNOWN
+from .calls import Calls
 from .compile_commands import CompileCommand
+from .functions import Functions
 from .left import Left
-from .parsing import CALL_EXPR, FUNCTION_DECL, SCOPES, VISIT_INSIDE, Parsed
+from .parsing import SCOPES, VISIT_INSIDE
 
 # An attribute that has another function's code run under a name.
 ALIAS = re.compile(r"(?<![\w$])_*(alias|weakref|ifunc)(?![\w$])")
@@ -37,18 +39,11 @@ class Marker:
         )
 
 
-class Functions(NamedTuple):
-    """What the options say of functions: the index of the format of some by name, and whether attributes count."""
-
-    given: Dict[str, int]
-    by_attribute: bool
-
-
-class Calls(Parsed):
+class MarkedCalls(Calls):
     """The calls in preprocessed text that have a marker among their arguments."""
 
     def __init__(self, command: CompileCommand, text: bytes, marker: Marker, functions: Functions) -> None:
-        super().__init__(command, text)
+        super().__init__(command, text, functions)
         errors = self.errors()
         if errors:
             raise Left(f"libclang can't parse it: {errors[0]}")
@@ -59,18 +54,14 @@ class Calls(Parsed):
         self.renamed: Dict[str, str] = {}
         # Functions that are known by the options, whoever declares them.
         self.chosen: Set[str] = set()
-        self.reasons: Dict[Any, Optional[str]] = {}
         self.uses: Dict[int, List[str]] = {}
         self.why: Dict[int, str] = {}
         self.names = {*KNOWN, *functions.given}
         self.visit(self.note)
 
-    def note(self, cursor: Any) -> int:
-        """Notes a declaration or a call. Returns that what is inside is visited, too."""
-        if cursor._kind_id == FUNCTION_DECL and cursor.spelling in self.names:
-            self.note_declaration(cursor)
-        elif cursor._kind_id == CALL_EXPR:
-            self.note_call(cursor)
+    def note_function(self, function: Any) -> int:
+        if function.spelling in self.names:
+            self.note_declaration(function)
         return VISIT_INSIDE
 
     def note_declaration(self, function: Any) -> None:
@@ -114,26 +105,16 @@ class Calls(Parsed):
                 if function is not None
                 else f"the function {name or 'that is called'} isn't declared"
             )
-        key = (function.hash, index)
-        if key not in self.reasons:
-            self.reasons[key] = self.why_unknown_function(function, name, index)
-        return self.reasons[key]
-
-    def why_unknown_function(self, function: Any, name: str, index: int) -> Optional[str]:
-        by_attribute = self.format_by_attribute(function) if self.functions.by_attribute else None
-        if index in (self.functions.given.get(name), by_attribute and by_attribute.format):
-            self.chosen.add(name)
+        callee = self.callees.declared(function)[0]
+        if callee.shape and not callee.doubt and index == callee.shape.format:
+            self.chosen.update([name] if callee.is_chosen else ())
             return None
         if GETTEXT.fullmatch(name):
             return f"it is a key for translators, an argument of {name}"
-        # With _FORTIFY_SOURCE clang calls its built-in functions, which nobody can declare.
-        if name.startswith("__builtin___") and name[len("__builtin_") :] in KNOWN:
-            return None if index == KNOWN[name[len("__builtin_") :]].index else f"it isn't the format of {name}"
-        known = KNOWN.get(name)
-        if known is None:
-            is_attributed = not self.functions.by_attribute and self.format_by_attribute(function)
-            return f"it is an argument of {name}, which isn't known{' without --attribute' if is_attributed else ''}"
-        return self.why_another(function, known) or (None if index == known.index else f"it isn't the format of {name}")
+        if callee.shape or callee.doubt:
+            return callee.doubt or f"it isn't the format of {name}"
+        is_attributed = not self.functions.by_attribute and self.format_by_attribute(function)
+        return f"it is an argument of {name}, which isn't known{' without --attribute' if is_attributed else ''}"
 
     def why_left(self, number: int, count: int) -> Optional[str]:
         """Returns why the place of this number is left, whose marker is in the text so often; None if each is the

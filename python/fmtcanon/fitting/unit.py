@@ -3,8 +3,9 @@
 import dataclasses
 from typing import Dict, List, Mapping, NamedTuple, Optional, Sequence
 
-from ..compiling.calls import Call, Calls, Key
+from ..compiling.calls import Call, FormatCalls, Key
 from ..compiling.compile_commands import CompileCommand
+from ..compiling.functions import Functions
 from ..compiling.left import Left
 from ..compiling.parsing import Shape, as_utf8
 from ..compiling.platforms import COMPILED, PLATFORMS, Platform
@@ -53,9 +54,10 @@ class Unit:
             self.defined = bytes(self.command.run(None, "-E", "-dD", "-w").stdout)
         return self.defined
 
-    def parsed(self, text: str, platform: Platform) -> Calls:
+    def parsed(self, text: str, platform: Platform) -> FormatCalls:
         own = {name: platform.types.get(type, type) for name, type in self.settings.types.items()}
-        return Calls(self.command, retargeted(text, platform, own).encode(), platform, self.settings.functions)
+        functions = Functions(self.settings.functions)
+        return FormatCalls(self.command, retargeted(text, platform, own).encode(), platform, functions)
 
     def marked(self, text: str) -> Dict[Key, Call]:
         """Returns the calls in the text of a stand-in of the file, as it is compiled."""

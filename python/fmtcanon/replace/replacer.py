@@ -2,7 +2,8 @@
 
 from typing import Any, List, Optional, Sequence, Tuple
 
-from ..compiling.markers import Functions
+from ..compiling.functions import Functions
+from ..compiling.parsing import Shape
 from ..compiling.sources import Files, Name
 from ..frame.command_line import MODELS, model_names
 from ..frame.excerpts import Excerpt, line_of, literal_excerpt
@@ -24,7 +25,7 @@ class Replacer(Rewriter):
     name, rules = NAME, RULES
 
     def __init__(self, options: Any, files: Files) -> None:
-        functions = Functions(dict(options.function), options.attribute)
+        functions = Functions({name: Shape(it, None) for name, it in options.function}, options.attribute)
         super().__init__(files, functions, MODELS[options.model], options.diff)
         self.pairs = Pairs(options.formats, self.models, options.posix_locale, bool(options.pairs))
 

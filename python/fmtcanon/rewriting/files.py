@@ -6,8 +6,9 @@ from dataclasses import dataclass, field
 from typing import List, NamedTuple, Sequence, Tuple, Union
 
 from ..compiling.compile_commands import CompileCommand
+from ..compiling.functions import Functions
 from ..compiling.left import Left
-from ..compiling.markers import Calls, Functions, Marker
+from ..compiling.markers import MarkedCalls, Marker
 from ..compiling.stand_ins import Original, StandIn
 from ..compiling.targets import assertions_in
 from ..source.respelling import LiteralRun, literals_of
@@ -95,7 +96,7 @@ class File:
         if rendered(pieces, self.old) != before.words:
             raise Left("its compiler reads it otherwise once literals are replaced")
         counts = Counter(it for it in pieces if isinstance(it, int))
-        calls = Calls(command, marked, marker, self.functions) if counts else None
+        calls = MarkedCalls(command, marked, marker, self.functions) if counts else None
         for number, count in counts.items():
             change = self.changes[number]
             change.is_compiled = True

@@ -5,8 +5,8 @@ import os
 from concurrent.futures import ThreadPoolExecutor
 from typing import List, Mapping, NamedTuple, Optional, Sequence, Union
 
+from ..compiling.functions import Functions
 from ..compiling.left import Left
-from ..compiling.markers import Functions
 from ..compiling.sources import Files, Name
 from ..compiling.stand_ins import Original, original
 from ..compiling.targets import check_model

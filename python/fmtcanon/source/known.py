@@ -2,7 +2,7 @@
 
 import re
 from dataclasses import dataclass
-from typing import Dict, Pattern
+from typing import Dict, Optional, Pattern
 
 STDIO = r"stdio\.h|bits/stdio(?:2|2-decl|-ldbl)?\.h"
 ERR = r"err\.h|bits/err-ldbl\.h"
@@ -20,6 +20,11 @@ class Known:
     parameters: int
     is_variadic: bool
     header: Pattern[str]
+
+    @property
+    def first(self) -> Optional[int]:
+        """The index of the first argument that it converts; None for a `va_list`."""
+        return self.parameters if self.is_variadic else None
 
 
 # The index of the format, and the number of parameters.

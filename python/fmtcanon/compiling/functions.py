@@ -1,4 +1,4 @@
-"""What calls call, and where it has its format: known by an option, by an attribute, or as the C library's."""
+"""Which functions are known to take a format: by an option, by an attribute, or as the C library's."""
 
 from typing import Any, Dict, Iterator, List, Mapping, NamedTuple, Optional, Sequence, Tuple
 
@@ -13,23 +13,34 @@ REFERENCES = ("DECL_REF_EXPR", "MEMBER_REF_EXPR")
 ARRAYS = ("CONSTANTARRAY", "INCOMPLETEARRAY", "VARIABLEARRAY")
 
 
-class Callee(NamedTuple):
-    """What a call calls: its name, and where it has its format, if it has one.
+class Functions(NamedTuple):
+    """What the options say of functions: where some have their formats, and whether attributes count."""
 
-    `last` is the index of the last parameter of a variadic function that isn't known, and may have a format there.
-    `has_prototype` is whether a function with a name of the C library has one.
+    given: Mapping[str, Shape] = {}
+    by_attribute: bool = True
+
+
+class Callee(NamedTuple):
+    """What a call calls: its name, where it has its format, if it has one, and whether that is said by an option or an
+    attribute.
+
+    `doubt` is why it may be another function than that of the C library with its name: compilers take it for that all
+    the same if it has a shape. `last` is the index of the last parameter of a variadic function that isn't known, and
+    may have a format there. `has_prototype` is whether a function with a name of the C library has one.
     """
 
     name: str
     shape: Optional[Shape]
+    is_chosen: bool = False
+    doubt: str = ""
     last: Optional[int] = None
     has_prototype: bool = True
 
 
-class Shapes:
+class Callees:
     """What the calls in the text of a unit call."""
 
-    def __init__(self, unit: Parsed, functions: Mapping[str, Shape]) -> None:
+    def __init__(self, unit: Parsed, functions: Functions) -> None:
         self.unit, self.functions = unit, functions
         # By what is declared: that, and whether a call that refers to it calls nothing else.
         self.known: Dict[Any, Tuple[Callee, bool]] = {}
@@ -48,9 +59,8 @@ class Shapes:
     def declared(self, declaration: Any) -> Tuple[Callee, bool]:
         """Returns a function or a pointer, and whether it returns no pointer that a call could call."""
         if declaration.hash not in self.known:
-            type, shape = function_of(declaration.type), self.shape_of(declaration)
-            callee = Callee(declaration.spelling, shape)
-            if type and not shape and not is_system(declaration):
+            type, callee = function_of(declaration.type), self.known_as(declaration)
+            if type and not callee.shape and not is_system(declaration):
                 is_known = type.kind.name == "FUNCTIONPROTO" or callee.name not in KNOWN
                 callee = callee._replace(last=self.last_of(declaration, type), has_prototype=is_known)
             is_all = type is not None and function_of(type.get_result()) is None
@@ -78,29 +88,37 @@ class Shapes:
                 yield Callee(self.unit.text_of(part), self.shape_of_type(part.type))
             waiting += reversed(inside(kind, children))
 
-    def shape_of(self, declaration: Any) -> Optional[Shape]:
-        """Returns where what is declared has its format."""
+    def known_as(self, declaration: Any) -> Callee:
+        """Returns what is declared, with where it has its format."""
         name = declaration.spelling
-        given = self.functions.get(name) or self.unit.format_by_attribute(declaration)
-        given = given or self.unit.format_by_attribute(declaration.canonical) or self.shape_of_type(declaration.type)
-        return given or (self.shape_of_library(declaration) if declaration.kind.name == "FUNCTION_DECL" else None)
+        given = self.functions.given.get(name) or self.shape_by_attribute(declaration)
+        if given or declaration.kind.name != "FUNCTION_DECL":
+            return Callee(name, given, given is not None)
+        return self.of_library(declaration)
+
+    def shape_by_attribute(self, declaration: Any) -> Optional[Shape]:
+        """Returns what the attributes of a declaration, of the first one of its function, or of its type say."""
+        if not self.functions.by_attribute:
+            return None
+        found = map(self.unit.format_by_attribute, (declaration, declaration.canonical))
+        return next(filter(None, found), None) or self.shape_of_type(declaration.type)
 
     def shape_of_type(self, type: Any) -> Optional[Shape]:
         """Returns what the attributes of typedefs say that a type is made of."""
         return next(filter(None, map(self.unit.format_by_attribute, typedefs_of(type))), None)
 
-    def shape_of_library(self, function: Any) -> Optional[Shape]:
-        """Returns where a function has its format if it is the C library's, or one that compilers know by its name."""
+    def of_library(self, function: Any) -> Callee:
+        """Returns a function with its shape if it is the C library's, or one that compilers know by its name."""
         name = function.spelling
         is_built_in = name.startswith(BUILT_IN_PREFIX)
         known = KNOWN.get(name[len(BUILT_IN_PREFIX) :] if is_built_in else name)
-        if not known or not known.is_variadic:
-            return None
-        why = None if is_built_in else self.unit.why_another(function, known)
+        if not known:
+            return Callee(name, None)
+        doubt = "" if is_built_in else self.unit.why_another(function, known) or ""
         # Without a prototype it has that which compilers know.
         own = function if function.type.get_canonical().kind.name == "FUNCTIONPROTO" else function.canonical
-        is_known = not why or (name in BUILT_IN and has_prototype(own, known))
-        return Shape(known.index, known.parameters) if is_known else None
+        is_known = not doubt or (name in BUILT_IN and has_prototype(own, known))
+        return Callee(name, Shape(known.index, known.first) if is_known else None, doubt=doubt)
 
 
 def function_of(type: Any) -> Any:
