@@ -7,6 +7,7 @@ from .. import Refused
 from ..formats.explaining import Marked, marked_parts
 from ..formats.rejections import advice_on, refused_span
 from ..formats.verdicts import (
+    Library,
     PairKind,
     PairVerdict,
     Taker,
@@ -78,7 +79,7 @@ def is_judged(old: Place, new: Place, others: AbstractSet[bytes] = frozenset()) 
     return is_format and (old.has_specification() or new.has_specification())
 
 
-def verdict_in(library: Any, old: Place, new: Place, model: Model) -> JudgedPair:
+def verdict_in(library: Library, old: Place, new: Place, model: Model) -> JudgedPair:
     (first, why), (second, why_second) = old.text(model), new.text(model)
     if first is None or second is None:
         return JudgedPair(PairVerdict(PairKind.UNJUDGED, reason=why or why_second), first, second)
@@ -95,25 +96,25 @@ def verdict_in(library: Any, old: Place, new: Place, model: Model) -> JudgedPair
     return judged._replace(verdict=judged.verdict._replace(kind=kind))
 
 
-def long_verdict(library: Any, old: bytes, new: bytes, model: Model) -> JudgedPair:
+def long_verdict(library: Library, old: bytes, new: bytes, model: Model) -> JudgedPair:
     """Returns the verdict on long formats, by comparing only the parts that they don't share."""
     front, back = narrowed(old, new)
-    texts = [it[front : len(it) - back] for it in (old, new)]
+    first, second = (it[front : len(it) - back] for it in (old, new))
     types: List[bytes] = []
     for text in (old, new):
         try:
             types.append(library.types(text, model))
         except Refused as refusal:
             kind = PairKind.REJECTED if types else PairKind.UNJUDGED
-            return JudgedPair(PairVerdict(kind, reason=f"{refusal} of a long format"), texts[0], texts[1])
+            return JudgedPair(PairVerdict(kind, reason=f"{refusal} of a long format"), first, second)
     before = len(library.types(old[:front], model))
-    verdict = library.verdict(*texts, model)
+    verdict = library.verdict(first, second, model)
     at = shared_front(*types) if verdict.kind is PairKind.TYPES else before + verdict.at
-    return JudgedPair(verdict._replace(at=at), texts[0], texts[1], before)
+    return JudgedPair(verdict._replace(at=at), first, second, before)
 
 
 def judge(
-    library: Any,
+    library: Library,
     file: str,
     pair: Pair,
     models: Sequence[Model],
@@ -187,7 +188,7 @@ def elsewhere(kinds: Dict[Model, PairKind], kind: PairKind) -> str:
 class Wording:
     """What is said of a pair by its verdict in one data model."""
 
-    def __init__(self, library: Any, pair: Pair, judged: JudgedPair, model: Model) -> None:
+    def __init__(self, library: Library, pair: Pair, judged: JudgedPair, model: Model) -> None:
         self.library, self.judged, self.model = library, judged, model
         self.old, self.new = pair
 

@@ -9,14 +9,15 @@ from __future__ import annotations
 from typing import Dict, List, NamedTuple, Optional, Sequence, Tuple, Union
 
 import fmtcanon
-from fmtcanon import DirectiveSpan, Kind, Model, Refused, Type, Verdict
+from fmtcanon import DirectiveSpan, Kind, Model, Refused, Type
 
 from ..kinds import TYPE_NAMES
 from ..specification import Specification, specification_of
-from . import verdicts
 from .rejections import instead_of, sentence
-from .verdicts import Argument, Library, shared_front, taker_of, telling_arguments
+from .verdicts import Argument, Library, PairKind, PairVerdict, taker_of, telling_arguments
 from .wording import Stars, meaning, meaning_of_number, note
+
+LIBRARY = Library()
 
 
 class ExplainedDirective(NamedTuple):
@@ -59,7 +60,7 @@ class Difference(NamedTuple):
     """
 
     formats: Tuple[bytes, bytes]
-    verdict: Verdict
+    verdict: PairKind
     canonical: Optional[bytes] = None
     arguments: Tuple[Argument, ...] = ()
     printed: Tuple[bytes, ...] = ()
@@ -159,28 +160,24 @@ def compare(first: bytes, second: bytes, model: Model) -> Union[Difference, Reje
     """Compares two formats."""
     formats = (first, second)
     try:
-        found = fmtcanon.compare(first, second, model=model, whole=True)
+        found = LIBRARY.compared(first, second, model)
     except Refused as refusal:
         rejection = reject(formats[refusal.side], refusal, model, refusal.side)
-        return rejection._replace(types=by_types(formats, model)) if refusal.kind is Kind.NUMBERED else rejection
-    if found.verdict is Verdict.SAME:
-        return Difference(formats, found.verdict, canonical=fmtcanon.canonical(first, model=model, whole=True))
-    if found.verdict is Verdict.DIFFERENT:
-        return printed_unlike(formats, found.arguments or (), model)
-    at = found.types_differ_at if found.verdict is Verdict.TYPES else found.directives_differ_at
-    return Difference(formats, found.verdict, at=at, parts=parts_at(formats, at or 0, model))
+        return rejection._replace(types=by_types(formats, model, refusal)) if refusal.kind is Kind.NUMBERED else rejection
+    if found.kind is PairKind.SAME:
+        return Difference(formats, found.kind, canonical=LIBRARY.canonical(first, model))
+    if found.kind is PairKind.DIFFERENT:
+        return printed_unlike(formats, found.arguments, model)
+    return Difference(formats, found.kind, at=found.at, parts=parts_at(formats, found.at, model))
 
 
-def by_types(formats: Tuple[bytes, bytes], model: Model) -> Optional[Difference]:
-    """Compares the types of two formats; returns None if one of them is rejected."""
-    try:
-        first, second = (bytes(fmtcanon.arguments(it, model=model)) for it in formats)
-    except Refused:
-        return None
-    if first == second:
-        return Difference(formats, Verdict.SAME)
-    at = shared_front(first, second)
-    return Difference(formats, Verdict.TYPES, at=at, parts=parts_at(formats, at, model))
+def by_types(formats: Tuple[bytes, bytes], model: Model, refusal: Refused) -> Optional[Difference]:
+    """Compares the types of two formats if one has numbered arguments; returns None if one is rejected."""
+    found = LIBRARY.by_types(*formats, model, refusal)
+    if found.kind is PairKind.TYPES:
+        return Difference(formats, found.kind, at=found.at, parts=parts_at(formats, found.at, model))
+    are_same = found.kind is PairKind.SAME or found.refusal is refusal
+    return Difference(formats, PairKind.SAME) if are_same else None
 
 
 def parts_at(formats: Sequence[bytes], index: int, model: Model) -> Tuple[Optional[ExplainedDirective], ...]:
@@ -196,12 +193,12 @@ def part_at(text: bytes, index: int, model: Model) -> Optional[ExplainedDirectiv
 
 def printed_unlike(formats: Tuple[bytes, bytes], arguments: Tuple[Argument, ...], model: Model) -> Difference:
     """Returns what two formats print for arguments that show a difference, and the first directives that do."""
-    arguments = telling_arguments(Library(), *formats, arguments, model)
+    arguments = telling_arguments(LIBRARY, *formats, arguments, model)
     printed = tuple(it for it in (printed_by(it, arguments, model) for it in formats) if it is not None)
     first, second = (explain(it, model).parts for it in formats)
     unlike = ((one, two) for one, two in zip(first, second) if not is_alike(one, two, arguments, model))
     parts = tuple(about_argument(it, arguments) for it in next(unlike, ()))
-    return Difference(formats, Verdict.DIFFERENT, arguments=arguments, printed=printed, parts=parts)
+    return Difference(formats, PairKind.DIFFERENT, arguments=arguments, printed=printed, parts=parts)
 
 
 def about_argument(part: ExplainedDirective, arguments: Sequence[Argument]) -> ExplainedDirective:
@@ -211,17 +208,17 @@ def about_argument(part: ExplainedDirective, arguments: Sequence[Argument]) -> E
     return part._replace(meaning=said or part.meaning)
 
 
-def marked_parts(formats: Tuple[bytes, bytes], verdict: verdicts.PairVerdict, model: Model) -> Sequence[Optional[Marked]]:
+def marked_parts(formats: Tuple[bytes, bytes], verdict: PairVerdict, model: Model) -> Sequence[Optional[Marked]]:
     """Returns the directive of each of two formats that a verdict is about, with its type or what it prints; nothing if
     the verdict is about none.
     """
-    if verdict.kind is verdicts.PairKind.TYPES:
+    if verdict.kind is PairKind.TYPES:
         takers = [taker_of(it, verdict.at, model) for it in formats]
         return [it and Marked(it.start, it.end, TYPE_NAMES[it.type]) for it in takers]
     parts: Sequence[Optional[ExplainedDirective]] = ()
-    if verdict.kind is verdicts.PairKind.DIRECTIVES:
+    if verdict.kind is PairKind.DIRECTIVES:
         parts = parts_at(formats, verdict.at, model)
-    elif verdict.kind is verdicts.PairKind.DIFFERENT:
+    elif verdict.kind is PairKind.DIFFERENT:
         parts = printed_unlike(formats, verdict.arguments, model).parts
     return [it and Marked(it.start, it.end, it.meaning) for it in parts]
 
@@ -236,4 +233,4 @@ def is_alike(first: ExplainedDirective, second: ExplainedDirective, arguments: S
 
 def printed_by(text: bytes, arguments: Sequence[Argument], model: Model) -> Optional[bytes]:
     """Returns what a format prints, or None if it can't be had."""
-    return Library().printed(text, arguments, model)
+    return LIBRARY.printed(text, arguments, model)

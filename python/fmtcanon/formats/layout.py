@@ -6,13 +6,13 @@ from itertools import zip_longest
 from typing import Dict, Iterator, List, Optional
 
 import fmtcanon
-from fmtcanon import Model, Type, Verdict
+from fmtcanon import Model, Type
 
 from ..frame.terminals import Style, beside, columns
 from ..frame.visible import visible
 from ..kinds import TYPE_NAMES
 from .explaining import Difference, ExplainedDirective, Explanation, Rejection
-from .verdicts import argument_words, cut, shared_front, shown_argument, shown_arguments
+from .verdicts import PairKind, argument_words, cut, shared_front, shown_argument, shown_arguments
 
 # Formats up to this many columns have the words next to the carets; the words of others are on lines of their own.
 BESIDE, GAP, INDENT = 40, 3, 4
@@ -104,7 +104,7 @@ def rejection_lines(found: Rejection, model: Model, style: Style) -> Iterator[st
 
 def types_lines(found: Difference, model: Model, style: Style) -> Iterator[str]:
     """Yields how the types of two formats compare, if one has numbered arguments."""
-    if found.verdict is Verdict.SAME:
+    if found.verdict is PairKind.SAME:
         yield "only the types of the arguments can be compared: they are the same"
     else:
         yield from apart_lines(found, model, style)
@@ -112,9 +112,9 @@ def types_lines(found: Difference, model: Model, style: Style) -> Iterator[str]:
 
 def difference_lines(found: Difference, model: Model, style: Style) -> Iterator[str]:
     """Yields how two formats compare."""
-    if found.verdict is Verdict.SAME:
+    if found.verdict is PairKind.SAME:
         yield from same_lines(found)
-    elif found.verdict is Verdict.DIFFERENT:
+    elif found.verdict is PairKind.DIFFERENT:
         yield from printed_lines(found, style)
     else:
         yield from apart_lines(found, model, style)
@@ -149,7 +149,7 @@ def apart_lines(found: Difference, model: Model, style: Style) -> Iterator[str]:
 
     They are one below the other if a line has no room for both.
     """
-    what = "types" if found.verdict is Verdict.TYPES else "directives"
+    what = "types" if found.verdict is PairKind.TYPES else "directives"
     yield f"{what} differ at {argument_words(found.at or 0)}"
     cells = [cell(text, part, model) for text, part in zip(found.formats, found.parts)]
     widths = [max(map(columns, it)) for it in cells]

@@ -6,7 +6,7 @@ types of formats with numbered arguments, which the comparison rejects.
 
 import enum
 import re
-from typing import Any, AnyStr, Iterator, List, NamedTuple, Optional, Sequence, Tuple, Union
+from typing import AnyStr, Iterator, List, NamedTuple, Optional, Sequence, Tuple, Union
 
 import fmtcanon
 from fmtcanon import Model
@@ -200,14 +200,14 @@ def without_specifications(text: bytes) -> bytes:
     return b"%".join([*parts, text[done:]])
 
 
-def only_words_differ(library: Any, old: bytes, new: bytes, model: Model) -> bool:
+def only_words_differ(library: Library, old: bytes, new: bytes, model: Model) -> bool:
     """Returns whether two formats that differ have the same directives."""
-    found: PairVerdict = library.verdict(specifications(old), specifications(new), model)
+    found = library.verdict(specifications(old), specifications(new), model)
     return found.kind is PairKind.SAME
 
 
 def telling_arguments(
-    library: Any, old: bytes, new: bytes, arguments: Tuple[Argument, ...], model: Model
+    library: Library, old: bytes, new: bytes, arguments: Tuple[Argument, ...], model: Model
 ) -> Tuple[Argument, ...]:
     """Returns short arguments that two formats print differently.
 
@@ -215,7 +215,7 @@ def telling_arguments(
     """
     if without_specifications(old) != without_specifications(new):
         inner = specifications(old), specifications(new)
-        verdict: PairVerdict = library.verdict(*inner, model)
+        verdict = library.verdict(*inner, model)
         if verdict.kind is PairKind.DIFFERENT:
             found = shortened(library, *inner, verdict.arguments, model)
             if is_told_apart(library, old, new, found, model):
@@ -223,14 +223,14 @@ def telling_arguments(
     return shortened(library, old, new, arguments, model)
 
 
-def is_told_apart(library: Any, old: bytes, new: bytes, arguments: Sequence[Argument], model: Model) -> bool:
+def is_told_apart(library: Library, old: bytes, new: bytes, arguments: Sequence[Argument], model: Model) -> bool:
     """Returns whether it is known that two formats print these arguments differently."""
     first, second = (library.printed(it, arguments, model) for it in (old, new))
     return first is not None and second is not None and first != second
 
 
 def shortened(
-    library: Any, old: bytes, new: bytes, arguments: Tuple[Argument, ...], model: Model
+    library: Library, old: bytes, new: bytes, arguments: Tuple[Argument, ...], model: Model
 ) -> Tuple[Argument, ...]:
     """Returns arguments whose long strings are as short as can be, so that the formats still print differently.
 
