@@ -21,7 +21,7 @@ from fmtcanon.compiling.parsing import Shape
 from fmtcanon.compiling.platforms import PLATFORMS
 from fmtcanon.compiling.retargeting import retargeted, write_headers
 from fmtcanon.compiling.stand_ins import Original
-from fmtcanon.diff import compiled as fitting
+from fmtcanon.diff import compiled
 from fmtcanon.fitting import composing, fixing, proposals, reporting
 from fmtcanon.fitting.judging import Fit, fit_of, judged, without_errno
 from fmtcanon.fitting.locating import Located, Piece, with_markers
@@ -405,7 +405,7 @@ class Reporting(unittest.TestCase):
 class Changes(unittest.TestCase):
     def test_fitting(self):
         found = Finding("a.c", 3, 10, "types", "error", "wrong", (3, 20), ("%d", "%zu"))
-        note = fitting.as_note(found)
+        note = compiled.as_note(found)
         self.assertEqual((note.level, note.message), ("note", 'types differ, and the call fits: "%d" and "%zu"'))
 
 

@@ -9,7 +9,7 @@ from ..compiling.formats import Format
 from ..compiling.left import Left
 from ..compiling.markers import Marker
 from ..compiling.parsing import OTHER_BYTES
-from ..compiling.stand_ins import Original, StandIn, original
+from ..compiling.stand_ins import Original, original
 from ..source.respelling import LiteralRun, runs_in
 from ..source.tokens import plain_literals
 from .judging import Fault, without_errno
@@ -66,14 +66,12 @@ class Located(NamedTuple):
 
 
 def located(unit: Unit) -> Optional[Located]:
-    """Returns where the formats of a unit are, or None if no copy of its file can be made or preprocessed."""
+    """Returns where the formats of a unit are, or None if its file can't be preprocessed with markers."""
     try:
         file = original(unit.command.file)
         places = [it for it in runs_in(file.source) if b"%" in it.text]
         marker = Marker()
-        with StandIn(file.path) as stand_in:
-            stand_in.write(with_markers(file.source, places, marker))
-            text = unit.text(stand_in)
+        text = unit.text(with_markers(file.source, places, marker))
         calls = unit.marked(text)
     except (Left, OSError):
         return None

@@ -10,7 +10,6 @@ from ..compiling.left import Left
 from ..compiling.parsing import Shape, as_utf8
 from ..compiling.platforms import COMPILED, PLATFORMS, Platform
 from ..compiling.retargeting import retargeted
-from ..compiling.stand_ins import StandIn
 from ..compiling.targets import model_in
 from ..models import Model
 
@@ -44,9 +43,9 @@ class Unit:
         self.unread, self.others = parsed[0].unread, parsed[0].others
         self.defined: Optional[bytes] = None
 
-    def text(self, stand_in: Optional[StandIn] = None) -> str:
-        """Returns what the compiler's preprocessor makes of the file, or of a stand-in."""
-        return as_utf8(self.command.preprocessed(stand_in)).decode()
+    def text(self, source: Optional[bytes] = None) -> str:
+        """Returns what the compiler's preprocessor makes of the file, or of another source of it."""
+        return as_utf8(self.command.preprocessed(source)).decode()
 
     def definitions(self) -> bytes:
         """Returns the text of the unit with the definitions of its macros."""
@@ -60,5 +59,5 @@ class Unit:
         return FormatCalls(self.command, retargeted(text, platform, own).encode(), platform, functions)
 
     def marked(self, text: str) -> Dict[Key, Call]:
-        """Returns the calls in the text of a stand-in of the file, as it is compiled."""
+        """Returns the calls in the text of another source of the file, as it is compiled."""
         return self.parsed(text, COMPILED).found

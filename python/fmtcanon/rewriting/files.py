@@ -63,19 +63,16 @@ class File:
         is left.
         """
         self.check_rights()
-        with StandIn(self.original.path) as stand_in:
-            seen = [self.judge(command, stand_in) for command in commands]
-            for change in self.changes:
-                if not change.is_compiled:
-                    change.why_left = change.why_left or "it isn't compiled: it is in a comment, or left out by #if"
-            after = self.with_sources([it.place.source if it.why_left else it.source for it in self.changes])
-            if after == self.original.source:
-                return after
-            stand_in.write(after)
+        seen = [self.judge(command) for command in commands]
+        for change in self.changes:
+            if not change.is_compiled:
+                change.why_left = change.why_left or "it isn't compiled: it is in a comment, or left out by #if"
+        after = self.with_sources([it.place.source if it.why_left else it.source for it in self.changes])
+        if after != self.original.source:
             for command, before in zip(commands, seen):
-                self.check_result(before, command.preprocessed(stand_in))
-                command.check_compiles(stand_in)
-            return after
+                self.check_result(before, command.preprocessed(after))
+                command.check_compiles(after)
+        return after
 
     def with_sources(self, sources: Sequence[bytes]) -> bytes:
         return with_sources(self.original.source, self.places, sources)
@@ -84,14 +81,14 @@ class File:
         """Returns whether a place may get another length."""
         return any(not it.why_left and len(it.source) != len(it.place.source) for it in self.changes)
 
-    def judge(self, command: CompileCommand, stand_in: StandIn) -> "Seen":
+    def judge(self, command: CompileCommand) -> "Seen":
         """Judges the places by one compile command. Returns what it makes of the file."""
         text, marker = command.preprocessed(), Marker()
         doubts.check(command, text)
         if self.changes_columns():
             doubts.check_columns(text)
         assertions = assertions_in(command.macros())
-        marked, front, pieces = self.marked(command, text, stand_in, marker)
+        marked, front, pieces = self.marked(command, text, marker)
         before = Tokens(text[front:], assertions)
         if rendered(pieces, self.old) != before.words:
             raise Left("its compiler reads it otherwise once literals are replaced")
@@ -103,9 +100,7 @@ class File:
             change.why_left = change.why_left or (calls and calls.why_left(number, count)) or ""
         return Seen(text[:front], before, pieces, assertions)
 
-    def marked(
-        self, command: CompileCommand, before: bytes, stand_in: StandIn, marker: Marker
-    ) -> Tuple[bytes, int, List[Piece]]:
+    def marked(self, command: CompileCommand, before: bytes, marker: Marker) -> Tuple[bytes, int, List[Piece]]:
         """Returns what the preprocessor makes of the file with markers for places.
 
         With it, the length of the front that it shares with the text before, and the tokens after that, with the number
@@ -116,8 +111,7 @@ class File:
                 it.place.source if it.why_left else marker.literal(number) + b"\n" * it.place.source.count(b"\n")
                 for number, it in enumerate(self.changes)
             ]
-            stand_in.write(self.with_sources(sources))
-            text = command.preprocessed(stand_in)
+            text = command.preprocessed(self.with_sources(sources))
             front = common_front(before, text)
             pieces: List[Piece] = []
             is_torn = False
