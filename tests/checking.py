@@ -106,7 +106,7 @@ def compiled(words, file, work):
 def windows_text(tool, name):
     """The text of a file as the command makes it for Windows, with the functions of the GNU C library."""
     script = (
-        "import sys; from fmtcanon.checker.platforms import PLATFORMS; from fmtcanon.checker.retargeting import *; "
+        "import sys; from fmtcanon.compiling.platforms import PLATFORMS; from fmtcanon.compiling.retargeting import *; "
         "import subprocess; words = ['gcc', '-D_GNU_SOURCE', *write_headers(sys.argv[2]), '-E', sys.argv[1]]; "
         "text = subprocess.run(words, capture_output=True, text=True).stdout; "
         "sys.stdout.write(retargeted(text, PLATFORMS[3], {}))"
@@ -169,7 +169,7 @@ def generic(name, type, value=""):
 def facts(tool, platform):
     """A program that states the table of a platform, of what its C library has."""
     script = (
-        "import json, sys; from fmtcanon.checker.platforms import PLATFORMS; "
+        "import json, sys; from fmtcanon.compiling.platforms import PLATFORMS; "
         "print(json.dumps([[it.types, it.modifiers, it.constants, it.members] for it in PLATFORMS]))"
     )
     found = subprocess.run(

@@ -525,7 +525,7 @@ def try_pairs(folder, argument_of, trials):
     prints other bytes.
     """
     from fmtcanon import Model
-    from fmtcanon.verdicts import Library, shortened
+    from fmtcanon.formats.verdicts import Library, shortened
 
     unlike = [*unlike_pairs(PAIRS), *string_pairs(PAIRS)]
     pairs = [*((*it, ["same"]) for it in alike_pairs(PAIRS)), *((*it, ["different"]) for it in unlike)]

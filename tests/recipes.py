@@ -108,7 +108,7 @@ def try_entries(tool, trials):
 
 def try_files(trials):
     """The hook fmtcanon-diff is run for the files that the command reads."""
-    from fmtcanon.diff.trees import SOURCES
+    from fmtcanon.source.files import SOURCES
 
     text = (TOP / ".pre-commit-hooks.yaml").read_text(encoding="utf-8")
     [pattern] = re.findall(r"id: fmtcanon-diff\n(?:  .*\n)*?  files: (.*)$", text, flags=re.MULTILINE)

@@ -82,6 +82,6 @@ def try_screens(folder, python, trials):
             lines = done.stdout.decode().splitlines()
             trials.expect(f"{words} in a pipe", [it[:4] for it in lines], ["a.c:"] * 2)
             module, *rest = words[1:]
-            script = "from fmtcanon import progress; progress.BEGIN = progress.EVERY = 0; "
+            script = "from fmtcanon.frame import progress; progress.BEGIN = progress.EVERY = 0; "
             script += f"from {module}.command import main; main({rest})"
             trials.expect(f"progress of {module}", "1 of 1 files done" in shown(["-c", script])[1], True)

@@ -4,8 +4,11 @@ An import is used if its file names it again; in a source file a contract, ghost
 a definition is used if its file names it outside of its own text, or if another file does that names its file. A
 function is used if other code names it. The goals of proof files, fields of records, examples, tests, exported
 functions, methods of traits and laws need no use. `tests/documents.py` calls this.
+
+Of the Python module it finds imports that don't go down, and names that two classes have.
 """
 
+import ast
 import re
 from collections import Counter, defaultdict
 from pathlib import Path
@@ -23,6 +26,14 @@ WORD = re.compile(r"\[\]|[^\s(){}\[\].,;:]+")
 SIGNATURE = re.compile(r" *(?:(?:abbrev|unfoldable|inst|pub|record|data) )*([^\s:(){}\[\]]+)(?: *[:({]| +where\b)")
 NO_SIGNATURE = re.compile(r" *(?:(?:pub )?(?:use|mod)|infix\w*) ")
 PROGRAM = "fmtcanon"
+# The floors of the Python module, from its own files up to the commands: a file imports from its package and from lower
+# floors. Those on one floor don't import each other.
+FLOORS = "fmtcanon", "frame", "formats", "source", "compiling", "fitting", "rewriting", "checker diff explain po replace"
+PLANTED_PYTHON = {
+    "fmtcanon/models.py": "from .kinds import diff\nfrom . import frame\nclass Twice: pass\n",
+    "fmtcanon/source/places.py": "import re\nfrom ..fitting.unit import lost\nfrom .tokens import NAME\nfrom .. import same\n",
+    "fmtcanon/diff/trees.py": "from fmtcanon.po import lost\nfrom ..frame.output import put\nclass Twice: pass\n",
+}
 # Files with unused names, which are `lost` or in which `lost` is a part of the name.
 PLANTED = {
     "crates/low/src/low.rt": """ghost use Rattle.low.specs.Low.{◌+lost◌, known, lost, ◌·◌};
@@ -153,8 +164,37 @@ def unused(texts):
     return [*imports, *unused_definitions(texts), *unused_functions(texts)]
 
 
+def upwards(texts):
+    """Returns the file and the package of each import that doesn't go down, of texts of Python by their files, and the
+    names that two classes have.
+    """
+    floors = {name: number for number, names in enumerate(FLOORS) for name in names.split()}
+    found, classes = [], Counter()
+    for file, text in texts.items():
+        own = Path(file).parts[-2]
+        for node in ast.walk(ast.parse(text)):
+            classes[node.name if isinstance(node, ast.ClassDef) else None] += 1
+            is_of_module = isinstance(node, ast.ImportFrom) and (node.level or node.module.split(".")[0] == "fmtcanon")
+            if is_of_module and (node.level != 1 or own == "fmtcanon"):
+                path = (node.module or "").split(".")
+                names = [it for it in path if it not in ("", "fmtcanon")] or [it.name for it in node.names]
+                packages = [it for it in names if it in floors] or ["fmtcanon"]
+                found += [(file, it) for it in packages if it != own and floors[it] >= floors[own]]
+    return found, [name for name, count in classes.items() if name and count > 1]
+
+
+def try_floors(trials):
+    """Imports of the Python module go down, and no two of its classes have one name."""
+    wanted = [("models.py", "frame"), ("places.py", "fitting"), ("trees.py", "po")]
+    found, twice = upwards(PLANTED_PYTHON)
+    trials.expect("imports that are planted", ([(Path(file).name, it) for file, it in found], twice), (wanted, ["Twice"]))
+    files = sorted(TOP.glob("python/fmtcanon/**/*.py"))
+    trials.expect("floors", upwards({str(it): it.read_text(encoding="utf-8") for it in files}), ([], []))
+
+
 def try_unused_names(trials):
     """Nothing brings in or defines a name that nothing uses."""
+    try_floors(trials)
     planted = [(Path(file).name, it) for file, it in unused(PLANTED)]
     wanted = [("low.rt", it) for it in ["◌+lost◌", "lost", "lost_module"]]
     wanted += [("Low.antt", it) for it in ["lost", "lost_zero", "lost_again"]]

@@ -17,9 +17,9 @@ from unittest import mock
 import fmtcanon
 from fmtcanon import Model
 from fmtcanon.po.charsets import charset_named
-from fmtcanon.po.formats import DEPENDENT, Format, shape_of
+from fmtcanon.po.formats import DEPENDENT, MessageFormat, shape_of
 from fmtcanon.po.reading import PoReader
-from fmtcanon.po.tokens import Unreadable
+from fmtcanon.po.tokens import BadCatalog
 
 LENGTHS = ["", "hh", "h", "l", "ll", "j", "z", "t", "L"]
 CONVERSIONS = "diouxXbfFeEgGaAcspnCS"
@@ -84,7 +84,7 @@ def read(text, by_tokens):
                 found = list(reader.read(text))
         else:
             found = list(reader.read(text))
-    except Unreadable as fault:
+    except BadCatalog as fault:
         return fault.line, str(fault)
     return [
         (it.line, it.column, it.flags, it.has_context, it.is_fuzzy, it.msgid, it.plural, it.forms, it.bad_bytes)
@@ -95,7 +95,7 @@ def read(text, by_tokens):
 def answer(text, model=Model.LP64):
     """The types that the library finds in a text of a message, or None if it is rejected."""
     try:
-        return Format(text).codes(model)
+        return MessageFormat(text).codes(model)
     except fmtcanon.Refused:
         return None
 
@@ -158,7 +158,7 @@ class Shapes(unittest.TestCase):
             (b"%1$<PRIu64> %1$<PRIx64>", None),
             (b"%m %<PRIu64> %d", None),
         ]:
-            self.assertEqual(Format(text).two_types(Model.LP64), said, text)
+            self.assertEqual(MessageFormat(text).two_types(Model.LP64), said, text)
 
     def test_rejected(self):
         """Where a text with `%m` or the flag I is rejected: by hand. I is a flag of translations, and no number."""
@@ -173,7 +173,7 @@ class Shapes(unittest.TestCase):
             (b"%m %<PRIu64> %y", False, (3, 14)),
         ]:
             with self.assertRaises(fmtcanon.Refused) as caught:
-                Format(text, is_translation).codes(Model.LP64)
+                MessageFormat(text, is_translation).codes(Model.LP64)
             self.assertEqual((int(caught.exception.kind), caught.exception.byte), wanted, text)
 
     def test_uses(self):
@@ -184,7 +184,7 @@ class Shapes(unittest.TestCase):
             (b"%Id", [(0, b"%Id", 0)]),
             (b"%2$*1$d", [(0, b"%2$*1$d", 0), (1, b"%2$*1$d", 0)]),
         ]:
-            found = [(it.argument, it.specification, it.start) for it in Format(text, True).uses(Model.LP64)]
+            found = [(it.argument, it.specification, it.start) for it in MessageFormat(text, True).uses(Model.LP64)]
             self.assertEqual(found, wanted, text)
 
     def test_models(self):

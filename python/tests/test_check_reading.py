@@ -8,11 +8,12 @@ from pathlib import Path
 from types import SimpleNamespace
 from unittest import mock
 
-from fmtcanon.checker import checking, command
-from fmtcanon.checker.formats import MARK_AFTER, TOKEN, type_name_of
+from fmtcanon.checker import command
 from fmtcanon.compiling.attributes import constant_of, printf_indexes, returned_index
+from fmtcanon.compiling.formats import MARK_AFTER, TOKEN, type_name_of
 from fmtcanon.compiling.left import Left, own_trouble
 from fmtcanon.compiling.sources import Files
+from fmtcanon.fitting import checking
 from fmtcanon.models import Model
 
 # Texts of attributes, and the numbers in them; None if it is another attribute.

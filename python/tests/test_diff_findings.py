@@ -10,11 +10,20 @@ import unittest
 import fmtcanon
 from fmtcanon import Model, Type
 from fmtcanon.diff.judging import RULES, judge
-from fmtcanon.diff.literals import Source
 from fmtcanon.diff.pairing import paired
-from fmtcanon.findings import ERROR, NOTE, WARNING, Finding, Printer
+from fmtcanon.formats.verdicts import (
+    Library,
+    PairKind,
+    Taker,
+    directives_in,
+    narrowed,
+    shortened,
+    specifications,
+    taker_of,
+)
+from fmtcanon.frame.findings import ERROR, NOTE, WARNING, Finding, Printer
 from fmtcanon.kinds import TYPE_NAMES
-from fmtcanon.verdicts import Kind, Library, Taker, directives_in, narrowed, shortened, specifications, taker_of
+from fmtcanon.source.places import Source
 
 ALL = list(Model)
 
@@ -402,7 +411,7 @@ class Forms(unittest.TestCase):
         driver = run["tool"]["driver"]
         self.assertEqual((set(driver), driver["version"]), ({"name", "version", "rules"}, fmtcanon.__version__))
         ids = [it["id"] for it in driver["rules"]]
-        self.assertEqual((ids, len(set(ids))), ([it.value for it in Kind], len(ids)))
+        self.assertEqual((ids, len(set(ids))), ([it.value for it in PairKind], len(ids)))
         for rule in driver["rules"]:
             self.assertEqual((set(rule), set(rule["shortDescription"])), ({"id", "shortDescription"}, {"text"}))
         for result in run["results"]:

@@ -13,8 +13,8 @@ from pathlib import Path
 import fmtcanon
 from fmtcanon import Kind, Model
 from fmtcanon.explain.command import main
-from fmtcanon.explaining import explain
-from fmtcanon.rejections import ADVICE, HELP
+from fmtcanon.formats.explaining import explain
+from fmtcanon.formats.rejections import ADVICE, HELP
 from fmtcanon.specification import specification_of
 
 TOP = Path(__file__).resolve().parents[2]

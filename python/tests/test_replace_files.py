@@ -15,8 +15,8 @@ from fmtcanon.compiling import running
 from fmtcanon.compiling.left import Left
 from fmtcanon.compiling.sources import Files
 from fmtcanon.compiling.stand_ins import StandIn, original
-from fmtcanon.interrupting import Interrupted, interruptible
-from fmtcanon.replace.files import put_in_place
+from fmtcanon.frame.interrupting import Interrupted, interruptible
+from fmtcanon.rewriting.files import put_in_place
 
 # The seconds in which the command ends after a signal.
 SOON = 2
@@ -221,10 +221,11 @@ SCRIPT = """
 import argparse, os, signal, sys, threading, time
 from fmtcanon.compiling import running
 from fmtcanon.compiling.stand_ins import StandIn, original
-from fmtcanon.findings import Finding
-from fmtcanon.progress import Progress
-from fmtcanon.replace import writing
-from fmtcanon.replace.replacer import Replacer, Report
+from fmtcanon.frame.findings import Finding
+from fmtcanon.frame.progress import Progress
+from fmtcanon.replace.replacer import Replacer
+from fmtcanon.rewriting import writing
+from fmtcanon.rewriting.rewriter import Report
 
 names, how = sys.argv[2:], sys.argv[1]
 
@@ -262,7 +263,7 @@ def put_in_place(*rest, real=writing.put_in_place):
 
 writing.put_in_place = put_in_place
 options = argparse.Namespace(jobs=2, output="text", diff=False, dry_run=False, color="auto")
-from fmtcanon.command_line import status_of
+from fmtcanon.frame.command_line import status_of
 sys.exit(status_of("fmtcanon-replace", lambda: writing.replace(options, Fake(), names)))
 """
 

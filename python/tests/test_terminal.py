@@ -11,10 +11,10 @@ import unittest
 from pathlib import Path
 from unittest import mock
 
-from fmtcanon import progress
-from fmtcanon.excerpts import Excerpt, excerpt_lines, shown_finding
+from fmtcanon.frame import progress
+from fmtcanon.frame.excerpts import Excerpt, excerpt_lines, shown_finding
+from fmtcanon.frame.terminals import Style, columns, style_of
 from fmtcanon.po.sources import CatalogSource, Mark
-from fmtcanon.terminals import Style, columns, style_of
 
 from .terminal import on_terminal, plain
 
@@ -192,7 +192,7 @@ class Screens(InFolder):
             ("po", names, ["1 of 3", "2 of 3", "3 of 3"]),
             ("diff", ["old", "new"], ["1 of 2", "2 of 2"]),
         ]:
-            script = "from fmtcanon import progress; progress.BEGIN = progress.EVERY = 0; "
+            script = "from fmtcanon.frame import progress; progress.BEGIN = progress.EVERY = 0; "
             script += f"from fmtcanon.{package}.command import main; main({words})"
             _, text = self.shown("-c", script)
             self.assertEqual(re.findall(r"\r\x1b\[K(\d+ of \d+) files done", text), wanted)

@@ -25,9 +25,9 @@ import fmtcanon  # noqa: E402
 from fmtcanon.compiling.compile_commands import SOURCES, commands_in  # noqa: E402
 from fmtcanon.compiling.left import Left  # noqa: E402
 from fmtcanon.compiling.stand_ins import original  # noqa: E402
-from fmtcanon.replace.calls import Functions  # noqa: E402
-from fmtcanon.replace.files import Change, File, put_in_place  # noqa: E402
-from fmtcanon.replace.places import places_in, respelled  # noqa: E402
+from fmtcanon.compiling.functions import Functions
+from fmtcanon.rewriting.files import Change, File, put_in_place
+from fmtcanon.source.respelling import runs_in, respelled
 from sources import is_accepted  # noqa: E402
 
 # What a format may be instead: each pattern is tried in turn, once.
@@ -77,7 +77,7 @@ def rewritten(path, commands):
     """Respells what it may of a file, and returns counts, and the units whose assembler differs."""
     read = original(path)
     changes = []
-    for place in places_in(read.source):
+    for place in runs_in(read.source):
         new = other_spelling(place.text)
         text = new and respelled(place, new)
         if text:

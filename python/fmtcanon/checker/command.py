@@ -3,22 +3,22 @@
 import collections
 from typing import Any, Counter, Hashable, Iterable, Iterator, List, Optional, Sequence, Set, Tuple
 
-from ..command_line import MODELS, USAGE, status_of
 from ..compiling.left import Left
 from ..compiling.libclang import MISSING, cindex
+from ..compiling.retargeting import write_headers
 from ..compiling.sources import Files
-from ..diff.trees import Unreadable
-from ..findings import ERROR, Printer
-from ..interrupting import temporary_folder
-from ..output import complain
-from ..processes import in_order
-from ..replace.writing import replace
-from .checking import Answer, Job, Question, answer, answer_without
+from ..fitting.checking import Answer, Job, Question, answer, answer_without
+from ..fitting.reporting import COMPOSED, RANK, RULES, SIGN, with_source
+from ..fitting.unit import Settings
+from ..frame.command_line import MODELS, USAGE, status_of
+from ..frame.findings import ERROR, Printer
+from ..frame.interrupting import temporary_folder
+from ..frame.output import complain
+from ..frame.processes import in_order
+from ..rewriting.writing import replace
+from ..source.files import Unreadable
 from .fixer import Fixer
 from .options import NAME, parsed
-from .reporting import COMPOSED, RANK, RULES, SIGN, with_source
-from .retargeting import write_headers
-from .unit import Settings
 
 
 # How many functions that aren't known the last line names, if they get this many times the formats that were judged.

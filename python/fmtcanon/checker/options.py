@@ -4,10 +4,10 @@ import argparse
 import re
 from typing import Any, Optional, Sequence, Tuple
 
-from ..command_line import Parser
 from ..compiling.parsing import Shape
-from .platforms import COMPILED
-from .reporting import RULES
+from ..compiling.platforms import COMPILED
+from ..fitting.reporting import RULES
+from ..frame.command_line import Parser
 
 NAME = "fmtcanon-check"
 USAGE = """\

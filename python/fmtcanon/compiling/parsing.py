@@ -8,9 +8,9 @@ import os
 import re
 from typing import Any, Callable, Dict, List, NamedTuple, Optional, Sequence
 
+from ..source.known import Known
 from .attributes import printf_indexes
 from .compile_commands import CompileCommand
-from .known import Known
 from .left import Left
 from .libclang import cindex
 

@@ -3,7 +3,7 @@
 import os
 from typing import Any, Dict, Iterator, List, NamedTuple
 
-from ..diff.trees import Unreadable, files_below
+from ..source.files import Unreadable, files_below
 from .compile_commands import SOURCES, CompileCommand, commands_in, default_command
 from .left import Left
 from .stand_ins import is_stand_in

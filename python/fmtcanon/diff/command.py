@@ -6,17 +6,18 @@ import functools
 import os
 from typing import Any, Callable, Dict, Iterable, Iterator, Optional, Sequence, Tuple
 
-from ..checker.fitting import Fitting
-from ..checker.retargeting import write_headers
-from ..command_line import MODELS, USAGE, Parser, status_of
 from ..compiling.libclang import MISSING, cindex
-from ..findings import ERROR, Printer
-from ..interrupting import temporary_folder
-from ..processes import in_order
-from ..verdicts import Kind
-from ..visible import visible
-from .reporting import FAULTS, RULES, Question, Report, report_on, report_without
-from .trees import Change, Git, Unreadable, changes_of
+from ..compiling.retargeting import write_headers
+from ..formats.verdicts import PairKind
+from ..frame.command_line import MODELS, USAGE, Parser, status_of
+from ..frame.findings import ERROR, Printer
+from ..frame.interrupting import temporary_folder
+from ..frame.processes import in_order
+from ..frame.visible import visible
+from ..source.files import Unreadable
+from .compiled import Fitting
+from .reporting import FAULTS, RULES, DiffQuestion, DiffReport, report_on, report_without
+from .trees import FileChange, Git, changes_of
 
 NAME = "fmtcanon-diff"
 DESCRIPTION = """\
@@ -101,7 +102,7 @@ def parser() -> Parser:
     return made
 
 
-def changes_for(options: Any, paths: Sequence[str], expect: Callable[[int], None]) -> Iterator[Change]:
+def changes_for(options: Any, paths: Sequence[str], expect: Callable[[int], None]) -> Iterator[FileChange]:
     """Returns what the operands say is to be compared."""
     if options.git:
         return Git().changes(options.operands or ["HEAD"], paths, options.exclude, options.cached, expect)
@@ -126,16 +127,16 @@ def summary(counts: Dict[str, int]) -> str:
     judged = ", ".join(
         f"{counts[it.value]} {text}"
         for it, text in [
-            (Kind.SAME, "same"),
-            (Kind.WORDS, "with other words"),
-            (Kind.DIFFERENT, "different"),
-            (Kind.TYPES, "with other types" + (f", {counts['fits']} of them fitting" if counts["fits"] else "")),
-            (Kind.DIRECTIVES, "with other directives"),
-            (Kind.REJECTED, "rejected now"),
-            (Kind.UNJUDGED, "not judged"),
+            (PairKind.SAME, "same"),
+            (PairKind.WORDS, "with other words"),
+            (PairKind.DIFFERENT, "different"),
+            (PairKind.TYPES, "with other types" + (f", {counts['fits']} of them fitting" if counts["fits"] else "")),
+            (PairKind.DIRECTIVES, "with other directives"),
+            (PairKind.REJECTED, "rejected now"),
+            (PairKind.UNJUDGED, "not judged"),
         ]
     )
-    changed = sum(counts[it.value] for it in Kind)
+    changed = sum(counts[it.value] for it in PairKind)
     word = "place" if changed == 1 else "places"
     came = f"{counts['came']} literals added"
     if counts["formats"]:
@@ -143,7 +144,7 @@ def summary(counts: Dict[str, int]) -> str:
     return f"{changed} {word} changed: {judged}; {came}, {counts['went']} removed"
 
 
-def run(changes: Iterable[Report], printer: Printer, counts: Dict[str, int], is_verbose: bool) -> int:
+def run(changes: Iterable[DiffReport], printer: Printer, counts: Dict[str, int], is_verbose: bool) -> int:
     """Prints the reports, counts what they have, and returns the exit status."""
     status = 0
     for report in changes:
@@ -151,7 +152,7 @@ def run(changes: Iterable[Report], printer: Printer, counts: Dict[str, int], is_
             # What isn't compared as a whole isn't a place.
             counts[finding.kind] += finding.line > 0
             counts["fits"] += "fits" in finding.details
-            if is_verbose or finding.kind != Kind.SAME.value or finding.level == ERROR:
+            if is_verbose or finding.kind != PairKind.SAME.value or finding.level == ERROR:
                 printer.add(finding)
             if finding.level == ERROR:
                 status = max(status, 1)
@@ -192,7 +193,7 @@ def diff(options: Any, paths: Sequence[str]) -> int:
         with temporary_folder() as folder:
             others = frozenset(map(os.fsencode, options.not_printf))
             fitting = fitting_in(options, folder)
-            question = Question(MODELS[options.model], options.fail_on, printer.has_excerpts, others, fitting)
+            question = DiffQuestion(MODELS[options.model], options.fail_on, printer.has_excerpts, others, fitting)
             work = functools.partial(report_on, question=question)
             changes = changes_for(options, paths, printer.progress.expect)
             # Only libclang may end a process.

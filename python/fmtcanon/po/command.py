@@ -7,12 +7,12 @@ import os
 import sys
 from typing import Any, Dict, Hashable, Iterator, List, NamedTuple, Optional, Sequence, Set, Tuple, Union
 
-from ..command_line import MODELS, Parser, status_of
-from ..findings import WARNING, Finding, Printer
+from ..frame.command_line import MODELS, Parser, status_of
+from ..frame.findings import WARNING, Finding, Printer
+from ..frame.output import Unwritable
+from ..frame.processes import in_order
+from ..frame.visible import visible
 from ..models import Model
-from ..output import Unwritable
-from ..processes import in_order
-from ..visible import visible
 from .checking import RULES, UNJUDGED, Checker, Right
 
 NAME = "fmtcanon-po"

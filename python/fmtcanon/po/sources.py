@@ -5,8 +5,8 @@ from __future__ import annotations
 import re
 from typing import List, NamedTuple, Optional
 
-from ..excerpts import Excerpt, literal_excerpt
-from .tokens import ESCAPE, Scanner, Token, Unreadable
+from ..frame.excerpts import Excerpt, literal_excerpt
+from .tokens import ESCAPE, BadCatalog, Scanner, Token
 
 # How many lines before a translation its message begins at most, and how many bytes after that are read.
 LINES, BYTES = 1_000, 100_000
@@ -47,7 +47,7 @@ class CatalogSource:
         """Returns the line with a part of a text of the message whose translation begins in this line, or the text."""
         try:
             found = self.found(line, mark)
-        except Unreadable:
+        except BadCatalog:
             found = None
         return found or literal_excerpt(*mark)
 

@@ -4,12 +4,12 @@ import collections
 from typing import Any, Dict, Iterable, Iterator, List, NamedTuple, Sequence, Tuple
 
 from .. import Refused
-from ..command_line import model_names
-from ..compiling.known import GETTEXT, KNOWN
-from ..diff.literals import NOT_FORMATS, Place, Source
-from ..findings import NOTE, WARNING, Finding
+from ..formats.verdicts import Library, shown
+from ..frame.command_line import model_names
+from ..frame.findings import NOTE, WARNING, Finding
 from ..models import Model
-from ..verdicts import Library, shown
+from ..source.known import GETTEXT, KNOWN
+from ..source.places import NOT_FORMATS, Place, Source
 
 FORMAT, FUNCTION, UNJUDGED = "format", "function", "unjudged"
 RULES = {

@@ -5,7 +5,7 @@ import os
 import re
 from typing import Any, List, Optional, Sequence, Tuple
 
-from ..command_line import Parser
+from ..frame.command_line import Parser
 from .pairs import Wrong, format_of, pairs_in
 
 NAME = "fmtcanon-replace"
