@@ -1,5 +1,5 @@
 """Tests of the documents."""
 
-from tests.frame.cases import package
+from tests.frame import package
 
 load_tests = package(__file__)

@@ -8,11 +8,9 @@ import contextlib
 import functools
 import inspect
 import unittest
-from pathlib import Path
 
 from tests.frame import fixtures
 
-TOP = Path(__file__).resolve().parents[2]
 # The lines of this file aren't shown where a test fails.
 __unittest = True
 
@@ -93,12 +91,3 @@ def tests_of(known):
     names = [name for name, it in known.items() if name.startswith("test_") and inspect.isfunction(it)]
     methods = {name: method_of(known[name], known) for name in names}
     return type("Tests", (Case,), {"__module__": known["__name__"], **methods})
-
-
-def package(file):
-    """Returns what unittest calls to find the tests of a package with this `__init__.py`."""
-
-    def load_tests(loader, _, pattern):
-        return loader.discover(Path(file).parent, pattern or "test_*.py", TOP)
-
-    return load_tests

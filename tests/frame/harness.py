@@ -4,9 +4,9 @@ import json
 import re
 import shlex
 import subprocess
-from pathlib import Path
 
-TOP = Path(__file__).resolve().parents[2]
+from tests.frame import TOP
+
 TIMEOUT = 60
 VERSION = (TOP / "VERSION").read_text(encoding="utf-8").strip()
 # The name by which programs ask for the C library.

@@ -3,7 +3,8 @@
 from functools import lru_cache
 from pathlib import Path
 
-TOP = Path(__file__).resolve().parents[2]
+from tests.frame import TOP
+
 # What a check reads of a crate.
 PARTS = ["src", "specs", "proofs"]
 

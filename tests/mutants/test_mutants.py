@@ -506,8 +506,8 @@ class Whole(unittest.TestCase):
         self.folder = Path(tempfile.mkdtemp(prefix="fmtcanon-test-"))
         self.addCleanup(shutil.rmtree, self.folder, ignore_errors=True)
         toy_crates.write(self.folder, toy_crates.FILES)
-        for script in ["__init__.py", *(f"{part}/{it.name}" for part in ("frame", "mutants") for it in (TOP / "tests" / part).glob("*.py"))]:
-            toy_crates.write(self.folder, {f"tests/{script}": (TOP / "tests" / script).read_text(encoding="utf-8")})
+        for script in [*TOP.glob("tests/__init__.py"), *TOP.glob("tests/frame/__init__.py"), *TOP.glob("tests/mutants/*.py")]:
+            toy_crates.write(self.folder, {str(script.relative_to(TOP)): script.read_text(encoding="utf-8")})
 
     def has_mutants(self, names):
         toy_crates.write(self.folder, {"crates/low/mutants.txt": toy_crates.mutants_text(names)})
