@@ -1,4 +1,4 @@
-"""Changes of C source, each with the verdict on it, written down by hand: what `tests/diffing.py` has fmtcanon-diff
+"""Changes of C source, each with the verdict on it, written down by hand: what test_diff.py has fmtcanon-diff
 judge.
 
 A change is a line with its kind, the old and the new source of a function's body, and the verdicts: nothing if no place

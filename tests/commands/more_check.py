@@ -11,11 +11,11 @@ import re
 import subprocess
 from collections import Counter
 
-from tests.frame.cases import tests_of
-from tests.frame.harness import TIMEOUT, TOP, examples, page_examples
 from tests.commands.tool import Tool
 from tests.commands.typed_calls import try_typed_calls
 from tests.commands.typed_headers import try_typed_headers
+from tests.frame.cases import tests_of
+from tests.frame.harness import TIMEOUT, TOP, examples, page_examples
 
 SOURCE = TOP / "tests/platforms/expressions.c"
 LARGE = ["-D_TIME_BITS=64", "-D_FILE_OFFSET_BITS=64"]

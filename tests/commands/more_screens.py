@@ -5,9 +5,9 @@ are in python/tests/test_terminal.py.
 import os
 import subprocess
 
+from python.tests.terminal import on_terminal
 from tests.frame.cases import tests_of
 from tests.frame.harness import SONAME, TIMEOUT, TOP
-from python.tests.terminal import on_terminal
 
 SOURCE = """\
 #include <stdio.h>

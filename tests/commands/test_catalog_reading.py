@@ -6,9 +6,9 @@ import subprocess
 import sys
 
 from tests.commands.test_catalog_edges import FIRST, HEADER, catalog, checked, fault_lines, message
+from tests.commands.test_catalogs import binary, check_po
 from tests.frame.cases import tests_of
 from tests.frame.harness import TIMEOUT, TOP
-from tests.commands.test_catalogs import binary, check_po
 
 # A charset, and bytes that aren't of it: the first is named.
 NOT_OF_IT = [

@@ -10,8 +10,8 @@ from collections import Counter
 from concurrent.futures import ThreadPoolExecutor
 from pathlib import Path
 
-from tests.frame.harness import TIMEOUT, TOP
 from tests.commands.typed_calls import messages
+from tests.frame.harness import TIMEOUT, TOP
 
 FOLDERS = ("/usr/include", "/usr/include/x86_64-linux-gnu")
 PARTS = ("", "arpa", "net", "netinet", "protocols", "rpc", "scsi", "sys")

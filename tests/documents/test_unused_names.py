@@ -10,11 +10,11 @@ import re
 from collections import Counter, defaultdict
 from pathlib import Path
 
+from tests.frame.cases import tests_of
+from tests.frame.harness import TOP
 from tests.mutants import rattle_functions
 from tests.mutants.crates import PARTS
 from tests.mutants.definitions import without_comments
-from tests.frame.cases import tests_of
-from tests.frame.harness import TOP
 from tests.mutants.unedited import exported, is_public
 
 IMPORT = re.compile(r"^ *(?:ghost )?use Rattle\.[\w.]+(?:\.\{([^}]*)\}| as (\w+));?$", re.MULTILINE)

@@ -8,12 +8,12 @@ qemu-user.
 import math
 import re
 
-from tests.packages.aarch64_packages import try_packages
-from tests.library.emulated_python import emulated_python, try_unit_tests
 from tests.frame.cases import tests_of
 from tests.frame.fixtures import built
 from tests.frame.harness import SONAME
+from tests.library.emulated_python import emulated_python, try_unit_tests
 from tests.library.test_library import PROGRAMS, SHAPES, TOP, WRAPPED, compile_with, header_calls, lines_of
+from tests.packages.aarch64_packages import try_packages
 from tests.program.test_sizes import CALLS, TIMES
 
 TOOLS = "aarch64-linux-gnu-"

@@ -8,9 +8,9 @@ compared as different other bytes for the arguments that the comparison gives.
 
 import random
 
-from tests.library.compiled_formats import PRINTED, VALUES, Trial, alike_pairs, literal, printed, unlike_pairs
 from tests.frame.cases import tests_of
 from tests.frame.harness import TIMEOUT
+from tests.library.compiled_formats import PRINTED, VALUES, Trial, alike_pairs, literal, printed, unlike_pairs
 from tests.library.test_library import same_answer
 from tests.program.test_rows import rows_of
 

@@ -11,8 +11,8 @@ import re
 from dataclasses import dataclass
 from typing import Tuple
 
-from tests.mutants.crates import TOP, Crates
 from tests.frame.cases import tests_of
+from tests.mutants.crates import TOP, Crates
 from tests.mutants.reports import Report
 from tests.mutants.schedule import run_all
 from tests.mutants.work import open_work, run_rt

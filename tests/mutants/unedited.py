@@ -8,8 +8,8 @@ library the ones that C calls.
 import re
 
 from tests.mutants import rattle_functions
-from tests.mutants.mutant_files import pairs_in, places_of
 from tests.mutants.crates import TOP
+from tests.mutants.mutant_files import pairs_in, places_of
 
 # Public functions that have no mutant, each with the reason.
 EXCEPTIONS = {

@@ -7,11 +7,11 @@ import re
 import tarfile
 import zipfile
 
-from tests.packages import test_installing as installing
-from tests.library.emulated_python import environment_of
 from tests.frame.harness import NO_PROGRAM, SONAME, VERSION
-from tests.packages.test_installing import BUILT_FOR_AARCH64, COMMANDS, MODULE, OF_PROGRAM, PLACES, files_below, make, wanted_files
+from tests.library.emulated_python import environment_of
 from tests.library.test_library import lines_of
+from tests.packages import test_installing as installing
+from tests.packages.test_installing import BUILT_FOR_AARCH64, COMMANDS, MODULE, OF_PROGRAM, PLACES, files_below, make, wanted_files
 
 PATTERNS = {"dist": "*.tar.gz", "deb": "*.deb", "wheel": "*.whl"}
 LIBRARIES = "lib/aarch64-linux-gnu"

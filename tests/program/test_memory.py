@@ -17,10 +17,10 @@ from bisect import bisect_right
 from concurrent.futures import ThreadPoolExecutor
 from pathlib import Path
 
-from tests.program.conversations import CONVERSATIONS, fronts_of, name_of as name_of_all, sent_of
-from tests.program.test_devices import ANSWERED, NOT_ASKED, REFUSED, WRONG, library_of, name_of
 from tests.frame.cases import tests_of
 from tests.frame.harness import TIMEOUT, TOP, run
+from tests.program.conversations import CONVERSATIONS, fronts_of, name_of as name_of_all, sent_of
+from tests.program.test_devices import ANSWERED, NOT_ASKED, REFUSED, WRONG, library_of, name_of
 
 OUT_OF_MEMORY = (4, b"out of memory\n")
 # The records or pairs of two runs, and how many KiB more than the first the second may hold: more than random addresses

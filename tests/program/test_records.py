@@ -9,10 +9,10 @@ import subprocess
 import tempfile
 import threading
 
-from tests.program.conversations import CONVERSATIONS, fronts_of, name_of, sent_of
-from tests.program.test_devices import READ_FAILED, SOON, WRITE_FAILED, blocks, calls_of, library_of
 from tests.frame.cases import tests_of
 from tests.frame.harness import TIMEOUT, run
+from tests.program.conversations import CONVERSATIONS, fronts_of, name_of, sent_of
+from tests.program.test_devices import READ_FAILED, SOON, WRITE_FAILED, blocks, calls_of, library_of
 
 TIMES = 1_000
 MANY = 1_000_000

@@ -15,10 +15,10 @@ import itertools
 import os
 from concurrent.futures import ThreadPoolExecutor
 
-from tests.program.conversations import CONVERSATIONS, fronts_of, sent_of
-from tests.program.test_devices import READ_FAILED, WRITE_FAILED, library_of
 from tests.frame.cases import tests_of
 from tests.frame.harness import run
+from tests.program.conversations import CONVERSATIONS, fronts_of, sent_of
+from tests.program.test_devices import READ_FAILED, WRITE_FAILED, library_of
 from tests.program.test_rows import fields_of, rows_of, takes_unsigned, values
 
 STEPS = [1, 2, 3, 7, 4096]
