@@ -145,7 +145,7 @@ def facts(tool, platform):
     is_windows = platform == "LLP64"
     lines = [f"#include <{it}>\n" for it in HEADERS + (OF_WINDOWS if is_windows else OF_LINUX)]
     count = 0
-    # Those of Linux are tried by tests/typed_headers.py.
+    # Those of Linux are tried by typed_headers.py.
     for struct, members in structs.items() if is_windows else ():
         whole = struct if struct.endswith("_t") else f"struct {struct}"
         for name, type in members.items():

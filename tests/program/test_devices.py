@@ -390,7 +390,7 @@ def calls_of(program, words, text, work, stdin=None, stdout=subprocess.PIPE, **l
 
 
 def library_of(name, work):
-    """A library for LD_PRELOAD of this file of tests/, and whether gcc made it."""
+    """A library for LD_PRELOAD of this file here, and whether gcc made it."""
     library = f"{work}/{name}.so"
     words = ["gcc", "-shared", "-fPIC", "-O1", "-o", library, TOP / f"tests/program/{name}.c"]
     return library, subprocess.run(words, check=False, timeout=TIMEOUT).returncode == 0

@@ -172,9 +172,9 @@ def test_record_growths(program, trials):
 
 
 def compiled(name, work):
-    """A program of this file of tests/."""
+    """A program of this file here."""
     program = f"{work}/{name}"
-    subprocess.run(["gcc", "-O0", "-o", program, TOP / "tests" / f"{name}.c"], check=True, timeout=TIMEOUT)
+    subprocess.run(["gcc", "-O0", "-o", program, TOP / f"tests/program/{name}.c"], check=True, timeout=TIMEOUT)
     return program
 
 
