@@ -29,3 +29,4 @@ pub mod PlainLemmas
 pub mod StretchLemmas
 mod Examples
 pub mod DirectiveLemmas
+pub mod SpecificationSpanLemmas

@@ -325,6 +325,8 @@ module _ (t : Text) (start : ℕ) (numbering : Numbering) (position : Option ℕ
 
         pub read_there : (conversion : Conversion) (read : Specification) → read ≡ record {
           position = position;
+          flags_start = k;
+          flags_stop = a;
           parts = record { flags = set; width = width; precision = precision; modifier = modifier; conversion = conversion };
           stars = record { width = width_number; width_stop = b; precision = precision_number; precision_stop = c };
         } → HasBytes t d (d + 1) (conversion_letter conversion ∷ []) → IsReadAt t start numbering (read, d + 1)
@@ -339,15 +341,29 @@ module _ (t : Text) (start : ℕ) (numbering : Numbering) (position : Option ℕ
                   whole = refl;
                 });
               };
+              parts = record {
+                sign = bytes_one t start 37 less (sym percent);
+                number = number_read;
+                flags = flags_read;
+                width = width_read;
+                precision = precision_read;
+                modifier = subst (λ last. HasBytes t c last (modifier_letters modifier)) before_last modifier_read;
+                conversion = subst (λ last. HasBytes t last (d + 1) (conversion_letter conversion ∷ [])) before_last letter;
+              };
               follows = follows;
               stars = has_stars;
             }) where
               made : Specification
               made = record {
                 position = position;
+                flags_start = k;
+                flags_stop = a;
                 parts = record { flags = set; width = width; precision = precision; modifier = modifier; conversion = conversion };
                 stars = record { width = width_number; width_stop = b; precision = precision_number; precision_stop = c };
               }
+
+              before_last : d ≡ d + 1 - 1
+              before_last = omega arith
 
               whole : HasBytes t start (d + 1) (part ++ conversion_letter conversion ∷ [])
               whole = bytes_join t start d (d + 1) part (conversion_letter conversion ∷ []) part_bytes letter

@@ -13,11 +13,13 @@ use Rattle.pf_posix.specs.declared.specifications.Numbering.{Numbering}
 use Rattle.pf_posix.specs.declared.specifications.Refused.{Refused}
 use Rattle.pf_posix.specs.declared.specifications.Specification.{Specification}
 use Rattle.pf_posix.specs.declared.specifications.Stars.{Stars}
+use Rattle.pf_posix.specs.declared.specification_spans.PartOffsets.{PartOffsets}
 use Rattle.pf_posix.specs.declared.types.ArgumentType.{ArgumentType}
 use Rattle.pf_posix.specs.Beginnings.{EndsInStarDigits, IsBegunAs, IsUndecided, TakesAmount}
 use Rattle.pf_posix.specs.Defined.{IsPosixDefined}
 use Rattle.pf_posix.specs.PartsInText.{IsSpecificationAt, specification_read}
 use Rattle.pf_posix.specs.Refusals.{Follows, IsPosixRefusedByte, numbering_by, numbering_of}
+use Rattle.pf_posix.specs.SpecificationSpans.{ArePartsAt}
 use Rattle.pf_posix.specs.Specifications.{Amount, PosixSpecification}
 use Rattle.pf_posix.specs.Spelling.{SpellsPosix, SpellsUpToFlags, SpellsUpToWidth}
 use Rattle.pf_posix.specs.Types.{fetch, int_type, star_fetches}
@@ -116,9 +118,19 @@ pub record HasStars (t : Text) (start : ℕ) (position : Option ℕ) (stars : St
   pub own_is : is_some position ≡ true
       → own ≡ one_fetch stars.width int_type ++ one_fetch stars.precision int_type
 
+-- where the parts of a specification begin that the code has read
+abbrev pub offsets_read : Specification → PartOffsets
+offsets_read read = record {
+  flags = read.flags_start;
+  width = read.flags_stop;
+  precision = read.stars.width_stop;
+  modifier = read.stars.precision_stop;
+}
+
 -- a specification that may follow others of a numbering is the bytes from an offset up to where it ends
 pub record IsReadAt (t : Text) (start : ℕ) (numbering : Numbering) (found : Specification × ℕ) : Type 0 where
   pub read : IsSpecificationAt t start found
+  pub parts : ArePartsAt t start found.1 (offsets_read found.0) (specification_read found.0)
   pub follows : FollowsBy numbering found.0.position
   pub stars : HasStars t start found.0.position found.0.stars
       (star_fetches (specification_read found.0).width ++ star_fetches (specification_read found.0).precision)

@@ -22,4 +22,5 @@ pub mod StretchesInText
 pub mod ListComparisons
 pub mod Directives
 pub mod DirectivesInText
+pub mod SpecificationSpans
 pub mod Plain

@@ -19,6 +19,7 @@ mod letters;
 mod long_texts;
 mod numbered;
 mod opaque_directives;
+mod specification_spans;
 mod specifications;
 mod stretches;
 mod types;
@@ -31,6 +32,9 @@ pub use comparison::{fits, fits_fewer};
 pub use conversions::{Conversion, Floating, Modifier};
 pub use directive_spans::{DirectiveSpan, directives, directives_vec};
 pub use opaque_directives::{OpaqueAmount, OpaqueDirective};
+pub use specification_spans::{
+    PartOffsets, SpecificationSpan, specification_list, specification_list_vec,
+};
 pub use stretches::{Stretch, next_stretch};
 pub use types::ArgumentType;
 pub use unnumbered::{check_unnumbered, opaque_at};

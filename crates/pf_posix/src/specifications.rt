@@ -48,6 +48,10 @@ pub(crate) struct Stars {
 pub(crate) struct Specification {
     /// The number of the argument that it converts.
     pub(crate) position: Option<u16>,
+    /// The offset of its flags.
+    pub(crate) flags_start: usize,
+    /// The offset after them.
+    pub(crate) flags_stop: usize,
     /// Its parts.
     pub(crate) parts: OpaqueDirective,
     /// The arguments of its `*`s.
@@ -102,7 +106,9 @@ pub(crate) fn specification_at(
         Ok(read) => read,
         Err(refusal) => return Err(none.refused(refusal)),
     };
+    let flags_start = at;
     let (flags, at) = flags_at(text, at);
+    let flags_stop = at;
     let (width, width_number, width_stop) = match width_at(text, at, position) {
         Ok(read) => read,
         Err(refusal) => return Err(none.refused(refusal)),
@@ -127,6 +133,8 @@ pub(crate) fn specification_at(
     };
     let read = Specification {
         position,
+        flags_start,
+        flags_stop,
         parts,
         stars,
     };

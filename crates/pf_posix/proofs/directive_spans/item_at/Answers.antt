@@ -34,3 +34,6 @@ pub returns-clause-item : goal.returns-clause-item
 returns-clause-item c =
     let read = c.in-Ok in
     item_specification c.args.text.now c.args.at c.requires.within c.if-text-at-ne37.false read.read read.end (sym c.if-has_byte.ensures.same) read.ensures.read
+
+pub returns-clause-parts : goal.returns-clause-parts
+returns-clause-parts c = c.in-Ok.ensures.parts
