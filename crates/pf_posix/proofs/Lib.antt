@@ -30,3 +30,4 @@ pub mod StretchLemmas
 mod Examples
 pub mod DirectiveLemmas
 pub mod SpecificationSpanLemmas
+mod RefusedSpecificationLemmas

@@ -23,4 +23,5 @@ pub mod ListComparisons
 pub mod Directives
 pub mod DirectivesInText
 pub mod SpecificationSpans
+pub mod RefusedSpecifications
 pub mod Plain

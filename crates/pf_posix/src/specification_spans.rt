@@ -133,8 +133,8 @@ fn put_specifications(model: Model, text: &[u8], out: &mut [SpecificationSpan]) 
     count as u64
 }
 
-// Where the parts of a specification begin that was read.
-fn offsets_of(read: &Specification) -> PartOffsets
+/// Where the parts of a specification begin that was read.
+pub(crate) fn offsets_of(read: &Specification) -> PartOffsets
     ensures { result ≡ offsets_read read.now }
 {
     PartOffsets {
