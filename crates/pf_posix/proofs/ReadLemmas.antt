@@ -34,7 +34,7 @@ use Rattle.pf_posix.specs.declared.specifications.Refused.{Refused}
 use Rattle.pf_posix.specs.declared.specifications.Specification.{Specification}
 use Rattle.pf_posix.specs.Defined.{undefined_of}
 use Rattle.pf_posix.specs.Halts.{FollowsBy, HaltsAtPosition, HaltsAtPrecision, HaltsAtWidth, HasStar, HasStars, IsHalt, IsReadAt, IsRefusedIn, IsStarAt, IsStrayAt}
-use Rattle.pf_posix.specs.Halts.{one_fetch}
+use Rattle.pf_posix.specs.Halts.{IsUnreadIn, is_of_combination, one_fetch}
 use Rattle.pf_posix.specs.Letters.{conversion_of, length_modifier_of}
 use Rattle.pf_posix.specs.OpaqueParts.{amount_at, parts_of_opaque}
 use Rattle.pf_posix.specs.PartsInText.{IsFirstWidth, ModifierEnds, NumbersStar, PrecisionEnds, WidthEnds, second_modifier, specification_read}
@@ -45,7 +45,7 @@ use Rattle.pf_posix.specs.Spelling.{SpellsUpToPrecision, SpellsUpToWidth}
 use Rattle.pf_posix.specs.Types.{int_type, star_fetches}
 use Rattle.pf_posix.specs.Beginnings.{IsBegunAs, IsUndecided}
 use Rattle.pf_posix.proofs.FrontRefusals.{undecided_own}
-use Rattle.pf_posix.proofs.HaltLemmas.{halt_at, halt_stray, one_on, past_percent, halt_begins_none}
+use Rattle.pf_posix.proofs.HaltLemmas.{halt_at, halt_stray, one_on, past_percent, halt_begins_no, halt_begins_none}
 use Rattle.pf_posix.proofs.LetterLemmas.{letter_tests}
 use Rattle.pf_posix.proofs.OutcomeLemmas.{no_some, nowhere}
 use Rattle.pf_posix.proofs.Outcomes.{exceeds, mixes}
@@ -543,3 +543,11 @@ refused_undefined t start numbering read stop kind is undefined refused made =
       later model fetches same (inr f) = f
       later model fetches same (inl u) =
           subst (λ q. FollowsBy q read.position) (sym (same (undecided_own part read.position own u begun))) is.follows
+
+-- for no combination of parts
+pub unread : (t : Text) (start : ℕ) (numbering : Numbering) (refused : Refused) (refusal : Refusal) (stars : Stars)
+    → refused ≡ record { refusal = refusal; stars = stars } → IsRefusedIn t start numbering refused → is_of_combination refusal.kind ≡ false
+    → IsUnreadIn t start numbering refused
+unread t start numbering refused refusal stars is h early =
+    let same : is_of_combination refused.refusal.kind ≡ false = ap (λ r. is_of_combination r.refusal.kind) is ∙ early in
+    record { refused_is = h; begins = halt_begins_no t start numbering h.position h.own refused.refusal h.halt same }

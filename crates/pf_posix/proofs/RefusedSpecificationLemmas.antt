@@ -1,14 +1,12 @@
 -- Where the specification begins in which a text is refused: after items, where no more begins.
 use Rattle.std.proofs.Common.{◌≡◌, ◌≢◌, ℕ, ◌+◌, ◌-◌, ◌<◌, ◌≤◌, Bool, true, false, List, [], ◌∷◌, ◌++◌, length, length-append, get_or, drop, drop-drop, take, inl, inr, refl, sym, ap, ap₂, ◌∙◌, arith, subst}
-use Rattle.std.specs.Prelude.{◌⊎◌, ◌==◌, Option, Some, None, if◌then◌else◌}
-use Rattle.std.proofs.lemmas.Bool.{eqb-true}
-use Rattle.std.proofs.lemmas.List.{append_assoc, append-nil, drop-append-le, drop_more, length-drop, length-take-le, take-append-drop, take-append-le}
+use Rattle.std.specs.Prelude.{◌⊎◌, ◌==◌, Option, if◌then◌else◌}
+use Rattle.std.proofs.lemmas.List.{append_assoc, drop-append-le, drop_more, length-drop, length-take-le, take-append-drop, take-append-le}
 use Rattle.std.proofs.Math.Seq.{drop-append_seam, take-append_seam}
 use Rattle.pf_values.specs.declared.models.Model.{Model}
 use Rattle.pf_values.specs.meaning.Text.{Text}
 use Rattle.pf_text.specs.Offsets.{HasBytes}
 use Rattle.pf_text.proofs.NoDirectiveLemmas.{bytes_rest}
-use Rattle.pf_text.specs.declared.refusals.Refusal.{Refusal}
 use Rattle.pf_values.specs.declared.refusals.RefusalKind.{RefusalKind}
 use Rattle.pf_posix.specs.declared.fetches.Fetch.{Fetch}
 use Rattle.pf_posix.specs.declared.specifications.Numbering.{Numbering}
@@ -19,9 +17,7 @@ use Rattle.pf_posix.specs.Halts.{BeginsNoneAfter}
 use Rattle.pf_posix.specs.Items.{Byte, PosixItem, ReadsPosix, Specification, SpellsPosixItem}
 use Rattle.pf_posix.specs.PartsInText.{IsSpecificationAt, specification_read}
 use Rattle.pf_posix.specs.Refusals.{IsPosixRefusedAt, MayFollow}
-use Rattle.pf_posix.specs.RefusedSpecifications.{HasItemsTo, IsAtPart, IsBeforePart, IsBegunAt, IsPartOfOne}
-use Rattle.pf_posix.specs.Specifications.{PosixSpecification}
-use Rattle.pf_posix.specs.Spelling.{SpellsPosix}
+use Rattle.pf_posix.specs.RefusedSpecifications.{BeginsNoSpecification, HasItemsTo, IsAtPart, IsBeforePart, IsBegunAt, IsPartOfOne}
 use Rattle.pf_posix.proofs.DirectiveLemmas.{percent_split}
 use Rattle.pf_posix.proofs.ItemsOnce.{HasText, item_once, percent_twice, text_there}
 use Rattle.pf_posix.proofs.OneState.{ends_here}
@@ -182,8 +178,8 @@ module _ (t : Text) (at begin : ℕ) (within : at ≤ length t) (h : IsAtPart (t
       ]
 
 -- after `%%` begins no specification
-pub twice_begins_none : (t : Text) (begin : ℕ) → begin < length t → (get_or t (begin + 1) 0 == 37) ≡ true → BeginsNoneAfter Undecided (drop begin t)
-twice_begins_none t begin less second text rest s h e follows defined =
+pub twice_begins_none : (t : Text) (begin : ℕ) → begin < length t → (get_or t (begin + 1) 0 == 37) ≡ true → BeginsNoSpecification (drop begin t)
+twice_begins_none t begin less second text rest s h e =
     let two = begins_no_percent text s h in
     let more : drop (begin + 1) t ≡ two.0 ∷ (two.1 ++ rest) = let both = sym (drop_more t begin 0 less) ∙ e ∙ ap (λ u. u ++ rest) two.3 in cc in
     bool_no second (ap (λ b. b == 37) (head_at t (begin + 1) two.0 (two.1 ++ rest) more) ∙ two.2)

@@ -1,10 +1,10 @@
 -- At which byte a specification is refused, and why, as the code reads it part by part. No public contract names
 -- these.
-use Rattle.std.specs.Prelude.{◌≡◌, ℕ, ◌-◌, ◌<◌, ◌≤◌, true, List, [], ◌∷◌, ◌++◌, drop, get_or, is_some, length, Option, Some, None, ◌⊎◌, ◌==◌, if◌then◌else◌, ⊤}
+use Rattle.std.specs.Prelude.{◌≡◌, ℕ, ◌-◌, ◌<◌, ◌≤◌, Bool, true, false, List, [], ◌∷◌, ◌++◌, drop, get_or, is_some, length, Option, Some, None, ◌⊎◌, ◌==◌, if◌then◌else◌, ⊤}
 use Rattle.pf_values.specs.declared.flags.FlagSet.{FlagSet}
 use Rattle.pf_values.specs.declared.models.Model.{Model}
 use Rattle.pf_values.specs.declared.refusals.RefusalKind.{RefusalKind}
-use Rattle.pf_values.specs.declared.refusals.RefusalKind.TheVariants.{BadPercent, NulByte, Truncated}
+use Rattle.pf_values.specs.declared.refusals.RefusalKind.TheVariants.{AltUndefined, BadPercent, CountUndefined, GroupUndefined, LengthUndefined, NulByte, PrecisionUndefined, Truncated, ZeroUndefined}
 use Rattle.pf_values.specs.meaning.Text.{Text, dollar, percent, point, star}
 use Rattle.pf_text.specs.Offsets.{HasBytes}
 use Rattle.pf_text.specs.declared.refusals.Refusal.{Refusal}
@@ -61,6 +61,21 @@ Halts t start numbering position own refusal = (now : List Fetch)
 abbrev pub BeginsNoneAfter : Numbering → Text → Type 0
 BeginsNoneAfter numbering t = (text rest : Text) (s : PosixSpecification) → SpellsPosix text s
     → t ≡ text ++ rest → FollowsBy numbering s.position → IsPosixDefined s → ⊥
+
+-- nor does one that isn't
+abbrev pub BeginsNoAfter : Numbering → Text → Type 0
+BeginsNoAfter numbering t = (text rest : Text) (s : PosixSpecification) → SpellsPosix text s
+    → t ≡ text ++ rest → FollowsBy numbering s.position → ⊥
+
+-- kinds of refusals for parts that aren't defined together
+abbrev pub is_of_combination : RefusalKind → Bool
+is_of_combination AltUndefined = true
+is_of_combination ZeroUndefined = true
+is_of_combination GroupUndefined = true
+is_of_combination PrecisionUndefined = true
+is_of_combination LengthUndefined = true
+is_of_combination CountUndefined = true
+is_of_combination _ = false
 
 -- so the text halts after its `%`
 abbrev pub HaltsAtPosition : Text → ℕ → Numbering → Refusal → Type 0
@@ -147,3 +162,8 @@ pub record IsRefusedIn (t : Text) (start : ℕ) (numbering : Numbering) (refused
   pub halt : IsHalt t start numbering position own refused.refusal
   pub stars : HasStars t start position refused.stars own
   pub none : BeginsNoneAfter numbering (drop start t)
+
+-- nor does one begin there that isn't defined
+pub record IsUnreadIn (t : Text) (start : ℕ) (numbering : Numbering) (refused : Refused) : Type 0 where
+  pub refused_is : IsRefusedIn t start numbering refused
+  pub begins : BeginsNoAfter numbering (drop start t)

@@ -2,10 +2,8 @@
 ghost use Rattle.std.specs.Prelude.{◌≡◌, ◌<◌, drop, get_or, length, MatchOption};
 ghost use Rattle.pf_values.specs.declared.models.Model.{Model};
 ghost use Rattle.pf_values.specs.meaning.Text.{percent};
-ghost use Rattle.pf_posix.specs.declared.specifications.Numbering.TheVariants.{Undecided};
-ghost use Rattle.pf_posix.specs.Halts.{BeginsNoneAfter};
 ghost use Rattle.pf_posix.specs.Refusals.{IsPosixRefusedAt};
-ghost use Rattle.pf_posix.specs.RefusedSpecifications.{HasItemsTo, IsAtPart, IsBeforePart, IsRefusedWithin, IsWholeFrom};
+ghost use Rattle.pf_posix.specs.RefusedSpecifications.{BeginsNoSpecification, HasItemsTo, IsAtPart, IsBeforePart, IsRefusedWithin, IsWholeFrom};
 
 use crate::specification_spans::{PartOffsets, offsets_of};
 use crate::specifications::{Numbering, has_byte, specification_at};
@@ -83,7 +81,7 @@ fn item_end(text: &[u8], at: usize) -> Option<usize>
 fn whole_from(text: &[u8], begin: usize) -> Option<WholeSpecification>
     requires within { begin < length text.now }
     requires percent { get_or text.now begin 0 ≡ percent }
-    ensures { MatchOption result (BeginsNoneAfter Undecided (drop begin text.now)) (IsWholeFrom text.now begin) }
+    ensures { MatchOption result (BeginsNoSpecification (drop begin text.now)) (IsWholeFrom text.now begin) }
 {
     if has_byte(text, begin + 1, b'%') {
         return None;

@@ -14,7 +14,7 @@ returns-then-has_byte-clause-listed c model all done next h =
 pub unreachable-requires : goal.unreachable-requires
 unreachable-requires c =
     some_specification c.args.text.now c.args.at c.requires.within c.requires.reads.0 c.requires.reads.1 c.if-text-at-ne37.false
-    (sym c.if-has_byte.ensures.same) c.in_default.ensures.none
+    (sym c.if-has_byte.ensures.same) c.in_default.ensures.refused_is.none
 
 pub returns-clause-listed : goal.returns-clause-listed
 returns-clause-listed c model all done next h =

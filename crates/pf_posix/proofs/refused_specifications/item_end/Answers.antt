@@ -21,4 +21,4 @@ returns-in-Ok c =
 
 pub returns-in-Err : goal.returns-in-Err
 returns-in-Err c =
-    at_none c.args.text.now c.args.at c.requires.before c.requires.within c.if-text-at-ne37.false (sym c.if-has_byte.ensures.same) c.in-Err.ensures.none
+    at_none c.args.text.now c.args.at c.requires.before c.requires.within c.if-text-at-ne37.false (sym c.if-has_byte.ensures.same) c.in-Err.ensures.refused_is.none

@@ -10,7 +10,7 @@ returns-then-has_byte-clause-found c left h =
 pub returns-in_default-clause-found : goal.returns-in_default-clause-found
 returns-in_default-clause-found c left h =
     absurd (no_specification c.args.text.now c.args.at c.requires c.if-text-at-ne37.false
-    (sym c.if-has_byte.ensures.same) left h c.in_default.ensures.none)
+    (sym c.if-has_byte.ensures.same) left h c.in_default.ensures.refused_is.none)
 
 pub returns-then-is_opaque-clause-found : goal.returns-then-is_opaque-clause-found
 returns-then-is_opaque-clause-found c left h =
