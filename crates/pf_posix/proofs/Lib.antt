@@ -31,3 +31,4 @@ mod Examples
 pub mod DirectiveLemmas
 pub mod SpecificationSpanLemmas
 mod RefusedSpecificationLemmas
+mod MissingArgumentLemmas

@@ -12,6 +12,7 @@ use Rattle.pf_posix.specs.declared.opaque_directives.OpaqueAmount.{OpaqueAmount}
 use Rattle.pf_posix.specs.declared.opaque_directives.OpaqueAmount.TheVariants as amounts
 use Rattle.pf_posix.specs.declared.specification_spans.SpecificationSpan.{SpecificationSpan}
 use Rattle.pf_posix.specs.declared.specifications.Specification.{Specification as Read}
+use Rattle.pf_posix.specs.Defined.{IsPosixDefined}
 use Rattle.pf_posix.specs.Directives.{HasDirectives, directive_between, directives_from}
 use Rattle.pf_posix.specs.DirectivesInText.{IsBehindItem, IsListedBehind, IsListedTo}
 use Rattle.pf_posix.specs.Halts.{offsets_read}
@@ -35,6 +36,18 @@ read_alone read =
       amount None number = refl
       amount (Some (amounts.Number n)) number = refl
       amount (Some amounts.Star) number = refl
+
+-- the parts of a specification that the code has read
+pub its_parts : (model : Model) (t : Text) (begin end next : ℕ) (read : Read) → IsPosixDefined (specification_read read)
+    → ArePartsAt t begin end (offsets_read read) (specification_read read)
+    → (span : SpecificationSpan) → span.directive ≡ directive_between model begin end next (specification_read read)
+    → span.parts ≡ read.parts → span.offsets ≡ offsets_read read → HasItsParts t span
+its_parts model t begin end next read defined places span spanned parts offsets = record {
+  s = specification_read read;
+  defined = defined;
+  places = rw (spanned, offsets) places;
+  parts_are = ap parts_of_opaque parts ∙ read_alone read;
+}
 
 abbrev pub directive_of : SpecificationSpan → DirectiveSpan
 directive_of span = span.directive
@@ -97,12 +110,7 @@ module _ (model : Model) (t : Text) where
         front = puts old h.done h.front count_so;
       } where
         has : HasItsParts t span
-        has = record {
-          s = specification_read read;
-          defined = (subst (ReadsPosix (drop walk.at t)) behind.1 h.listing.listed.reads).2.1;
-          places = rw (spanned, offsets) places;
-          parts_are = ap parts_of_opaque parts ∙ read_alone read;
-        }
+        has = its_parts model t walk.at end fetched read ((subst (ReadsPosix (drop walk.at t)) behind.1 h.listing.listed.reads).2.1) places span spanned parts offsets
 
     pub parts_end : length t ≤ walk.at → HasSpecificationCount model t old new count
     parts_end over = record {

@@ -24,4 +24,5 @@ pub mod Directives
 pub mod DirectivesInText
 pub mod SpecificationSpans
 pub mod RefusedSpecifications
+pub mod MissingArguments
 pub mod Plain

@@ -17,6 +17,7 @@ mod fetches;
 pub mod laws;
 mod letters;
 mod long_texts;
+mod missing_arguments;
 mod numbered;
 mod opaque_directives;
 mod refused_specifications;
@@ -32,6 +33,7 @@ pub use argument_types::{arguments, arguments_vec};
 pub use comparison::{fits, fits_fewer};
 pub use conversions::{Conversion, Floating, Modifier};
 pub use directive_spans::{DirectiveSpan, directives, directives_vec};
+pub use missing_arguments::{MissingArgument, missing_argument};
 pub use opaque_directives::{OpaqueAmount, OpaqueDirective};
 pub use refused_specifications::{RefusedSpecification, WholeSpecification, refused_specification};
 pub use specification_spans::{

@@ -118,12 +118,7 @@ fn put_specifications(model: Model, text: &[u8], out: &mut [SpecificationSpan]) 
                 walk.find::<Percents>();
             }
             (Some(read), end) => {
-                let span = SpecificationSpan {
-                    directive: span_between(model, walk.at, end, fetched, &read),
-                    parts: read.parts,
-                    offsets: offsets_of(&read),
-                };
-                put(out, count, span);
+                put(out, count, span_of(model, walk.at, end, fetched, &read));
                 walk.at = end;
                 count += 1;
                 fetched += fetch_count(&read);
@@ -131,6 +126,26 @@ fn put_specifications(model: Model, text: &[u8], out: &mut [SpecificationSpan]) 
         }
     }
     count as u64
+}
+
+/// The specification between two offsets, after `next` arguments were fetched.
+pub(crate) fn span_of(
+    model: Model,
+    begin: usize,
+    end: usize,
+    next: u64,
+    read: &Specification,
+) -> SpecificationSpan
+    requires { next ≤ 3 * LIMIT }
+    ensures directive { result.directive ≡ directive_between model begin end next (specification_read read.now) }
+    ensures parts { result.parts ≡ read.now.parts }
+    ensures offsets { result.offsets ≡ offsets_read read.now }
+{
+    SpecificationSpan {
+        directive: span_between(model, begin, end, next, read),
+        parts: read.parts,
+        offsets: offsets_of(read),
+    }
 }
 
 /// Where the parts of a specification begin that was read.

@@ -25,7 +25,8 @@ loop-walk-preserved c =
     let count = c.fetch_count-fetched.ensures in (
       parts_found c.args.model c.args.text.now c.loop-walk.walk _ _ _ _ i item.result.1 item.ensures.further c.in-Some-default.read
           (rw c.in-Some-default.is-0 at there)
-          (rw c.in-Some-default.is-0 at item.ensures.item i.listing.listed.items i.listing.listed.reads) (rw c.in-Some-default.is-0 at item.ensures.parts) _ c.span_between.ensures refl c.offsets_of.ensures
+          (rw c.in-Some-default.is-0 at item.ensures.item i.listing.listed.items i.listing.listed.reads) (rw c.in-Some-default.is-0 at item.ensures.parts) _ c.span_of.ensures.directive c.span_of.ensures.parts
+          c.span_of.ensures.offsets
           c.fetch_count-fetched.result (count.count c.args.model) count.few c.put.new.out c.put.ensures.filled,
       c.put.ensures.length ∙ c.loop-walk.invariant.1,
     )
