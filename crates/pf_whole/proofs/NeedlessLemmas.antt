@@ -1,6 +1,6 @@
 -- That parts have no effect is shown by one spelling of a specification, and one of it without them.
-use Rattle.std.proofs.Common.{◌≡◌, ◌≢◌, ◌≤◌, inl, inr, Bool, true, false, List, [], ◌∷◌, length, refl, sym, arith, subst}
-use Rattle.std.specs.Prelude.{◌↔◌, ◌⊎◌, IsTrue, Option, None}
+use Rattle.std.proofs.Common.{◌≡◌, ◌≢◌, ◌≤◌, ℕ, inl, inr, Bool, true, false, List, [], ◌∷◌, length, refl, sym, arith, subst}
+use Rattle.std.specs.Prelude.{◌↔◌, ◌⊎◌, IsTrue, Option, None, Some, is_some}
 use Rattle.std.proofs.lemmas.List.{append-nil}
 use Rattle.pf_values.specs.declared.flags.Flag.TheVariants.{Minus, Plus, Space, Alt, Zero, Group}
 use Rattle.pf_values.specs.declared.limits.TheConstants.{MAX_TEXT_LEN}
@@ -12,8 +12,11 @@ use Rattle.pf_text.specs.declared.refusals.Side.{Side}
 use Rattle.pf_text.specs.declared.refusals.Side.TheVariants.{First, Second}
 use Rattle.pf_posix.specs.Defined.{IsPosixDefined}
 use Rattle.pf_posix.specs.Items.{PosixItem, ReadsPosix, Specification, SpellsPosixItem}
-use Rattle.pf_posix.specs.Specifications.{Amount, PosixSpecification}
-use Rattle.pf_posix.specs.Spelling.{SpellsPosix, SpellsPosixWidth}
+use Rattle.pf_posix.specs.OpaqueParts.{parts_of_opaque}
+use Rattle.pf_posix.specs.SpecificationSpans.{HasItsParts, alone, without_number}
+use Rattle.pf_posix.specs.declared.specification_spans.SpecificationSpan.{SpecificationSpan}
+use Rattle.pf_posix.specs.Specifications.{Amount, Fetched, Given, PosixSpecification}
+use Rattle.pf_posix.specs.Spelling.{SpellsPosix, SpellsPosixPrecision, SpellsPosixWidth}
 use Rattle.pf_posix.specs.Stretches.{Stretches, IsWholeAccepted, ReadsWhole}
 use Rattle.pf_posix.specs.Unnumbered.{IsWholeRefusedAt}
 use Rattle.pf_posix.proofs.ItemsOnce.{first_item}
@@ -209,3 +212,32 @@ found_none model s text unnumbered h = record {
 pub all_asked : (part : Part) → has_part (with_part (with_part (with_part (with_part (with_part (with_part (with_part (with_part (with_part no_parts
     (Flag Minus)) (Flag Plus)) (Flag Space)) (Flag Alt)) (Flag Zero)) (Flag Group)) Width) Precision) Modifier) part ≡ true
 all_asked part = grind arith
+
+-- a specification of a text, alone, is one that some text is
+module _ (t : Text) (span : SpecificationSpan) (h : HasItsParts t span) where
+  own_width : (bytes : Text) (position : Option ℕ) (width : Option Amount) → SpellsPosixWidth bytes position width
+      → (own : Text) × SpellsPosixWidth own None (without_number width)
+  own_width bytes position None w = ([], refl)
+  own_width bytes position (Some (Given n)) w = (bytes, w)
+  own_width bytes position (Some (Fetched number)) w = (42 ∷ [], record { digits = []; digits_are = refl; numbering = refl; whole = refl })
+
+  own_few : (bytes : Text) (position : Option ℕ) (precision : Option Amount) → SpellsPosixPrecision bytes position precision
+      → IsFew (without_number precision)
+  own_few bytes position None p = tt
+  own_few bytes position (Some (Given n)) p = p.1
+  own_few bytes position (Some (Fetched number)) p = refl
+
+  is_some_alone : (amount : Option Amount) → is_some (without_number amount) ≡ is_some amount
+  is_some_alone None = refl
+  is_some_alone (Some (Given n)) = refl
+  is_some_alone (Some (Fetched number)) = refl
+
+  defined_alone : IsPosixDefined (alone h.s)
+  defined_alone = rw (is_some_alone h.s.width, is_some_alone h.s.precision) h.defined
+
+  pub some_alone : (own : Text) × SpellsPosixItem own (Specification (parts_of_opaque span.parts))
+  some_alone =
+      let width = own_width h.places.width.0 h.s.position h.s.width h.places.width.1 in
+      let few = own_few h.places.precision.0 h.s.position h.s.precision h.places.precision.1 in
+      let own = posix_spelling_of (alone h.s) in
+      (own, subst (λ s. SpellsPosixItem own (Specification s)) (sym h.parts_are) (spelled_parts (alone h.s) refl width.0 width.1 few, defined_alone))
