@@ -1,5 +1,5 @@
 -- That parts have no effect is shown by one spelling of a specification, and one of it without them.
-use Rattle.std.proofs.Common.{◌≡◌, ◌≢◌, ◌≤◌, ℕ, inl, inr, Bool, true, false, List, [], ◌∷◌, length, refl, sym, arith, subst}
+use Rattle.std.proofs.Common.{◌≡◌, ◌≢◌, ◌∙◌, ◌≤◌, ℕ, inl, inr, Bool, true, false, List, [], ◌∷◌, length, refl, sym, arith, subst}
 use Rattle.std.specs.Prelude.{◌↔◌, ◌⊎◌, IsTrue, Option, None, Some, is_some}
 use Rattle.std.proofs.lemmas.List.{append-nil}
 use Rattle.pf_values.specs.declared.flags.Flag.TheVariants.{Minus, Plus, Space, Alt, Zero, Group}
@@ -25,12 +25,12 @@ use Rattle.pf_posix.proofs.Narrowed.{reads_whole}
 use Rattle.pf_posix.proofs.ReadOnce.{stretched}
 use Rattle.pf_posix.proofs.SpecificationsOnce.{HasParts, parts_of}
 use Rattle.pf_posix.proofs.UnnumberedVerdicts.{judged}
-use Rattle.pf_whole.specs.declared.needless.Found.{Found}
+use Rattle.pf_whole.specs.declared.needless.Question.{Question}
 use Rattle.pf_whole.specs.declared.parts.Part.{Part}
 use Rattle.pf_whole.specs.declared.parts.Part.TheVariants.{Flag, Width, Precision, Modifier}
 use Rattle.pf_whole.specs.declared.parts.PartSet.{PartSet}
 use Rattle.pf_whole.specs.Faults.{AreWholeSame, FaultForWholeSame}
-use Rattle.pf_whole.specs.Needless.{HaveNoEffect, IsFoundOf}
+use Rattle.pf_whole.specs.Needless.{AreFound, AreNeedless, AreTogether, HaveNoEffect, IsQuestion}
 use Rattle.pf_whole.specs.Parts.{given_parts, has_part, left_out, no_parts, only, with_part, without}
 use Rattle.pf_whole.specs.meaning.NormalSpellings.{posix_spelling_of}
 use Rattle.pf_whole.specs.meaning.Traces.{AreWholeAlike}
@@ -121,79 +121,59 @@ with_either : (set : PartSet) (part other : Part) → has_part (with_part set pa
 with_either set part other e = grind arith
 
 -- what is found when one part more is asked of
-module _ (model : Model) (s : PosixSpecification) (asked : PartSet) (found : Found) (part : Part) (h : IsFoundOf model s asked found) where
+module _ (question : Question) (asked each : PartSet) (part : Part) (h : AreFound question asked each) where
   -- a part that isn't there, or has an effect
-  pub found_same : (IsTrue (has_part (given_parts s) part) → HaveNoEffect model s (only part) → ⊥) → IsFoundOf model s (with_part asked part) found
-  found_same effect = record {
-    each = λ other. (
-      λ has. let was = (h.each other).0 has in (with_kept asked part other was.0, was.1, was.2),
-      λ all. elim (with_either asked part other all.0) [
-        | inl e ↦ absurd (effect (subst (λ p. IsTrue (has_part (given_parts s) p)) e all.1) (subst (λ p. HaveNoEffect model s (only p)) e all.2))
-        | inr was ↦ (h.each other).1 (was, all.1, all.2)
-      ],
-    );
-    among = h.among;
-    together = h.together;
-    none = h.none;
-  }
+  pub found_same : (IsTrue (has_part question.given part) → HaveNoEffect question.model (parts_of_opaque question.directive) (only part) → ⊥)
+      → AreFound question (with_part asked part) each
+  found_same effect other = (
+    λ has. let was = (h other).0 has in (with_kept asked part other was.0, was.1, was.2),
+    λ all. elim (with_either asked part other all.0) [
+      | inl e ↦ absurd (effect (subst (λ p. IsTrue (has_part question.given p)) e all.1)
+          (subst (λ p. HaveNoEffect question.model (parts_of_opaque question.directive) (only p)) e all.2))
+      | inr was ↦ (h other).1 (was, all.1, all.2)
+    ],
+  )
 
-  module _ (given : IsTrue (has_part (given_parts s) part)) (none : HaveNoEffect model s (only part)) where
-    found_each : (other : Part) → IsTrue (has_part (with_part found.each part) other)
-        ↔ (IsTrue (has_part (with_part asked part) other) × IsTrue (has_part (given_parts s) other) × HaveNoEffect model s (only other))
-    found_each other = (
-      λ has. elim (with_either found.each part other has) [
-        | inl e ↦ (
-          subst (λ p. IsTrue (has_part (with_part asked part) p)) (sym e) (with_own asked part),
-          subst (λ p. IsTrue (has_part (given_parts s) p)) (sym e) given,
-          subst (λ p. HaveNoEffect model s (only p)) (sym e) none,
-        )
-        | inr was ↦ let all = (h.each other).0 was in (with_kept asked part other all.0, all.1, all.2)
-      ],
-      λ all. elim (with_either asked part other all.0) [
-        | inl e ↦ subst (λ p. IsTrue (has_part (with_part found.each part) p)) (sym e) (with_own found.each part)
-        | inr was ↦ with_kept found.each part other ((h.each other).1 (was, all.1, all.2))
-      ],
-    )
+  -- one that has none
+  pub found_more : IsTrue (has_part question.given part) → HaveNoEffect question.model (parts_of_opaque question.directive) (only part)
+      → AreFound question (with_part asked part) (with_part each part)
+  found_more given none other = (
+    λ has. elim (with_either each part other has) [
+      | inl e ↦ (
+        subst (λ p. IsTrue (has_part (with_part asked part) p)) (sym e) (with_own asked part),
+        subst (λ p. IsTrue (has_part question.given p)) (sym e) given,
+        subst (λ p. HaveNoEffect question.model (parts_of_opaque question.directive) (only p)) (sym e) none,
+      )
+      | inr was ↦ let all = (h other).0 was in (with_kept asked part other all.0, all.1, all.2)
+    ],
+    λ all. elim (with_either asked part other all.0) [
+      | inl e ↦ subst (λ p. IsTrue (has_part (with_part each part) p)) (sym e) (with_own each part)
+      | inr was ↦ with_kept each part other ((h other).1 (was, all.1, all.2))
+    ],
+  )
 
-    -- one that has none, together with others
-    pub found_together : HaveNoEffect model s (with_part found.together part)
-        → IsFoundOf model s (with_part asked part) (record { each = with_part found.each part; together = with_part found.together part; any = true })
-    found_together effect = record {
-      each = found_each;
-      among = λ other has. elim (with_either found.together part other has) [
-        | inl e ↦ subst (λ p. IsTrue (has_part (with_part found.each part) p)) (sym e) (with_own found.each part)
-        | inr was ↦ with_kept found.each part other (h.among other was)
-      ];
-      together = effect;
-      none = λ e. cc;
-    }
-
-    -- the first one
-    pub found_first : found.any ≡ false
-        → IsFoundOf model s (with_part asked part) (record { each = with_part found.each part; together = with_part found.together part; any = true })
-    found_first first = found_together (subst (λ set. HaveNoEffect model s (with_part set part)) (sym (h.none first)) none)
-
-    -- by itself
-    pub found_alone : IsFoundOf model s (with_part asked part) (record { each = with_part found.each part; together = found.together; any = true })
-    found_alone = record {
-      each = found_each;
-      among = λ other has. with_kept found.each part other (h.among other has);
-      together = h.together;
-      none = λ e. cc;
-    }
+no_part : (part : Part) → has_part no_parts part ≢ true
+no_part part e = grind arith
 
 -- before any is asked of
-pub found_none : (model : Model) (s : PosixSpecification) (text : Text) → s.position ≡ None → SpellsPosixItem text (Specification s)
-    → IsFoundOf model s no_parts (record { each = no_parts; together = no_parts; any = false })
-found_none model s text unnumbered h = record {
-  each = λ part. (λ has. absurd (no_part part has), λ all. absurd (no_part part all.0));
-  among = λ part has. has;
-  together = λ t u x y. alike_self t u x (subst (SpellsPosix u) (without_none s) y);
-  none = λ e. refl;
-} where
-  no_part : (part : Part) → has_part no_parts part ≢ true
-  no_part part e = grind arith
+pub found_none : (question : Question) → AreFound question no_parts no_parts
+found_none question part = (λ has. absurd (no_part part has), λ all. absurd (no_part part all.0))
 
+-- one part more of those that have no effect
+pub together_more : (question : Question) (each some : PartSet) (part : Part) → AreTogether question each some → IsTrue (has_part each part)
+    → HaveNoEffect question.model (parts_of_opaque question.directive) (with_part some part) → AreTogether question each (with_part some part)
+together_more question each some part h has none = record {
+  among = λ other is. elim (with_either some part other is) [
+    | inl e ↦ subst (λ p. IsTrue (has_part each p)) (sym e) has
+    | inr was ↦ h.among other was
+  ];
+  none = none;
+}
+
+-- no parts have no effect
+pub nothing_left : (model : Model) (s : PosixSpecification) (text : Text) → s.position ≡ None → SpellsPosixItem text (Specification s)
+    → HaveNoEffect model s no_parts
+nothing_left model s text unnumbered h t u x y = alike_self t u x (subst (SpellsPosix u) (without_none s) y) where
   without_none : (s : PosixSpecification) → without s no_parts ≡ s
   without_none s = grind arith
 
@@ -207,6 +187,27 @@ found_none model s text unnumbered h = record {
         reads_second = reads_alone u s y h.1 unnumbered;
         alike = record { same_types = refl; same_traces = λ args trace typed. (λ g. g, λ g. g) };
       }
+
+pub none_together : (question : Question) (each : PartSet) → IsQuestion question → AreTogether question each no_parts
+none_together question each q = record {
+  among = λ part has. absurd (no_part part has);
+  none = nothing_left question.model (parts_of_opaque question.directive) q.text refl q.spelled;
+}
+
+-- of a specification that has no parts
+pub needless_none : (model : Model) (s : PosixSpecification) (text : Text) → s.position ≡ None → SpellsPosixItem text (Specification s) → (given : PartSet)
+    → given ≡ given_parts s → given ≡ no_parts → AreNeedless model s (record { given = given; each = given; together = given })
+needless_none model s text unnumbered h given is none =
+    let empty : given_parts s ≡ no_parts = sym is ∙ none in
+    record {
+      given = is;
+      each = λ part. (
+        λ has. absurd (no_part part (subst (λ set. IsTrue (has_part set part)) none has)),
+        λ all. absurd (no_part part (subst (λ set. IsTrue (has_part set part)) empty all.0)),
+      );
+      among = λ part has. has;
+      together = subst (HaveNoEffect model s) (sym none) (nothing_left model s text unnumbered h);
+    }
 
 -- after all nine
 pub all_asked : (part : Part) → has_part (with_part (with_part (with_part (with_part (with_part (with_part (with_part (with_part (with_part no_parts
