@@ -31,7 +31,7 @@ pub record AreNeedless (model : Model) (s : PosixSpecification) (found : Needles
 -- The rest is about how the code asks. No public contract names it.
 
 -- a question about a specification that some text is, and its one spelling
-pub record IsQuestion (question : Question) : Type 0 where
+pub record IsPartQuestion (question : Question) : Type 0 where
   pub text : Text
   pub spelled : SpellsPosixItem text (Specification (parts_of_opaque question.directive))
   pub given : question.given ≡ given_parts (parts_of_opaque question.directive)

@@ -1,17 +1,18 @@
 //! Which parts of a conversion specification have no effect.
-ghost use Rattle.std.specs.Prelude.{◌↔◌, IsTrue};
+ghost use Rattle.std.specs.Prelude.{◌≡◌, ◌↔◌, IsTrue, true};
 ghost use Rattle.pf_values.specs.meaning.Text.{Text};
 ghost use Rattle.pf_posix.specs.Items.{Specification, SpellsPosixItem};
+ghost use Rattle.pf_posix.specs.Opaque.{is_opaque};
 ghost use Rattle.pf_posix.specs.OpaqueParts.{parts_of_opaque};
 ghost use Rattle.pf_whole.specs.declared.parts.Part.{Part as PartOf};
 ghost use Rattle.pf_whole.specs.declared.parts.PartSet.{PartSet as PartSetOf};
-ghost use Rattle.pf_whole.specs.Needless.{AreFound, AreNeedless, AreTogether, HaveNoEffect, IsQuestion};
-ghost use Rattle.pf_whole.specs.Parts.{has_part, only, with_part};
+ghost use Rattle.pf_whole.specs.Needless.{AreFound, AreNeedless, AreTogether, HaveNoEffect, IsPartQuestion};
+ghost use Rattle.pf_whole.specs.Parts.{has_part, only, with_part, without};
 
-use crate::comparison::same_text;
+use crate::comparison::{make_one_call, same_text};
 use crate::parts::{Part, PartSet, given_parts, without};
 use crate::spelling::spell_parts;
-use pf_posix::OpaqueDirective;
+use pf_posix::{OpaqueDirective, is_opaque};
 use pf_values::{Flag, Model};
 
 /// Sets of parts of a conversion specification.
@@ -67,7 +68,7 @@ pub fn needless_parts(model: Model, directive: OpaqueDirective) -> NeedlessParts
 impl Question<'_> {
     // The parts that have no effect.
     fn each(&self) -> PartSet
-        requires { IsQuestion self.now }
+        requires { IsPartQuestion self.now }
         ensures { (part : PartOf) → IsTrue (has_part result part)
             ↔ (IsTrue (has_part self.now.given part) × HaveNoEffect self.now.model (parts_of_opaque self.now.directive) (only part)) }
     {
@@ -84,7 +85,7 @@ impl Question<'_> {
 
     // Asks of one part more.
     fn ask(&self, each: PartSet, part: Part) -> PartSet
-        requires { IsQuestion self.now }
+        requires { IsPartQuestion self.now }
         ensures { (asked : PartSetOf) → AreFound self.now asked each → AreFound self.now (with_part asked part) result }
     {
         if !self.given.has(part) {
@@ -98,7 +99,7 @@ impl Question<'_> {
 
     // Some of these parts, which have no effect together: all of them, if that holds.
     fn together(&self, each: PartSet) -> PartSet
-        requires { IsQuestion self.now }
+        requires { IsPartQuestion self.now }
         ensures { AreTogether self.now each result }
     {
         if each.is_empty() {
@@ -120,7 +121,7 @@ impl Question<'_> {
 
     // These parts and one more, if it is one of the others and has no effect with them.
     fn gather(&self, some: PartSet, each: PartSet, part: Part) -> PartSet
-        requires question { IsQuestion self.now }
+        requires question { IsPartQuestion self.now }
         requires some { AreTogether self.now each some }
         ensures { AreTogether self.now each result }
     {
@@ -136,13 +137,30 @@ impl Question<'_> {
 
     // Whether the directive is alike without these parts.
     fn have_no_effect(&self, set: PartSet) -> bool
-        requires { IsQuestion self.now }
+        requires { IsPartQuestion self.now }
         ensures { IsTrue result ↔ HaveNoEffect self.now.model (parts_of_opaque self.now.directive) set }
     {
-        let shorter = spell_parts(without(self.directive, set));
-        match same_text(self.model, self.whole, shorter.as_slice()) {
+        let shorter = without(self.directive, set);
+        if is_opaque(self.directive) {
+            return self.is_opaque_alike(set, shorter);
+        }
+        let spelling = spell_parts(shorter);
+        match same_text(self.model, self.whole, spelling.as_slice()) {
             Ok(is) => is,
             Err(_) => false,
         }
+    }
+
+    // Whether a directive that the profile lacks is alike without these parts: it makes the same call.
+    fn is_opaque_alike(&self, set: PartSet, shorter: OpaqueDirective) -> bool
+        requires question { IsPartQuestion self.now }
+        requires opaque { is_opaque (parts_of_opaque self.now.directive) ≡ true }
+        requires shorter { parts_of_opaque shorter ≡ without (parts_of_opaque self.now.directive) set }
+        ensures { IsTrue result ↔ HaveNoEffect self.now.model (parts_of_opaque self.now.directive) set }
+    {
+        if !is_opaque(shorter) {
+            return false;
+        }
+        make_one_call(self.model, self.directive, shorter)
     }
 }
