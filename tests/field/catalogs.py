@@ -1,7 +1,6 @@
-#!/usr/bin/env python3
-"""What fmtcanon-po says of a machine's own message catalogs, beside `msgfmt -c`: a table in Markdown.
+"""What fmtcanon-po says of a machine's own message catalogs, compared with `msgfmt -c`: a table in Markdown.
 
-Usage: tests/field/catalogs.py [--list] [FOLDER]
+Usage: python3 -m tests.field.catalogs [--list] [FOLDER]
 
 FOLDER is /usr/share/locale where it isn't given. Each .mo file below it is turned into a .po file by
 msgunfmt, and each message with a % gets the flag c-format, since a .mo file has no flags. Both tools
@@ -19,12 +18,9 @@ from concurrent.futures import ThreadPoolExecutor
 from pathlib import Path
 from tempfile import TemporaryDirectory
 
-TOP = Path(__file__).resolve().parent.parent.parent
-sys.path.insert(0, str(TOP / "python"))
-
-import fmtcanon  # noqa: E402
-from fmtcanon.po.checking import Checker  # noqa: E402
-from fmtcanon.po.command import as_msgfmt  # noqa: E402
+import fmtcanon
+from fmtcanon.po.checking import Checker
+from fmtcanon.po.command import as_msgfmt
 
 ENVIRONMENT = {**os.environ, "LC_ALL": "C", "LANGUAGE": ""}
 FAULT = re.compile(

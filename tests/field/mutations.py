@@ -1,7 +1,6 @@
-#!/usr/bin/env python3
 """What fmtcanon-po says of mutated translations, compared with `msgfmt -c`: a table in Markdown.
 
-Usage: tests/field/mutations.py [--list] [COUNT]
+Usage: python3 -m tests.field.mutations [--list] [COUNT]
 
 COUNT messages, 40,000 by default, are formats of bench/shapes.nul and a list of the whole language, a fifth of them
 after one edit. Each translation is its message after one to three edits of its specifications, made by a generator with
@@ -19,12 +18,10 @@ import tempfile
 from collections import Counter
 from pathlib import Path
 
-TOP = Path(__file__).resolve().parent.parent.parent
-sys.path.insert(0, str(TOP / "python"))
-
-import fmtcanon  # noqa: E402
-from fmtcanon.po.checking import Checker  # noqa: E402
-from fmtcanon.po.command import as_msgfmt  # noqa: E402
+import fmtcanon
+from fmtcanon.po.checking import Checker
+from fmtcanon.po.command import as_msgfmt
+from tests.frame.harness import TOP
 
 COUNT = 40_000
 SEED = 56

@@ -1,7 +1,6 @@
-#!/usr/bin/env python3
 """Prints what fmtcanon-diff says of releases of source trees: a table in Markdown.
 
-Usage: tests/field/releases.py OLD NEW [OLD NEW]..
+Usage: python3 -m tests.field.releases OLD NEW [OLD NEW]..
 
 Each OLD and NEW are folders with two releases of one package. With --list it prints what is found instead. It needs the
 module fmtcanon with its library.
@@ -14,12 +13,9 @@ import time
 from collections import Counter
 from pathlib import Path
 
-TOP = Path(__file__).resolve().parent.parent.parent
-sys.path.insert(0, str(TOP / "python"))
-
-from fmtcanon import Model  # noqa: E402
-from fmtcanon.diff.reporting import DiffQuestion, report_on  # noqa: E402
-from fmtcanon.diff.trees import changes_of  # noqa: E402
+from fmtcanon import Model
+from fmtcanon.diff.reporting import DiffQuestion, report_on
+from fmtcanon.diff.trees import changes_of
 from fmtcanon.frame.findings import as_text
 from fmtcanon.frame.processes import in_order
 
