@@ -171,6 +171,49 @@ typedef struct fmtcanon_directive {
     uint64_t kind;               /* the type of the argument that it converts, an enum fmtcanon_type */
 } fmtcanon_directive;
 
+/* A part that a conversion specification can be without. A set of parts is the sum of theirs. */
+enum fmtcanon_part {
+    FMTCANON_PART_MINUS = 1,       /* the flag `-` */
+    FMTCANON_PART_PLUS = 2,        /* the flag `+` */
+    FMTCANON_PART_SPACE = 4,       /* the flag space */
+    FMTCANON_PART_ALT = 8,         /* the flag `#` */
+    FMTCANON_PART_ZERO = 16,       /* the flag `0` */
+    FMTCANON_PART_GROUP = 32,      /* the flag `'` */
+    FMTCANON_PART_WIDTH = 64,      /* the width: a number, or `*` with the number of its argument */
+    FMTCANON_PART_PRECISION = 128, /* the precision, with its point */
+    FMTCANON_PART_MODIFIER = 256   /* the length modifier */
+};
+
+/* In place of a number or an offset that a specification doesn't have. */
+#define FMTCANON_NONE UINT64_MAX
+
+/* A conversion specification of a format, with its parts. The offsets ascend, and each part is the bytes from
+ * its offset up to the next one: none if the specification doesn't have it. Arguments count from 0.
+ *
+ * A specification without a flag is its bytes without each `-`, say, among its flags. Without another part, it
+ * is its bytes without those of the part. Alone, it is a format of its own, without `n$`, and with `*` for
+ * `*n$`. */
+typedef struct fmtcanon_specification {
+    uint64_t begin;              /* the offset of its `%` */
+    uint64_t flags_at;           /* of its flags: after `%`, or after the `$` of its argument's number */
+    uint64_t width_at;           /* of its width */
+    uint64_t precision_at;       /* of the `.` of its precision */
+    uint64_t modifier_at;        /* of its length modifier; the conversion is the byte before `end` */
+    uint64_t end;                /* the offset after its conversion */
+    uint64_t argument;           /* the argument that it converts */
+    uint64_t width_argument;     /* the argument of a `*` width, or FMTCANON_NO_ARGUMENT */
+    uint64_t precision_argument; /* the argument of a `*` precision, or FMTCANON_NO_ARGUMENT */
+    uint64_t width;              /* the width, or FMTCANON_NONE: none, or `*` */
+    uint64_t precision;          /* the precision, 0 for `.` alone, or FMTCANON_NONE: none, or `*` */
+    uint32_t kind;               /* the type of the argument that it converts, an enum fmtcanon_type */
+    uint32_t parts;              /* the parts that it has, a set of enum fmtcanon_part */
+    uint32_t needless;           /* those that have no effect, and no others: fmtcanon_whole_same() is 1 for
+                                    the specification alone, and it without this one part */
+    uint32_t together;           /* some of these: it is 1 without all of them, too. Of `%02.2u`, neither the
+                                    width nor the precision has an effect, but without both fewer digits are
+                                    printed, so of the two only the width is in this set */
+} fmtcanon_specification;
+
 /* In place of the largest number of bytes that a format prints, if there is no largest. */
 #define FMTCANON_UNBOUNDED UINT64_MAX
 
@@ -341,6 +384,18 @@ int64_t fmtcanon_whole_compare(int model, const char *first, size_t first_len, c
  * proportion to their number. */
 int64_t fmtcanon_directives(int model, const char *text, size_t len, fmtcanon_directive *out,
                             size_t cap, fmtcanon_error *error);
+
+/* Returns the number of conversion specifications of a format of the whole language, and writes a record of
+ * each with its parts, as fmtcanon_directives() does without them.
+ *
+ * If the format is rejected, `*rejected` is what is known of the specification in which it is: `begin` is the
+ * offset of its `%`, or FMTCANON_NONE if it is rejected outside of one. If it can be read up to its end, as
+ * for the kinds 13 to 17 and 19, the other offsets are those of its end and its parts; if not, they are
+ * `error->at`. For FMTCANON_MISSING_ARGUMENT, `argument` is the first argument that no specification takes, and
+ * the record is of the first specification that takes a later one. All other numbers are FMTCANON_NONE, and
+ * `kind` and the sets 0. If the format is accepted, `*rejected` stays as it was. `rejected` may be NULL. */
+int64_t fmtcanon_specifications(int model, const char *text, size_t len, fmtcanon_specification *out,
+                                size_t cap, fmtcanon_specification *rejected, fmtcanon_error *error);
 
 /* Returns the number of bytes of a source, and writes them into `out` with a NUL after them. A source is
  * one or more string literals of C with white space around them or none, as `"Total:\t%i" "\n"`, with

@@ -55,6 +55,9 @@ installation puts it, otherwise `libfmtcanon.so.1`, where the system looks for l
     Bounds(least=4, greatest=16)
     >>> fmtcanon.directives("%2$*1$d")
     [DirectiveSpan(start=0, end=7, type=<Type.INT: 1>, argument=1, width_argument=0, precision_argument=None)]
+    >>> found = fmtcanon.specifications("%-05ld")[0]
+    >>> found.width, found.needless == fmtcanon.Part.ZERO
+    (5, True)
     >>> fmtcanon.decode_literal('"Total: %i" "\\\\n"')
     b'Total: %i\\n'
     >>> fmtcanon.encode_literal(fmtcanon.canonical(b"\\x01%#o"))
@@ -72,11 +75,11 @@ import os
 from pathlib import Path
 from typing import Any, Callable, List, NamedTuple, Optional, Sequence, Tuple, TypeVar, Union
 
-from .kinds import Kind, LiteralKind, Type, Verdict
+from .kinds import Kind, LiteralKind, Part, Type, Verdict
 from .models import DataModel, Model, model_of
 from .passing import passed
 from .pieces import Directive, Percent, Shown, Text, directive_of, words_of
-from .prototypes import CALLS, CBounds, CComparison, CDirective, CError
+from .prototypes import CALLS, CBounds, CComparison, CDirective, CError, CSpecification
 from .sessions import Reply, Session
 
 __all__ = [
@@ -88,10 +91,12 @@ __all__ = [
     "Kind",
     "LiteralKind",
     "Model",
+    "Part",
     "Percent",
     "Refused",
     "Reply",
     "Session",
+    "Specification",
     "Text",
     "Type",
     "Verdict",
@@ -113,6 +118,7 @@ __all__ = [
     "same_in",
     "show",
     "source_offset",
+    "specifications",
     "types",
     "version",
 ]
@@ -131,7 +137,8 @@ _SONAME = f"libfmtcanon.so.{_VERSION[0]}"
 _NO_MEMORY = -100
 _NO_PLACE = -102
 _WRONG_TYPE = -104
-_NO_ARGUMENT = 2**64 - 1
+# An argument, a number or an offset that isn't there.
+_NONE = 2**64 - 1
 _UNBOUNDED = 2**64 - 1
 _LONGEST_NAME = 18
 # The room of `format` at first, which is enough for most lines.
@@ -142,8 +149,11 @@ class Refused(ValueError):
     """A format is rejected.
 
     `kind` says why, `name` is the name of the kind as the program prints it, and `byte` is the offset, counted
-    from 0. `side` is 1 if it is the second of two formats, and 0 otherwise.
+    from 0. `side` is 1 if it is the second of two formats, and 0 otherwise. `specification`, from `specifications`
+    alone, is what is known of the specification in which it is rejected; None outside of one.
     """
+
+    specification: Optional[Specification] = None
 
     def __init__(self, kind: Kind, name: str, byte: int, side: int = 0) -> None:
         super().__init__(kind, name, byte, side)
@@ -212,6 +222,39 @@ class DirectiveSpan(NamedTuple):
     argument: int
     width_argument: Optional[int]
     precision_argument: Optional[int]
+
+
+class Specification(NamedTuple):
+    """A conversion specification of a format with its parts.
+
+    Its bytes are those from `start` to `end`. Its flags begin at `flags_at`, its width at `width_at`, its
+    precision at `precision_at` and its length modifier at `modifier_at`: each is the bytes up to the next offset,
+    none if it isn't there, and the conversion is the last byte. `width` and `precision` are numbers, None if there
+    is none or a `*`. The arguments and the type are those of a `DirectiveSpan`.
+
+    `parts` are the parts that it has. Of these, `needless` are those that have no effect: `same` with `whole` is
+    True for the specification alone, and it without this one part. `together` are some of these: it is True
+    without all of them, too.
+
+    Of one in which a format is rejected, the offsets are known, as far as it can be read to its end; otherwise they
+    are where it is rejected. `argument` is the one that the format leaves out, if it does. The rest is None or 0.
+    """
+
+    start: int
+    end: int
+    flags_at: int
+    width_at: int
+    precision_at: int
+    modifier_at: int
+    type: Optional[Type]
+    argument: Optional[int]
+    width_argument: Optional[int]
+    precision_argument: Optional[int]
+    width: Optional[int]
+    precision: Optional[int]
+    parts: Part
+    needless: Part
+    together: Part
 
 
 def _library_name() -> str:
@@ -386,8 +429,43 @@ def _span(record: CDirective) -> DirectiveSpan:
     return DirectiveSpan(record.begin, record.end, Type(record.kind), record.argument, width, precision)
 
 
-def _index(argument: int) -> Optional[int]:
-    return None if argument == _NO_ARGUMENT else argument
+def _index(number: int) -> Optional[int]:
+    return None if number == _NONE else number
+
+
+def specifications(format: Format, *, model: DataModel = Model.LP64) -> List[Specification]:
+    """Returns the conversion specifications of a format of the whole language with their parts, in the order of the
+    text, without `%%`.
+    """
+    text, error, rejected = _bytes(format), CError(), CSpecification()
+    room = text.count(b"%")
+    records = (CSpecification * room)()
+    result = _library().fmtcanon_specifications(model_of(model), text, len(text), records, room, rejected, error)
+    try:
+        return [_specification(record) for record in records[: _answer(result, error)]]
+    except Refused as refusal:
+        refusal.specification = None if rejected.begin == _NONE else _specification(rejected)
+        raise
+
+
+def _specification(record: CSpecification) -> Specification:
+    return Specification(
+        record.begin,
+        record.end,
+        record.flags_at,
+        record.width_at,
+        record.precision_at,
+        record.modifier_at,
+        Type(record.kind) if record.kind else None,
+        _index(record.argument),
+        _index(record.width_argument),
+        _index(record.precision_argument),
+        _index(record.width),
+        _index(record.precision),
+        Part(record.parts),
+        Part(record.needless),
+        Part(record.together),
+    )
 
 
 def same(first: Format, second: Format, *, model: DataModel = Model.LP64, whole: bool = False) -> bool:

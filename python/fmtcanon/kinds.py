@@ -75,6 +75,20 @@ class Verdict(enum.IntEnum):
     DIRECTIVES = 4
 
 
+class Part(enum.IntFlag):
+    """A part that a conversion specification can be without, and a set of them."""
+
+    MINUS = 1
+    PLUS = 2
+    SPACE = 4
+    ALT = 8
+    ZERO = 16
+    GROUP = 32
+    WIDTH = 64
+    PRECISION = 128
+    MODIFIER = 256
+
+
 # The names of types that all commands use.
 TYPE_NAMES = {
     Type.INT: "int",

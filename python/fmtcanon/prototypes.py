@@ -30,6 +30,26 @@ class CDirective(ctypes.Structure):
     ]
 
 
+class CSpecification(ctypes.Structure):
+    _fields_ = [
+        ("begin", ctypes.c_uint64),
+        ("flags_at", ctypes.c_uint64),
+        ("width_at", ctypes.c_uint64),
+        ("precision_at", ctypes.c_uint64),
+        ("modifier_at", ctypes.c_uint64),
+        ("end", ctypes.c_uint64),
+        ("argument", ctypes.c_uint64),
+        ("width_argument", ctypes.c_uint64),
+        ("precision_argument", ctypes.c_uint64),
+        ("width", ctypes.c_uint64),
+        ("precision", ctypes.c_uint64),
+        ("kind", ctypes.c_uint32),
+        ("parts", ctypes.c_uint32),
+        ("needless", ctypes.c_uint32),
+        ("together", ctypes.c_uint32),
+    ]
+
+
 class CArgument(ctypes.Structure):
     _fields_ = [
         ("kind", ctypes.c_uint32),
@@ -75,6 +95,17 @@ CALLS = {
     ),
     "directives": (
         (*_MODEL, *_TEXT, ctypes.POINTER(CDirective), ctypes.c_size_t, *_ERROR),
+        ctypes.c_int64,
+    ),
+    "specifications": (
+        (
+            *_MODEL,
+            *_TEXT,
+            ctypes.POINTER(CSpecification),
+            ctypes.c_size_t,
+            ctypes.POINTER(CSpecification),
+            *_ERROR,
+        ),
         ctypes.c_int64,
     ),
     "decode_literal": ((*_TEXT, *_TEXT, *_ERROR), ctypes.c_int64),

@@ -8,7 +8,7 @@ import threading
 import unittest
 
 import fmtcanon
-from fmtcanon import Kind, Model, Refused, Type, Verdict
+from fmtcanon import Kind, Model, Part, Refused, Type, Verdict
 
 from . import needs_program
 
@@ -52,6 +52,34 @@ class Calls(unittest.TestCase):
         self.assertEqual(fmtcanon.directives("%%"), [])
         self.assertEqual(fmtcanon.directives(""), [])
         self.assertEqual(len(fmtcanon.directives("%d" * 5000)), 5000)
+
+    def test_specifications(self):
+        none, numbers = Part(0), Part.WIDTH | Part.PRECISION
+        first = (1, 8, 2, 3, 4, 6, Type.LONG, 0, None, None, 5, 3, Part.PLUS | numbers | Part.MODIFIER, none, none)
+        second = (10, 15, 11, 12, 13, 14, Type.UINT, 1, None, None, 2, 0, Part.ZERO | numbers, Part.ZERO, Part.ZERO)
+        self.assertEqual(fmtcanon.specifications("a%+5.3ld%%%02.x"), [first, second])
+        wanted = (2, 14, 5, 6, 9, 13, Type.DOUBLE, 2, 0, 1, None, None, Part.MINUS | numbers, none, none)
+        self.assertEqual(fmtcanon.specifications("é%3$-*1$.*2$f"), [wanted])
+        self.assertEqual(fmtcanon.specifications("%zu", model="ilp32")[0].needless, Part.MODIFIER)
+        self.assertEqual(fmtcanon.specifications("%zu")[0].needless, none)
+        self.assertEqual(fmtcanon.specifications("%%"), [])
+        self.assertEqual(len(fmtcanon.specifications("%+d" * 5000)), 5000)
+
+    def test_specification_of_a_rejected_format(self):
+        # The offsets, and the argument that is left out.
+        rows = [
+            ("%s%+#5d", (2, 7, 3, 5, 6, 6), None),
+            (b"ab%5y", (2, 4, 4, 4, 4, 4), None),
+            ("%1$s %4$d %2$d", (5, 9, 8, 8, 8, 8), 2),
+        ]
+        for format, offsets, argument in rows:
+            with self.subTest(format=format), self.assertRaises(Refused) as caught:
+                fmtcanon.specifications(format)
+            self.assertEqual(caught.exception.specification, (*offsets, None, argument, *(None,) * 4, *(Part(0),) * 3))
+        for call, format in [(fmtcanon.specifications, "%d\0"), (fmtcanon.directives, "%#d")]:
+            with self.assertRaises(Refused) as caught:
+                call(format)
+            self.assertIsNone(caught.exception.specification)
 
     def test_bounds(self):
         rows = [("", 0, 0), ("%d", 1, 11), (b"%ld", 1, 20), ("%+.0d", 1, 11), ("%#x", 1, 10), ("é%hhb", 3, 10)]

@@ -15,14 +15,14 @@
 enum call {
     CHECK, IS_CANONICAL, CANONICAL_LENGTH, CANONICAL, TYPES, BOUNDS, SAME, SAME_MODELS, COMPARE, ARGUMENTS, FITS, FITS_MODELS,
     FITS_FEWER, FITS_FEWER_MODELS,
-    WHOLE_CANONICAL, WHOLE_LENGTH, WHOLE_SAME, WHOLE_MODELS, WHOLE_COMPARE, DIRECTIVES, DECODE, ENCODE, SOURCE_OFFSET, KIND_NAME,
+    WHOLE_CANONICAL, WHOLE_LENGTH, WHOLE_SAME, WHOLE_MODELS, WHOLE_COMPARE, DIRECTIVES, SPECIFICATIONS, DECODE, ENCODE, SOURCE_OFFSET, KIND_NAME,
     CALLS
 };
-enum { SIZE = 32768 };
+enum { SIZE = 32768, RECORD = sizeof(fmtcanon_directive), LONG_RECORD = sizeof(fmtcanon_specification) };
 
 static const char *const NAMES[CALLS] = {
     "check", "is_canonical", "canonical_length", "canonical", "types", "bounds", "same", "same_models", "compare", "arguments", "fits",
-    "fits_models", "fits_fewer", "fits_fewer_models", "whole_canonical", "whole_canonical_length", "whole_same", "whole_same_models", "whole_compare", "directives", "decode_literal", "encode_literal", "source_offset", "kind_name"};
+    "fits_models", "fits_fewer", "fits_fewer_models", "whole_canonical", "whole_canonical_length", "whole_same", "whole_same_models", "whole_compare", "directives", "specifications", "decode_literal", "encode_literal", "source_offset", "kind_name"};
 #define TEN "%d%d%d%d%d%d%d%d%d%d"
 static const struct {
     const char *first, *second;
@@ -32,7 +32,7 @@ static const struct {
     {TEN "%1$d", "%d"}, {"%f" TEN "%d%.6f%s", "%.6f" TEN "%5d%f%s"}, {"%*d%i%f", "%*d%d%e"}, {"%zn%.0f", "%ln%.f"}, {TEN TEN "%5n", "%n"}, {"%2$d", "%d%2$d"}, {"%1$d%1$s", "%1$d%1$d"}, {"\"%d\\n\" \"\\11\"", "x"},
     {"\"aaaaaaaaaaaaaaaa\\q\"", "\"\""}, {"\"a", "\"\\x100\""}, {"\"a?" "?=\"", "\"\\0\""}, {"\t\"?" "?=\1", "\377"}};
 static const int MODELS[] = {FMTCANON_LP64, FMTCANON_ILP32, FMTCANON_LLP64, 3};
-static const size_t ROOMS[] = {0, 1, 2, 9, 2 * sizeof(fmtcanon_directive), SIZE / 2};
+static const size_t ROOMS[] = {0, 1, 2, 9, 2 * LONG_RECORD, SIZE / 2};
 
 static char now[128] = "", *locked_end;
 static int fails_at = -1, growths, held;
@@ -96,15 +96,16 @@ struct given {
     size_t cap;
     fmtcanon_comparison *found;
     struct fmtcanon_bounds *bounds;
+    fmtcanon_specification *rejected;
     fmtcanon_error *error;
 };
 
-/* The last records for which the buffer has room. */
-static size_t records(const struct given *g) { return g->cap / sizeof(fmtcanon_directive); }
+/* The last records of a size for which the buffer has room. */
+static size_t records(const struct given *g, size_t size) { return g->cap / size; }
 
-static fmtcanon_directive *last_records(const struct given *g)
+static void *last_records(const struct given *g, size_t size)
 {
-    return records(g) == 0 ? NULL : (fmtcanon_directive *)(void *)(g->out + g->cap % sizeof(fmtcanon_directive));
+    return records(g, size) == 0 ? NULL : g->out + g->cap % size;
 }
 
 static int64_t made(const struct given *g)
@@ -132,7 +133,10 @@ static int64_t made(const struct given *g)
     case WHOLE_SAME: return fmtcanon_whole_same(g->model, f, n, s, m, g->error);
     case WHOLE_MODELS: return fmtcanon_whole_same_models(f, n, s, m, g->error);
     case WHOLE_COMPARE: return fmtcanon_whole_compare(g->model, f, n, s, m, g->out, g->cap, g->found, g->error);
-    case DIRECTIVES: return fmtcanon_directives(g->model, f, n, last_records(g), records(g), g->error);
+    case DIRECTIVES:
+        return fmtcanon_directives(g->model, f, n, last_records(g, RECORD), records(g, RECORD), g->error);
+    case SPECIFICATIONS:
+        return fmtcanon_specifications(g->model, f, n, last_records(g, LONG_RECORD), records(g, LONG_RECORD), g->rejected, g->error);
     case DECODE: return fmtcanon_decode_literal(f, n, g->out, g->cap, g->error);
     case ENCODE: return fmtcanon_encode_literal(f, n, g->out, g->cap);
     case SOURCE_OFFSET: return fmtcanon_source_offset(f, n, m);
@@ -144,7 +148,8 @@ static int64_t made(const struct given *g)
 static int has_room(const struct given *g, int64_t result)
 {
     int is_text = g->call == CANONICAL || g->call == WHOLE_CANONICAL || g->call == DECODE || g->call == ENCODE || g->call == KIND_NAME;
-    if (g->call == DIRECTIVES) return result >= 0 && (uint64_t)result <= records(g);
+    if (g->call == DIRECTIVES) return result >= 0 && (uint64_t)result <= records(g, RECORD);
+    if (g->call == SPECIFICATIONS) return result >= 0 && (uint64_t)result <= records(g, LONG_RECORD);
     return result >= 0 && (uint64_t)result + (is_text ? 1 : 0) <= g->cap;
 }
 
@@ -163,10 +168,12 @@ static void try_refused(struct given g, int64_t result, int count)
 {
     static const fmtcanon_error before = {77, 78, 79};
     g.out = locked(g.cap), g.error = locked(sizeof before), g.found = locked(sizeof *g.found), g.bounds = locked(sizeof *g.bounds);
+    g.rejected = locked(sizeof *g.rejected);
     for (fails_at = 0; fails_at < count; fails_at++) {
         fmtcanon_error error = before;
         int64_t found;
-        if (result < 0) g.error = &error;
+        fmtcanon_specification rejected;
+        if (result < 0) g.error = &error, g.rejected = &rejected;
         found = counted(&g);
         want(found == FMTCANON_ERROR_NOMEMORY || (result < 0 && found == result), "memory is out where an allocation is refused");
         want(found == result || !memcmp(&error, &before, sizeof error), "the error is left as it was");
@@ -181,13 +188,14 @@ static void try_one(struct given g)
     fmtcanon_error error;
     fmtcanon_comparison found;
     struct fmtcanon_bounds bounds;
+    fmtcanon_specification rejected;
     int64_t result;
     int count;
-    g.out = (char *)out, g.error = &error, g.found = &found, g.bounds = &bounds;
+    g.out = (char *)out, g.error = &error, g.found = &found, g.bounds = &bounds, g.rejected = &rejected;
     result = counted(&g);
     count = growths;
     if (!has_room(&g, result)) g.out = locked(g.cap);
-    if (result >= 0 || result == FMTCANON_ERROR_MODEL) g.error = locked(sizeof error);
+    if (result >= 0 || result == FMTCANON_ERROR_MODEL) g.error = locked(sizeof error), g.rejected = locked(sizeof rejected);
     if (result < 0) g.found = locked(sizeof found), g.bounds = locked(sizeof bounds);
     want(counted(&g) == result && growths == count, "the same result and as many allocations");
     try_refused(g, result, count);
@@ -203,7 +211,7 @@ int main(void)
         for (text = 0; text < COUNT(TEXTS); text++)
             for (model = 0; model < COUNT(MODELS); model++)
                 for (room = 0; room < COUNT(ROOMS); room++) {
-                    struct given g = {call, MODELS[model], TEXTS[text].first, TEXTS[text].second, NULL, ROOMS[room], NULL, NULL, NULL};
+                    struct given g = {call, MODELS[model], TEXTS[text].first, TEXTS[text].second, NULL, ROOMS[room], NULL, NULL, NULL, NULL};
                     sprintf(now, "%s of texts %d, model %d, room %d", NAMES[call], (int)text, (int)model, (int)ROOMS[room]);
                     try_one(g);
                 }

@@ -210,6 +210,21 @@ static void directives(void)
     __real_free(records);
 }
 
+static void specifications(void)
+{
+    fmtcanon_specification *records = __real_malloc(units * sizeof *records);
+    one("", "a%-i", "");
+    WANT(records != NULL);
+    WANT(fmtcanon_specifications(LP64, first, first_len, records, units, NULL, &error) == (int64_t)units);
+    for (size_t k = 0; k < units; k++) {
+        WANT(records[k].begin == 4 * k + 1 && records[k].width_at == 4 * k + 3 && records[k].end == 4 * k + 4);
+        WANT(records[k].argument == k && records[k].needless == FMTCANON_PART_MINUS);
+    }
+    __real_free(records);
+    one("%2$d", "%4$c", "");
+    WANT(fmtcanon_specifications(LP64, first, first_len, NULL, 0, NULL, &error) == -FMTCANON_MISSING_ARGUMENT);
+}
+
 /* Literal bytes between any two directives. */
 static void literal_runs(void)
 {
@@ -302,7 +317,7 @@ static const struct {
     {"check", check}, {"refused", refused}, {"is_canonical", is_canonical}, {"canonical_length", canonical_length},
     {"canonical", canonical}, {"types", types}, {"bounds", bounds}, {"same", same}, {"compare", compare}, {"compare_last", compare_last},
     {"arguments", arguments}, {"fits", fits}, {"fits_fewer", fits_fewer},
-    {"directives", directives}, {"literal_runs", literal_runs}, {"whole_profile", whole_profile}, {"whole_canonical", whole_canonical}, {"whole_same", whole_same},
+    {"directives", directives}, {"specifications", specifications}, {"literal_runs", literal_runs}, {"whole_profile", whole_profile}, {"whole_canonical", whole_canonical}, {"whole_same", whole_same},
     {"whole_compare_last", whole_compare_last}, {"decode_literal", decode}, {"encode_literal", encode}, {"source_offset", source_offset},
 };
 

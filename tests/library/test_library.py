@@ -30,6 +30,8 @@ PARAMETERS = {
     "&[u8]": ["const char *", "size_t"],
     "&mut [u8]": ["char *", "size_t"],
     "&mut [CDirective]": ["fmtcanon_directive *", "size_t"],
+    "&mut [CSpecification]": ["fmtcanon_specification *", "size_t"],
+    "&mut CSpecification": ["fmtcanon_specification *"],
     "&[CArgument<'_>]": ["const fmtcanon_argument *", "size_t"],
     "&mut CError": ["fmtcanon_error *"],
     "&mut CComparison": ["fmtcanon_comparison *"],
@@ -43,13 +45,14 @@ NUMBERS = {"i64": "int64_t", "u64": "uint64_t", "u32": "uint32_t"}
 # The types as the program writes them, and the numbers of the library.
 TYPES = ["int", "unsigned int", "long", "unsigned long", "long long", "unsigned long long", "string"]
 # What outcomes.c has: calls, pairs of texts, data models with an invalid one, and sizes of room.
-OUTCOMES = (24, 24, 4, 6)
+OUTCOMES = (25, 24, 4, 6)
 # The programs of tests/library, with what each is linked with, and the line that it prints if it finds nothing wrong.
 PROGRAMS = [
     ("edges", WRAPPED, "the edges are as the header says"),
     ("bounds", WRAPPED, "the numbers of bytes are as the header says"),
     ("fewer", WRAPPED, "formats from outside are as the header says"),
     ("outcomes", WRAPPED, "calls {}, pairs of texts {}, data models {}, rooms {}".format(*OUTCOMES)),
+    ("specifications", [], "the parts of specifications are as the header says"),
     ("rendered", WRAPPED, "directives 12750, printed as by snprintf"),
     ("whole", [], "the whole language is as the header says"),
 ]
@@ -130,6 +133,7 @@ def test_header(trials):
         ("fmtcanon_error", "interface", "CError"),
         ("fmtcanon_comparison", "comparison", "CComparison"),
         ("fmtcanon_directive", "directives", "CDirective"),
+        ("fmtcanon_specification", "specifications", "CSpecification"),
         ("fmtcanon_bounds", "byte_counts", "CBounds"),
         ("fmtcanon_argument", "arguments", "CArgument"),
     ]
@@ -166,9 +170,13 @@ def try_header_laws(errors, trials):
     kinds = re.findall(r"^literal_kind_in_header (\w+) = (\d+)$", text, flags=re.MULTILINE)
     numbers = {re.sub(r"(?<!^)(?=[A-Z])", "_", name).upper(): int(number) for name, number in kinds}
     trials.expect("kinds of faults of literals in the laws", numbers, header_numbers("fmtcanon_literal_kind"))
-    power = re.search(r"NO_ARGUMENT ≡ 2 \^ (\d+) - 1$", text, flags=re.MULTILINE)
-    none = re.search(r"FMTCANON_NO_ARGUMENT UINT(\d+)_MAX", header_text())
-    trials.expect("the index that stands for no argument", power and power.group(1), none and none.group(1))
+    bits = dict(re.findall(r"^part_in_header \(?(?:Flag )?(\w+)\)? = (\d+)$", text, flags=re.MULTILINE))
+    parts = {f"PART_{name.upper()}": int(bit) for name, bit in bits.items()}
+    trials.expect("parts in the laws", parts, header_numbers("fmtcanon_part"))
+    for name in ("NO_ARGUMENT", "NONE"):
+        power = re.search(rf"= {name} ≡ 2 \^ (\d+) - 1$", text, flags=re.MULTILINE)
+        none = re.search(rf"FMTCANON_{name} UINT(\d+)_MAX", header_text())
+        trials.expect(f"the number of {name} in the laws", power and power.group(1), none and none.group(1))
 
 
 def lines_of(words, **options):

@@ -44,6 +44,7 @@ CALLS = [
     ("fits", ARGUMENTS, 0.04),
     ("fits_fewer", ARGUMENTS, 0.1),
     ("directives", ARGUMENTS, 0.1),
+    ("specifications", ARGUMENTS, 0.4),
     ("literal_runs", DIRECTIVES, 0.4),
     ("whole_profile", MEGABYTE, 1.2),
     ("canonical", MEGABYTE, 0.1),

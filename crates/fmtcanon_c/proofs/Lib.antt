@@ -1,4 +1,5 @@
 pub mod CodeLemmas
+mod RecordLemmas
 mod ModelSums
 mod RelationLemmas
 mod HeaderLemmas

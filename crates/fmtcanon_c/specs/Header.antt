@@ -3,6 +3,12 @@ use Rattle.std.specs.Prelude.{◌≡◌, ℕ, ◌+◌, ◌-◌, ◌^◌, ℤ, po
 use Rattle.pf_literals.specs.Kinds.{literal_kind_number}
 use Rattle.pf_literals.specs.declared.faults.LiteralKind.{LiteralKind}
 use Rattle.pf_literals.specs.declared.faults.LiteralKind.TheVariants.{NoLiteral, Unterminated, BadEscape, EscapeTooLarge, ZeroByte, Trigraph}
+use Rattle.pf_values.specs.declared.flags.Flag.TheVariants.{Minus, Plus, Space, Alt, Zero, Group}
+use Rattle.pf_whole.specs.declared.parts.Part.{Part}
+use Rattle.pf_whole.specs.declared.parts.Part.TheVariants.{Flag, Width, Precision, Modifier}
+use Rattle.pf_whole.specs.Parts.{only}
+use Rattle.fmtcanon_c.specs.Specifications.{part_bits}
+use Rattle.fmtcanon_c.specs.declared.specifications.TheConstants.{NONE}
 use Rattle.fmtcanon_c.specs.declared.byte_counts.TheConstants.{UNBOUNDED}
 use Rattle.fmtcanon_c.specs.declared.directives.TheConstants.{NO_ARGUMENT}
 use Rattle.fmtcanon_c.specs.declared.interface.TheConstants.{LITERAL_KINDS, NO_MEMORY, NO_MODEL, NO_PLACE, WRONG_COUNT, WRONG_TYPE}
@@ -36,6 +42,18 @@ literal_kind_in_header EscapeTooLarge = 204
 literal_kind_in_header ZeroByte = 205
 literal_kind_in_header Trigraph = 206
 
+-- enum fmtcanon_part
+abbrev pub part_in_header : Part → ℕ
+part_in_header (Flag Minus) = 1
+part_in_header (Flag Plus) = 2
+part_in_header (Flag Space) = 4
+part_in_header (Flag Alt) = 8
+part_in_header (Flag Zero) = 16
+part_in_header (Flag Group) = 32
+part_in_header Width = 64
+part_in_header Precision = 128
+part_in_header Modifier = 256
+
 -- the codes that are not refusals are those of the header
 pub record AreErrorsOfHeader : Type 0 where
   pub memory : NO_MEMORY ≡ error_nomemory
@@ -51,6 +69,14 @@ HasNumberOfHeader kind = LITERAL_KINDS + literal_kind_number kind ≡ literal_ki
 -- FMTCANON_NO_ARGUMENT, which is UINT64_MAX
 abbrev pub IsArgumentOfHeader : Type 0
 IsArgumentOfHeader = NO_ARGUMENT ≡ 2 ^ 64 - 1
+
+-- a set of one part is its number in the header
+abbrev pub HasBitOfHeader : Part → Type 0
+HasBitOfHeader part = part_bits (only part) ≡ part_in_header part
+
+-- FMTCANON_NONE, which is UINT64_MAX
+abbrev pub IsNoneOfHeader : Type 0
+IsNoneOfHeader = NONE ≡ 2 ^ 64 - 1
 
 -- FMTCANON_UNBOUNDED, which is UINT64_MAX
 abbrev pub IsUnboundedOfHeader : Type 0

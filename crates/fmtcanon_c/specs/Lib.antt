@@ -6,6 +6,7 @@ pub mod Words
 pub mod Calls
 pub mod Literals
 pub mod Directives
+pub mod Specifications
 pub mod Relations
 pub mod ByteCounts
 pub mod Arguments

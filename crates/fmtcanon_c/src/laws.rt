@@ -1,6 +1,7 @@
 //! Laws on the numbers that C programs see. Each is the contract of a function that does nothing.
-ghost use Rattle.fmtcanon_c.specs.Header.{AreErrorsOfHeader, HasNumberOfHeader, IsArgumentOfHeader, IsUnboundedOfHeader};
+ghost use Rattle.fmtcanon_c.specs.Header.{AreErrorsOfHeader, HasNumberOfHeader, HasBitOfHeader, IsArgumentOfHeader, IsNoneOfHeader, IsUnboundedOfHeader};
 ghost use Rattle.pf_literals.specs.declared.faults.LiteralKind.{LiteralKind};
+ghost use Rattle.pf_whole.specs.declared.parts.Part.{Part};
 
 /// Proves that the codes that are not refusals have the numbers of the header.
 pub fn errors_of_header()
@@ -15,6 +16,16 @@ pub fn literal_kinds_of_header()
 /// Proves that the index that means "no argument" is the header's.
 pub fn no_argument_of_header()
     ensures { IsArgumentOfHeader }
+{}
+
+/// Proves that each part of a specification has its bit of the header.
+pub fn parts_of_header()
+    ensures { (part : Part) → HasBitOfHeader part }
+{}
+
+/// Proves that the number that means "no number, or no offset" is the header's.
+pub fn none_of_header()
+    ensures { IsNoneOfHeader }
 {}
 
 /// Proves that the number that means "no largest number of bytes" is the header's.

@@ -12,3 +12,4 @@ mod laws;
 mod literals;
 mod relations;
 mod rendering;
+mod specifications;

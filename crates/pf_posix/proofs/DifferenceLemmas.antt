@@ -170,7 +170,7 @@ counted_too model first second found count h k =
     }
 
 -- numbered arguments are few
-fetched_few : (fs : List Fetch) (place : ℕ) → AllByRecursion IsWithin fs → IsFetched place fs → place < ROOM
+pub fetched_few : (fs : List Fetch) (place : ℕ) → AllByRecursion IsWithin fs → IsFetched place fs → place < ROOM
 fetched_few [] place h f = absurd f
 fetched_few (g ∷ fs) place h (inl e) = let few = (h.0 (place + 1) e).1 in omega (arith, few)
 fetched_few (g ∷ fs) place h (inr e) = fetched_few fs place h.1 e

@@ -14,7 +14,7 @@ use Rattle.pf_posix.specs.declared.types.ArgumentType.{ArgumentType}
 use Rattle.pf_text.specs.Walks.{HasPassed, IsPercent, IsWalkOver}
 use Rattle.pf_text.specs.declared.walk.Walk.{Walk}
 use Rattle.pf_text.proofs.ReadingLemmas.{moved_over}
-use Rattle.pf_posix.specs.Directives.{HasDirectiveCount, TakesFrom, directive_between, directives_from}
+use Rattle.pf_posix.specs.Directives.{HasDirectiveCount, HasDirectives, TakesFrom, directive_between, directives_from}
 use Rattle.pf_posix.specs.DirectivesInText.{IsBehindItem, IsListedBehind, IsListedTo}
 use Rattle.pf_posix.specs.Items.{Byte, Errno, HasArguments, PosixItem, ReadsPosix, Specification, errno}
 use Rattle.pf_posix.specs.Laws.{filled}
@@ -181,7 +181,7 @@ pub record IsListing (model : Model) (t : Text) (walk : Walk) (fetched count : �
 
 module _ (model : Model) (t : Text) where
   -- before the first item
-  pub listing_starts : (types : List ArgumentType) → HasArguments model t types → (walk : Walk) → IsWalkOver t walk → walk.at ≡ 0 → (old : List DirectiveSpan)
+  unfoldable pub listing_starts : (types : List ArgumentType) → HasArguments model t types → (walk : Walk) → IsWalkOver t walk → walk.at ≡ 0 → (old : List DirectiveSpan)
       → IsListing model t walk 0 0 old old
   listing_starts types given walk over start old =
       let all = directives_from model 0 0 t given.items given.reads in
@@ -204,7 +204,7 @@ module _ (model : Model) (t : Text) where
 
     module _ (end : ℕ) (low : walk.at < end) where
       -- an item that is a byte, and what a walk passes after it
-      pub listing_passed : (after : Walk) → HasPassed IsPercent (record walk { at = end }) after → IsListedTo model t all end fetched h.done
+      unfoldable pub listing_passed : (after : Walk) → HasPassed IsPercent (record walk { at = end }) after → IsListedTo model t all end fetched h.done
           → IsListing model t after fetched count old new
       listing_passed after passed listed =
           let now = walked t (λ k. IsListedTo model t all k fetched h.done)
@@ -224,7 +224,7 @@ module _ (model : Model) (t : Text) where
           }
 
       -- a specification
-      pub listing_found : (read : Read) → IsListedBehind model t all walk.at fetched h.done (Some read) end
+      unfoldable pub listing_found : (read : Read) → IsListedBehind model t all walk.at fetched h.done (Some read) end
           → (span : DirectiveSpan) → span ≡ directive_between model walk.at end fetched (specification_read read)
           → (more : ℕ) → more ≡ length (fetches model (specification_read read)) → more ≤ 3
           → (put : List DirectiveSpan)
@@ -245,25 +245,24 @@ module _ (model : Model) (t : Text) where
             few_fetched = omega (arith, h.few_fetched, low, many);
           }
 
-    -- after the last item
-    pub listing_ends : length t ≤ walk.at → HasDirectiveCount model t old new count
-    listing_ends over = go h.listed.items h.listed.reads h.listed.all_are where
-      none : drop walk.at t ≡ []
-      none = drop_all walk.at t over
-
+    -- after the last item, all are listed
+    pub all_listed : length t ≤ walk.at → h.done ≡ all
+    all_listed over = go h.listed.items h.listed.reads h.listed.all_are where
       go : (items : List PosixItem) (reads : ReadsPosix (drop walk.at t) items)
-          → all ≡ h.done ++ directives_from model walk.at fetched (drop walk.at t) items reads → HasDirectiveCount model t old new count
-      go (item ∷ later) reads e = let no : item ∷ later ≡ [] = items_once _ (item ∷ later) [] reads none in cc
-      go [] reads e =
-          let are : h.done ≡ all = sym (append-nil h.done) ∙ sym e in
-          record {
-            directives = h.done;
-            listed = record {
-              types = h.types;
-              accepted = h.given;
-              directives_are = are;
-              typed = subst (AllByRecursion (TakesFrom h.types)) (sym are) (all_typed model h.types t h.given.items h.given.reads h.given.types_are);
-            };
-            count_is = h.count_is;
-            front = h.front;
-          }
+          → all ≡ h.done ++ directives_from model walk.at fetched (drop walk.at t) items reads → h.done ≡ all
+      go (item ∷ later) reads e = let no : item ∷ later ≡ [] = items_once _ (item ∷ later) [] reads (drop_all walk.at t over) in cc
+      go [] reads e = sym (append-nil h.done) ∙ sym e
+
+    -- and these are the specifications of the text
+    pub has_listed : length t ≤ walk.at → HasDirectives model t h.done
+    has_listed over =
+        let are = all_listed over in
+        record {
+          types = h.types;
+          accepted = h.given;
+          directives_are = are;
+          typed = subst (AllByRecursion (TakesFrom h.types)) (sym are) (all_typed model h.types t h.given.items h.given.reads h.given.types_are);
+        }
+
+    pub listing_ends : length t ≤ walk.at → HasDirectiveCount model t old new count
+    listing_ends over = record { directives = h.done; listed = has_listed over; count_is = h.count_is; front = h.front }

@@ -2,7 +2,7 @@
 use Rattle.std.proofs.Common.{◌≡◌, ◌≢◌, ℕ, ◌+◌, ◌<◌, ◌≤◌, Bool, true, false, List, [], ◌∷◌, ◌++◌, get_or, length, refl, sym, ap, ◌∙◌, arith, inl, inr, subst, suc}
 use Rattle.std.proofs.Common.{drop}
 use Rattle.std.specs.Prelude.{Option, Some, None, is_some, ◌==◌, ◌||◌, ◌⊎◌, MatchBool, if◌then◌else◌, unwrap_or}
-use Rattle.std.proofs.lemmas.Bool.{eqb-false, eqb-true}
+use Rattle.std.proofs.lemmas.Bool.{cases_lt, eqb-false, eqb-true}
 use Rattle.std.proofs.lemmas.Bool.Decides.{nat_tests}
 use Rattle.std.proofs.lemmas.List.{append_assoc, length-drop, append-nil, length_push}
 use Rattle.pf_values.specs.declared.flags.FlagSet.{FlagSet}
@@ -10,6 +10,7 @@ use Rattle.pf_values.specs.declared.limits.TheConstants.{MAX_NUMBER}
 use Rattle.pf_values.specs.declared.models.Model.{Model}
 use Rattle.pf_values.specs.declared.refusals.RefusalKind.{RefusalKind}
 use Rattle.pf_values.specs.declared.refusals.RefusalKind.TheVariants.{BadPercent, Mixed, NulByte, PrecisionTooLarge, WidthTooLarge}
+use Rattle.pf_values.specs.declared.refusals.RefusalKind.TheVariants.{AltUndefined, CountUndefined, GroupUndefined, LengthUndefined, PrecisionUndefined, ZeroUndefined}
 use Rattle.pf_values.specs.meaning.Defined.{is_above_limit}
 use Rattle.pf_values.specs.meaning.Digits.{AreDigits}
 use Rattle.pf_values.specs.meaning.Spelling.{width_spelled}
@@ -24,20 +25,23 @@ use Rattle.pf_posix.specs.declared.fetches.Fetch.{Fetch}
 use Rattle.pf_posix.specs.declared.specifications.Numbering.{Numbering}
 use Rattle.pf_posix.specs.declared.specifications.Numbering.TheVariants.{Undecided, Unnumbered, Numbered}
 use Rattle.pf_posix.specs.Beginnings.{EndsInFirst, EndsInStar, EndsInStarDigits, IsBegunAs, IsUndecided, SpellsAmount, TakesAmount}
-use Rattle.pf_posix.specs.Halts.{FollowsBy, Halts, IsHalt, IsStrayAt, stray, BeginsNoneAfter}
+use Rattle.pf_posix.specs.Halts.{FollowsBy, Halts, IsHalt, IsStrayAt, stray, BeginsNoAfter, BeginsNoneAfter, is_of_combination}
 use Rattle.pf_posix.specs.Refusals.{IsPosixRefusedByte, IsWrong, MixesStar, PassesLimit, numbering_of}
 use Rattle.pf_posix.specs.Specifications.{Amount, PosixSpecification}
 use Rattle.pf_posix.specs.Spelling.{SpellsUpToFlags, SpellsUpToWidth, SpellsPosix}
 use Rattle.pf_posix.specs.Types.{star_fetches, fetch, int_type}
 use Rattle.pf_posix.proofs.OneState.{never_empty, one_state, ends_here, from_end, ends, shrinks}
 use Rattle.pf_posix.proofs.OutcomeLemmas.{digits_begun, digits_there, first_too_large, star_digits_at, refused, begins, completes, end_back, step_back, unmixed}
-use Rattle.pf_posix.proofs.PartLemmas.{no_first_digit, numeral_read, head_at, inside_at}
+use Rattle.pf_posix.proofs.PartLemmas.{bool_no, no_first_digit, numeral_read, head_at, inside_at}
 use Rattle.pf_posix.proofs.PartStates.{PlaceOf, begun_of, place_of, state_of, StateOf}
 use Rattle.pf_posix.proofs.Steps.{IsBefore, IsStateAfter, Place, Width, Precision, State, Opened, First, Star, StarDigits, own_before, own_in, position_of}
 use Rattle.pf_posix.proofs.Steps.{too_large, finish, sign_of, step}
 use Rattle.pf_values.specs.declared.models.Model.TheVariants.{Lp64}
+use Rattle.pf_text.proofs.Sound.{find_holds}
 use Rattle.pf_text.proofs.Unique.{Cuts, Later, Sooner, cuts}
-use Rattle.pf_posix.specs.Defined.{IsPosixDefined}
+use Rattle.pf_posix.specs.declared.conversions.Conversion.{Conversion}
+use Rattle.pf_posix.specs.declared.conversions.Modifier.{Modifier}
+use Rattle.pf_posix.specs.Defined.{is_undefined_as, undefined_of}
 use Rattle.pf_posix.specs.Readings.{conflicts}
 use Rattle.pf_posix.proofs.Outcomes.{Begins, Ends, MayGoOn, Refuses, begun, ended, fetched_on, last_fetch, mixes}
 
@@ -338,21 +342,33 @@ module _ (numbering : Numbering) (part : Text) (byte : ℕ) (state : State) (at 
     go None k = let h = harmless numbering (fetch None int_type) in never None h.0 h.1 k refl
     go (Some f) k = let h = harmless numbering f in let clear = h.2 in never (Some f) h.0 h.1 k (rw clear refl)
 
-  -- nor is the one that ends a defined specification
-  ends_so : (s : PosixSpecification) → finish state (sign_of byte) ≡ Some s → FollowsBy numbering s.position → IsPosixDefined s → ⊥
-  ends_so s e follows defined =
-      let last = last_fetch Lp64 s in
-      let h = harmless numbering last in
-      let clear = h.2 in
-      let mixed = (end_back state (sign_of byte) s e numbering follows).0 in
-      let ended_so : ended Lp64 h.0 s None ≡ Ends s last = rw clear refl in
-      let no : Ends s last ≡ Refuses kind = sym ended_so ∙ ap (ended Lp64 h.0 s) (sym defined)
-      ∙ sym (completes Lp64 h.0 state byte (subst (λ q. mixes state q (sign_of byte) ≡ false) (sym h.1) mixed) s e)
-      ∙ refused Lp64 h.0 part state byte kind at (refused_byte h.0 h.1) in cc
+  -- nor is the one that ends a specification, unless that is undefined for this reason
+  ends_so : (s : PosixSpecification) → finish state (sign_of byte) ≡ Some s → FollowsBy numbering s.position → undefined_of s ≢ Some kind → ⊥
+  ends_so s e follows other = go (undefined_of s) refl where
+    last : Fetch
+    last = last_fetch Lp64 s
 
-pub halt_begins_none : (t : Text) (start : ℕ) (numbering : Numbering) (position : Option ℕ) (own : List Fetch) (refusal : Refusal)
-    → IsHalt t start numbering position own refusal → BeginsNoneAfter numbering (drop start t)
-halt_begins_none t start numbering position own refusal h text rest s spelled e follows defined =
+    h : AreHarmless numbering last
+    h = harmless numbering last
+
+    so : ended Lp64 h.0 s (undefined_of s) ≡ Refuses kind
+    so =
+        let mixed = (end_back state (sign_of byte) s e numbering follows).0 in
+        sym (completes Lp64 h.0 state byte (subst (λ q. mixes state q (sign_of byte) ≡ false) (sym h.1) mixed) s e)
+        ∙ refused Lp64 h.0 part state byte kind at (refused_byte h.0 h.1)
+
+    go : (o : Option RefusalKind) → undefined_of s ≡ o → ⊥
+    go (Some k) d = let no : Refuses k ≡ Refuses kind = ap (ended Lp64 h.0 s) (sym d) ∙ so in let same : k ≡ kind = cc in other (d ∙ ap Some same)
+    go None d =
+        let clear = h.2 in
+        let ended_so : ended Lp64 h.0 s None ≡ Ends s last = rw clear refl in
+        let no : Ends s last ≡ Refuses kind = sym ended_so ∙ ap (ended Lp64 h.0 s) (sym d) ∙ so in cc
+
+-- a specification that begins there is undefined for the reason that is given
+pub halt_begins : (t : Text) (start : ℕ) (numbering : Numbering) (position : Option ℕ) (own : List Fetch) (refusal : Refusal)
+    → IsHalt t start numbering position own refusal → (text rest : Text) (s : PosixSpecification) → SpellsPosix text s → drop start t ≡ text ++ rest
+    → FollowsBy numbering s.position → undefined_of s ≢ Some refusal.kind → ⊥
+halt_begins t start numbering position own refusal h text rest s spelled e follows other =
     go (cuts text rest h.part (drop refusal.at t) (sym e ∙ bytes_rest t start refusal.at h.part h.bytes)) where
       b : StateOf h.part position own
       b = state_of h.part position own h.begun
@@ -383,4 +399,35 @@ halt_begins_none t start numbering position own refusal h text rest s spelled e 
             (subst (λ n. IsUndecided h.part ⊎ FollowsBy n position) (sym q) h.follows))
 
         ended_here : SpellsPosix (h.part ++ byte ∷ []) s → ⊥
-        ended_here k = let a = ends h.part byte s k in ends_so numbering h.part byte a.state a.after refusal.kind refused_here s a.goes follows defined
+        ended_here k = let a = ends h.part byte s k in ends_so numbering h.part byte a.state a.after refusal.kind refused_here s a.goes follows other
+
+pub halt_begins_none : (t : Text) (start : ℕ) (numbering : Numbering) (position : Option ℕ) (own : List Fetch) (refusal : Refusal)
+    → IsHalt t start numbering position own refusal → BeginsNoneAfter numbering (drop start t)
+halt_begins_none t start numbering position own refusal h text rest s spelled e follows defined =
+    halt_begins t start numbering position own refusal h text rest s spelled e follows (λ some. let no : None ≡ Some refusal.kind = sym defined ∙ some in cc)
+
+-- if it is refused for no combination of parts, none begins there
+pub halt_begins_no : (t : Text) (start : ℕ) (numbering : Numbering) (position : Option ℕ) (own : List Fetch) (refusal : Refusal)
+    → IsHalt t start numbering position own refusal → is_of_combination refusal.kind ≡ false → BeginsNoAfter numbering (drop start t)
+halt_begins_no t start numbering position own refusal h early text rest s spelled e follows =
+    halt_begins t start numbering position own refusal h text rest s spelled e follows (λ some.
+    bool_no (of_combination s.flags (is_some s.width) (is_some s.precision) s.modifier s.conversion refusal.kind (find_holds (is_undefined_as s.flags (is_some s.width) (is_some s.precision) s.modifier s.conversion)
+    combinations refusal.kind some)) early) where
+      combinations : List RefusalKind
+      combinations = AltUndefined ∷ ZeroUndefined ∷ GroupUndefined ∷ PrecisionUndefined ∷ LengthUndefined ∷ CountUndefined ∷ []
+
+      of_combination : (set : FlagSet) (width precision : Bool) (modifier : Modifier) (conversion : Conversion) (kind : RefusalKind)
+          → is_undefined_as set width precision modifier conversion kind ≡ true → is_of_combination kind ≡ true
+      of_combination set width precision modifier conversion kind h = grind arith
+
+-- a byte that isn't allowed is refused for no combination
+pub stray_early : (t : Text) (at : ℕ) (kind : RefusalKind) (refusal : Refusal) → IsStrayAt t at kind refusal → is_of_combination kind ≡ false
+    → is_of_combination refusal.kind ≡ false
+stray_early t at kind refusal h early = elim (cases_lt at (length t)) [
+  | inl less ↦ ap is_of_combination (h.inside less) ∙ go (get_or t at 0 == 0) (get_or t at 0 == 37)
+  | inr over ↦ ap is_of_combination (h.ended over)
+] where
+  go : (zero percent : Bool) → is_of_combination (if zero then NulByte else if percent then BadPercent else kind) ≡ false
+  go true percent = refl
+  go false true = refl
+  go false false = early

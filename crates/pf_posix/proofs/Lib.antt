@@ -30,3 +30,6 @@ pub mod StretchLemmas
 mod Examples
 pub mod DirectiveLemmas
 pub mod ErrnoAside
+pub mod SpecificationSpanLemmas
+mod RefusedSpecificationLemmas
+mod MissingArgumentLemmas

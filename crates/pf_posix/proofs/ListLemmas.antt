@@ -59,7 +59,7 @@ module _ (model : Model) where
       ∙ subst (λ items. (reads : ReadsPosix t items) → directives_from model 0 0 t h.accepted.items h.accepted.reads ≡ directives_from model 0 0 t items reads)
       same (λ reads. same_from 0 0 0 t t h.accepted.items h.accepted.reads reads refl refl) k.accepted.reads ∙ sym k.directives_are
 
-all_filled : {X : Type 0} (old all : List X) → length old ≡ length all → filled old all ≡ all
+pub all_filled : {X : Type 0} (old all : List X) → length old ≡ length all → filled old all ≡ all
 all_filled [] [] e = refl
 all_filled [] (x ∷ all) e = absurd (omega (arith, e))
 all_filled (o ∷ old) [] e = absurd (omega (arith, e))

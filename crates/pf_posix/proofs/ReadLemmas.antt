@@ -34,7 +34,7 @@ use Rattle.pf_posix.specs.declared.specifications.Refused.{Refused}
 use Rattle.pf_posix.specs.declared.specifications.Specification.{Specification}
 use Rattle.pf_posix.specs.Defined.{undefined_of}
 use Rattle.pf_posix.specs.Halts.{FollowsBy, HaltsAtPosition, HaltsAtPrecision, HaltsAtWidth, HasStar, HasStars, IsHalt, IsReadAt, IsRefusedIn, IsStarAt, IsStrayAt}
-use Rattle.pf_posix.specs.Halts.{one_fetch}
+use Rattle.pf_posix.specs.Halts.{IsUnreadIn, is_of_combination, one_fetch}
 use Rattle.pf_posix.specs.Letters.{conversion_of, length_modifier_of}
 use Rattle.pf_posix.specs.OpaqueParts.{amount_at, parts_of_opaque}
 use Rattle.pf_posix.specs.PartsInText.{IsFirstWidth, ModifierEnds, NumbersStar, PrecisionEnds, WidthEnds, second_modifier, specification_read}
@@ -45,7 +45,8 @@ use Rattle.pf_posix.specs.Spelling.{SpellsUpToPrecision, SpellsUpToWidth}
 use Rattle.pf_posix.specs.Types.{int_type, star_fetches}
 use Rattle.pf_posix.specs.Beginnings.{IsBegunAs, IsUndecided}
 use Rattle.pf_posix.proofs.FrontRefusals.{undecided_own}
-use Rattle.pf_posix.proofs.HaltLemmas.{IsNoOther, halt_at, halt_stray, one_on, halt_begins_none}
+use Rattle.pf_posix.proofs.HaltLemmas.{IsNoOther, halt_at, halt_stray, one_on, halt_begins_no, halt_begins_none}
+use Rattle.pf_posix.proofs.LetterLemmas.{letter_tests}
 use Rattle.pf_posix.proofs.OneState.{one_state}
 use Rattle.pf_posix.proofs.OutcomeLemmas.{no_some, nowhere}
 use Rattle.pf_posix.proofs.Outcomes.{exceeds, mixes}
@@ -325,6 +326,8 @@ module _ (t : Text) (start : ℕ) (numbering : Numbering) (position : Option ℕ
 
         pub read_there : (conversion : Conversion) (read : Specification) → read ≡ record {
           position = position;
+          flags_start = k;
+          flags_stop = a;
           parts = record { flags = set; width = width; precision = precision; modifier = modifier; conversion = conversion };
           stars = record { width = width_number; width_stop = b; precision = precision_number; precision_stop = c };
         } → HasBytes t d (d + 1) (conversion_letter conversion ∷ []) → IsReadAt t start numbering (read, d + 1)
@@ -339,15 +342,29 @@ module _ (t : Text) (start : ℕ) (numbering : Numbering) (position : Option ℕ
                   whole = refl;
                 });
               };
+              parts = record {
+                sign = bytes_one t start 37 less (sym percent);
+                number = number_read;
+                flags = flags_read;
+                width = width_read;
+                precision = precision_read;
+                modifier = subst (λ last. HasBytes t c last (modifier_letters modifier)) before_last modifier_read;
+                conversion = subst (λ last. HasBytes t last (d + 1) (conversion_letter conversion ∷ [])) before_last letter;
+              };
               follows = follows;
               stars = has_stars;
             }) where
               made : Specification
               made = record {
                 position = position;
+                flags_start = k;
+                flags_stop = a;
                 parts = record { flags = set; width = width; precision = precision; modifier = modifier; conversion = conversion };
                 stars = record { width = width_number; width_stop = b; precision = precision_number; precision_stop = c };
               }
+
+              before_last : d ≡ d + 1 - 1
+              before_last = omega arith
 
               whole : HasBytes t start (d + 1) (part ++ conversion_letter conversion ∷ [])
               whole = bytes_join t start d (d + 1) part (conversion_letter conversion ∷ []) part_bytes letter
@@ -534,3 +551,11 @@ refused_undefined t start numbering read stop kind is undefined refused made =
       later model fetches same (inr f) = f
       later model fetches same (inl u) =
           subst (λ q. FollowsBy q read.position) (sym (same (undecided_own part read.position own u begun))) is.follows
+
+-- for no combination of parts
+pub unread : (t : Text) (start : ℕ) (numbering : Numbering) (refused : Refused) (refusal : Refusal) (stars : Stars)
+    → refused ≡ record { refusal = refusal; stars = stars } → IsRefusedIn t start numbering refused → is_of_combination refusal.kind ≡ false
+    → IsUnreadIn t start numbering refused
+unread t start numbering refused refusal stars is h early =
+    let same : is_of_combination refused.refusal.kind ≡ false = ap (λ r. is_of_combination r.refusal.kind) is ∙ early in
+    record { refused_is = h; begins = halt_begins_no t start numbering h.position h.own refused.refusal h.halt same }

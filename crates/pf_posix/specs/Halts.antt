@@ -1,10 +1,10 @@
 -- At which byte a specification is refused, and why, as the code reads it part by part. No public contract names
 -- these.
-use Rattle.std.specs.Prelude.{◌≡◌, ℕ, ◌-◌, ◌<◌, ◌≤◌, true, List, [], ◌∷◌, ◌++◌, drop, get_or, is_some, length, Option, Some, None, ◌⊎◌, ◌==◌, if◌then◌else◌, ⊤}
+use Rattle.std.specs.Prelude.{◌≡◌, ℕ, ◌-◌, ◌<◌, ◌≤◌, Bool, true, false, List, [], ◌∷◌, ◌++◌, drop, get_or, is_some, length, Option, Some, None, ◌⊎◌, ◌==◌, if◌then◌else◌, ⊤}
 use Rattle.pf_values.specs.declared.flags.FlagSet.{FlagSet}
 use Rattle.pf_values.specs.declared.models.Model.{Model}
 use Rattle.pf_values.specs.declared.refusals.RefusalKind.{RefusalKind}
-use Rattle.pf_values.specs.declared.refusals.RefusalKind.TheVariants.{BadPercent, NulByte, Truncated}
+use Rattle.pf_values.specs.declared.refusals.RefusalKind.TheVariants.{AltUndefined, BadPercent, CountUndefined, GroupUndefined, LengthUndefined, NulByte, PrecisionUndefined, Truncated, ZeroUndefined}
 use Rattle.pf_values.specs.meaning.Text.{Text, dollar, percent, point, star}
 use Rattle.pf_text.specs.Offsets.{HasBytes}
 use Rattle.pf_text.specs.declared.refusals.Refusal.{Refusal}
@@ -13,11 +13,13 @@ use Rattle.pf_posix.specs.declared.specifications.Numbering.{Numbering}
 use Rattle.pf_posix.specs.declared.specifications.Refused.{Refused}
 use Rattle.pf_posix.specs.declared.specifications.Specification.{Specification}
 use Rattle.pf_posix.specs.declared.specifications.Stars.{Stars}
+use Rattle.pf_posix.specs.declared.specification_spans.PartOffsets.{PartOffsets}
 use Rattle.pf_posix.specs.declared.types.ArgumentType.{ArgumentType}
 use Rattle.pf_posix.specs.Beginnings.{EndsInStarDigits, IsBegunAs, IsUndecided, TakesAmount}
 use Rattle.pf_posix.specs.Defined.{IsPosixDefined}
 use Rattle.pf_posix.specs.PartsInText.{IsSpecificationAt, specification_read}
 use Rattle.pf_posix.specs.Refusals.{Follows, IsPosixRefusedByte, numbering_by, numbering_of}
+use Rattle.pf_posix.specs.SpecificationSpans.{ArePartsAt}
 use Rattle.pf_posix.specs.Specifications.{Amount, PosixSpecification}
 use Rattle.pf_posix.specs.Spelling.{SpellsPosix, SpellsUpToFlags, SpellsUpToWidth}
 use Rattle.pf_posix.specs.Types.{fetch, int_type, star_fetches}
@@ -59,6 +61,21 @@ Halts t start numbering position own refusal = (now : List Fetch)
 abbrev pub BeginsNoneAfter : Numbering → Text → Type 0
 BeginsNoneAfter numbering t = (text rest : Text) (s : PosixSpecification) → SpellsPosix text s
     → t ≡ text ++ rest → FollowsBy numbering s.position → IsPosixDefined s → ⊥
+
+-- nor does one that isn't
+abbrev pub BeginsNoAfter : Numbering → Text → Type 0
+BeginsNoAfter numbering t = (text rest : Text) (s : PosixSpecification) → SpellsPosix text s
+    → t ≡ text ++ rest → FollowsBy numbering s.position → ⊥
+
+-- kinds of refusals for parts that aren't defined together
+abbrev pub is_of_combination : RefusalKind → Bool
+is_of_combination AltUndefined = true
+is_of_combination ZeroUndefined = true
+is_of_combination GroupUndefined = true
+is_of_combination PrecisionUndefined = true
+is_of_combination LengthUndefined = true
+is_of_combination CountUndefined = true
+is_of_combination _ = false
 
 -- so the text halts after its `%`
 abbrev pub HaltsAtPosition : Text → ℕ → Numbering → Refusal → Type 0
@@ -116,9 +133,19 @@ pub record HasStars (t : Text) (start : ℕ) (position : Option ℕ) (stars : St
   pub own_is : is_some position ≡ true
       → own ≡ one_fetch stars.width int_type ++ one_fetch stars.precision int_type
 
+-- where the parts of a specification begin that the code has read
+abbrev pub offsets_read : Specification → PartOffsets
+offsets_read read = record {
+  flags = read.flags_start;
+  width = read.flags_stop;
+  precision = read.stars.width_stop;
+  modifier = read.stars.precision_stop;
+}
+
 -- a specification that may follow others of a numbering is the bytes from an offset up to where it ends
 pub record IsReadAt (t : Text) (start : ℕ) (numbering : Numbering) (found : Specification × ℕ) : Type 0 where
   pub read : IsSpecificationAt t start found
+  pub parts : ArePartsAt t start found.1 (offsets_read found.0) (specification_read found.0)
   pub follows : FollowsBy numbering found.0.position
   pub stars : HasStars t start found.0.position found.0.stars
       (star_fetches (specification_read found.0).width ++ star_fetches (specification_read found.0).precision)
@@ -135,3 +162,8 @@ pub record IsRefusedIn (t : Text) (start : ℕ) (numbering : Numbering) (refused
   pub halt : IsHalt t start numbering position own refused.refusal
   pub stars : HasStars t start position refused.stars own
   pub none : BeginsNoneAfter numbering (drop start t)
+
+-- nor does one begin there that isn't defined
+pub record IsUnreadIn (t : Text) (start : ℕ) (numbering : Numbering) (refused : Refused) : Type 0 where
+  pub refused_is : IsRefusedIn t start numbering refused
+  pub begins : BeginsNoAfter numbering (drop start t)

@@ -22,4 +22,7 @@ pub mod StretchesInText
 pub mod ListComparisons
 pub mod Directives
 pub mod DirectivesInText
+pub mod SpecificationSpans
+pub mod RefusedSpecifications
+pub mod MissingArguments
 pub mod Plain

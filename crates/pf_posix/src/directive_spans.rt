@@ -1,14 +1,16 @@
 //! The conversion specifications of a format: which bytes they are, and which arguments they take.
-ghost use Rattle.std.specs.Prelude.{◌≡◌, ◌<◌, ◌≤◌, ◌*◌, ℕ, List, Option, length, drop, MatchResult};
+ghost use Rattle.std.specs.Prelude.{◌≡◌, ◌<◌, ◌≤◌, ◌*◌, ℕ, IfSome, List, Option, length, drop, MatchResult};
 ghost use Rattle.pf_values.specs.declared.limits.TheConstants.{MAX_TEXT_LEN as LIMIT};
 ghost use Rattle.pf_values.specs.declared.models.Model.{Model as ModelOf};
 ghost use Rattle.pf_posix.specs.declared.directive_spans.DirectiveSpan.{DirectiveSpan as DirectiveSpanOf};
 ghost use Rattle.pf_posix.specs.Directives.{FaultForDirectives, HasDirectiveCount, HasDirectives, argument_index, directive_between, star_index};
 ghost use Rattle.pf_posix.specs.DirectivesInText.{IsBehindItem, IsListedBehind, IsListedTo};
+ghost use Rattle.pf_posix.specs.Halts.{offsets_read};
 ghost use Rattle.pf_posix.specs.Items.{IsPosixAccepted, PosixItem, ReadsPosix};
 ghost use Rattle.pf_posix.specs.OpaqueParts.{amount_at};
 ghost use Rattle.pf_posix.specs.PartsInText.{specification_read};
 ghost use Rattle.pf_posix.specs.Refusals.{IsPosixRefusedAt};
+ghost use Rattle.pf_posix.specs.SpecificationSpans.{ArePartsAt};
 ghost use Rattle.pf_posix.specs.Types.{fetches, star_fetches};
 
 use crate::argument_types::{arguments, put, room_for};
@@ -118,6 +120,7 @@ pub(crate) fn item_at(text: &[u8], at: usize) -> (Option<Specification>, usize)
         → IsBehindItem text.now items result.0 result.1 }
     ensures listed { (model : ModelOf) (all done : List DirectiveSpanOf) (next : ℕ) → IsListedTo model text.now all at next done
         → IsListedBehind model text.now all at next done result.0 result.1 }
+    ensures parts { IfSome result.0 (λ read. ArePartsAt text.now at result.1 (offsets_read read) (specification_read read)) }
 {
     if text[at] != b'%' {
         return (None, at + 1);
@@ -134,8 +137,8 @@ pub(crate) fn item_at(text: &[u8], at: usize) -> (Option<Specification>, usize)
     (Some(read), end)
 }
 
-// The specification between two offsets, after `next` arguments were fetched.
-fn span_between(
+/// The specification between two offsets, after `next` arguments were fetched.
+pub(crate) fn span_between(
     model: Model,
     begin: usize,
     end: usize,

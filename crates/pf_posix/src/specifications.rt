@@ -11,7 +11,7 @@ ghost use Rattle.pf_posix.specs.OpaqueParts.{amount_at};
 ghost use Rattle.pf_posix.specs.Specifications.{conversion_letter, modifier_letters};
 ghost use Rattle.pf_posix.specs.Spelling.{SpellsPosition, SpellsPosixPrecision, SpellsPosixWidth};
 ghost use Rattle.pf_posix.specs.PartsInText.{IsFirstWidth, ModifierEnds, NumbersStar, PrecisionEnds, WidthEnds, second_modifier};
-ghost use Rattle.pf_posix.specs.Halts.{FollowsBy, HaltsAtPoint, HaltsAtPosition, HaltsAtPrecision, HaltsAtStar, HaltsAtWidth, IsDefinedAt, IsReadAt, IsRefusedIn, IsStrayAt};
+ghost use Rattle.pf_posix.specs.Halts.{FollowsBy, HaltsAtPoint, HaltsAtPosition, HaltsAtPrecision, HaltsAtStar, HaltsAtWidth, IsDefinedAt, IsReadAt, IsRefusedIn, IsStrayAt, IsUnreadIn, is_of_combination};
 
 use crate::conversions::{Conversion, Modifier};
 use crate::letters::{conversion_of, length_modifier_of};
@@ -49,6 +49,10 @@ pub(crate) struct Stars {
 pub(crate) struct Specification {
     /// The number of the argument that it converts.
     pub(crate) position: Option<u16>,
+    /// The offset of its flags.
+    pub(crate) flags_start: usize,
+    /// The offset after them.
+    pub(crate) flags_stop: usize,
     /// Its parts.
     pub(crate) parts: OpaqueDirective,
     /// The arguments of its `*`s.
@@ -98,14 +102,16 @@ pub(crate) fn specification_at(
     requires percent { get_or text.now start 0 ≡ percent }
     requires other { get_or text.now (start + 1) 0 ≢ percent }
     requires errno { get_or text.now (start + 1) 0 ≢ errno_letter }
-    ensures { MatchResult result (IsReadAt text.now start numbering) (IsRefusedIn text.now start numbering) }
+    ensures { MatchResult result (IsReadAt text.now start numbering) (IsUnreadIn text.now start numbering) }
 {
     let none = Stars::none(start);
     let (position, at) = match position_at(text, start + 1, numbering) {
         Ok(read) => read,
         Err(refusal) => return Err(none.refused(refusal)),
     };
+    let flags_start = at;
     let (flags, at) = flags_at(text, at);
+    let flags_stop = at;
     let (width, width_number, width_stop) = match width_at(text, at, position) {
         Ok(read) => read,
         Err(refusal) => return Err(none.refused(refusal)),
@@ -130,6 +136,8 @@ pub(crate) fn specification_at(
     };
     let read = Specification {
         position,
+        flags_start,
+        flags_stop,
         parts,
         stars,
     };
@@ -223,6 +231,7 @@ fn position_at(
     ensures follows { IfOk result (λ read. FollowsBy numbering read.0) }
     ensures first { IfOk result (λ read. read.0 ≡ None → IsFirstWidth text.now start) }
     ensures halt { IfErr result (HaltsAtPosition text.now start numbering) }
+    ensures early { IfErr result (λ refusal. is_of_combination refusal.kind ≡ false) }
 {
     let (number, stop) = number_at(text, start);
     let Some(number) = number else {
@@ -260,6 +269,7 @@ fn star_number_at(
         × (is_some read.0 ≡ is_some position) × HasBytes text.now start read.1 bytes) }
     ensures ended { IfOk result (λ read. position ≡ None → is_digit (get_or text.now read.1 0) ≡ false) }
     ensures halt { IfErr result (HaltsAtStar text.now start position too_large) }
+    ensures early { is_of_combination too_large ≡ false → IfErr result (λ refusal. is_of_combination refusal.kind ≡ false) }
 {
     if position.is_none() {
         if has_digit(text, start) {
@@ -294,6 +304,7 @@ fn width_at(
     ensures number { IfOk result (λ read. NumbersStar read.0 read.1) }
     ensures ended { IfOk result (λ read. WidthEnds text.now read.2 position read.0) }
     ensures halt { IfErr result (HaltsAtWidth text.now start position) }
+    ensures early { IfErr result (λ refusal. is_of_combination refusal.kind ≡ false) }
 {
     if has_byte(text, start, b'*') {
         return match star_number_at(text, start + 1, position, RefusalKind::WidthTooLarge) {
@@ -325,6 +336,7 @@ fn precision_at(
     ensures number { IfOk result (λ read. NumbersStar read.0 read.1) }
     ensures ended { IfOk result (λ read. PrecisionEnds text.now start read.2 position read.0) }
     ensures halt { IfErr result (HaltsAtPrecision text.now start position) }
+    ensures early { IfErr result (λ refusal. is_of_combination refusal.kind ≡ false) }
 {
     if !has_byte(text, start, b'.') {
         return Ok((None, None, start));
@@ -348,6 +360,7 @@ fn after_point(
     ensures number { IfOk result (λ read. NumbersStar (Some read.0) read.1) }
     ensures ended { (before : ℕ) → start ≡ before + 1 → IfOk result (λ read. PrecisionEnds text.now before read.2 position (Some read.0)) }
     ensures halt { IfErr result (HaltsAtPoint text.now start position) }
+    ensures early { IfErr result (λ refusal. is_of_combination refusal.kind ≡ false) }
 {
     if has_byte(text, start, b'*') {
         return match star_number_at(text, start + 1, position, RefusalKind::PrecisionTooLarge) {

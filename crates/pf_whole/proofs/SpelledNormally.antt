@@ -16,7 +16,7 @@ use Rattle.pf_posix.specs.Spelling.{SpellsPosition, SpellsPosix, SpellsPosixPrec
 use Rattle.pf_posix.specs.Opaque.{OpaqueErrno, OpaqueItem, OpaqueSpecification, SpellsOpaque, SpellsOpaqueItem}
 use Rattle.pf_posix.proofs.SpecificationsOnce.{is_defined, no_reason, HasParts, no_number, parts_of}
 use Rattle.pf_whole.specs.meaning.NormalSpellings.{directive_spelling, is_given, is_integer, kept_conversion, kept_flags, kept_modifier, normal_precision, normal_parts, normal_spelling}
-use Rattle.pf_whole.specs.meaning.NormalSpellings.{posix_precision_spelled, posix_width_spelled}
+use Rattle.pf_whole.specs.meaning.NormalSpellings.{posix_precision_spelled, posix_spelling_of, posix_width_spelled}
 use Rattle.pf_whole.proofs.NormalLemmas.{fewer_some, less, modifier_stands, normal_item, opaque_again, precision_same, same_conversion}
 
 none_placed : (number : Option ℕ) → number ≡ None → SpellsPosition [] number
@@ -38,12 +38,12 @@ width_here t (Some (Fetched number)) h = record {
 }
 
 -- the precision is one that can be spelled
-abbrev IsFew : Option Amount → Type 0
+abbrev pub IsFew : Option Amount → Type 0
 IsFew None = ⊤
 IsFew (Some (Given n)) = n ≤ MAX_NUMBER
 IsFew (Some (Fetched number)) = is_some number ≡ false
 
-few_of : (t : Text) (precision : Option Amount) → SpellsPosixPrecision t None precision → IsFew precision
+pub few_of : (t : Text) (precision : Option Amount) → SpellsPosixPrecision t None precision → IsFew precision
 few_of t None h = tt
 few_of t (Some (Given n)) h = h.1
 few_of t (Some (Fetched number)) h = h.1.numbering
@@ -57,29 +57,33 @@ precision_here (Some (Given n)) h = (precision_read (Some n) (small n h), h)
 precision_here (Some (Fetched number)) h =
     (42 ∷ [], record { digits = []; digits_are = none_placed number (no_number number h); numbering = h; whole = refl }, refl)
 
-spelled_normally : (model : Model) (t : Text) (s : PosixSpecification) → HasParts t s → SpellsPosix (directive_spelling model s) (normal_parts model s)
-spelled_normally model t s h =
-    let set = kept_flags s in
-    let flags = filter (has set) all_flags in
-    let precision = normal_precision s.conversion s.precision in
-    let before = (37 ∷ map flag_byte flags ++ posix_width_spelled s.width) ++ posix_precision_spelled precision in
+-- the one spelling of parts that can be spelled
+pub spelled_parts : (s : PosixSpecification) → s.position ≡ None → (width : Text) → SpellsPosixWidth width None s.width → IsFew s.precision
+    → SpellsPosix (posix_spelling_of s) s
+spelled_parts s unnumbered width width_is few =
+    let flags = filter (has s.flags) all_flags in
+    let before = (37 ∷ map flag_byte flags ++ posix_width_spelled s.width) ++ posix_precision_spelled s.precision in
     record {
       before = before;
-      before_is = subst (λ p. SpellsUpToPrecision before p set s.width precision) (sym h.unnumbered) (record {
+      before_is = subst (λ p. SpellsUpToPrecision before p s.flags s.width s.precision) (sym unnumbered) (record {
         before = 37 ∷ map flag_byte flags ++ posix_width_spelled s.width;
-        text = posix_precision_spelled precision;
+        text = posix_precision_spelled s.precision;
         before_is = record {
           before = 37 ∷ map flag_byte flags;
           text = posix_width_spelled s.width;
-          before_is = record { number = []; flags = flags; number_is = refl; set_is = sym (set_kept set); whole = refl };
-          width_is = width_here h.width s.width h.width_is;
+          before_is = record { number = []; flags = flags; number_is = refl; set_is = sym (set_kept s.flags); whole = refl };
+          width_is = width_here width s.width width_is;
           whole = refl;
         };
-        precision_is = precision_here precision (few_kept s.conversion s.precision (few_of h.precision s.precision h.precision_is));
+        precision_is = precision_here s.precision few;
         whole = refl;
       });
       whole = refl;
     }
+
+spelled_normally : (model : Model) (t : Text) (s : PosixSpecification) → HasParts t s → SpellsPosix (directive_spelling model s) (normal_parts model s)
+spelled_normally model t s h = spelled_parts (normal_parts model s) h.unnumbered h.width h.width_is
+    (few_kept s.conversion s.precision (few_of h.precision s.precision h.precision_is))
 
 counted : (model : Model) (s : PosixSpecification) → (is_count s.conversion && (has_any_flag s.flags || is_some s.width || is_some s.precision)) ≡ false
     → (is_count s.conversion && (has_any_flag (kept_flags s) || is_some s.width || is_some (normal_precision s.conversion s.precision))) ≡ false

@@ -7,3 +7,5 @@ pub mod Calls
 pub mod Comparisons
 pub mod Languages
 pub mod Fronts
+pub mod Parts
+pub mod Needless

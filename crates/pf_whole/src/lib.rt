@@ -11,6 +11,8 @@ mod comparison;
 mod directives;
 mod languages;
 pub mod laws;
+mod needless;
+mod parts;
 mod spelling;
 mod verdicts;
 
@@ -18,4 +20,6 @@ pub use canonical_texts::{canonical, canonical_len, canonical_with_room, is_cano
 pub use comparison::same_text;
 pub use directives::normal_directive;
 pub use languages::Whole;
+pub use needless::{NeedlessParts, needless_parts};
+pub use parts::{Part, PartSet};
 pub use verdicts::{WholeVerdict, compare};

@@ -54,6 +54,21 @@ fn spell(directive: OpaqueDirective) -> Spelling
     out
 }
 
+/// Returns the one spelling of a directive's parts, as `spell` does, also of one that has the flag `'`.
+pub(crate) fn spell_parts(directive: OpaqueDirective) -> ArrayVec<u8, 21>
+    ensures bytes { result.items ≡ posix_spelling_of (parts_of_opaque directive) }
+    ensures short { array_vec_len result ≤ 21 }
+{
+    let mut out = ArrayVec::new();
+    out.push(b'%');
+    push_flags(&mut out, directive.flags);
+    push_width(&mut out, directive.width);
+    push_precision(&mut out, directive.precision);
+    push_letters(&mut out, directive.modifier);
+    out.push(directive.conversion.letter());
+    out
+}
+
 fn push_kept_flags(out: &mut Spelling, flags: FlagSet)
     requires group { has flags Group ≡ false }
     requires room { array_vec_len out.old ≤ 1 }
@@ -63,8 +78,8 @@ fn push_kept_flags(out: &mut Spelling, flags: FlagSet)
     push_flags(out, flags);
 }
 
-fn push_width(out: &mut Spelling, width: Option<OpaqueAmount>)
-    requires { array_vec_len out.old + 5 ≤ 20 }
+fn push_width<const N: usize>(out: &mut ArrayVec<u8, N>, width: Option<OpaqueAmount>)
+    requires { array_vec_len out.old + 5 ≤ N }
     ensures bytes { out.new.items ≡ out.old.items ++ posix_width_spelled (amount_of width) }
     ensures len { array_vec_len out.new ≤ array_vec_len out.old + 5 }
 {
@@ -73,8 +88,8 @@ fn push_width(out: &mut Spelling, width: Option<OpaqueAmount>)
     }
 }
 
-fn push_precision(out: &mut Spelling, precision: Option<OpaqueAmount>)
-    requires { array_vec_len out.old + 6 ≤ 20 }
+fn push_precision<const N: usize>(out: &mut ArrayVec<u8, N>, precision: Option<OpaqueAmount>)
+    requires { array_vec_len out.old + 6 ≤ N }
     ensures bytes { out.new.items ≡ out.old.items ++ posix_precision_spelled (amount_of precision) }
     ensures len { array_vec_len out.new ≤ array_vec_len out.old + 6 }
 {
@@ -85,8 +100,8 @@ fn push_precision(out: &mut Spelling, precision: Option<OpaqueAmount>)
 }
 
 // A number, or `*`.
-fn push_amount(out: &mut Spelling, amount: OpaqueAmount)
-    requires { array_vec_len out.old + 5 ≤ 20 }
+fn push_amount<const N: usize>(out: &mut ArrayVec<u8, N>, amount: OpaqueAmount)
+    requires { array_vec_len out.old + 5 ≤ N }
     ensures bytes { out.new.items ≡ out.old.items ++ posix_width_spelled (amount_of (Some amount)) }
     ensures len { array_vec_len out.new ≤ array_vec_len out.old + 5 }
 {
@@ -96,8 +111,8 @@ fn push_amount(out: &mut Spelling, amount: OpaqueAmount)
     }
 }
 
-fn push_number(out: &mut Spelling, number: u16)
-    requires { array_vec_len out.old + 5 ≤ 20 }
+fn push_number<const N: usize>(out: &mut ArrayVec<u8, N>, number: u16)
+    requires { array_vec_len out.old + 5 ≤ N }
     ensures bytes { out.new.items ≡ out.old.items ++ decimal number }
     ensures len { array_vec_len out.new ≤ array_vec_len out.old + 5 }
 {
@@ -106,8 +121,8 @@ fn push_number(out: &mut Spelling, number: u16)
         .unwrap();
 }
 
-fn push_letters(out: &mut Spelling, modifier: Modifier)
-    requires { array_vec_len out.old + 2 ≤ 20 }
+fn push_letters<const N: usize>(out: &mut ArrayVec<u8, N>, modifier: Modifier)
+    requires { array_vec_len out.old + 2 ≤ N }
     ensures bytes { out.new.items ≡ out.old.items ++ modifier_letters modifier }
     ensures len { array_vec_len out.new ≤ array_vec_len out.old + 2 }
 {

@@ -24,7 +24,7 @@ specification_at-requires-clause-errno c = eqb-false _ errno_letter (sym c.if-ha
 pub unreachable-requires : goal.unreachable-requires
 unreachable-requires c =
     some_specification c.args.text.now c.args.at c.requires.within c.requires.reads.0 c.requires.reads.1 c.if-text-at-ne37.false
-    (sym c.if-has_byte.ensures.same) (sym c.if-has_errno.ensures.same) c.in_default.ensures.none
+    (sym c.if-has_byte.ensures.same) (sym c.if-has_errno.ensures.same) c.in_default.ensures.refused_is.none
 
 pub returns-clause-listed : goal.returns-clause-listed
 returns-clause-listed c model all done next h =
@@ -49,3 +49,6 @@ pub returns-clause-item : goal.returns-clause-item
 returns-clause-item c =
     let read = c.in-Ok in
     item_specification c.args.text.now c.args.at c.requires.within c.if-text-at-ne37.false read.read read.end (sym c.if-has_byte.ensures.same) read.ensures.read
+
+pub returns-clause-parts : goal.returns-clause-parts
+returns-clause-parts c = c.in-Ok.ensures.parts

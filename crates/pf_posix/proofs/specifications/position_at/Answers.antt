@@ -22,6 +22,7 @@ returns-in_default-numbering c =
       follows = may_be_unnumbered c.args.numbering c.in_default-numbering.not-Numbered;
       first = λ none. number_missing t start number.result.1 bytes ended;
       halt = tt;
+      early = tt;
     }
 
 pub returns-then-has_digit-clause-halt : goal.returns-then-has_digit-clause-halt
@@ -51,6 +52,7 @@ returns-in_default-numbering-2 c =
       follows = may_be_numbered c.args.numbering c.in-Some.number c.in_default-numbering-2.not-Unnumbered;
       first = λ none. cc;
       halt = tt;
+      early = tt;
     }
 
 pub returns-in-Numbered-numbering-clause-halt : goal.returns-in-Numbered-numbering-clause-halt
@@ -71,4 +73,5 @@ returns-in_default-numbering-3 c =
       first = λ none. first_width t start c.in-Some.number number.result.1 (rw c.in-Some.is at number.ensures.bytes) (rw c.in-Some.is at number.ensures.some)
           (rw c.in-Some.is at number.ensures.small) (rw c.in-Some.is at number.ensures.ended) (sym c.if-has_digit.ensures.same) (sym c.if-has_byte.ensures.same);
       halt = tt;
+      early = tt;
     }

@@ -20,7 +20,7 @@ specification_at-requires-clause-errno c = eqb-false _ errno_letter (sym c.if-ha
 pub returns-in_default-clause-found : goal.returns-in_default-clause-found
 returns-in_default-clause-found c left h =
     absurd (no_specification c.args.text.now c.args.at c.requires c.if-text-at-ne37.false
-    (sym c.if-has_byte.ensures.same) (sym c.if-has_errno.ensures.same) left h c.in_default.ensures.none)
+    (sym c.if-has_byte.ensures.same) (sym c.if-has_errno.ensures.same) left h c.in_default.ensures.refused_is.none)
 
 pub returns-then-is_opaque-clause-found : goal.returns-then-is_opaque-clause-found
 returns-then-is_opaque-clause-found c left h =

@@ -1,0 +1,149 @@
+//! The argument that a format leaves out (POSIX fprintf on numbered arguments).
+ghost use Rattle.std.specs.Prelude.{◌≡◌, ◌≢◌, ◌||◌, ◌==◌, ◌<◌, ◌≤◌, ◌++◌, ◌∷◌, [], ℕ, List, IfSome, MatchOption, false, true, get_or, length};
+ghost use Rattle.std.specs.List.{AllByRecursion};
+ghost use Rattle.pf_values.specs.declared.refusals.RefusalKind.TheVariants.{MissingArgument as IsMissingKind};
+ghost use Rattle.pf_posix.specs.declared.directive_spans.DirectiveSpan.{DirectiveSpan as DirectiveSpanOf};
+ghost use Rattle.pf_posix.specs.declared.numbered.TheConstants.{ROOM as MOST};
+ghost use Rattle.pf_posix.specs.Directives.{directives_from};
+ghost use Rattle.pf_posix.specs.Items.{PosixItem, ReadsPosix};
+ghost use Rattle.pf_posix.specs.MissingArguments.{AreMarked, IsAhead, IsFirstLater, IsMissing, IsReadable, takes, takes_later, is_index, is_later};
+ghost use Rattle.pf_posix.specs.Refusals.{IsPosixRefusedAt};
+ghost use Rattle.pf_posix.specs.SpecificationSpans.{HasItsParts};
+
+use crate::directive_spans::{DirectiveSpan, fetch_count, item_at};
+use crate::numbered::ROOM;
+use crate::specification_spans::{SpecificationSpan, span_of};
+use pf_values::Model;
+
+/// An argument that no specification of a format takes, where one takes a later one.
+#[derive(Clone, Copy, Debug, PartialEq, Eq)]
+pub struct MissingArgument {
+    /// The first argument that none takes, counted from 0.
+    pub argument: u64,
+    /// The first specification that takes a later one.
+    pub specification: SpecificationSpan,
+}
+
+// Where a walk over the specifications of a format is, and how many arguments were fetched by then.
+#[derive(Clone, Copy)]
+struct Place {
+    at: usize,
+    fetched: u64,
+}
+
+/// Returns the argument that a format leaves out, which `arguments` refuses as `MissingArgument`.
+pub fn missing_argument(model: Model, text: &[u8]) -> MissingArgument
+    requires { (at : ℕ) × IsPosixRefusedAt model text.now IsMissingKind at }
+    ensures { IsMissing model text.now result }
+{
+    let mut taken = [false; ROOM];
+    mark_taken(model, text, &mut taken);
+    let argument = first_free(&taken) as u64;
+    let Some(specification) = first_later(model, text, argument) else {
+        unreachable!();
+    };
+    MissingArgument {
+        argument,
+        specification,
+    }
+}
+
+// Marks each argument that a specification takes.
+fn mark_taken(model: Model, text: &[u8], taken: &mut [bool])
+    requires readable { IsReadable text.now }
+    requires none { AreMarked taken.old [] }
+    ensures taken { (items : List PosixItem) (reads : ReadsPosix text.now items)
+        → AreMarked taken.new (directives_from model 0 0 text.now items reads) }
+    ensures length { length taken.new ≡ length taken.old }
+{
+    let mut place = Place { at: 0, fetched: 0 };
+    while let Some(span) = next_specification(model, text, &mut place) {
+        mark(taken, Some(span.directive.argument));
+        mark(taken, span.directive.width_argument);
+        mark(taken, span.directive.precision_argument);
+    }
+}
+
+// Marks an argument, if there is one.
+fn mark(taken: &mut [bool], argument: Option<u64>)
+    ensures marked { (index : ℕ) → index < length taken.old
+        → get_or taken.new index false ≡ (get_or taken.old index false || is_index argument index) }
+    ensures length { length taken.new ≡ length taken.old }
+{
+    if let Some(argument) = argument {
+        if argument < taken.len() as u64 {
+            taken[argument as usize] = true;
+        }
+    }
+}
+
+// The first that isn't marked, or their number.
+fn first_free(taken: &[bool]) -> usize
+    ensures before { (index : ℕ) → index < result → get_or taken.now index false ≡ true }
+    ensures free { result < length taken.now → get_or taken.now result false ≡ false }
+{
+    let mut index = 0;
+    while index < taken.len() {
+        if !taken[index] {
+            return index;
+        }
+        index += 1;
+    }
+    index
+}
+
+// The first specification that takes an argument after this one.
+fn first_later(model: Model, text: &[u8], argument: u64) -> Option<SpecificationSpan>
+    requires { IsReadable text.now }
+    ensures { (items : List PosixItem) (reads : ReadsPosix text.now items) → MatchOption result
+        (AllByRecursion (λ d. takes_later d argument ≡ false) (directives_from model 0 0 text.now items reads))
+        (λ span. IsFirstLater (directives_from model 0 0 text.now items reads) argument span.directive × HasItsParts text.now span) }
+{
+    let mut place = Place { at: 0, fetched: 0 };
+    while let Some(span) = next_specification(model, text, &mut place) {
+        if takes_later(&span.directive, argument) {
+            return Some(span);
+        }
+    }
+    None
+}
+
+// Whether a specification takes an argument after this one.
+fn takes_later(directive: &DirectiveSpan, argument: u64) -> bool
+    ensures { result ≡ takes_later directive.now argument }
+{
+    argument < directive.argument
+        || is_later(directive.width_argument, argument)
+        || is_later(directive.precision_argument, argument)
+}
+
+fn is_later(given: Option<u64>, argument: u64) -> bool
+    ensures { result ≡ is_later given argument }
+{
+    match given {
+        None => false,
+        Some(given) => argument < given,
+    }
+}
+
+// The next specification of a format that is read as items, if there is one.
+fn next_specification(model: Model, text: &[u8], place: &mut Place) -> Option<SpecificationSpan>
+    requires { (all : List DirectiveSpanOf) × (done : List DirectiveSpanOf) × IsAhead model text.now place.old all done }
+    ensures next { (all done : List DirectiveSpanOf) → IsAhead model text.now place.old all done
+        → MatchOption result (done ≡ all)
+        (λ span. IsAhead model text.now place.new all (done ++ span.directive ∷ []) × HasItsParts text.now span) }
+    ensures further { IfSome result (λ _. place.old.at < place.new.at) }
+{
+    while place.at < text.len() {
+        match item_at(text, place.at) {
+            (None, end) => place.at = end,
+            (Some(read), end) => {
+                let span = span_of(model, place.at, end, place.fetched, &read);
+                place.at = end;
+                place.fetched += fetch_count(&read);
+                return Some(span);
+            }
+        }
+    }
+    None
+}

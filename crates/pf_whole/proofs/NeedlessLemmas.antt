@@ -1,0 +1,243 @@
+-- That parts have no effect is shown by one spelling of a specification, and one of it without them.
+use Rattle.std.proofs.Common.{◌≡◌, ◌≢◌, ◌≤◌, ℕ, inl, inr, Bool, true, false, List, [], ◌∷◌, length, refl, sym, arith, subst}
+use Rattle.std.specs.Prelude.{◌↔◌, ◌⊎◌, IsTrue, Option, None, Some, is_some}
+use Rattle.std.proofs.lemmas.List.{append-nil}
+use Rattle.pf_values.specs.declared.flags.Flag.TheVariants.{Minus, Plus, Space, Alt, Zero, Group}
+use Rattle.pf_values.specs.declared.limits.TheConstants.{MAX_TEXT_LEN}
+use Rattle.pf_values.specs.declared.models.Model.{Model}
+use Rattle.pf_values.specs.meaning.Text.{Text}
+use Rattle.pf_text.specs.Refusals.{RefusesOne}
+use Rattle.pf_text.specs.declared.refusals.Refusal.{Refusal}
+use Rattle.pf_text.specs.declared.refusals.Side.{Side}
+use Rattle.pf_text.specs.declared.refusals.Side.TheVariants.{First, Second}
+use Rattle.pf_posix.specs.Defined.{IsPosixDefined}
+use Rattle.pf_posix.specs.Items.{PosixItem, ReadsPosix, Specification, SpellsPosixItem}
+use Rattle.pf_posix.specs.OpaqueParts.{parts_of_opaque}
+use Rattle.pf_posix.specs.SpecificationSpans.{HasItsParts, alone, without_number}
+use Rattle.pf_posix.specs.declared.specification_spans.SpecificationSpan.{SpecificationSpan}
+use Rattle.pf_posix.specs.Specifications.{Amount, Fetched, Given, PosixSpecification}
+use Rattle.pf_posix.specs.Spelling.{SpellsPosix, SpellsPosixPrecision, SpellsPosixWidth}
+use Rattle.pf_posix.specs.Stretches.{Stretches, IsWholeAccepted, ReadsWhole}
+use Rattle.pf_posix.specs.Unnumbered.{IsWholeRefusedAt}
+use Rattle.pf_posix.proofs.ItemsOnce.{first_item}
+use Rattle.pf_posix.proofs.KeptTypes.{flat, posix_reads}
+use Rattle.pf_posix.proofs.Narrowed.{reads_whole}
+use Rattle.pf_posix.proofs.ReadOnce.{stretched}
+use Rattle.pf_posix.proofs.SpecificationsOnce.{HasParts, parts_of}
+use Rattle.pf_posix.proofs.UnnumberedVerdicts.{judged}
+use Rattle.pf_whole.specs.declared.needless.Found.{Found}
+use Rattle.pf_whole.specs.declared.parts.Part.{Part}
+use Rattle.pf_whole.specs.declared.parts.Part.TheVariants.{Flag, Width, Precision, Modifier}
+use Rattle.pf_whole.specs.declared.parts.PartSet.{PartSet}
+use Rattle.pf_whole.specs.Faults.{AreWholeSame, FaultForWholeSame}
+use Rattle.pf_whole.specs.Needless.{HaveNoEffect, IsFoundOf}
+use Rattle.pf_whole.specs.Parts.{given_parts, has_part, left_out, no_parts, only, with_part, without}
+use Rattle.pf_whole.specs.meaning.NormalSpellings.{posix_spelling_of}
+use Rattle.pf_whole.specs.meaning.Traces.{AreWholeAlike}
+use Rattle.pf_whole.proofs.Corresponding.{alike_is_corresponding}
+use Rattle.pf_whole.proofs.SpelledNormally.{IsFew, few_of, spelled_parts}
+
+-- the items of a text that is a specification alone
+abbrev items_alone : PosixSpecification → List PosixItem
+items_alone s = Specification s ∷ []
+
+reads_alone : (t : Text) (s : PosixSpecification) → SpellsPosix t s → IsPosixDefined s → s.position ≡ None → ReadsWhole t (stretched (items_alone s))
+reads_alone t s h defined unnumbered =
+    reads_whole t (items_alone s) (t, [], (h, defined), refl, sym (append-nil t)) (unnumbered, tt)
+
+-- it is defined, if it is read
+defined_of : (t : Text) (s : PosixSpecification) (a : Stretches) → SpellsPosix t s → ReadsWhole t a → IsPosixDefined s
+defined_of t s a h reads =
+    (first_item (Specification s) t [] (flat a) h (subst (λ u. ReadsPosix u (flat a)) (sym (append-nil t)) (posix_reads t a reads))).spelled.1
+
+module _ (model : Model) (s : PosixSpecification) (unnumbered : s.position ≡ None) (defined : IsPosixDefined s) where
+  -- if one spelling of each is alike, all are
+  all_alike : (set : PartSet) (w v : Text) → SpellsPosix w s → SpellsPosix v (without s set) → AreWholeAlike model w v → HaveNoEffect model s set
+  all_alike set w v h g alike t u x y =
+      let short = without s set in
+      let kept : IsPosixDefined short = defined_of v short alike.second g alike.reads_second in
+      let read : (t : Text) → SpellsPosix t s → ReadsWhole t (stretched (items_alone s)) = λ t h. reads_alone t s h defined unnumbered in
+      let read_short : (t : Text) → SpellsPosix t short → ReadsWhole t (stretched (items_alone short)) = λ t h. reads_alone t short h kept unnumbered in
+      let a = stretched (items_alone s) in
+      let b = stretched (items_alone short) in
+      (alike_is_corresponding model t u a b (read t x) (read_short u y)).1 ((alike_is_corresponding model w v a b (read w h) (read_short v g)).0 alike)
+
+-- whether what is left out is spelled, or something
+width_left : (out : Bool) (t : Text) (width : Option Amount) → SpellsPosixWidth t None width → (u : Text) × SpellsPosixWidth u None (left_out out width)
+width_left true t width h = ([], refl)
+width_left false t width h = (t, h)
+
+few_left : (out : Bool) (precision : Option Amount) → IsFew precision → IsFew (left_out out precision)
+few_left true precision h = tt
+few_left false precision h = h
+
+-- a text that is the specification
+module _ (model : Model) (s : PosixSpecification) (unnumbered : s.position ≡ None) (text : Text) (h : SpellsPosixItem text (Specification s)) (set : PartSet) where
+  parts : HasParts text s
+  parts = parts_of text s h.0 unnumbered
+
+  few : IsFew s.precision
+  few = few_of parts.precision s.precision parts.precision_is
+
+  whole_spelled : SpellsPosix (posix_spelling_of s) s
+  whole_spelled = spelled_parts s unnumbered parts.width parts.width_is few
+
+  rest_spelled : SpellsPosix (posix_spelling_of (without s set)) (without s set)
+  rest_spelled =
+      let width = width_left set.width parts.width s.width parts.width_is in
+      spelled_parts (without s set) unnumbered width.0 width.1 (few_left set.precision s.precision few)
+
+  module _ (w v : Text) (w_is : w ≡ posix_spelling_of s) (v_is : v ≡ posix_spelling_of (without s set)) where
+    w_spelled : SpellsPosix w s
+    w_spelled = subst (λ t. SpellsPosix t s) (sym w_is) whole_spelled
+
+    v_spelled : SpellsPosix v (without s set)
+    v_spelled = subst (λ t. SpellsPosix t (without s set)) (sym v_is) rest_spelled
+
+    pub compared : (is : Bool) → AreWholeSame model w v is → IsTrue is ↔ HaveNoEffect model s set
+    compared is same = (
+      λ yes. all_alike model s unnumbered h.1 set w v w_spelled v_spelled (same.same.0 yes),
+      λ none. same.same.1 (none w v w_spelled v_spelled),
+    )
+
+    pub not_compared : (fault : Side × Refusal) → FaultForWholeSame model w v fault → length w ≤ MAX_TEXT_LEN → length v ≤ MAX_TEXT_LEN
+        → ¬ HaveNoEffect model s set
+    not_compared fault refused short short_rest none = go fault.0 refused where
+      alike : AreWholeAlike model w v
+      alike = none w v w_spelled v_spelled
+
+      go : (side : Side) → RefusesOne IsWholeAccepted (IsWholeRefusedAt model) w v side fault.1 → ⊥
+      go First r = (judged model w).1 fault.1.kind fault.1.at r (record { stretches = alike.first; reads = alike.reads_first; limit = short })
+      go Second r = (judged model v).1 fault.1.kind fault.1.at r.1 (record { stretches = alike.second; reads = alike.reads_second; limit = short_rest })
+
+-- a set with one part more
+pub with_own : (set : PartSet) (part : Part) → has_part (with_part set part) part ≡ true
+with_own set part = grind arith
+
+with_kept : (set : PartSet) (part other : Part) → has_part set other ≡ true → has_part (with_part set part) other ≡ true
+with_kept set part other e = grind arith
+
+with_either : (set : PartSet) (part other : Part) → has_part (with_part set part) other ≡ true → (other ≡ part) ⊎ (has_part set other ≡ true)
+with_either set part other e = grind arith
+
+-- what is found when one part more is asked of
+module _ (model : Model) (s : PosixSpecification) (asked : PartSet) (found : Found) (part : Part) (h : IsFoundOf model s asked found) where
+  -- a part that isn't there, or has an effect
+  pub found_same : (IsTrue (has_part (given_parts s) part) → HaveNoEffect model s (only part) → ⊥) → IsFoundOf model s (with_part asked part) found
+  found_same effect = record {
+    each = λ other. (
+      λ has. let was = (h.each other).0 has in (with_kept asked part other was.0, was.1, was.2),
+      λ all. elim (with_either asked part other all.0) [
+        | inl e ↦ absurd (effect (subst (λ p. IsTrue (has_part (given_parts s) p)) e all.1) (subst (λ p. HaveNoEffect model s (only p)) e all.2))
+        | inr was ↦ (h.each other).1 (was, all.1, all.2)
+      ],
+    );
+    among = h.among;
+    together = h.together;
+    none = h.none;
+  }
+
+  module _ (given : IsTrue (has_part (given_parts s) part)) (none : HaveNoEffect model s (only part)) where
+    found_each : (other : Part) → IsTrue (has_part (with_part found.each part) other)
+        ↔ (IsTrue (has_part (with_part asked part) other) × IsTrue (has_part (given_parts s) other) × HaveNoEffect model s (only other))
+    found_each other = (
+      λ has. elim (with_either found.each part other has) [
+        | inl e ↦ (
+          subst (λ p. IsTrue (has_part (with_part asked part) p)) (sym e) (with_own asked part),
+          subst (λ p. IsTrue (has_part (given_parts s) p)) (sym e) given,
+          subst (λ p. HaveNoEffect model s (only p)) (sym e) none,
+        )
+        | inr was ↦ let all = (h.each other).0 was in (with_kept asked part other all.0, all.1, all.2)
+      ],
+      λ all. elim (with_either asked part other all.0) [
+        | inl e ↦ subst (λ p. IsTrue (has_part (with_part found.each part) p)) (sym e) (with_own found.each part)
+        | inr was ↦ with_kept found.each part other ((h.each other).1 (was, all.1, all.2))
+      ],
+    )
+
+    -- one that has none, together with others
+    pub found_together : HaveNoEffect model s (with_part found.together part)
+        → IsFoundOf model s (with_part asked part) (record { each = with_part found.each part; together = with_part found.together part; any = true })
+    found_together effect = record {
+      each = found_each;
+      among = λ other has. elim (with_either found.together part other has) [
+        | inl e ↦ subst (λ p. IsTrue (has_part (with_part found.each part) p)) (sym e) (with_own found.each part)
+        | inr was ↦ with_kept found.each part other (h.among other was)
+      ];
+      together = effect;
+      none = λ e. cc;
+    }
+
+    -- the first one
+    pub found_first : found.any ≡ false
+        → IsFoundOf model s (with_part asked part) (record { each = with_part found.each part; together = with_part found.together part; any = true })
+    found_first first = found_together (subst (λ set. HaveNoEffect model s (with_part set part)) (sym (h.none first)) none)
+
+    -- by itself
+    pub found_alone : IsFoundOf model s (with_part asked part) (record { each = with_part found.each part; together = found.together; any = true })
+    found_alone = record {
+      each = found_each;
+      among = λ other has. with_kept found.each part other (h.among other has);
+      together = h.together;
+      none = λ e. cc;
+    }
+
+-- before any is asked of
+pub found_none : (model : Model) (s : PosixSpecification) (text : Text) → s.position ≡ None → SpellsPosixItem text (Specification s)
+    → IsFoundOf model s no_parts (record { each = no_parts; together = no_parts; any = false })
+found_none model s text unnumbered h = record {
+  each = λ part. (λ has. absurd (no_part part has), λ all. absurd (no_part part all.0));
+  among = λ part has. has;
+  together = λ t u x y. alike_self t u x (subst (SpellsPosix u) (without_none s) y);
+  none = λ e. refl;
+} where
+  no_part : (part : Part) → has_part no_parts part ≢ true
+  no_part part e = grind arith
+
+  without_none : (s : PosixSpecification) → without s no_parts ≡ s
+  without_none s = grind arith
+
+  alike_self : (t u : Text) → SpellsPosix t s → SpellsPosix u s → AreWholeAlike model t u
+  alike_self t u x y =
+      let a = stretched (items_alone s) in
+      record {
+        first = a;
+        second = a;
+        reads_first = reads_alone t s x h.1 unnumbered;
+        reads_second = reads_alone u s y h.1 unnumbered;
+        alike = record { same_types = refl; same_calls = refl; same_traces = λ args trace typed. (λ g. g, λ g. g) };
+      }
+
+-- after all nine
+pub all_asked : (part : Part) → has_part (with_part (with_part (with_part (with_part (with_part (with_part (with_part (with_part (with_part no_parts
+    (Flag Minus)) (Flag Plus)) (Flag Space)) (Flag Alt)) (Flag Zero)) (Flag Group)) Width) Precision) Modifier) part ≡ true
+all_asked part = grind arith
+
+-- a specification of a text, alone, is one that some text is
+module _ (t : Text) (span : SpecificationSpan) (h : HasItsParts t span) where
+  own_width : (bytes : Text) (position : Option ℕ) (width : Option Amount) → SpellsPosixWidth bytes position width
+      → (own : Text) × SpellsPosixWidth own None (without_number width)
+  own_width bytes position None w = ([], refl)
+  own_width bytes position (Some (Given n)) w = (bytes, w)
+  own_width bytes position (Some (Fetched number)) w = (42 ∷ [], record { digits = []; digits_are = refl; numbering = refl; whole = refl })
+
+  own_few : (bytes : Text) (position : Option ℕ) (precision : Option Amount) → SpellsPosixPrecision bytes position precision
+      → IsFew (without_number precision)
+  own_few bytes position None p = tt
+  own_few bytes position (Some (Given n)) p = p.1
+  own_few bytes position (Some (Fetched number)) p = refl
+
+  is_some_alone : (amount : Option Amount) → is_some (without_number amount) ≡ is_some amount
+  is_some_alone None = refl
+  is_some_alone (Some (Given n)) = refl
+  is_some_alone (Some (Fetched number)) = refl
+
+  defined_alone : IsPosixDefined (alone h.s)
+  defined_alone = rw (is_some_alone h.s.width, is_some_alone h.s.precision) h.defined
+
+  pub some_alone : (own : Text) × SpellsPosixItem own (Specification (parts_of_opaque span.parts))
+  some_alone =
+      let width = own_width h.places.width.0 h.s.position h.s.width h.places.width.1 in
+      let few = own_few h.places.precision.0 h.s.position h.s.precision h.places.precision.1 in
+      let own = posix_spelling_of (alone h.s) in
+      (own, subst (λ s. SpellsPosixItem own (Specification s)) (sym h.parts_are) (spelled_parts (alone h.s) refl width.0 width.1 few, defined_alone))
