@@ -17,7 +17,7 @@ from ..formats.verdicts import shown
 from ..frame.findings import ERROR, NOTE, Finding
 from ..kinds import Type
 from ..models import Model
-from ..source.macros import Part, definitions
+from ..source.macros import PlacePart, definitions
 from ..source.places import column_of
 
 # A line and a column, from 1.
@@ -142,7 +142,7 @@ class Fitting:
         return Compiled(path, self.commands(path), self.question)
 
     @functools.lru_cache(maxsize=1)
-    def macros_of(self, path: str) -> Dict[bytes, Tuple[Part, ...]]:
+    def macros_of(self, path: str) -> Dict[bytes, Tuple[PlacePart, ...]]:
         """Returns the string literals that macros are where a file is compiled."""
         for command in self.commands(os.path.realpath(path)):
             try:
