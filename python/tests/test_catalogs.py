@@ -150,10 +150,10 @@ class Shapes(unittest.TestCase):
     def test_two_types(self):
         """Two macros, or a macro and a conversion, that give one argument two types: its number is from 1."""
         for text, said in [
-            (b"%1$<PRIu64> of %1$u", "%1$<PRIu64> and %1$u give argument 1, counted from 1, different types"),
+            (b"%1$<PRIu64> of %1$u", "%1$<PRIu64> and %1$u give argument 1 different types"),
             (
                 b"%1$d%2$<PRIx8>%2$<PRIx16>",
-                "%2$<PRIx8> and %2$<PRIx16> give argument 2, counted from 1, different types",
+                "%2$<PRIx8> and %2$<PRIx16> give argument 2 different types",
             ),
             (b"%1$<PRIu64> %1$<PRIx64>", None),
             (b"%m %<PRIu64> %d", None),
@@ -286,13 +286,13 @@ class Once(unittest.TestCase):
             unjudged = [it for it in found if it["kind"] == "unjudged"]
             listed = [(Path(it["file"]).name, it["line"], it["msgid"], it["source"]) for it in unjudged]
             wanted = [
-                ("0.po", 10, "%Zd x", ["a.c:0", "b.c:7", "c.c:8"]),
-                ("0.po", 18, "%Zd y", ['"d.c":9']),
-                ("0.po", 23, "%Zd z", []),
+                ("0.po", 9, "%Zd x", ["a.c:0", "b.c:7", "c.c:8"]),
+                ("0.po", 17, "%Zd y", ['"d.c":9']),
+                ("0.po", 22, "%Zd z", []),
             ]
             self.assertEqual((listed, len(found) - len(unjudged), status), (wanted, 12, 1))
-            self.assertIn("; the message is from a.c:0 and 2 more [", unjudged[0]["message"])
-            self.assertIn('; the message is from "d.c":9 [', unjudged[1]["message"])
+            self.assertIn("; the message is from a.c:0 and 2 more", unjudged[0]["message"])
+            self.assertIn('; the message is from "d.c":9', unjudged[1]["message"])
             counts = ["12 messages judged, 36 not judged", "33 more warnings about the same messages"]
             self.assertEqual(said, [*counts, "found 12 fatal errors"])
 

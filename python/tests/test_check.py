@@ -365,7 +365,7 @@ class Judging(unittest.TestCase):
         ]:
             fault = fault_in(tokens)
             self.assertEqual(fault.shown, shown, tokens)
-            self.assertIn(f"{shown} takes unsigned long", reporting.message_of(fault, list(Model)))
+            self.assertIn(f"{shown} for a size_t: wrong size", reporting.message_of(fault, list(Model)))
             self.assertEqual(reporting.details_of(fault)["directive"], shown)
 
 
@@ -380,15 +380,29 @@ class Reporting(unittest.TestCase):
 
     def test_messages(self):
         fault = faults_of("%lu", "size_t")[0]
-        said = "%lu takes unsigned long, and the argument is size_t: another size in LLP64, another type in ILP32; "
-        said += "write %zu"
+        said = "%lu for a size_t: wrong size on 64-bit Windows, wrong type on 32-bit systems; use %zu"
         self.assertEqual(reporting.message_of(fault, list(Model)), said)
         fault = faults_of("%*d", "ptrdiff_t")[0]
-        said = "a * of %*d takes int, and the argument is ptrdiff_t: another size in LP64; write a cast to int"
+        said = "the * of %*d for a ptrdiff_t: wrong size on 64-bit Unix; use a cast to int"
         self.assertEqual(reporting.message_of(fault, [Model.LP64]), said)
-        fault = faults_of("%zd", "long")[0]
-        said = "takes long in LP64, int in ILP32, long long in LLP64, and"
-        self.assertIn(said, reporting.message_of(fault, list(Model)))
+        fault = faults_of("%ld", "time_t")[0]
+        said = "%ld for a time_t: wrong size on 32-bit systems with a 64-bit time_t and 64-bit Windows; "
+        self.assertEqual(reporting.message_of(fault, list(Model)), said + "use %jd with a cast to intmax_t")
+        names = [reporting.a(it) for it in ("int", "uint8_t", "unsigned long")]
+        self.assertEqual(names, ["an int", "a uint8_t", "an unsigned long"])
+
+    def test_fix(self):
+        """What JSON says of a fix: the bytes that it replaces, and what it needs."""
+        spot = reporting.Spot("a.c", 1, 1, (1, 4), (7, 10))
+        for name, format, wanted in [
+            ("size_t", "%lu", ("%zu", None, None)),
+            ("uint64_t", "%lu", ('%" PRIu64 "', None, "inttypes.h")),
+            ("off_t", "%ld", ("%jd", "intmax_t", "stdint.h")),
+        ]:
+            fix = reporting.fix_of(faults_of(format, name)[0], spot)
+            self.assertEqual((fix["start"], fix["end"], fix["verified"]), (7, 10, False))
+            self.assertEqual((fix["text"], fix["cast"], fix["include"]), wanted)
+        self.assertIsNone(reporting.fix_of(faults_of("%lu", "size_t")[0], reporting.Spot("a.c", 1)))
 
     def test_source(self):
         with tempfile.TemporaryDirectory() as work:
@@ -538,7 +552,7 @@ class Options(unittest.TestCase):
         return raised.exception.code, stream.read().splitlines()[-1]
 
     def test_words(self):
-        words = ["--function", "failf:1:2", "--type", "counter_t=uint64_t", "--rank", "a.c", "--", "-b.c"]
+        words = ["--function", "failf:2:3", "--type", "counter_t=uint64_t", "--rank", "a.c", "--", "-b.c"]
         found = options.parsed(words)
         self.assertEqual((found.function, found.type), ([("failf", Shape(1, 2))], [("counter_t", "uint64_t")]))
         self.assertEqual((found.files, found.rank, found.sign), (["a.c", "-b.c"], True, False))
@@ -546,8 +560,9 @@ class Options(unittest.TestCase):
     def test_refused(self):
         for words, said in [
             ([], "give files or folders, or the folder of a compile_commands.json"),
-            (["--function", "failf:1", "a.c"], "'failf:1' isn't NAME:FORMAT:FIRST"),
-            (["--function", "failf:2:1", "a.c"], "'failf:2:1' isn't NAME:FORMAT:FIRST"),
+            (["--function", "failf", "a.c"], "'failf' isn't NAME:FORMAT[:FIRST], counted from 1"),
+            (["--function", "failf:0:1", "a.c"], "'failf:0:1' isn't NAME:FORMAT[:FIRST], counted from 1"),
+            (["--function", "failf:2:1", "a.c"], "'failf:2:1' isn't NAME:FORMAT[:FIRST], counted from 1"),
             (["--type", "counter_t", "a.c"], "'counter_t' isn't NAME=TYPE"),
             (["--type", "counter_t=other", "a.c"], "'other' is neither an integer type nor a typedef of the C library"),
             (["--fix", "--diff", "a.c"], "not allowed with argument"),

@@ -252,10 +252,12 @@ class Judged(unittest.TestCase):
             (b'log_error("%V")', b'log_error("%d")', False),
             (b'_(log_error("%V"))', b'_(log_error("%d"))', False),
             (b'log_errors("%V")', b'log_errors("%d")', True),
+            (b'trace("%d")', b'trace("%u")', False),
+            (b'trace(1, "%d")', b'trace(1, "%u")', True),
         ]:
             places = [Source(it).read().places for it in (old, new)]
-            others = frozenset([b"log_error", b"other"])
-            self.assertEqual(bool(places[0]) and is_judged(places[0][0], places[1][0], others), wanted, (old, new))
+            functions = {b"log_error": None, b"other": None, b"trace": 1}
+            self.assertEqual(bool(places[0]) and is_judged(places[0][0], places[1][0], functions), wanted, (old, new))
 
 
 class Pairing(unittest.TestCase):

@@ -11,7 +11,7 @@ import subprocess
 import tempfile
 from pathlib import Path
 
-from tests.commands.more_catalogs import msgfmt, msgfmt_lines
+from tests.commands.more_catalogs import msgfmt, msgfmt_lines, translation_line
 from tests.commands.test_catalog_edges import fault_lines
 from tests.frame.cases import tests_of
 
@@ -125,19 +125,20 @@ def test_counts(module, msgfmt, trials):
 def test_plurals(module, msgfmt, trials):
     """Both find faults in the same messages."""
     from fmtcanon.po.checking import Checker
-    from fmtcanon.po.command import as_msgfmt
+    from fmtcanon.frame.findings import as_text
 
     generator = random.Random(SEED)
     for count, rule in RULES:
         text, report = catalog(generator, count, rule), io.StringIO()
-        Checker(lambda it, out=report: print(as_msgfmt(it), file=out), list(module.Model)).check_data(
+        Checker(lambda it, out=report: print(as_text(it), file=out), list(module.Model)).check_data(
             "a.po", text.encode()
         )
         with tempfile.TemporaryDirectory() as work:
             file = Path(work) / "a.po"
             file.write_text(text)
             theirs = msgfmt_lines(file)
-        trials.expect(f"messages with faults under {rule}", fault_lines(report.getvalue()), theirs)
+        ours = sorted({translation_line(text, it) for it in fault_lines(report.getvalue())})
+        trials.expect(f"messages with faults under {rule}", ours, theirs)
         trials.expect(f"some messages under {rule} have faults, and some have none", 50 < len(theirs) < MESSAGES, True)
 
 

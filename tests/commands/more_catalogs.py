@@ -20,11 +20,21 @@ def fault_lines(text):
     """The faults of formats and newlines in what either tool prints: each line with the words that both have."""
     kinds = r"types of|number of format|is not a valid C format|do not both"
     theirs = r"format specifications in ('.*') and ('.*') for argument (\d+) are not the same"
-    text = re.sub(theirs, lambda it: f"types of {it[1]} and {it[2]} differ at argument {it[3]}, counted from 1", text)
+    text = re.sub(theirs, lambda it: f"types of {it[1]} and {it[2]} differ at argument {it[3]}", text)
+    ours = r"argument (\d+) is .*? in ('.*?'), and .* in ('.*?')"
+    text = re.sub(ours, lambda it: f"types of {it[2]} and {it[3]} differ at argument {it[1]}", text)
     for line in text.splitlines():
-        found = re.match(rf"(\S+:\d+): (.*(?:{kinds})[^:.\[]*)", line)
+        found = re.match(rf"([^\s:]+:\d+):(?:\d+:)? (?:error: )?(.*(?:{kinds})[^:.\[]*)", line)
         if found:
             yield found.group(1), found.group(2).strip()
+
+
+def translation_line(text, line):
+    """The line in which the translation begins that has this one, which msgfmt names whatever form has a fault."""
+    lines = text.split("\n")
+    while line > 1 and not lines[line - 1].startswith(("msgstr[0]", "msgstr ")):
+        line -= 1
+    return line
 
 
 def msgfmt(tools):
@@ -35,6 +45,9 @@ def test_msgfmt(folder, msgfmt, trials):
     """It finds the faults in the catalogs that msgfmt finds, but where it can't judge."""
     environment = {**os.environ, "LC_ALL": "C", "LANGUAGE": ""}
     for catalog, _, ours in CHECKED:
+        text = (CATALOGS / catalog).read_text(encoding="utf-8", errors="replace")
+        places = r"^([^:\n]+):(\d+):(?=\d+: error)"
+        ours = re.sub(places, lambda it, text=text: f"{it[1]}:{translation_line(text, int(it[2]))}:", ours, flags=re.MULTILINE)
         # With -c it reads the rule for plural forms, but shows no fault where the header is missing.
         report = "".join(
             subprocess.run(
@@ -47,7 +60,7 @@ def test_msgfmt(folder, msgfmt, trials):
             ).stderr.decode()
             for check in ["-c", "--check-format"]
         )
-        unjudged = set(re.findall(r"^(\S+): warning", ours, flags=re.MULTILINE))
+        unjudged = set(re.findall(r"^([^\s:]+:\d+):(?:\d+:)? warning", ours, flags=re.MULTILINE))
         theirs = {fault for fault in fault_lines(report) if fault[0] not in unjudged}
         # What is refused here may be another fault there.
         refused = {line for line, words in fault_lines(ours) if "valid C format" in words}

@@ -106,7 +106,7 @@ def test_compilers(tool, trials):
         tool.put(f"{name}.c", text)
     tool.put_commands(*(["gcc", "-D_GNU_SOURCE", "-c", f"{name}.c"] for name in texts))
     status, output, fault = tool.run("-p", ".", "--rank", "--composed", "--output", "json")
-    trials.expect(f"expressions.c: {fault}", (status, "left" in fault), (1, False))
+    trials.expect(f"expressions.c: {fault}", (status, "skipped" in fault), (1, False))
     found = [json.loads(line) for line in output.splitlines()]
     line = source.split("\n").index(BIT_FIELD) + 1
     for platform in COMPILERS:
@@ -233,7 +233,7 @@ CALLS = [
     ('void failf(void *p, const char *f, ...);\nvoid f(size_t n) { failf(0, "%lu", n); }', [], []),
     (
         'void failf(void *p, const char *f, ...);\nvoid f(size_t n) { failf(0, "%lu", n); }',
-        ["--function", "failf:1:2"],
+        ["--function", "failf:2:3"],
         [(6, 30, "size", "%zu")],
     ),
     (
@@ -274,6 +274,29 @@ def test_calls(tool, trials):
         trials.expect(f"the status of {body} {words}", status, int(is_error))
 
 
+# Functions of C++, and the lines and columns of what is found in them.
+CXX = [
+    ('void f(size_t n) { std::printf("%lu", n); }', [(7, 33)]),
+    ('void f(std::vector<int> &v, const long &l) { printf("%lu %ld", v.size(), l); }', [(7, 54)]),
+    ('struct o { void say(const char *, ...) __attribute__((format(printf, 2, 3))); };\nvoid f(o p) { p.say("%d", 1L); }', [(8, 22)]),
+    ('template <typename T> void f(T t) { printf("%lu", t); }\nvoid g() { f(1); }', []),
+    ('void f(int64_t n) { auto g = [](int64_t m) { printf("%ld", m); }; g(n); }', [(7, 54)]),
+]
+
+
+def test_cxx(tool, trials):
+    """C++ is judged as C is, and written with --fix."""
+    front = "#include <cstdint>\n#include <cstdio>\n#include <string>\n#include <vector>\n#include <cinttypes>\n\n"
+    for body, places in CXX:
+        file = tool.put("a.cpp", f"{front}{body}\n")
+        status, output, fault = tool.run("--output", "json", "a.cpp")
+        found = [(it["line"], it["column"]) for it in map(json.loads, output.splitlines())]
+        trials.expect(f"{body}: {output} {fault}", (found, status), (places, int(bool(places))))
+    file = tool.put("a.cpp", f"{front}{CXX[0][0]}\n")
+    tool.run("--fix", "a.cpp")
+    trials.expect("--fix", file.read_text(encoding="utf-8"), f"{front}{CXX[0][0]}\n".replace("%lu", "%zu"))
+
+
 def test_files(tool, trials):
     """A fault in a header is found once, with its line; a file that can't be judged is left, and sets the status."""
     tool.put("shown.h", SAYS + 'static inline void shown(size_t n) {\n  printf("%lu", n);\n}\n')
@@ -284,32 +307,29 @@ def test_files(tool, trials):
     places = [(it["file"], it["line"], it["column"]) for it in map(json.loads, output.splitlines())]
     trials.expect("a header in three units", places, [("shown.h", 6, None)])
     trials.expect("the summary", (status, fault), (1, "3 files, 3 formats, 3 arguments: 1 size\n"))
-    tool.put("cxx.cpp", "int main() {}\n")
     for words, said in [
-        (["g++", "-c", "cxx.cpp"], "it is C++"),
         (["gcc", "-m32", "-c", "one.c"], "it is compiled for ILP32, and not for LP64"),
         (["gcc", "-specs=x", "-c", "one.c"], "its compile command has -specs=x"),
         (["gcc", "-DNONE=(", "-include", "none.h", "-c", "one.c"], "its compiler can't preprocess it"),
     ]:
         tool.put_commands(words)
         status, output, _ = tool.run("-p", ".")
-        trials.expect(f"{words}: {output}", (status, f"left: {said}" in output), (2, True))
+        trials.expect(f"{words}: {output}", (status, f": warning: not judged: {said}" in output), (2, True))
     status, output, fault = tool.run("-p", ".", "two.c")
     trials.expect("no command", (status, "has no command for it" in output), (2, True))
     trials.expect("no folder", tool.run("-p", "nowhere")[0], 2)
     nested = "void g(void) { int h(void) { return 1; } h(); }\n"
     tool.put("part.c", SAYS + 'void f(size_t n) { printf("%lu", n); }\n' + nested)
     status, output, fault = tool.run("part.c")
-    said = "left: libclang can't parse a part of it: part.c:6: "
-    trials.expect("a nested function", (status, said in output, "part.c:5:28: %lu" in output), (2, True, True))
+    said = "part.c:1: warning: not judged: libclang can't parse a part of it: part.c:6: "
+    trials.expect("a nested function", (status, said in output, "part.c:5:28: error: %lu" in output), (2, True, True))
 
 
 def test_outputs(tool, trials):
     """The forms of the output."""
     tool.put("a.c", SAYS + 'void f(size_t n) {\n\tprintf("%lu", n);\n}\n')
-    message = "%lu takes unsigned long, and the argument is size_t: another size in LLP64, another type in ILP32; "
-    message += "write %zu"
-    text = f"a.c:6:10: {message}\n"
+    message = "%lu for a size_t: wrong size on 64-bit Windows, wrong type on 32-bit systems; use %zu"
+    text = f"a.c:6:10: error: {message} [size]\n"
     trials.expect("text", tool.run("a.c"), (1, text, "1 file, 1 format, 1 argument: 1 size\n"))
     line = f"::error file=a.c,line=6,col=10,endColumn=13::{message.replace('%', '%25')}\n"
     trials.expect("github", tool.run("--output", "github", "a.c")[1], line)
@@ -319,6 +339,9 @@ def test_outputs(tool, trials):
     trials.expect("json: the types", types, list(zip(COMPILERS, wanted)))
     said = found["models"], found["directive"], found["end_column"]
     trials.expect("json: the models", said, (["ilp32", "llp64"], "%lu", 13))
+    start = (tool.work / "a.c").read_text(encoding="utf-8").index("%lu")
+    fix = {"start": start, "end": start + 3, "text": "%zu", "cast": None, "include": None, "verified": True}
+    trials.expect("json: the fix", found["fix"], fix)
     log = json.loads(tool.run("--output", "sarif", "a.c")[1])
     trials.expect("sarif", [it["ruleId"] for it in log["runs"][0]["results"]], ["size"])
 
@@ -419,11 +442,11 @@ def test_visitor(tool, trials):
 # Lines of an old and a new file, and what is said of the second with its compile command.
 CHANGED = [
     ('printf("%lu a", n);', 'printf("%zu a", n);', 'types differ, and the call fits: "%lu a" and "%zu a"'),
-    ('printf("%d b", (int)m);', 'printf("%ld b", (int)m);', "types differ at argument 1, counted from 1: %d takes int and %ld takes long"),
+    ('printf("%d b", (int)m);', 'printf("%ld b", (int)m);', "types differ at argument 1: %d takes int and %ld takes long"),
     ('printf("%ld c", m);', 'printf("%jd c", (intmax_t)m);', 'types differ, and the call fits: "%ld c" and "%jd c"'),
     ('printf("%d d", 1);', 'printf("%" PRIu64 " d", u);', "types differ, and the call fits: "),
-    ('printf("%d e", 1);', 'printf("%d%s e", 1);', "types differ at argument 2, counted from 1: no argument and %s takes string"),
-    ('other("%d f", 1);', 'other("%ld f", 1);', "types differ at argument 1, counted from 1: %d takes int and %ld takes long"),
+    ('printf("%d e", 1);', 'printf("%d%s e", 1);', "types differ at argument 2: no argument and %s takes string"),
+    ('other("%d f", 1);', 'other("%ld f", 1);', "types differ at argument 1: %d takes int and %ld takes long"),
 ]
 
 
@@ -435,10 +458,10 @@ def test_diff(tool, trials):
     tool.put_commands(["gcc", "-c", "new.c"])
     diff = Tool("diff", tool.folder, tool.work, tool.python)
     status, output, fault = diff.run("-p", ".", "old.c", "new.c")
-    said = [it.split(": ", 1)[1] for it in output.splitlines()]
+    said = [it.split(": ", 2)[2] for it in output.splitlines()]
     for (old, new, wanted), line in zip(CHANGED, said):
         trials.expect(f"{old} {new}: {line} {fault}", line.startswith(wanted), True)
-    trials.expect("the status", (status, len(said), "6 with other types, 3 of them fitting" in fault), (1, 6, True))
+    trials.expect("the status", (status, len(said), "6 taking different types, 3 of them fitting" in fault), (1, 6, True))
     trials.expect("without -p", "and the call fits" in diff.run("old.c", "new.c")[1], False)
     for words in (["--git", "--cached"], ["--git", "HEAD~1", "HEAD"], ["--git", "HEAD~1..HEAD"]):
         status, _, fault = diff.run("-p", ".", *words)

@@ -143,11 +143,11 @@ COUNTED = [
         'void say(int, const char *, ...);\nvoid f(long n) { say(1, "%d", n); say(1, "%d", n); }',
         [],
         [],
-        "2 calls of say (--function say:1:2)",
+        "2 calls of say (--function say:2)",
     ),
     (
         'void say(int, const char *, ...);\nvoid f(long n) { say(1, "%d", n); }',
-        ["--function", "say:1:2"],
+        ["--function", "say:2:3"],
         ["size"],
         "1 size\n",
     ),
@@ -161,14 +161,14 @@ COUNTED = [
         'struct o { void (*say)(const char *, ...); };\nvoid f(struct o *o) { o->say("%d", 1L); o->say("plain"); }',
         [],
         [],
-        "1 call of say (--function say:0:1)",
+        "1 call of say (--function say:1)",
     ),
     # A project's own functions with names of the C library.
     (
         'void warn(const char *topic, ...);\nvoid f(void) { warn("50%d", 0.5); }',
         [],
         [],
-        "1 call of warn (--function warn:0:1)",
+        "1 call of warn (--function warn:1)",
     ),
     ('void syslog(int, const char *, ...);\nvoid f(void) { syslog(1, "50%d", 0.5); }', [], [], "0 formats"),
     ('#include <err.h>\nvoid f(void) { warn("50%d", 0.5); }', [], ["kind"], "1 kind\n"),
@@ -301,13 +301,13 @@ def test_written(tool, trials):
         'void say(const char *f, ...) __attribute__((format(printf, 1, 2)));\nvoid f(void) { say("%lu", sizeof(int)); }'
     )
     for body, words, is_fixed, said in [
-        (own, [], False, "; not written: it is an argument of say, which isn't known without --attribute"),
-        (own, ["--attribute"], True, "fixed: %lu is now %zu"),
+        (own, [], False, "; not written: argument of say, not a known printf-like function; try --attribute"),
+        (own, ["--attribute"], True, "%lu is now %zu, for a size_t [fixed]"),
         (
             own.split("\n", maxsplit=1)[0].split(" __attribute__")[0] + ";\n" + own.split("\n")[1],
-            ["--function", "say:0:1"],
+            ["--function", "say:1"],
             True,
-            "fixed: ",
+            " [fixed]",
         ),
         ('void f(unsigned long n) { printf("%zu", n); }', [], False, "; not written: its length modifier names a type"),
         ('void f(long n) { printf("%jd %td", n, n); }', [], False, "; not written: its length modifier names a type"),
@@ -328,8 +328,9 @@ def test_troubles(tool, trials):
     os.mkfifo(tool.work / "fifo.c")
     status, output, fault = tool.run("kr.c", "none.c", "fifo.c", "a.h", "b.c")
     said = [it.split(": ", 1) for it in output.splitlines()]
-    trials.expect(f"the names: {output} {fault}", [it[0] for it in said], ["none.c", "fifo.c", "a.h", "b.c:5:28"])
-    trials.expect("the reasons", [it[1].partition(":")[0] for it in said[:3]], ["left", "left", "skipped"])
+    trials.expect(f"the names: {output} {fault}", [it[0] for it in said], ["none.c:1", "fifo.c:1", "a.h:1", "b.c:5:28"])
+    levels = [it[1].partition(":")[0] for it in said]
+    trials.expect("the levels", levels, ["warning", "warning", "note", "error"])
     trials.expect("the status", (status, tool.run("a.h", "kr.c")[0]), (2, 0))
     trials.expect("with --diff", tool.run("--diff", "a.h", "b.c")[0], 0)
     tool.put_commands(["gcc", "-c", "kr.c"])
@@ -344,7 +345,7 @@ def test_crashes(tool, trials):
     crash = 'static const char *const s = s;\nvoid f(size_t n) { printf(s, n); }\n'
     tool.put("a.c", SAYS + crash)
     tool.put("b.c", SAYS + 'void f(size_t n) { printf("%lu", n); }\n')
-    left = "a.c: left: it can't be read: the process that read it ended by signal "
+    left = "a.c:1: warning: not judged: it can't be read: the process that read it ended by signal "
     more = [f"{number}.c" for number in range(8)]
     for name in more:
         tool.put(name, SAYS)
@@ -352,7 +353,7 @@ def test_crashes(tool, trials):
         status, output, fault = tool.run(*words)
         lines = output.splitlines()
         is_left = [it[: len(left)] for it in lines[:-1]] == [left]
-        found = ("".join(lines[-1:]).startswith("b.c:5:28: "), is_left or len(lines) == 1, status)
+        found = ("".join(lines[-1:]).startswith("b.c:5:28: error: "), is_left or len(lines) == 1, status)
         trials.expect(f"{words}: {output} {fault}", found, (True, True, 2 if is_left else 1))
     tool.put_commands(["gcc", "-c", "a.c"])
     tool.put("old.c", SAYS + crash.replace("= s", '= "%d"'))
@@ -371,7 +372,7 @@ def test_deep(tool, trials):
     ]:
         tool.put("deep.c", f"{SAYS}{front}void f(size_t n) {{ {body} }}\n")
         status, output, fault = tool.run("deep.c")
-        found = (status, output.count("%lu takes unsigned long"), fault.count("\n"))
+        found = (status, output.count("%lu for a size_t"), fault.count("\n"))
         trials.expect(f"{name}: {output[:200]} {fault[:200]}", found, (1, count, 1))
 
 

@@ -111,7 +111,8 @@ def test_times(tool, trials):
     tool.put("old.c", calls + 'f("%05d", 1);' + calls[: LONG_LINE // 3])
     tool.put("new.c", calls + 'f("%.5d", 1);' + calls[: LONG_LINE // 3])
     (status, output, _), seconds, _ = timed(tool, "old.c", "new.c")
-    wanted = f'new.c:1:{len(calls) + 3}: different: "%05d" and "%.5d" print "-0001" and "-00001" for -1\n'
+    said = 'error: different: "%05d" and "%.5d" print "-0001" and "-00001" for -1 [different]'
+    wanted = f"new.c:1:{len(calls) + 3}: {said}\n"
     trials.expect("a line of 10 MB, calls", (status, output), (1, wanted))
     trials.expect(f"a line of 10 MB, calls, in {LINE_SECONDS} seconds: {seconds:.1f}", seconds < LINE_SECONDS, True)
 

@@ -17,7 +17,7 @@ from tests.frame.harness import PACKAGES, TIMEOUT, TOP
 CI = TOP / "examples/ci"
 OLD = '#include <stdio.h>\nvoid f(int n) {\n    printf("%05d\\n", n);\n}\n'
 RESPELLED, CHANGED = OLD.replace("%05d", "%0005d"), OLD.replace("%05d", "%.5d")
-LINE = 'src.c:3:12: different: "%05d\\n" and "%.5d\\n" print "-0001\\n" and "-00001\\n" for -1\n'
+LINE = 'src.c:3:12: error: different: "%05d\\n" and "%.5d\\n" print "-0001\\n" and "-00001\\n" for -1 [different]\n'
 COMMAND = "::error file=src.c,line=3,col=12,endColumn=20::different: "
 
 
@@ -88,7 +88,7 @@ def try_entries(tool, trials):
     tool.put("src.c", OLD)
     status, output = shell(tool, found["fmtcanon-diff"], shell=True)
     trials.expect(
-        "the hook fmtcanon-diff", (status, 'src.c:3:12: different: "%.5d\\n" and "%05d\\n"' in output), (1, True)
+        "the hook fmtcanon-diff", (status, 'src.c:3:12: error: different: "%.5d\\n" and "%05d\\n"' in output), (1, True)
     )
     status, output = shell(tool, f"{found['fmtcanon-po']} po/de.po", shell=True)
     trials.expect("the hook fmtcanon-po", (status, output), (0, "1 message judged, 0 not judged\n"))
@@ -99,7 +99,7 @@ def try_entries(tool, trials):
     tool.environment.update(PRE_COMMIT_FROM_REF="HEAD~1", PRE_COMMIT_TO_REF="HEAD")
     status, output = shell(tool, f"{found['fmtcanon-diff']} --model lp64", shell=True)
     trials.expect(
-        f"the hook fmtcanon-diff in CI: {output}", (status, 'src.c:3:12: different: "%.5d\\n"' in output), (1, True)
+        f"the hook fmtcanon-diff in CI: {output}", (status, 'src.c:3:12: error: different: "%.5d\\n"' in output), (1, True)
     )
     for name in ["PRE_COMMIT_FROM_REF", "PRE_COMMIT_TO_REF"]:
         del tool.environment[name]
@@ -157,7 +157,7 @@ def try_build(tool, name, tools, steps, trials):
         tool.put("src.c", text)
         status, output = shell(tool, target)
         trials.expect(
-            f"{name}: {target}: {output}", (status == 0, "src.c:3:12: different" in output), (passes, not passes)
+            f"{name}: {target}: {output}", (status == 0, "src.c:3:12: error: different" in output), (passes, not passes)
         )
     status, output = shell(tool, check)
     trials.expect(f"{name}: {check}: {output}", status, 0)

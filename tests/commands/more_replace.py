@@ -21,31 +21,31 @@ OLD, NEW = "%i\\n", "%d\\n"
 # of
 # a file has other words.
 LEFT = [
-    ("asm-label.c", [], "left: an asm names printf"),
-    ("chosen-shadow.c", ["--function", "log:0"], "4: left: it is an argument of log, which is no function"),
-    ("comment-end.c", [], "7: left: a macro makes other text of it"),
-    ("comment-even.c", [], "7: left: a macro makes other text of it"),
-    ("escapes-charset.c", ["--flag=-fexec-charset=latin1"], "left: its compile command has -fexec-charset=latin1"),
-    ("escapes-charset.c", ["--flag=-finput-charset=latin1"], "left: its compile command has -finput-charset=latin1"),
-    ("format-parameter.c", [], "5: left: it is an argument of printf, which is no function"),
-    ("gcc-branch.c", [], "6: left: a macro makes other text of it"),
-    ("gcc-label.c", [], "7: left: printf is declared in gcc-label.c, too"),
-    ("gcc-parameter.c", [], "8: left: it is an argument of printf, which is no function"),
-    ("file-asm.c", [], "left: it has an asm at file scope"),
-    ("has-include.c", [], "7: left: a macro makes other text of it"),
-    ("kr-depth.c", [], "12: left: printf is declared in kr-depth.c, and not in the C library's header"),
-    ("line-marker.c", [], "left: line-marker.c has #line or a line marker"),
-    ("redefine-extname.c", [], "left: a pragma names printf"),
-    ("reference.cpp", [], "6: left: it is an argument of printf, which is no function"),
-    ("register-specifier.c", [], "left: it names register_printf_specifier"),
-    ("system-header.c", [], "4: left: warn is declared in system-header.h, and not in the C library's header"),
-    ("twice.c", [], "left: it includes itself"),
-    ("weak.c", [], "left: a pragma names printf"),
-    ("fmt-library.cpp", [], "4: left: sprintf is declared in printf.h, and not in the C library's header"),
-    ("spdlog.cpp", [], "3: left: warn is declared in spdlog.h, and not in the C library's header"),
+    ("asm-label.c", [], "an asm names printf"),
+    ("chosen-shadow.c", ["--function", "log:1"], "4: argument of log, which is no function"),
+    ("comment-end.c", [], "7: a macro makes other text of it"),
+    ("comment-even.c", [], "7: a macro makes other text of it"),
+    ("escapes-charset.c", ["--flag=-fexec-charset=latin1"], "its compile command has -fexec-charset=latin1"),
+    ("escapes-charset.c", ["--flag=-finput-charset=latin1"], "its compile command has -finput-charset=latin1"),
+    ("format-parameter.c", [], "5: argument of printf, which is no function"),
+    ("gcc-branch.c", [], "6: a macro makes other text of it"),
+    ("gcc-label.c", [], "7: printf is declared in gcc-label.c, too"),
+    ("gcc-parameter.c", [], "8: argument of printf, which is no function"),
+    ("file-asm.c", [], "it has an asm at file scope"),
+    ("has-include.c", [], "7: a macro makes other text of it"),
+    ("kr-depth.c", [], "12: printf is declared in kr-depth.c, and not in the C library's header"),
+    ("line-marker.c", [], "line-marker.c has #line or a line marker"),
+    ("redefine-extname.c", [], "a pragma names printf"),
+    ("reference.cpp", [], "6: argument of printf, which is no function"),
+    ("register-specifier.c", [], "it names register_printf_specifier"),
+    ("system-header.c", [], "4: warn is declared in system-header.h, and not in the C library's header"),
+    ("twice.c", [], "it includes itself"),
+    ("weak.c", [], "a pragma names printf"),
+    ("fmt-library.cpp", [], "4: sprintf is declared in printf.h, and not in the C library's header"),
+    ("spdlog.cpp", [], "3: warn is declared in spdlog.h, and not in the C library's header"),
 ]
 # Programs in which the place is replaced although another text is printed then: nothing in the file shows it.
-NOT_SEEN = [("function-key.c", ["--function", "once:0"]), ("other-file.c", []), ("wrap.c", [])]
+NOT_SEEN = [("function-key.c", ["--function", "once:1"]), ("other-file.c", []), ("wrap.c", [])]
 # What a compiler needs to build a program.
 LINKED = {
     "fmt-library.cpp": ["-lfmt"],
@@ -70,17 +70,17 @@ SOURCES = [
     ("", 'printf("%i\\n", 1);', [], "replaced"),
     ("", 'printf("%i" "\\n", 1);', [], "replaced"),
     ("", 'printf("\\x25i\\12", 1);', [], "replaced"),
-    ("", 'puts("%i\\n");', [], "left: it is an argument of puts, which isn't known"),
-    ("", 'fprintf(stderr, "%s", "%i\\n");', [], "left: it isn't the format of fprintf"),
-    ("", 'const char *p = "%i\\n"; (void)p;', [], "left: it isn't the whole argument of a call"),
-    ("", 'printf(stdout ? "%i\\n" : "", 1);', [], "left: it isn't the whole argument of a call"),
-    ("", 'printf("%i\\n" + 0, 1);', [], "left: it isn't the whole argument of a call"),
+    ("", 'puts("%i\\n");', [], "argument of puts, not a known printf-like function"),
+    ("", 'fprintf(stderr, "%s", "%i\\n");', [], "it isn't the format of fprintf"),
+    ("", 'const char *p = "%i\\n"; (void)p;', [], "it isn't the whole argument of a call"),
+    ("", 'printf(stdout ? "%i\\n" : "", 1);', [], "it isn't the whole argument of a call"),
+    ("", 'printf("%i\\n" + 0, 1);', [], "it isn't the whole argument of a call"),
     ("", '/* printf("%i\\n", 1); */', [], ""),
-    ('#define X "x"', 'printf(X "%i\\n", 1);', [], "left: it isn't the whole argument of a call"),
-    ("#define STR(x) #x", 'puts(STR("%i\\n"));', [], "left: a macro makes other text of it"),
-    ("#define TWO(f) printf(f, 1); puts(f)", 'TWO("%i\\n");', [], "left: it is an argument of puts, which isn't known"),
+    ('#define X "x"', 'printf(X "%i\\n", 1);', [], "it isn't the whole argument of a call"),
+    ("#define STR(x) #x", 'puts(STR("%i\\n"));', [], "a macro makes other text of it"),
+    ("#define TWO(f) printf(f, 1); puts(f)", 'TWO("%i\\n");', [], "argument of puts, not a known printf-like function"),
     ("#define TWO(f) printf(f, 1); printf(f, 2)", 'TWO("%i\\n");', [], "replaced"),
-    ("#define TWO(f) printf(f, 1); (void)f[0]", 'TWO("%i\\n");', [], "left: a macro uses it for something else, too"),
+    ("#define TWO(f) printf(f, 1); (void)f[0]", 'TWO("%i\\n");', [], "a macro uses it for something else, too"),
     ("#define CHECK(f) _Static_assert(sizeof f > 1, f); printf(f, 1)", 'CHECK("%i\\n");', [], "replaced"),
     (
         "#include <stdlib.h>\n#define DIE(s, f) ((void)sizeof(struct { _Static_assert(s + 1, #f); int x; }), printf(f, s))",
@@ -92,19 +92,19 @@ SOURCES = [
         "char *gettext(const char *); ",
         'printf(gettext("%i\\n"), 1);',
         [],
-        "left: it is a key for translators, an argument of gettext",
+        "a key for translators, argument of gettext",
     ),
     (
         "char *gettext(const char *);\n#define _(x) gettext(x)",
         'printf(_("%i\\n"), 1);',
         [],
-        "left: it is a key for translators, an argument of gettext",
+        "a key for translators, argument of gettext",
     ),
     (
         "void say(const char *, ...) __attribute__((format(printf, 1, 2)));",
         'say("%i\\n", 1);',
         [],
-        "left: it is an argument of say, which isn't known without --attribute",
+        "argument of say, not a known printf-like function; try --attribute",
     ),
     (
         "void say(const char *, ...) __attribute__((format(printf, 1, 2)));",
@@ -122,65 +122,65 @@ SOURCES = [
         "void say(const char *, ...) __attribute__((format(scanf, 1, 2)));",
         'say("%i\\n", 1);',
         ["--attribute"],
-        "left: it is an argument of say, which isn't known",
+        "argument of say, not a known printf-like function",
     ),
-    ("void say(int, const char *, ...);", 'say(1, "%i\\n", 1);', ["--function", "say:1"], "replaced"),
-    ("", 'say("%i\\n", 1);', [], "left: it is an argument of say, which isn't known"),
-    ("int printf(const char *, ...);", 'printf("%i\\n", 1);', [], "left: printf is declared in a.c, too"),
+    ("void say(int, const char *, ...);", 'say(1, "%i\\n", 1);', ["--function", "say:2"], "replaced"),
+    ("", 'say("%i\\n", 1);', [], "argument of say, not a known printf-like function"),
+    ("int printf(const char *, ...);", 'printf("%i\\n", 1);', [], "printf is declared in a.c, too"),
     (
         "static int f(void) { extern int printf(const char *, ...); return printf != 0; }",
         'printf("%i\\n", 1);',
         [],
-        "left: printf is declared in a.c, too",
+        "printf is declared in a.c, too",
     ),
     ("#ifdef ON", 'printf("%i\\n", 1);\n}\nvoid h(void) {\n#endif', [], None),
     ("#ifdef ON", 'printf("%i\\n", 1);\n}\nvoid h(void) {\n#endif', ["--flag=-DON"], "replaced"),
     ("#line 7", 'printf("%i\\n", 1);', [], None),
     ("", 'printf("%d\\n", 1);', [], ""),
-    ("", 'printf("%-i\\n", 1);', [], "left: it means the same, and is spelled otherwise"),
+    ("", 'printf("%-i\\n", 1);', [], "it means the same, and is spelled otherwise"),
 ]
 # Options with the formats, and what is said of a place that is OLD.
 DIFFERENCES = [
-    (["%05d", "%.5d"], "left: the two print different bytes for -1"),
-    (["%d", "%ld"], "left: the types differ at argument 1, counted from 1: %d takes int and %ld takes long"),
+    (["%05d", "%.5d"], "the two print different bytes for -1"),
+    (["%d", "%ld"], "the types differ at argument 1: %d takes int and %ld takes long"),
     (
         ["%zu", "%lu"],
-        "left: in ILP32 the types differ at argument 1, counted from 1: %zu takes unsigned int and %lu takes unsigned "
-        "long; in LLP64 the types differ at argument 1, counted from 1: %zu takes unsigned long long and %lu takes "
+        "in ILP32 the types differ at argument 1: %zu takes unsigned int and %lu takes unsigned "
+        "long; in LLP64 the types differ at argument 1: %zu takes unsigned long long and %lu takes "
         "unsigned long",
     ),
     (
         ["--model", "both", "%zd", "%d"],
-        "left: in LP64 the types differ at argument 1, counted from 1: %zd takes long and %d takes int",
+        "in LP64 the types differ at argument 1: %zd takes long and %d takes int",
     ),
-    (["--model", "ilp32", "%zx", "%u"], "left: the two print different bytes for 4294967295"),
+    (["--model", "ilp32", "%zx", "%u"], "the two print different bytes for 4294967295"),
     (["--model", "lp64", "%zu", "%lu"], "replaced"),
     (
         ["%'i", "%d"],
-        "left: the flag ' groups digits in other locales; use --posix-locale if the program prints only in POSIX",
+        "the flag ' groups digits in other locales; use --posix-locale if the program prints only in POSIX",
     ),
     (
         ["%i", "%'d"],
-        "left: the flag ' groups digits in other locales; use --posix-locale if the program prints only in POSIX",
+        "the flag ' groups digits in other locales; use --posix-locale if the program prints only in POSIX",
     ),
     (["%%'%i", "%%'%d"], "replaced"),
     (["--posix-locale", "%'i", "%d"], "replaced"),
     (["%i: %.2f\\n", "%d: %.2f\\n"], "replaced"),
     (["%.6lf of %5c", "%f of     %c"], "replaced"),
     (["%-08.*f|%+ p", "%-8.*f|%+p"], "replaced"),
-    (["%i: %.2f", "%d: %.3f"], "left: the directives differ at argument 2, counted from 1: %.2f and %.3f"),
-    (["%*d", "%d%d"], "left: the directives differ at argument 1, counted from 1: %*d and %d"),
-    (["%f%05d", "%f%.5d"], "left: the two print different bytes for any, -1"),
-    (["%f", "%Lf"], "left: the types differ at argument 1, counted from 1: %f takes double and %Lf takes long double"),
+    (["%i: %.2f", "%d: %.3f"], "the directives differ at argument 2: %.2f and %.3f"),
+    (["%*d", "%d%d"], "the directives differ at argument 1: %*d and %d"),
+    (["%f%05d", "%f%.5d"], "the two print different bytes for any, -1"),
+    (["%f", "%Lf"], "the types differ at argument 1: %f takes double and %Lf takes long double"),
     (
         ["%jn%f", "%ln%f"],
-        "left: in ILP32 the types differ at argument 1, counted from 1: %jn takes pointer to long long and %ln takes "
-        "pointer to long; in LLP64 the types differ at argument 1, counted from 1: %jn takes pointer to long long and "
+        "in ILP32 the types differ at argument 1: %jn takes pointer to long long and %ln takes "
+        "pointer to long; in LLP64 the types differ at argument 1: %jn takes pointer to long long and "
         "%ln takes pointer to long",
     ),
     (
         ["%'f", "%f"],
-        "left: the flag ' groups digits in other locales; use --posix-locale if the program prints only in POSIX",
+        "the flag ' groups digits in other locales; use --posix-locale if the program prints only in POSIX",
     ),
     (["--posix-locale", "%'f", "%f"], "replaced"),
 ]
@@ -193,6 +193,16 @@ WRONG = [
 ]
 # The seconds of the processor that a line of 400,000 bytes may take, and one literal of ten million.
 LONG_LINE, SECONDS = 400_000, 20
+
+
+REPLACED = "note: replaced [replaced]"
+
+
+def said_of(place, why):
+    """The line on a place that isn't replaced, or on a file that isn't judged, which has no number of a line."""
+    if ":" not in place:
+        return f"{place}:1: warning: not judged: {why} [skipped]\n"
+    return f"{place}: {REPLACED if why == 'replaced' else f'warning: not replaced: {why} [skipped]'}\n"
 
 
 def tool(folder, work, python, trials):
@@ -211,19 +221,19 @@ def test_left(tool, trials):
         before = tool.printed(name, LINKED.get(name, []))
         trials.expect(f"{name} is compiled", before[0] != "not compiled" or before, True)
         old, new = [f"\\303\\251{it}" if name.startswith("escapes") else it for it in (OLD, NEW)]
-        wanted = f"{name}:{said}\n" if said[0].isdigit() else f"{name}: {said}\n"
+        line, _, why = said.rpartition(": ") if said[0].isdigit() else ("", "", said)
+        wanted = (1, said_of(f"{name}:{line}", why), "") if line else (2, said_of(name, why), "")
         found = tool.run_by_lines(*words, old, new, name)
-        trials.expect(f"{name} {words}", (found[0], found[1].replace(f"{tool.work}/", ""), found[2]), (1, wanted, ""))
+        trials.expect(f"{name} {words}", (found[0], found[1].replace(f"{tool.work}/", ""), found[2]), wanted)
         trials.expect(f"{name} stays", (tool.work / name).read_bytes(), (FOLDER / name).read_bytes())
         trials.expect(f"{name}: what it prints", tool.printed(name, LINKED.get(name, [])), before)
     for name, words in NOT_SEEN:
         status, report, fault = tool.run_by_lines("--dry-run", *words, OLD, NEW, name)
-        trials.expect(f"{name} isn't seen", ("replaced" in report, fault), (True, ""))
+        trials.expect(f"{name} isn't seen", (REPLACED in report, fault), (True, ""))
     tool.put("part.inc", 'printf("%i\\n", 1);\n')
     found = tool.run_by_lines(OLD, NEW, "part.inc", "fragment.c")
-    trials.expect(
-        "a part of a file", found, (1, "part.inc: left: a header, or a part of a file, isn't compiled by itself\n", "")
-    )
+    said = said_of("part.inc", "a header, or a part of a file, isn't compiled by itself")
+    trials.expect("a part of a file", found, (2, said, ""))
 
 
 def test_calls(tool, trials):
@@ -242,7 +252,7 @@ def test_calls(tool, trials):
             trials.expect(
                 f"a call {name}, {compiler}",
                 found,
-                (0, "".join(f"a.c:{2 + front.count(chr(10))}: replaced\n" for _ in range(body.count("%i"))), ""),
+                (0, said_of(f"a.c:{2 + front.count(chr(10))}", "replaced") * body.count("%i"), ""),
             )
             trials.expect(f"a call {name}: the source", (tool.work / "a.c").read_text(), source.replace("%i", "%d"))
             trials.expect(f"a call {name}: what it prints", tool.printed("a.c", flags), before)
@@ -259,26 +269,23 @@ def test_sources(tool, trials):
         status, report, fault = tool.run_by_lines(*words, OLD, NEW, "a.c")
         after = (tool.work / "a.c").read_text()
         if said == "replaced":
-            trials.expect(f"{body} {words}", (status, set(report.split(" ", 1)[1:]), fault), (0, {"replaced\n"}, ""))
+            trials.expect(f"{body} {words}", (status, set(report.split(" ", 1)[1:]), fault), (0, {f"{REPLACED}\n"}, ""))
             trials.expect(f"{body}: the source", after != lines, True)
             trials.expect(f"{body}: a second run", tool.run_by_lines(*words, OLD, NEW, "a.c"), (0, "", ""))
             continue
         trials.expect(f"{body}: the source", after, lines)
-        trials.expect(f"{body} {words}", (status, fault), (0 if said == "" else 1, ""))
-        trials.expect(
-            f"{body} {words}: {report}",
-            said is None and "left: " in report or said == "" == report or bool(said) and report.endswith(f" {said}\n"),
-            True,
-        )
+        is_file = ": warning: not judged: " in report
+        trials.expect(f"{body} {words}", (status, fault), (0 if said == "" else 2 if is_file else 1, ""))
+        is_said = f": warning: not replaced: {said}" in report or (said is None and ": warning: not " in report)
+        trials.expect(f"{body} {words}: {report}", is_said if said != "" else report == "", True)
 
 
 def test_differences(tool, trials):
     for words, said in DIFFERENCES:
         source = '#include <stdio.h>\nvoid g(void) { printf("' + words[-2] + '", 1); }\n'
         tool.put("a.c", source)
-        trials.expect(
-            f"replace {words}", tool.run_by_lines(*words, "a.c"), (0 if said == "replaced" else 1, f"a.c:2: {said}\n", "")
-        )
+        wanted = (0 if said == "replaced" else 1, said_of("a.c:2", said), "")
+        trials.expect(f"replace {words}", tool.run_by_lines(*words, "a.c"), wanted)
 
 
 def test_commands(tool, trials):
@@ -319,16 +326,18 @@ def test_commands(tool, trials):
                 }
             )
     tool.put("compile_commands.json", json.dumps(commands))
-    report = "src/a.c:3: replaced\nsrc/a.c:6: left: a macro makes other text of it\nsrc/b.c:8: left: a macro makes other text of it\nsrc/none.c: left: compile_commands.json has no command for it\n"
+    places = [("src/a.c:3", "replaced"), *((it, "a macro makes other text of it") for it in ("src/a.c:6", "src/b.c:8"))]
+    lines = [said_of(*it) for it in places]
+    report = "".join([*lines, said_of("src/none.c", "compile_commands.json has no command for it")])
     trials.expect(
-        "several commands", tool.run_by_lines("-p", ".", OLD, NEW, "src/a.c", "src/b.c", "src/none.c"), (1, report, "")
+        "several commands", tool.run_by_lines("-p", ".", OLD, NEW, "src/a.c", "src/b.c", "src/none.c"), (2, report, "")
     )
     trials.expect("nothing else is written", sorted(os.listdir(tool.work / "src")), ["a.c", "b.c", "inc", "none.c"])
     status, report, fault = tool.run_by_lines("-p", ".", OLD, NEW)
     trials.expect(
         "all files of the database",
         (status, report.replace(f"{tool.work}/", ""), fault),
-        (1, "src/a.c:6: left: a macro makes other text of it\nsrc/b.c:8: left: a macro makes other text of it\n", ""),
+        (1, "".join(lines[1:]), ""),
     )
     tool.put(
         "compile_commands.json", json.dumps([{**commands[0], "arguments": ["cc", "-Wl,--wrap=printf", "-c", "a.c"]}])
@@ -337,7 +346,7 @@ def test_commands(tool, trials):
     trials.expect(
         "a command that wraps",
         tool.run_by_lines("-p", ".", OLD, NEW, "src/a.c"),
-        (1, "src/a.c: left: its compile command has -Wl,--wrap=printf\n", ""),
+        (2, said_of("src/a.c", "its compile command has -Wl,--wrap=printf"), ""),
     )
     (tool.work / "compile_commands.json").unlink()
 
@@ -349,18 +358,17 @@ def test_files(tool, trials):
     """Rights, links, names, and errors after which the command goes on."""
     file = tool.put("plain.c", PLAIN)
     (tool.work / "link.c").symlink_to("plain.c")
-    trials.expect("a link", tool.run_by_lines(OLD, NEW, "link.c"), (0, "link.c:2: replaced\n", ""))
+    trials.expect("a link", tool.run_by_lines(OLD, NEW, "link.c"), (0, said_of("link.c:2", "replaced"), ""))
     trials.expect("what it links to", ('"%d' in file.read_text(), (tool.work / "link.c").is_symlink()), (True, True))
     os.link(tool.put("hard.c", PLAIN), tool.work / "other.c")
     trials.expect(
         "a hard link",
         tool.run_by_lines(OLD, NEW, "hard.c"),
-        (1, "hard.c: left: it has hard links, which would be torn apart\n", ""),
+        (2, said_of("hard.c", "it has hard links, which would be torn apart"), ""),
     )
     tool.put("locked.c", PLAIN).chmod(0o444)
-    trials.expect(
-        "a file that is read-only", tool.run_by_lines(OLD, NEW, "locked.c"), (1, "locked.c: left: it is read-only\n", "")
-    )
+    said = said_of("locked.c", "it is read-only")
+    trials.expect("a file that is read-only", tool.run_by_lines(OLD, NEW, "locked.c"), (2, said, ""))
     tool.put("mode.c", PLAIN).chmod(0o640)
     os.chown(tool.work / "mode.c", os.getuid(), os.getgid())
     trials.expect(
@@ -368,7 +376,8 @@ def test_files(tool, trials):
     )
     tool.put("again.c", PLAIN)
     found = tool.run_by_lines(OLD, NEW, "nothing.c", "again.c")
-    trials.expect("after an error", found, (2, "again.c:2: replaced\n", "nothing.c: No such file or directory\n"))
+    said = said_of("again.c:2", "replaced")
+    trials.expect("after an error", found, (2, said, "nothing.c: No such file or directory\n"))
     name = b"caf\xe9.c"
     with open(os.path.join(os.fsencode(tool.work), name), "w", encoding="ascii") as stream:
         stream.write(PLAIN)
@@ -383,20 +392,19 @@ def test_files(tool, trials):
     status, report, _ = tool.run_by_lines(OLD, NEW, "wrong.c")
     trials.expect(
         "a file with an error",
-        (status, report.startswith("wrong.c: left: libclang can't parse it: wrong.c:3: ")),
-        (1, True),
+        (status, report.startswith("wrong.c:1: warning: not judged: libclang can't parse it: wrong.c:3: ")),
+        (2, True),
     )
     tool.put("lost.c", f'#include "nowhere.h"\n{PLAIN}')
     status, report, _ = tool.run_by_lines(OLD, NEW, "lost.c")
-    trials.expect(
-        "a header that isn't there", (status, "left: its compiler can't preprocess it: " in report), (1, True)
-    )
+    is_said = ": warning: not judged: its compiler can't preprocess it: " in report
+    trials.expect("a header that isn't there", (status, is_said), (2, True))
     os.utime(tool.put("time.c", f"{PLAIN}const char *t = __TIMESTAMP__;\n"), (0, 0))
     status, report, _ = tool.run_by_lines(OLD, NEW, "time.c")
     trials.expect(
         "a file that has its own time",
         (status, report),
-        (1, "time.c: left: its compiler reads it otherwise once literals are replaced\n"),
+        (2, said_of("time.c", "its compiler reads it otherwise once literals are replaced")),
     )
     for source in [
         "const char *t = __DATE__ __TIME__, *f = __FILE__; int n = __LINE__ + __COUNTER__;\n",
@@ -421,7 +429,7 @@ def test_sizes(tool, trials):
         before = resource.getrusage(resource.RUSAGE_CHILDREN)
         status, report, fault = tool.run_by_lines(OLD, NEW, "a.c")
         after = resource.getrusage(resource.RUSAGE_CHILDREN)
-        trials.expect(name, (status, report.count("replaced"), fault), (0, count, ""))
+        trials.expect(name, (status, report.count(REPLACED), fault), (0, count, ""))
         trials.expect(f"{name} in {SECONDS} seconds of the processor", after.ru_utime - before.ru_utime < SECONDS, True)
 
 
@@ -433,22 +441,22 @@ TREE = {
 }
 LISTED = """\
 "    %c|": 1 place
-tree/a.c:2:42: "%5c|"
+tree/a.c:2:42: note: "%5c|" [format]
 
 "%d\\n": 3 places, 3 spellings
-tree/a.c:2:23: "%i\\n"
-tree/in/b.c:2:23: "%-i\\n"
-tree/in/b.c:3:31: "%d\\n"
+tree/a.c:2:23: note: "%i\\n" [format]
+tree/in/b.c:2:23: note: "%-i\\n" [format]
+tree/in/b.c:3:31: note: "%d\\n" [format]
 
 "%f": 2 places
-tree/in/b.h:2:34: "%f"
-tree/in/b.h:2:45: "%f"
+tree/in/b.h:2:34: note: "%f" [format]
+tree/in/b.h:2:45: note: "%f" [format]
 
 not judged: 2 places
-tree/in/b.c:3:51: not judged: refused 3 Unexpected at byte 1 of "%y"
-tree/in/b.h:2:59: not judged: the macro OWN is part of it
+tree/in/b.c:3:51: warning: not judged: refused 3 Unexpected at byte 1 of "%y" [unjudged]
+tree/in/b.h:2:59: warning: not judged: the macro OWN is part of it [unjudged]
 """
-FUNCTIONS = "printf:0: known, 5 places\nsay:0: not known, 2 places\nfprintf:1: known, 1 place\n"
+FUNCTIONS = "printf:1: known, 5 places\nsay:1: not known, 2 places\nfprintf:2: known, 1 place\n"
 # Files of pairs that can't be used, and what is said of them.
 WRONG_PAIRS = [
     ("%i\n", "pairs:1: it isn't two formats"),
@@ -468,13 +476,13 @@ def test_trees(tool, trials):
     trials.expect("the functions of a tree", tool.run_by_lines("--list-functions", "tree"), (0, FUNCTIONS, ""))
     trials.expect(
         "a function that is given",
-        "say:0: known, 2 places" in tool.run_by_lines("--list-functions", "--function", "say:0", "tree")[1],
+        "say:1: known, 2 places" in tool.run_by_lines("--list-functions", "--function", "say:1", "tree")[1],
         True,
     )
     status, known, _ = tool.run_by_lines("--list-functions")
     trials.expect(
         "the functions that are known",
-        (status, {"printf:0: known", "fprintf:1: known", "syslog:1: known"} <= set(known.splitlines())),
+        (status, {"printf:1: known", "fprintf:2: known", "syslog:2: known"} <= set(known.splitlines())),
         (0, True),
     )
     found = [json.loads(line) for line in tool.run_by_lines("--list", "--output", "json", "tree/a.c")[1].splitlines()]
@@ -486,7 +494,8 @@ def test_trees(tool, trials):
     tool.put("pairs", "%i\\n\t%d\\n\n%5c|\t    %c|\n")
     for words in [["--diff"], ["--dry-run"]]:
         status, output, fault = tool.run(*words, "--pairs", "pairs", "tree")
-        said = "tree/a.c:2:23: replaced\ntree/a.c:2:42: replaced\ntree/in/b.c:2:23: left: it means the same, and is spelled otherwise\n"
+        said = said_of("tree/a.c:2:23", "replaced") + said_of("tree/a.c:2:42", "replaced")
+        said += said_of("tree/in/b.c:2:23", "it means the same, and is spelled otherwise")
         trials.expect(f"pairs, {words}", (status, fault if words == ["--diff"] else output), (1, said))
         trials.expect(f"a file after {words}", (tool.work / "tree/a.c").read_text(), TREE["tree/a.c"])
         if words == ["--diff"]:
@@ -500,7 +509,7 @@ def test_trees(tool, trials):
     wanted = [
         ("tree/a.c", 2, 23, "replaced", "note", "%i\n", "%d\n"),
         ("tree/a.c", 2, 42, "replaced", "note", "%5c|", "    %c|"),
-        ("tree/in/b.c", 2, 23, "left", "warning", "%-i\n", None),
+        ("tree/in/b.c", 2, 23, "skipped", "warning", "%-i\n", None),
     ]
     trials.expect(
         "pairs as JSON",

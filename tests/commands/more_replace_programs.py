@@ -49,17 +49,17 @@ PARTS = {
     '#include "part.c"\nint main(void) { part2(); return 0; }\n',
 }
 LEFT = [
-    Program("a file that another unit includes", PARTS, r"part\.c: left: all\.c includes it, too\n"),
+    Program("a file that another unit includes", PARTS, r"part\.c:1: warning: not judged: all\.c includes it, too \[skipped\]\n"),
     Program(
         "a file that another unit includes, of a few files",
         PARTS,
-        r"part\.c: left: all\.c includes it, too\n",
+        r"part\.c:1: warning: not judged: all\.c includes it, too \[skipped\]\n",
         words=("-p", ".", OLD, NEW, "part.c"),
     ),
     Program(
         "another data model",
         {"c.c": '#include <stdio.h>\nint main(void) { return printf("%jd %d\\n", 5000000000, 7) < 0; }\n'},
-        r"c\.c: left: it is compiled for ILP32, which --model leaves out\n",
+        r"c\.c:1: warning: not judged: it is compiled for ILP32, which --model leaves out \[skipped\]\n",
         ["-m32"],
         ("-p", ".", "--model", "lp64", "%jd %d\\n", "%ld %d\\n"),
         is_built=False,
@@ -67,19 +67,19 @@ LEFT = [
     Program(
         "a data model by another word",
         {"c.c": PLAIN},
-        r"c\.c: left: it is compiled for LP64, which --model leaves out\n",
+        r"c\.c:1: warning: not judged: it is compiled for LP64, which --model leaves out \[skipped\]\n",
         words=("-p", ".", "--model", "ilp32", OLD, NEW),
     ),
     Program(
         "a static assertion on the length",
         {"log.c": "#include <stdio.h>\n" + SHORT + f'int main(void) {{ LOG("{DIGITS}%i\\n", 1); return 0; }}\n'},
-        r"log\.c: left: its compiler rejects the result: log\.c:2:.*a message has 64 bytes.*\n",
+        r"log\.c:1: warning: not judged: its compiler rejects the result: log\.c:2:.*a message has 64 bytes.* \[skipped\]\n",
         words=("-p", ".", f"{DIGITS}%i\\n", f"{DIGITS}%.1d\\n"),
     ),
     Program(
         "a warning that is an error",
         {"u.c": MAIN.format('printf("%u\\n", 1u);')},
-        r"u\.c: left: its compiler rejects the result: u\.c:2:.*'?\+'? flag used with .*%u.*\n",
+        r"u\.c:1: warning: not judged: its compiler rejects the result: u\.c:2:.*'?\+'? flag used with .*%u.* \[skipped\]\n",
         ["-Wall", "-Werror"],
         ("-p", ".", "%u\\n", "%+u\\n"),
     ),
@@ -94,7 +94,7 @@ LEFT = [
             " { (void)i; (void)s; if (n) *t = PA_INT; return 1; }\n"
             "int main(void) { register_printf_specifier('i', shown, sized); a(); return 0; }\n",
         },
-        r"a\.c: left: register\.c names register_printf_specifier\n",
+        r"a\.c:1: warning: not judged: register\.c names register_printf_specifier \[skipped\]\n",
     ),
     Program(
         "static_assert as a name",
@@ -103,7 +103,7 @@ LEFT = [
             "#define LOG(f, n) (printf(f, n), c.static_assert = (f))\n"
             'int main(void) { LOG("%i\\n", 1); fputs(c.static_assert, stdout); return 0; }\n'
         },
-        r"n\.c:4: left: a macro uses it for something else, too\n",
+        r"n\.c:4: warning: not replaced: a macro uses it for something else, too \[skipped\]\n",
         ["-std=c17"],
     ),
     Program(
@@ -113,7 +113,7 @@ LEFT = [
             + MINE
             + 'int main(void) { printf("%i\\n", 1); return 0; }\n'
         },
-        r"label\.c:5: left: printf has an asm label\n",
+        r"label\.c:5: warning: not replaced: printf has an asm label \[skipped\]\n",
     ),
     Program(
         "an alias from a macro round the header",
@@ -121,7 +121,7 @@ LEFT = [
             "alias.c": '#define printf(...) printf(__VA_ARGS__) __attribute__((alias("mine")))\n'
             "#include <stdio.h>\n#undef printf\n" + MINE + 'int main(void) { printf("%i\\n", 1); return 0; }\n'
         },
-        r"alias\.c:5: left: printf has the attribute alias\n",
+        r"alias\.c:5: warning: not replaced: printf has the attribute alias \[skipped\]\n",
     ),
     Program(
         "a function with gcc's name of the language",
@@ -129,7 +129,7 @@ LEFT = [
             "c.c": '#include <stdio.h>\nint main(void) { return gnu_printf("%i\\n") < 0; }\n',
             "d.c": "#include <stdio.h>\nint gnu_printf(const char *f) { return fputs(f, stdout); }\n",
         },
-        r"c\.c:2: left: (it is an argument of gnu_printf, which isn't known|the function gnu_printf isn't declared)\n",
+        r"c\.c:2: warning: not replaced: (argument of gnu_printf, not a known printf-like function|the function gnu_printf isn't declared) \[skipped\]\n",
     ),
     Program(
         "an assembler that reads the file",
@@ -138,7 +138,7 @@ LEFT = [
             '  __asm__(".pushsection .data\\n.globl text\\ntext: .incbin \\"in.c\\"\\n.globl end\\nend:\\n.popsection");\n'
             '  fwrite(text, 1, end - text, stdout);\n  return printf("%i\\n", 1) < 0;\n}\n'
         },
-        r"in\.c: left: an asm names \.incbin\n",
+        r"in\.c:1: warning: not judged: an asm names \.incbin \[skipped\]\n",
     ),
     Program(
         "an assembler that makes a name",
@@ -147,12 +147,12 @@ LEFT = [
             '  __asm__(".macro m a b\\n.set \\\\a\\\\b, mine\\n.endm\\nm prin tf");\n'
             '  printf("%i\\n", 1);\n  return 0;\n}\n'
         },
-        r"m\.c: left: an asm names \.macro\n",
+        r"m\.c:1: warning: not judged: an asm names \.macro \[skipped\]\n",
     ),
     Program(
         "a column",
         {"column.c": MAIN.format('printf("%i\\n", __builtin_COLUMN());')},
-        r"column\.c: left: it names __builtin_COLUMN, and a column would change\n",
+        r"column\.c:1: warning: not judged: it names __builtin_COLUMN, and a column would change \[skipped\]\n",
         words=("-p", ".", OLD, "%.1d\\n"),
         compiler="clang",
     ),
@@ -165,31 +165,31 @@ REPLACED = [
             "a.c": '#include "b.c"\nint main(void) { b(); return printf("%i\\n", 1) < 0; }\n',
             "b.c": PARTS["part.c"].replace("part", "b").replace("%i", "%d"),
         },
-        r"a\.c:2: replaced\n",
+        r"a\.c:2: note: replaced \[replaced\]\n",
     ),
     Program(
         "its own data model",
         {"c.c": '#include <stdio.h>\nint main(void) { return printf("%jd %d\\n", 5000000000, 7) < 0; }\n'},
-        r"c\.c:2: replaced\n",
+        r"c\.c:2: note: replaced \[replaced\]\n",
         words=("-p", ".", "--model", "lp64", "%jd %d\\n", "%ld %d\\n"),
     ),
     Program(
         "32 bits",
         {"c.c": 'int say(const char *, ...);\nvoid f(void) { say("%zu\\n", sizeof(int)); }\n'},
-        r"c\.c:2: replaced\n",
+        r"c\.c:2: note: replaced \[replaced\]\n",
         ["-m32"],
-        ("-p", ".", "--model", "ilp32", "--function", "say:0", "%zu\\n", "%u\\n"),
+        ("-p", ".", "--model", "ilp32", "--function", "say:1", "%zu\\n", "%u\\n"),
         is_built=False,
     ),
     Program(
         "a static assertion that holds",
         {"log.c": "#include <stdio.h>\n" + SHORT + 'int main(void) { LOG("%i\\n", 1); return 0; }\n'},
-        r"log\.c:3: replaced\n",
+        r"log\.c:3: note: replaced \[replaced\]\n",
     ),
     Program(
         "a column that stays",
         {"column.c": MAIN.format('printf("%i\\n", __builtin_COLUMN());')},
-        r"column\.c:2: replaced\n",
+        r"column\.c:2: note: replaced \[replaced\]\n",
         compiler="clang",
     ),
     Program(
@@ -197,7 +197,7 @@ REPLACED = [
         {
             "say.c": '__attribute__((__format__(__gnu_printf__, 1, 2))) void say(const char *, ...);\nvoid f(void) { say("%i\\n", 1); }\n'
         },
-        r"say\.c:2: replaced\n",
+        r"say\.c:2: note: replaced \[replaced\]\n",
         words=("-p", ".", "--attribute", OLD, NEW),
         is_built=False,
     ),
@@ -237,7 +237,8 @@ def try_program(folder, python, program, is_left, trials):
             trials.expect(f"{program.name} is built", isinstance(before, tuple) or before, True)
         status, report, fault = tool.run_by_lines(*program.words)
         report = report.replace(f"{tool.work}/", "")
-        trials.expect(f"{program.name}: {report}", (status, fault), (int(is_left), ""))
+        wanted = 2 if "not judged" in program.said else int(is_left)
+        trials.expect(f"{program.name}: {report}", (status, fault), (wanted, ""))
         trials.expect(f"{program.name}: {report!r}", re.fullmatch(program.said, report) is not None, True)
         after = {name: (tool.work / name).read_text() for name in program.files}
         trials.expect(f"{program.name}: its files stay", after == program.files, is_left)
@@ -265,7 +266,7 @@ def test_words(tool, trials):
             for option in ["--dry-run", "--diff"]:
                 status, report, fault = tool.run_by_lines("-p", ".", option, OLD, NEW, "plain.c")
                 said = re.sub(r":2:\d+:", ":2:", fault) if option == "--diff" else report
-                trials.expect(f"{compiler} {words} {option}", (status, said), (0, "plain.c:2: replaced\n"))
+                trials.expect(f"{compiler} {words} {option}", (status, said), (0, "plain.c:2: note: replaced [replaced]\n"))
             found = {
                 it.name: it.read_text(errors="replace")
                 for it in tool.work.iterdir()
@@ -273,8 +274,8 @@ def test_words(tool, trials):
             }
             trials.expect(f"{compiler} {words}: the files", found, kept)
     entries(tool, ["plain.c"], ["-fplugin=x.so"])
-    said = "plain.c: left: its compile command has -fplugin=x.so\n"
-    trials.expect("a word that isn't known", tool.run_by_lines("-p", ".", OLD, NEW, "plain.c"), (1, said, ""))
+    said = "plain.c:1: warning: not judged: its compile command has -fplugin=x.so [skipped]\n"
+    trials.expect("a word that isn't known", tool.run_by_lines("-p", ".", OLD, NEW, "plain.c"), (2, said, ""))
 
 
 def test_folders(tool, trials):
@@ -287,17 +288,19 @@ def test_folders(tool, trials):
     (tool.work / "tree/l.c").symlink_to("../outside/a.c")
     status, report, fault = tool.run_by_lines(OLD, NEW, "tree")
     report = report.replace("a\\nc.c", "a\nc.c")
-    wanted = f"tree/a\nc.c:2: replaced\ntree/b.c:2: replaced\ntree/{long.name}:2: replaced\n"
+    wanted = "".join(f"tree/{it}:2: note: replaced [replaced]\n" for it in ["a\nc.c", "b.c", long.name])
     trials.expect("a folder", (status, report, fault), (0, wanted, ""))
     trials.expect("a file outside of it", outside.read_text(), PLAIN)
     tool.put("a.c", PLAIN)
-    trials.expect("a file twice", tool.run_by_lines(OLD, NEW, "a.c", "./a.c"), (0, "a.c:2: replaced\n", ""))
+    trials.expect("a file twice", tool.run_by_lines(OLD, NEW, "a.c", "./a.c"), (0, "a.c:2: note: replaced [replaced]\n", ""))
     for _ in range(8):
         tool.put("part.c", '#include <stdio.h>\nstatic void part(void) { printf("%i\\n", 2); }\n')
         tool.put("all.c", '#include "part.c"\n' + PLAIN)
         found = tool.run_by_lines(OLD, NEW, "part.c", "all.c")
         trials.expect(
-            "files of which one includes the other", found, (0, "part.c:2: replaced\nall.c:3: replaced\n", "")
+            "files of which one includes the other",
+            found,
+            (0, "part.c:2: note: replaced [replaced]\nall.c:3: note: replaced [replaced]\n", ""),
         )
     os.mkfifo(tool.work / "fifo.c")
     said = "fifo.c: it isn't a regular file\n"

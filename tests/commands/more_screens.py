@@ -21,12 +21,14 @@ void f(int n, size_t size) {
 # What a terminal of 80 columns shows, by hand: the lines of places that are left, and NEW.
 REPLACE = ["-m", "fmtcanon.replace", "--dry-run", r"%d: %05d\n", r"%d: %.5d\n", "a.c"]
 REPLACE_SHOWN = """\
-a.c:3:9: left: the two print different bytes for 0, -1
+a.c:3:9: warning: not replaced: the two print different bytes for 0, -1
+    [skipped]
    3 |     printf("%d: %05d\\n", n, n);
      |                 ^^^^ the sign is one of the 5 columns
  NEW | "%d: %.5d\\n"
      |      ^^^^ 5 digits, and the sign before them
-a.c:4:8: left: the two print different bytes for 0, -1
+a.c:4:8: warning: not replaced: the two print different bytes for 0, -1
+    [skipped]
    4 |     fputs("%d: %05d\\n", stderr);
      |                ^^^^ the sign is one of the 5 columns
  NEW | "%d: %.5d\\n"
@@ -43,11 +45,12 @@ refused 13 AltUndefined at byte 2
 # The line of a call, and a format that isn't accepted.
 CHECK = ["-m", "fmtcanon.checker", "a.c"]
 CHECK_SHOWN = """\
-a.c:5:10: %lu takes unsigned long, and the argument is size_t: another size in
-    LLP64, another type in ILP32; write %zu
+a.c:5:10: error: %lu for a size_t: wrong size on 64-bit Windows, wrong type on
+    32-bit systems; use %zu [size]
  5 |     printf("%lu", size);
-   |             ^^^ write %zu
-a.c:6: not judged: refused 13 AltUndefined at byte 2 of a format of printf
+   |             ^^^ use %zu
+a.c:6: warning: not judged: refused 13 AltUndefined at byte 2 of a format of
+    printf [unjudged]
  format | "%#d"
         |  ^^^ AltUndefined
     help: `#` has no meaning with `d`. Write %d.

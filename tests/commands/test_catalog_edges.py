@@ -86,30 +86,30 @@ STRICTER = [
 ]
 # An int is printed as something else: a warning here, and a fault for msgfmt.
 CHANGED = [
-    ("%d", "%c", "argument 1, counted from 1, otherwise: %d as a number, and %c as a character"),
-    ("%d", "%hd", "argument 1, counted from 1, otherwise: %d as a number, and %hd as a number of type short"),
-    ("%hhd", "%d", "argument 1, counted from 1, otherwise: %hhd as a number of type signed char, and %d as a number"),
+    ("%d", "%c", "argument 1 otherwise: %d as a number, and %c as a character"),
+    ("%d", "%hd", "argument 1 otherwise: %d as a number, and %hd as a number of type short"),
+    ("%hhd", "%d", "argument 1 otherwise: %hhd as a number of type signed char, and %d as a number"),
     (
         "%s %d",
         "%s %hhd",
-        "argument 2, counted from 1, otherwise: %d as a number, and %hhd as a number of type signed char",
+        "argument 2 otherwise: %d as a number, and %hhd as a number of type signed char",
     ),
     (
         "%hhd",
         "%hhx",
-        "argument 1, counted from 1, otherwise: %hhd as a number of type signed char, and %hhx as a number of type unsigned char",
+        "argument 1 otherwise: %hhd as a number of type signed char, and %hhx as a number of type unsigned char",
     ),
     (
         "%hu",
         "%hi",
-        "argument 1, counted from 1, otherwise: %hu as a number of type unsigned short, and %hi as a number of type short",
+        "argument 1 otherwise: %hu as a number of type unsigned short, and %hi as a number of type short",
     ),
     (
         "%1$d",
         "%1$d %1$hd",
-        "argument 1, counted from 1, otherwise: %1$d as a number, and %1$d and %1$hd as a number and a number of type short",
+        "argument 1 otherwise: %1$d as a number, and %1$d and %1$hd as a number and a number of type short",
     ),
-    ("%*d", "%d %d", "argument 1, counted from 1, otherwise: %*d as a width or precision, and %d as a number"),
+    ("%*d", "%d %d", "argument 1 otherwise: %*d as a width or precision, and %d as a number"),
 ]
 # Types that are equal under other spellings.
 UNCHANGED = [
@@ -246,7 +246,7 @@ def catalog(messages, charset="UTF-8", plural="n != 1"):
 
 
 def fault_lines(report):
-    return sorted({int(line) for line in re.findall(r"^[^:\n]+:(\d+): (?!warning)", report, flags=re.MULTILINE)})
+    return sorted({int(line) for line in re.findall(r"^[^:\n]+:(\d+):(?:\d+:)? (?!warning)", report, flags=re.MULTILINE)})
 
 
 def pairs_catalog():
@@ -317,7 +317,7 @@ def test_judged(folder, work, trials):
         file.write_text(forms_text(plural, ""))
         status, report, *_ = checked(folder, ["a.po"], work)
         trials.expect(
-            f"no expression: {plural[:20]}", (status, report.startswith("a.po:0: it can't be read: ")), (1, True)
+            f"no expression: {plural[:20]}", (status, report.startswith("a.po:1: error: it can't be read: ")), (1, True)
         )
 
 
@@ -341,7 +341,7 @@ def test_charsets(folder, work, trials):
         status, report, *_ = checked(folder, ["a.po"], work)
         found = (
             status,
-            report.startswith("a.po:0: it can't be read: ") and "not read" in report,
+            report.startswith("a.po:1: error: it can't be read: ") and "not read" in report,
             "Traceback" in report,
         )
         trials.expect(f"a catalog in {charset[:20]}", found, (1, True, False))
@@ -358,7 +358,7 @@ def test_charsets(folder, work, trials):
         status, report, *_ = checked(folder, ["a.po"], work)
         trials.expect(
             f"the charset after {front!r}",
-            (status, report.count("%d takes int and %s takes string"), "read" in report),
+            (status, report.count("is int (%d) in 'msgid', and string (%s) in"), "read" in report),
             (1, 1, False),
         )
     for bad in [b"\xff", b"\xed\xa0\x80", rb"\355\240\200", rb"\xff", b"\xc3"]:
@@ -370,7 +370,7 @@ def test_charsets(folder, work, trials):
             f"bytes that are not UTF-8: {bad!r}",
             (
                 status,
-                report.startswith("a.po:8: 'msgstr' has a byte that is not of the charset UTF-8: 0x"),
+                report.startswith("a.po:8:1: error: 'msgstr' has a byte that is not of the charset UTF-8: 0x"),
                 fault_lines(report),
             ),
             (1, True, [8]),
@@ -428,16 +428,16 @@ def test_sizes(folder, work, trials):
         status, report, _, memory = checked(folder, ["a.po"], work)
         trials.expect(
             f"{size} MB of {letters[:2]!r}: {memory} KiB",
-            (status, memory < most * 1000, "%d takes int and %s takes string" in report),
+            (status, memory < most * 1000, "is int (%d) in 'msgid', and string (%s)" in report),
             (1, True, True),
         )
     (work / "a.mo").write_bytes(overlapping(60_000, 1_000_000))
     status, report, seconds, memory = checked(folder, ["a.mo"], work)
-    found = (status, report.startswith("a.mo:0: it can't be read: its strings overlap"), seconds < 5, memory < 200_000)
+    found = (status, report.startswith("a.mo:1: error: it can't be read: its strings overlap"), seconds < 5, memory < 200_000)
     trials.expect("overlapping strings of a .mo file", found, (1, True, True, True))
     file.write_text(catalog([])[0] + 'msgid "a"\nmsgid_plural "b"\nmsgstr[' + "1" * 5000 + '] "c"\n')
     status, report, *_ = checked(folder, ["a.po"], work)
-    trials.expect("a form with 5,000 digits", (status, "Traceback" in report, report[:8]), (1, False, "a.po:8: "))
+    trials.expect("a form with 5,000 digits", (status, "Traceback" in report, report[:8]), (1, False, "a.po:8:1"))
 
 
 Tests = tests_of(globals())

@@ -82,13 +82,13 @@ def test_bytes(folder, work, trials):
             (work / "a.po").write_bytes(text.encode().replace(b"BAD", bad))
             status, report, *_ = checked(folder, ["a.po"], work)
             lines = [
-                f"a.po:{FIRST + 4 + line}: '{name}' has a byte that is not of the charset {charset}: 0x{shown} ["
+                f"a.po:{FIRST + 4 + line}:1: error: '{name}' has a byte that is not of the charset {charset}: 0x{shown} ["
                 for name, line in names
             ]
             found = [it for it in report.splitlines() if "charset" in it]
             right = len(found) == len(lines) and all(it.startswith(line) for it, line in zip(found, lines))
             trials.expect(f"{part!r} in {charset}: {report}", (status, right), (1, True))
-            types = [it for it in report.splitlines() if " differ at argument " in it]
+            types = [it for it in report.splitlines() if " [types]" in it]
             trials.expect(f"the others of {part!r}", (len(types), "2 messages judged" in report), (2, True))
     text = (header("UTF-8") + WRONG).replace("Plural", 'X-Name: BAD\\n"\n"Plural')
     (work / "a.po").write_bytes(text.encode().replace(b"BAD", b"\xe9"))
@@ -157,7 +157,7 @@ def test_empty(folder, work, trials):
             front = header("UTF-8").replace("nplurals=2", f"nplurals={len(forms)}")
             (work / "a.po").write_text(front + flags + text)
             status, report, *_ = checked(folder, ["--strict", "a.po"], work)
-            line = f'a.po:{FIRST + 2 + bool(flags)}: warning: {said}: empty, unlike other forms ["%d a"]'
+            line = f"a.po:{FIRST + 2 + bool(flags)}:1: warning: {said}: empty, unlike other forms [empty]"
             wanted = [line] if said and not flags else []
             trials.expect(f"{forms} {flags}: {report}", (status, report.splitlines()[:-1]), (0, wanted))
 

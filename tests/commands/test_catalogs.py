@@ -24,8 +24,8 @@ CHECKED = [
         "singular.po",
         1,
         """\
-singular.po:9: warning: 'msgid' isn't checked: refused 21 MissingArgument at byte 16 ["one file in %2$s"]
-singular.po:15: number of format specifications in 'msgid_plural' and 'msgstr[1]' does not match: 1 and 0 ["one file"]
+singular.po:9:1: warning: 'msgid' isn't checked: refused 21 MissingArgument at byte 16 [unjudged]
+singular.po:16:12: error: number of format specifications in 'msgid_plural' and 'msgstr[1]' does not match: 1 and 0 [number]
 1 message judged, 1 not judged
 found 1 fatal error
 """,
@@ -34,11 +34,11 @@ found 1 fatal error
         "wrong.po",
         1,
         """\
-wrong.po:7: types of 'msgid' and 'msgstr' differ at argument 1, counted from 1: %s takes string and %d takes int ["%s: %d"]
-wrong.po:11: types of 'msgid' and 'msgstr' differ at argument 1, counted from 1: %d takes int and %ld takes long ["%d items"]
-wrong.po:15: number of format specifications in 'msgid' and 'msgstr' does not match: 2 and 1 ["%d of %d"]
-wrong.po:19: 'msgstr' is not a valid C format string, unlike 'msgid'. Reason: refused 2 Truncated at byte 3 ["%d%%"]
-wrong.po:23: types of 'msgid' and 'msgstr' differ at argument 2, counted from 1: %5.1f takes double and %s takes string ["%s is %5.1f"]
+wrong.po:7:9: error: argument 1 is string (%s) in 'msgid', and int (%d) in 'msgstr' [types]
+wrong.po:11:9: error: argument 1 is int (%d) in 'msgid', and long (%ld) in 'msgstr' [types]
+wrong.po:15:9: error: number of format specifications in 'msgid' and 'msgstr' does not match: 2 and 1 [number]
+wrong.po:19:11: error: 'msgstr' is not a valid C format string, unlike 'msgid'. Reason: refused 2 Truncated at byte 3 [format]
+wrong.po:23:16: error: argument 2 is double (%5.1f) in 'msgid', and string (%s) in 'msgstr' [types]
 6 messages judged, 0 not judged
 found 5 fatal errors
 """,
@@ -47,12 +47,12 @@ found 5 fatal errors
         "whole.po",
         1,
         """\
-whole.po:16: number of format specifications in 'msgid' and 'msgstr' does not match: 2 and 3 ["%*d"]
-whole.po:20: types of 'msgid' and 'msgstr' differ at argument 2, counted from 1: %s takes string and %e takes double ["%.2f of %s"]
-whole.po:28: types of 'msgid' and 'msgstr' differ at argument 2, counted from 1: %<PRIu64> takes uint64_t and %<PRId64> takes int64_t ["%s: %<PRIu64>"]
-whole.po:32: types of 'msgid' and 'msgstr' differ at argument 1, counted from 1: %<PRIuMAX> takes uintmax_t and %lu takes unsigned long ["%<PRIuMAX>"]
-whole.po:36: 'msgstr' is not a valid C format string, unlike 'msgid'. Reason: refused 20 Mixed at byte 15 ["%s: %<PRIu64>%s"]
-whole.po:40: 'msgstr' is not a valid C format string, unlike 'msgid'. Reason: refused 21 MissingArgument at byte 4 ["%s %s"]
+whole.po:16:9: error: number of format specifications in 'msgid' and 'msgstr' does not match: 2 and 3 [number]
+whole.po:20:18: error: argument 2 is string (%s) in 'msgid', and double (%e) in 'msgstr' [types]
+whole.po:28:13: error: argument 2 is uint64_t (%<PRIu64>) in 'msgid', and int64_t (%<PRId64>) in 'msgstr' [types]
+whole.po:32:9: error: argument 1 is uintmax_t (%<PRIuMAX>) in 'msgid', and unsigned long (%lu) in 'msgstr' [types]
+whole.po:36:22: error: 'msgstr' is not a valid C format string, unlike 'msgid'. Reason: refused 20 Mixed at byte 15 [format]
+whole.po:40:9: error: 'msgstr' is not a valid C format string, unlike 'msgid'. Reason: refused 21 MissingArgument at byte 4 [format]
 11 messages judged, 0 not judged
 found 6 fatal errors
 """,
@@ -61,9 +61,9 @@ found 6 fatal errors
         "digits.po",
         1,
         """\
-digits.po:11: 'msgstr' is not a valid C format string, unlike 'msgid'. Reason: refused 3 Unexpected at byte 9 ["%s in %d"]
-digits.po:15: 'msgstr' is not a valid C format string, unlike 'msgid'. Reason: refused 3 Unexpected at byte 1 ["%x"]
-digits.po:19: warning: 'msgstr' isn't checked, since 'msgid' is refused 3 Unexpected at byte 1 ["%Id"]
+digits.po:11:17: error: 'msgstr' is not a valid C format string, unlike 'msgid'. Reason: refused 3 Unexpected at byte 9 [format]
+digits.po:15:9: error: 'msgstr' is not a valid C format string, unlike 'msgid'. Reason: refused 3 Unexpected at byte 1 [format]
+digits.po:18:8: warning: 'msgstr' isn't checked, since 'msgid' is refused 3 Unexpected at byte 1 [unjudged]
 4 messages judged, 1 not judged
 found 2 fatal errors
 """,
@@ -72,11 +72,11 @@ found 2 fatal errors
         "newlines.po",
         1,
         """\
-newlines.po:7: 'msgid' and 'msgstr' entries do not both end with '\\n' ["first\\n"]
-newlines.po:10: 'msgid' and 'msgstr' entries do not both end with '\\n' ["\\nsecond"]
-newlines.po:24: 'msgid' and 'msgstr[1]' entries do not both begin with '\\n' ["%d file\\n"]
-newlines.po:24: 'msgid' and 'msgstr[0]' entries do not both end with '\\n' ["%d file\\n"]
-newlines.po:32: 'msgid' and 'msgstr' entries do not both end with '\\n' ["five"]
+newlines.po:7:1: error: 'msgid' and 'msgstr' entries do not both end with '\\n' [newline]
+newlines.po:10:1: error: 'msgid' and 'msgstr' entries do not both end with '\\n' [newline]
+newlines.po:24:1: error: 'msgid' and 'msgstr[1]' entries do not both begin with '\\n' [newline]
+newlines.po:24:1: error: 'msgid' and 'msgstr[0]' entries do not both end with '\\n' [newline]
+newlines.po:32:1: error: 'msgid' and 'msgstr' entries do not both end with '\\n' [newline]
 1 message judged, 0 not judged
 found 5 fatal errors
 """,
@@ -85,8 +85,8 @@ found 5 fatal errors
         "forms.po",
         1,
         """\
-forms.po:9: it has plural forms, but the header has no nplurals= and no plural= ["%d file"]
-forms.po:16: number of format specifications in 'msgid_plural' and 'msgstr[0]' does not match: 1 and 0 ["%d line"]
+forms.po:9:1: error: it has plural forms, but the header has no nplurals= and no plural= [plurals]
+forms.po:16:12: error: number of format specifications in 'msgid_plural' and 'msgstr[0]' does not match: 1 and 0 [number]
 2 messages judged, 0 not judged
 found 2 fatal errors
 """,
@@ -95,7 +95,7 @@ found 2 fatal errors
         "ranges.po",
         1,
         """\
-ranges.po:15: number of format specifications in 'msgid_plural' and 'msgstr[1]' does not match: 1 and 0 ["%d line"]
+ranges.po:16:12: error: number of format specifications in 'msgid_plural' and 'msgstr[1]' does not match: 1 and 0 [number]
 2 messages judged, 0 not judged
 found 1 fatal error
 """,
@@ -104,7 +104,7 @@ found 1 fatal error
         "flags.po",
         1,
         """\
-flags.po:3: types of 'msgid' and 'msgstr' differ at argument 1, counted from 1: %d takes int and %s takes string ["%d"]
+flags.po:3:9: error: argument 1 is int (%d) in 'msgid', and string (%s) in 'msgstr' [types]
 1 message judged, 0 not judged
 found 1 fatal error
 """,
@@ -113,7 +113,7 @@ found 1 fatal error
         "bytes.po",
         1,
         """\
-bytes.po:7: 'msgstr' has a byte that is not of the charset UTF-8: 0xff ["%d"]
+bytes.po:7:1: error: 'msgstr' has a byte that is not of the charset UTF-8: 0xff [charset]
 0 messages judged, 0 not judged
 found 1 fatal error
 """,
@@ -122,7 +122,7 @@ found 1 fatal error
         "escape.po",
         1,
         """\
-escape.po:6: number of format specifications in 'msgid' and 'msgstr' does not match: 1 and 2 ["%d"]
+escape.po:6:15: error: number of format specifications in 'msgid' and 'msgstr' does not match: 1 and 2 [number]
 1 message judged, 0 not judged
 found 1 fatal error
 """,
@@ -133,8 +133,8 @@ IN_MODELS = [
     (
         ["--model", "lp64"],
         """\
-models.po:12: types of 'msgid' and 'msgstr' differ at argument 2, counted from 1: %d takes int and %zd takes long ["%d of %d"]
-models.po:16: types of 'msgid' and 'msgstr' differ at argument 1, counted from 1: %d takes int and %u takes unsigned int ["%d"]
+models.po:12:16: error: argument 2 is int (%d) in 'msgid', and long (%zd) in 'msgstr' [types]
+models.po:16:9: error: argument 1 is int (%d) in 'msgid', and unsigned int (%u) in 'msgstr' [types]
 3 messages judged, 0 not judged
 found 2 fatal errors
 """,
@@ -142,8 +142,8 @@ found 2 fatal errors
     (
         ["--model", "ilp32"],
         """\
-models.po:8: types of 'msgid' and 'msgstr' differ at argument 1, counted from 1: %zu takes unsigned int and %lu takes unsigned long ["%zu"]
-models.po:16: types of 'msgid' and 'msgstr' differ at argument 1, counted from 1: %d takes int and %u takes unsigned int ["%d"]
+models.po:8:9: error: argument 1 is unsigned int (%zu) in 'msgid', and unsigned long (%lu) in 'msgstr' [types]
+models.po:16:9: error: argument 1 is int (%d) in 'msgid', and unsigned int (%u) in 'msgstr' [types]
 3 messages judged, 0 not judged
 found 2 fatal errors
 """,
@@ -151,9 +151,9 @@ found 2 fatal errors
     (
         ["--model", "both"],
         """\
-models.po:8: types of 'msgid' and 'msgstr' differ at argument 1, counted from 1: %zu takes unsigned int and %lu takes unsigned long, in ILP32 ["%zu"]
-models.po:12: types of 'msgid' and 'msgstr' differ at argument 2, counted from 1: %d takes int and %zd takes long, in LP64 ["%d of %d"]
-models.po:16: types of 'msgid' and 'msgstr' differ at argument 1, counted from 1: %d takes int and %u takes unsigned int ["%d"]
+models.po:8:9: error: argument 1 is unsigned int (%zu) in 'msgid', and unsigned long (%lu) in 'msgstr', in ILP32 [types]
+models.po:12:16: error: argument 2 is int (%d) in 'msgid', and long (%zd) in 'msgstr', in LP64 [types]
+models.po:16:9: error: argument 1 is int (%d) in 'msgid', and unsigned int (%u) in 'msgstr' [types]
 3 messages judged, 0 not judged
 found 3 fatal errors
 """,
@@ -190,11 +190,11 @@ REPORTS_OF_BINARY = [
         [],
         0,
         """\
-a.mo:1: warning: if it is a C format: types of 'msgid_plural' and 'msgstr[1]' differ at argument 1, counted from 1: %d takes int and %s takes string ["%d file"]
-a.mo:3: warning: if it is a C format: 'msgstr' is not a valid C format string, unlike 'msgid'. Reason: refused 3 Unexpected at byte 6 ["100% of it"]
-a.mo:4: 'msgid' and 'msgstr' entries do not both end with '\\n' ["%u"]
-a.mo:5: 'msgid' and 'msgstr' entries do not both begin with '\\n' ["no format"]
-a.mo:5: 'msgid' and 'msgstr' entries do not both end with '\\n' ["no format"]
+a.mo:1: warning: if it is a C format: argument 1 is int (%d) in 'msgid_plural', and string (%s) in 'msgstr[1]', of "%d file" [types]
+a.mo:3: warning: if it is a C format: 'msgstr' is not a valid C format string, unlike 'msgid'. Reason: refused 3 Unexpected at byte 6, of "100% of it" [format]
+a.mo:4: error: 'msgid' and 'msgstr' entries do not both end with '\\n', of "%u" [newline]
+a.mo:5: error: 'msgid' and 'msgstr' entries do not both begin with '\\n', of "no format" [newline]
+a.mo:5: error: 'msgid' and 'msgstr' entries do not both end with '\\n', of "no format" [newline]
 2 messages judged, 2 not judged
 found 3 fatal errors
 """,
@@ -203,11 +203,11 @@ found 3 fatal errors
         ["--c-format"],
         1,
         """\
-a.mo:1: types of 'msgid_plural' and 'msgstr[1]' differ at argument 1, counted from 1: %d takes int and %s takes string ["%d file"]
-a.mo:3: 'msgstr' is not a valid C format string, unlike 'msgid'. Reason: refused 3 Unexpected at byte 6 ["100% of it"]
-a.mo:4: 'msgid' and 'msgstr' entries do not both end with '\\n' ["%u"]
-a.mo:5: 'msgid' and 'msgstr' entries do not both begin with '\\n' ["no format"]
-a.mo:5: 'msgid' and 'msgstr' entries do not both end with '\\n' ["no format"]
+a.mo:1: error: argument 1 is int (%d) in 'msgid_plural', and string (%s) in 'msgstr[1]', of "%d file" [types]
+a.mo:3: error: 'msgstr' is not a valid C format string, unlike 'msgid'. Reason: refused 3 Unexpected at byte 6, of "100% of it" [format]
+a.mo:4: error: 'msgid' and 'msgstr' entries do not both end with '\\n', of "%u" [newline]
+a.mo:5: error: 'msgid' and 'msgstr' entries do not both begin with '\\n', of "no format" [newline]
+a.mo:5: error: 'msgid' and 'msgstr' entries do not both end with '\\n', of "no format" [newline]
 4 messages judged, 0 not judged
 found 5 fatal errors
 """,
@@ -264,7 +264,7 @@ def test_binaries(folder, trials):
             file.write_bytes(whole[:size])
             status, out, report = check_po(folder, ["a.mo"], where=work)
             trials.expect(
-                f"{size} bytes of a.mo", (status, out, report.startswith("a.mo:0: it can't be read: ")), (1, "", True)
+                f"{size} bytes of a.mo", (status, out, report.startswith("a.mo:1: error: it can't be read: ")), (1, "", True)
             )
         file.write_bytes(binary(BINARY[:1] + [(b"%d", b"%s")], "<"))
         trials.expect("a warning alone", check_po(folder, ["a.mo"], where=work)[0], 0)
@@ -275,11 +275,11 @@ def test_forms(folder, trials):
     """The other forms of output, which go to standard output."""
     status, out, report = check_po(folder, ["--output", "json", "wrong.po", "singular.po"])
     found = [json.loads(line) for line in out.splitlines()]
-    kinds = [(7, "types"), (11, "types"), (15, "number"), (19, "format"), (23, "types")]
+    kinds = [(7, 9, "types"), (11, 9, "types"), (15, 9, "number"), (19, 11, "format"), (23, 16, "types")]
     wanted = [
-        *(("wrong.po", line, 1, kind, "error") for line, kind in kinds),
+        *(("wrong.po", line, column, kind, "error") for line, column, kind in kinds),
         ("singular.po", 9, 1, "unjudged", "warning"),
-        ("singular.po", 15, 1, "number", "error"),
+        ("singular.po", 16, 12, "number", "error"),
     ]
     trials.expect(
         "findings as JSON",
@@ -291,7 +291,7 @@ def test_forms(folder, trials):
         (status, found[0]["message"]),
         (
             1,
-            "types of 'msgid' and 'msgstr' differ at argument 1, counted from 1: %s takes string and %d takes int [\"%s: %d\"]",
+            "argument 1 is string (%s) in 'msgid', and int (%d) in 'msgstr'",
         ),
     )
     trials.expect(
@@ -309,13 +309,14 @@ def test_forms(folder, trials):
         [["ilp32", "llp64"], ["lp64", "llp64"], ["lp64", "ilp32", "llp64"]],
     )
     status, out, report = check_po(folder, ["--output", "github", "wrong.po"])
-    wanted = "::error file=wrong.po,line=7,col=1::types of 'msgid' and 'msgstr' differ at argument 1, counted from 1: %25s takes string and %25d takes int [\"%25s: %25d\"]"
+    said = "argument 1 is string (%25s) in 'msgid', and int (%25d) in 'msgstr'"
+    wanted = f"::error file=wrong.po,line=7,col=9,endColumn=11::{said}"
     trials.expect("a command of GitHub", (status, out.splitlines()[0]), (1, wanted))
     status, out, report = check_po(folder, ["--output", "sarif", "wrong.po"])
     trials.expect(
         "the log of SARIF",
         (status, [one["ruleId"] for one in json.loads(out)["runs"][0]["results"]]),
-        (1, [kind for _, kind in kinds]),
+        (1, [kind for *_, kind in kinds]),
     )
 
 
@@ -335,12 +336,13 @@ def test_catalogs(folder, trials):
         trials.expect(f"check_po.py {catalog}", (status, out), (1, ""))
         trials.expect(
             f"what it says of {catalog}",
-            report.startswith(f"{catalog}:{line}: it can't be read: ") and "Traceback" not in report,
+            report.startswith(f"{catalog}:{f'{line}:1' if line else 1}: error: it can't be read: ")
+            and "Traceback" not in report,
             True,
         )
     for text, line in NO_CATALOGS:
         status, out, report = check_po(folder, ["-"], text.encode())
-        trials.expect(f"no catalog: {text!r}", (status, out, report[: report.find(" ")]), (1, "", f"-:{line}:"))
+        trials.expect(f"no catalog: {text!r}", (status, out, report[: report.find(" ")]), (1, "", f"-:{line}:1:" if line else "-:1:"))
     for words, report in IN_MODELS:
         trials.expect(f"check_po.py {words} models.po", check_po(folder, [*words, "models.po"]), (1, "", report))
     trials.expect("both data models where none is said", check_po(folder, ["models.po"])[2], IN_MODELS[-1][1])

@@ -38,25 +38,28 @@ void f(long n, int x) {
 }
 """
 LINES = """\
-FILE:2:12: different: "%05d\\n" and "%.5d\\n" print "-0001\\n" and "-00001\\n" for -1
-FILE:3:12: types differ at argument 2, counted from 1: %lu takes unsigned long and %d takes int, in "%s has %lu\\n" and "%s has %d\\n"
-FILE:4:12: same in lp64 only: "%td\\n" and "%ld\\n"
-FILE:5:12: the words differ: "%d files\\n" and "%d file names\\n"
-FILE:6:12: same: "%d %d\\n" and "%i %d\\n"
-FILE:8:12: rejected now: refused 3 Unexpected at byte 3 of "%d%!\\n"
+FILE:2:12: error: different: "%05d\\n" and "%.5d\\n" print "-0001\\n" and "-00001\\n" for -1 [different]
+FILE:3:12: error: types differ at argument 2: %lu takes unsigned long and %d takes int, in "%s has %lu\\n" and "%s has %d\\n" [types]
+FILE:4:12: error: same in lp64 only: "%td\\n" and "%ld\\n" [types]
+FILE:5:12: note: the words differ: "%d files\\n" and "%d file names\\n" [words]
+FILE:6:12: note: same: "%d %d\\n" and "%i %d\\n" [same]
+FILE:8:12: error: rejected now: refused 3 Unexpected at byte 3 of "%d%!\\n" [rejected]
 """
-SUMMARY = "6 places changed: 1 same, 1 with other words, 1 different, 2 with other types, 0 with other directives, 1 rejected now, 0 not judged; 2 literals added, 1 removed\n"
+SUMMARY = (
+    "6 formats changed: 1 equivalent, 1 with other words, 1 printing differently, 2 taking different types, 1 rejected now"
+    "; 2 literals added, 1 removed\n"
+)
 # The same of the whole language: the old and the new part of each line, and what is said of it.
 WHOLE = [
     (
         'printf("%d: %f\\n", n, d);',
         'printf("%d: %e\\n", n, d);',
-        'directives differ at argument 2, counted from 1: "%f" and "%e"',
+        'directives differ at argument 2: "%f" and "%e"',
     ),
     (
         'printf("%" DIGITS "e\\n", d);',
         'printf("%" DIGITS "e\\n", d);',
-        'directives differ at argument 1, counted from 1: "%.3e" and "%.4e"',
+        'directives differ at argument 1: "%.3e" and "%.4e"',
     ),
     (
         'printf("%.6lf: %05d\\n", d, n);',
@@ -67,11 +70,14 @@ WHOLE = [
     (
         'printf("%*d\\n", 5, n);',
         'printf("%d%d\\n", 5, n);',
-        'directives differ at argument 1, counted from 1: "%*d" and "%d"',
+        'directives differ at argument 1: "%*d" and "%d"',
     ),
 ]
-WHOLE_SUMMARY = "5 places changed: 1 same, 0 with other words, 1 different, 0 with other types, 3 with other directives, 0 rejected now, 0 not judged; 0 literals added, 0 removed\n"
-UNSIGNED = 'types differ at argument 1, counted from 1: %d takes int and %u takes unsigned int, in "%d" and "%u"'
+WHOLE_KINDS = ["directives", "directives", "different", "same", "directives"]
+WHOLE_SUMMARY = (
+    "5 formats changed: 1 equivalent, 1 printing differently, 3 with other directives; 0 literals added, 0 removed\n"
+)
+UNSIGNED = 'error: types differ at argument 1: %d takes int and %u takes unsigned int, in "%d" and "%u" [types]'
 USAGE = [
     ([], "give OLD and NEW, or --git"),
     (["a.c"], "give OLD and NEW, or --git"),
@@ -139,7 +145,7 @@ def test_lines(tool, trials):
     tool.put("new/src/a.c", NEW)
     tool.put("old/only.c", 'f("a");')
     tool.put("new/text.txt", 'f("a");')
-    plain = "".join(line for line in LINES.splitlines(keepends=True) if ": same: " not in line)
+    plain = "".join(line for line in LINES.splitlines(keepends=True) if " same: " not in line)
     for words, file, lines, more in [
         (["old/src/a.c", "new/src/a.c"], "new/src/a.c", plain, 0),
         (["--verbose", "old/src/a.c", "new/src/a.c"], "new/src/a.c", LINES, 0),
@@ -153,7 +159,7 @@ def test_lines(tool, trials):
     status, output, _ = tool.run("--model", "lp64", "--verbose", "old", "new")
     trials.expect(
         "--model lp64",
-        (status, 'new/src/a.c:4:12: same: "%td\\n" and "%ld\\n"\n' in output, "only" in output),
+        (status, 'new/src/a.c:4:12: note: same: "%td\\n" and "%ld\\n" [same]\n' in output, "only" in output),
         (1, True, False),
     )
     tool.put("c.c", 'printf("%d\\n", x);')
@@ -163,12 +169,12 @@ def test_lines(tool, trials):
     trials.expect(
         "what is rejected now",
         tool.run("c.c", "d.c")[:2],
-        (1, 'd.c:1:8: rejected now: refused 3 Unexpected at byte 4 of "%d %y\\n"\n'),
+        (1, 'd.c:1:8: error: rejected now: refused 3 Unexpected at byte 4 of "%d %y\\n" [rejected]\n'),
     )
     trials.expect(
         "what isn't judged",
         tool.run("d.c", "c.c")[:2],
-        (0, 'c.c:1:8: not judged: refused 3 Unexpected at byte 4 of "%d %y\\n"\n'),
+        (0, 'c.c:1:8: warning: not judged: refused 3 Unexpected at byte 4 of "%d %y\\n" [unjudged]\n'),
     )
     tool.put("c.c", 'log_error("%d", x); printf("%d", x); { "CPU% ", 1 };')
     tool.put("d.c", 'log_error("%V", x); printf("%s", x); { "MEM% ", 1 };')
@@ -192,7 +198,7 @@ def test_lines(tool, trials):
     )
     status, output, _ = tool.run("--output", "github", "old", "new")
     wanted = (
-        "::error file=new/src/a.c,line=3,col=12,endColumn=25::types differ at argument 2, counted from 1: "
+        "::error file=new/src/a.c,line=3,col=12,endColumn=25::types differ at argument 2: "
         "%25lu takes unsigned long and %25d takes int, in "
     )
     trials.expect("a command of GitHub", (status, f"\n{wanted}" in output), (1, True))
@@ -205,7 +211,9 @@ def test_whole(tool, trials):
     for name, digits, side in [("old.c", 3, 0), ("new.c", 4, 1)]:
         lines = "".join(f"    {one[side]}\n" for one in WHOLE)
         tool.put(name, f'#define DIGITS ".{digits}"\nvoid f(double d, int n) {{\n{lines}}}\n')
-    wanted = [f"new.c:{number}:12: {said}" for number, (_, _, said) in enumerate(WHOLE, 3)]
+    levels = ["note" if it == "same" else "error" for it in WHOLE_KINDS]
+    said = [f"{level}: {one[2]} [{kind}]" for level, one, kind in zip(levels, WHOLE, WHOLE_KINDS)]
+    wanted = [f"new.c:{number}:12: {it}" for number, it in enumerate(said, 3)]
     status, output, fault = tool.run("--verbose", "old.c", "new.c")
     trials.expect("lines of the whole language", (status, output.splitlines(), fault), (1, wanted, WHOLE_SUMMARY))
     status, output, _ = tool.run("--output", "json", "old.c", "new.c")
@@ -224,7 +232,7 @@ def test_whole(tool, trials):
         "old": "%d: %f\n",
         "new": "%d: %e\n",
         "function": "printf",
-        "argument": 0,
+        "argument": 1,
         "verdicts": {it: "directives" for it in models},
         "specification": {"line": 3, "column": 17, "end_line": 3, "end_column": 19},
     }
@@ -260,7 +268,7 @@ def test_whole(tool, trials):
         (status, output.splitlines()[0]),
         (
             1,
-            '::error file=new.c,line=3,col=12,endColumn=22::directives differ at argument 2, counted from 1: "%25f" and "%25e"',
+            '::error file=new.c,line=3,col=12,endColumn=22::directives differ at argument 2: "%25f" and "%25e"',
         ),
     )
 
@@ -278,7 +286,7 @@ def test_git(tool, trials):
     trials.expect("no change", tool.run("--git"), (0, "", ""))
     tool.put("src/a.c", NEW)
     tool.put("notes.txt", '"%s"')
-    plain = "".join(line for line in LINES.splitlines(keepends=True) if ": same: " not in line)
+    plain = "".join(line for line in LINES.splitlines(keepends=True) if " same: " not in line)
     wanted = (1, plain.replace("FILE", "src/a.c"), SUMMARY)
     for words in [["--git"], ["--git", "HEAD"], ["--git", "--", "src"], ["--git", "HEAD", "--", "src/a.c", "b.c"]]:
         trials.expect(f"fmtcanon-diff {words}", tool.run(*words), wanted)
@@ -291,11 +299,8 @@ def test_git(tool, trials):
     tool.git("commit", "-qam", "third")
     renamed = (
         1,
-        'c.c:9:8: types differ at argument 1, counted from 1: %d takes int and %u takes unsigned int, in "%d\\n" and "%u\\n"\n',
-        SUMMARY.replace("6 places", "1 place")
-        .replace("1 same, 1 with other words, 1 different, 2", "0 same, 0 with other words, 0 different, 1")
-        .replace("1 rejected", "0 rejected")
-        .replace("2 literals added, 1", "0 literals added, 0"),
+        'c.c:9:8: error: types differ at argument 1: %d takes int and %u takes unsigned int, in "%d\\n" and "%u\\n" [types]\n',
+        "1 format changed: 1 taking different types; 0 literals added, 0 removed\n",
     )
     for words in [
         ["--git", "HEAD~1", "HEAD"],
@@ -323,7 +328,7 @@ def test_git(tool, trials):
         (
             0,
             "",
-            "0 places changed: 0 same, 0 with other words, 0 different, 0 with other types, 0 with other directives, 0 rejected now, 0 not judged; 0 literals added, 9 removed\n",
+            "0 formats changed; 0 literals added, 9 removed\n",
         ),
     )
     for words, said in [

@@ -13,7 +13,7 @@ from tests.frame.harness import TIMEOUT
 
 OLD, RIGHT, WRONG = (f'printf("{it}\\n", n);\n' for it in ["%05d", "%0005d", "%s"])
 TYPES = (
-    '{}:1:8: types differ at argument 1, counted from 1: %05d takes int and %s takes string, in "%05d\\n" and "%s\\n"\n'
+    '{}:1:8: error: types differ at argument 1: %05d takes int and %s takes string, in "%05d\\n" and "%s\\n" [types]\n'
 )
 # The old and the new argument of a call, the options, and the exit status.
 STATUSES = [
@@ -186,7 +186,7 @@ def test_submodule(tool, trials):
     tool.git("-c", "protocol.file.allow=always", "submodule", "--quiet", "add", "./inner", "lib")
     tool.git("commit", "-qm", "second")
     trials.expect("a submodule as it was", tool.run("--git"), (0, "", ""))
-    line = "lib: a submodule that changed isn't compared\n"
+    line = "lib:1: warning: a submodule that changed isn't compared [unjudged]\n"
     tool.put("lib/new.c", OLD)
     trials.expect("a submodule with a file that git doesn't know", tool.run("--git")[:2], (0, ""))
     tool.put("lib/a.c", WRONG)

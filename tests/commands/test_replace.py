@@ -12,7 +12,7 @@ USAGE = [
     (["--what", "%i", "%d", "a.c"], "unrecognized arguments"),
     (["--model", "LP64", "%i", "%d", "a.c"], "invalid choice"),
     (["--by", "pattern", "%i", "%d", "a.c"], "unrecognized arguments"),
-    (["--function", "tell", "%i", "%d", "a.c"], "isn't NAME:INDEX"),
+    (["--function", "tell", "%i", "%d", "a.c"], "isn't NAME:FORMAT[:FIRST]"),
     (['%d"', "%d", "a.c"], "between the quotes"),
     (["%d\\", "%d", "a.c"], "between the quotes"),
     (["%d\\q", "%d", "a.c"], "between the quotes"),

@@ -19,8 +19,8 @@ from collections import Counter
 from pathlib import Path
 
 import fmtcanon
+from fmtcanon.frame.findings import as_text
 from fmtcanon.po.checking import Checker
-from fmtcanon.po.command import as_msgfmt
 from tests.frame.harness import TOP
 
 COUNT = 40_000
@@ -174,10 +174,10 @@ def catalog(messages):
 
 def by_line(report):
     found = {}
-    for line, words in re.findall(r"^[^:\n]+:(\d+): ([^\n]*)", report, flags=re.MULTILINE):
+    for line, words in re.findall(r"^[^:\n]+:(\d+):(?:\d+:)? ([^\n]*)", report, flags=re.MULTILINE):
         if (
             "format specifications" in words
-            or "types of" in words
+            or "[types]" in words
             or "valid C format" in words
             or words.startswith("warning")
         ):
@@ -195,7 +195,7 @@ def reports(text):
             ["msgfmt", "-c", "-o", os.devnull, str(file)], env=environment, check=False, stderr=subprocess.PIPE
         )
         ours = io.StringIO()
-        Checker(lambda it: print(as_msgfmt(it), file=ours), list(fmtcanon.Model)).check_data("a.po", file.read_bytes())
+        Checker(lambda it: print(as_text(it), file=ours), list(fmtcanon.Model)).check_data("a.po", file.read_bytes())
     return by_line(ours.getvalue()), by_line(done.stderr.decode(errors="replace"))
 
 

@@ -6,7 +6,7 @@ from ..compiling.functions import Functions
 from ..compiling.sources import Files, Name
 from ..fitting.checking import Answer, Found
 from ..fitting.reporting import RULES, as_fixed, as_not_written, shown_file, with_source
-from ..frame.findings import ERROR, Finding
+from ..frame.findings import Finding, leveled
 from ..models import Model
 from ..rewriting.files import Change
 from ..rewriting.rewriter import Report, Rewriter, Scanned, change_to
@@ -21,6 +21,7 @@ class Fixer(Rewriter):
 
     def __init__(self, options: Any, files: Files, answers: Sequence[Answer]) -> None:
         super().__init__(files, Functions(dict(options.function), options.attribute), [Model.LP64], options.diff)
+        self.fail_on = options.fail_on
         self.answers = {shown_file(it.file): it for it in answers}
 
     def names(self) -> List[Name]:
@@ -41,11 +42,6 @@ class Fixer(Rewriter):
                 changes.append(Change(place, place.source, why))
         return changes
 
-    def report_on(self, scanned: Union[Scanned, Report]) -> Report:
-        """Judges the places of a file. What is left is what is still an error."""
-        report = super().report_on(scanned)
-        return report._replace(is_left=any(it.level == ERROR for it in report.findings))
-
     def findings_of(self, name: str, source: bytes, changes: Sequence[Change]) -> Sequence[Finding]:
         return self.report(name, {it.place.start: it.why_left for it in changes}).findings
 
@@ -54,8 +50,9 @@ class Fixer(Rewriter):
 
     def report(self, name: str, left: Dict[int, str]) -> Report:
         """Returns the report on a file, by why the places with new texts are left; an empty reason if one isn't."""
-        findings = [with_source(with_fix(it, left)) for it in self.answers[name].found.values()]
-        return Report(name, findings, is_left=any(it.level == ERROR for it in findings))
+        found = [with_fix(it, left) for it in self.answers[name].found.values()]
+        findings = [with_source(leveled(it, self.fail_on)) for it in found]
+        return Report(name, findings)
 
 
 def with_fix(found: Found, left: Dict[int, str]) -> Finding:

@@ -143,7 +143,7 @@ class FormatCalls(Calls):
         elif callee.last is not None:
             given = list(cursor.get_arguments())[callee.last : callee.last + 1]
             if given and self.has_percent(given[0]):
-                self.others[f"{callee.name}:{callee.last}:{callee.last + 1}"] += 1
+                self.others[f"{callee.name}:{callee.last + 1}"] += 1
 
     def has_percent(self, argument: Any) -> bool:
         """Returns whether an argument is a literal with a percent sign."""

@@ -101,7 +101,7 @@ class MarkedCalls(Calls):
         """Returns why an argument isn't the format of a known function, or None."""
         if function is None or function.kind.name != "FUNCTION_DECL":
             return (
-                f"it is an argument of {name or 'a pointer'}, which is no function"
+                f"argument of {name or 'a pointer'}, which is no function"
                 if function is not None
                 else f"the function {name or 'that is called'} isn't declared"
             )
@@ -110,11 +110,11 @@ class MarkedCalls(Calls):
             self.chosen.update([name] if callee.is_chosen else ())
             return None
         if GETTEXT.fullmatch(name):
-            return f"it is a key for translators, an argument of {name}"
+            return f"a key for translators, argument of {name}"
         if callee.shape or callee.doubt:
             return callee.doubt or f"it isn't the format of {name}"
         is_attributed = not self.functions.by_attribute and self.format_by_attribute(function)
-        return f"it is an argument of {name}, which isn't known{' without --attribute' if is_attributed else ''}"
+        return f"argument of {name}, not a known printf-like function{'; try --attribute' if is_attributed else ''}"
 
     def why_left(self, number: int, count: int) -> Optional[str]:
         """Returns why the place of this number is left, whose marker is in the text so often; None if each is the

@@ -3,10 +3,10 @@
 import functools
 import os
 from dataclasses import replace
-from typing import Dict, List, NamedTuple, Sequence, Set, Tuple
+from typing import Any, Dict, List, NamedTuple, Sequence, Set, Tuple
 
 from ..compiling.calls import Key
-from ..compiling.compile_commands import CompileCommand, commands_in
+from ..compiling.compile_commands import SOURCES, CompileCommand, commands_in, default_command
 from ..compiling.left import Left, own_trouble
 from ..compiling.platforms import PLATFORMS
 from ..fitting.checking import Answer, Job, Question, add, answer
@@ -17,7 +17,7 @@ from ..formats.verdicts import shown
 from ..frame.findings import ERROR, NOTE, Finding
 from ..kinds import Type
 from ..models import Model
-from ..source.macros import Part, definitions
+from ..source.macros import PlacePart, definitions
 from ..source.places import column_of
 
 # A line and a column, from 1.
@@ -123,21 +123,28 @@ class Compiled:
 
 
 class Fitting:
-    """Answers for the files of a compile_commands.json."""
+    """Answers for the files of a compile_commands.json, or for those that `cc` compiles with some flags."""
 
-    def __init__(self, folder: str, headers: Sequence[str], models: Sequence[Model]) -> None:
-        self.commands: Dict[str, List[CompileCommand]] = commands_in(folder)
-        self.question = Question(models, (), Settings(headers, {}, {}))
+    def __init__(self, options: Any, headers: Sequence[str], models: Sequence[Model]) -> None:
+        self.listed = commands_in(options.database) if options.database else None
+        self.flags: Sequence[str] = options.flag
+        self.question = Question(models, (), Settings(headers, dict(options.function), {}))
+
+    def commands(self, path: str) -> Sequence[CompileCommand]:
+        """Returns the compile commands of a file."""
+        if self.listed is not None:
+            return self.listed.get(path, ())
+        return [default_command(path, self.flags)] if SOURCES.fullmatch(path) else ()
 
     def of(self, path: str) -> Compiled:
         """Returns what the compile commands of a file say of its literals."""
         path = os.path.realpath(path)
-        return Compiled(path, self.commands.get(path, ()), self.question)
+        return Compiled(path, self.commands(path), self.question)
 
     @functools.lru_cache(maxsize=1)
-    def macros_of(self, path: str) -> Dict[bytes, Tuple[Part, ...]]:
+    def macros_of(self, path: str) -> Dict[bytes, Tuple[PlacePart, ...]]:
         """Returns the string literals that macros are where a file is compiled."""
-        for command in self.commands.get(os.path.realpath(path), ()):
+        for command in self.commands(os.path.realpath(path)):
             try:
                 return definitions(command.run(None, "-E", "-dM", "-w").stdout)
             except Left:

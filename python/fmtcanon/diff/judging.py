@@ -1,7 +1,7 @@
 """Judges a pair of places, and says in words what it found."""
 
 import re
-from typing import AbstractSet, Any, Dict, Iterable, List, NamedTuple, Optional, Sequence, Tuple
+from typing import Any, Dict, Iterable, List, Mapping, NamedTuple, Optional, Sequence, Tuple
 
 from .. import Refused
 from ..formats.explaining import Marked, marked_parts
@@ -64,18 +64,20 @@ class JudgedPair(NamedTuple):
     before: int = 0
 
 
-def may_be_format(place: Place, others: AbstractSet[bytes] = frozenset()) -> bool:
-    """Returns whether nothing says that a place isn't a format: it isn't an argument of a function that takes none, or
-    of those that are given, and of printf it is the argument that is one.
+def may_be_format(place: Place, functions: Mapping[bytes, Optional[int]] = {}) -> bool:
+    """Returns whether nothing says that a place isn't a format: of a function that is given, or of printf, it is the
+    argument that is one, and the function isn't one that takes none.
     """
     name = place.call.function
+    if name in functions:
+        return place.call.argument == functions[name]
     known = KNOWN.get(printable(name)) if OF_STDIO.search(name) else None
-    return name not in NOT_FORMATS and name not in others and (known is None or place.call.argument == known.index)
+    return name not in NOT_FORMATS and (known is None or place.call.argument == known.index)
 
 
-def is_judged(old: Place, new: Place, others: AbstractSet[bytes] = frozenset()) -> bool:
+def is_judged(old: Place, new: Place, functions: Mapping[bytes, Optional[int]] = {}) -> bool:
     """Returns whether a pair is worth a verdict: one of the two has a specification, and both may be formats."""
-    is_format = may_be_format(old, others) and may_be_format(new, others)
+    is_format = may_be_format(old, functions) and may_be_format(new, functions)
     return is_format and (old.has_specification() or new.has_specification())
 
 
@@ -175,7 +177,7 @@ def message_of(wording: "Wording", kinds: Dict[Model, PairKind], others: Sequenc
 def details_of(old: Place, new: Place, model: Model) -> Dict[str, Any]:
     """Returns the two texts in a data model, and the function that the new one is an argument of, if there is one."""
     is_call = new.call.function != b"" and not new.call.function.startswith(b"#")
-    function = {"function": printable(new.call.function), "argument": new.call.argument} if is_call else {}
+    function = {"function": printable(new.call.function), "argument": new.call.argument + 1} if is_call else {}
     return {"old": text_of(old, model), "new": text_of(new, model), **function}
 
 

@@ -1,12 +1,12 @@
 """Reports on a file that changed: the verdicts on its places and, where it is compiled, whether the new calls fit."""
 
 from dataclasses import replace
-from typing import AbstractSet, Iterator, NamedTuple, Optional, Sequence
+from typing import Iterator, Mapping, NamedTuple, Optional, Sequence
 
 from ..fitting.reporting import KIND, RULES as OF_CALLS, SIZE, with_source
 from ..formats.verdicts import Library, PairKind
 from ..frame.command_line import model_names
-from ..frame.findings import ERROR, WARNING, Finding
+from ..frame.findings import ERROR, WARNING, Finding, leveled
 from ..models import Model
 from ..source.places import Place, Source
 from . import judging
@@ -34,13 +34,13 @@ class DiffReport(NamedTuple):
 
 class DiffQuestion(NamedTuple):
     """What is asked of each file: the data models, the kinds of findings that are errors, whether findings are to have
-    excerpts, functions that take no format, and what says whether calls fit.
+    excerpts, the index of the format of functions that the options name, or None if they take none, and what says whether calls fit.
     """
 
     models: Sequence[Model]
     fail_on: Sequence[str] = FAULTS
     is_shown: bool = False
-    others: AbstractSet[bytes] = frozenset()
+    functions: Mapping[bytes, Optional[int]] = {}
     fitting: Optional[Fitting] = None
 
 
@@ -55,8 +55,8 @@ def report_on(change: FileChange, question: DiffQuestion) -> DiffReport:
         pairs = Pairing([], new.read().places, old.read().places)
     else:
         pairs = paired(old, new)
-    changed = [it for it in pairs.changed if is_judged(*it, question.others)]
-    added = [it for it in pairs.added if it.has_specification() and may_be_format(it, question.others)]
+    changed = [it for it in pairs.changed if is_judged(*it, question.functions)]
+    added = [it for it in pairs.added if it.has_specification() and may_be_format(it, question.functions)]
     found = Judge(change.name, question)
     findings = list(found.of_pairs(changed))
     if not question.fitting or not added:
@@ -133,6 +133,5 @@ class Judge:
         """Yields the errors that fmtcanon-check finds in places that were added."""
         for place in places:
             for one in self.compiled.errors_in(*place.span()):
-                level = ERROR if one.kind in self.question.fail_on else WARNING
-                found = replace(one, file=self.name, level=level)
+                found = leveled(replace(one, file=self.name), self.question.fail_on)
                 yield with_source(found) if self.question.is_shown else found

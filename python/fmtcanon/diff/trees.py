@@ -1,6 +1,5 @@
 """The files of two folders, or of two revisions of a git repository, that are to be compared."""
 
-import fnmatch
 import os
 import select
 import subprocess
@@ -8,7 +7,7 @@ from contextlib import contextmanager
 from typing import Any, Callable, ContextManager, Dict, Iterator, List, NamedTuple, Optional, Sequence, Set, Tuple
 
 from ..compiling.running import started
-from ..source.files import SOURCES, Unreadable, as_text, files_below, read
+from ..source.files import SOURCES, Unreadable, as_text, files_below, is_excluded, read
 from .renames import renamed
 
 # The modes of a file, and that of a submodule.
@@ -39,13 +38,6 @@ class FileChange(NamedTuple):
     new: Optional[bytes]
     error: str = ""
     why_not: str = ""
-
-
-def is_excluded(name: str, globs: Sequence[str]) -> bool:
-    """Returns whether a glob matches the path of a file or of a folder that it is in, or a name in the path."""
-    names = name.split(os.sep)
-    paths = [os.sep.join(names[: at + 1]) for at in range(len(names))]
-    return any(fnmatch.fnmatchcase(it, glob) for glob in globs for it in {*names, *paths})
 
 
 def compared_below(top: str, globs: Sequence[str]) -> Tuple[Set[str], List[str]]:

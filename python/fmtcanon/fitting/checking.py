@@ -5,7 +5,7 @@ from typing import Any, Callable, Counter, Dict, Hashable, List, NamedTuple, Opt
 
 from ..compiling.compile_commands import CompileCommand
 from ..compiling.left import Left, own_trouble
-from ..frame.findings import Finding
+from ..frame.findings import NOTE, WARNING, Finding
 from ..models import Model
 from . import reporting
 from .composing import is_composed
@@ -76,7 +76,7 @@ def answer(job: Job) -> Answer:
     result = empty_answer(job)
     if job.why_skipped:
         result.counts.clear()
-        result.found[job.file] = Found(reporting.skipped(job.file, job.why_skipped, job.question.models))
+        result.found[job.file] = Found(reporting.skipped(job.file, job.why_skipped, job.question.models, NOTE))
         return result
     fixes: List[Fixes] = []
     try:
@@ -86,8 +86,13 @@ def answer(job: Job) -> Answer:
             fixes = fixes_in(result, job)
     except Left as why:
         add_left(result, job.question, str(why))
-    is_whole = len(fixes) == len(job.commands)
-    return result._replace(fixes=merged(fixes)) if is_whole else result
+    if len(fixes) < len(job.commands):
+        return result
+    written = {start: text for start, (text, _) in merged(fixes).items() if text is not None}
+    for key, found in result.found.items():
+        if found.place in written:
+            result.found[key] = found._replace(finding=reporting.as_verified(found.finding))
+    return result._replace(fixes=merged(fixes))
 
 
 def fixes_in(result: Answer, job: Job) -> List[Fixes]:
@@ -123,7 +128,7 @@ def kinds_in(question: Question, unit: Unit, where: Optional[Located]) -> Callab
 
 def add_left(answer: Answer, question: Question, why: str) -> None:
     """Adds that a file, or a part of it, is left."""
-    answer.found[answer.file, why] = Found(reporting.left(answer.file, why, question.models))
+    answer.found[answer.file, why] = Found(reporting.skipped(answer.file, why, question.models, WARNING))
     answer.counts["left"] += 1
 
 
@@ -141,7 +146,7 @@ def add(answer: Answer, question: Question, unit: Unit, result: Judged, where: O
             finding = reporting.finding_of(fault, kind, spot, models)
             found.setdefault(key_of(fault, kind, spot), Found(finding, place_of(fault, where)))
     for call, names in result.lost:
-        message = f"lost: the call of {call.function} isn't there in {reporting.listed(names)}"
+        message = f"the call of {call.function} isn't there{reporting.listed(names)}"
         found[call.file, call.line, message] = Found(reporting.finding_of_call(call, LOST, message, models))
     for refused in result.refused:
         finding = reporting.refused_finding(refused, models)

@@ -2,6 +2,7 @@
 
 import functools
 import os
+import re
 from dataclasses import replace
 from typing import Any, Callable, Dict, List, NamedTuple, Optional, Sequence, Tuple
 
@@ -20,7 +21,7 @@ from .locating import Located
 from .proposals import fitting, proposal
 
 SIZE, KIND, RANK, SIGN, COMPOSED = "size", "kind", "rank", "sign", "composed"
-LOST, UNJUDGED, LEFT, SKIPPED, FIXED = "lost", "unjudged", "left", "skipped", "fixed"
+LOST, UNJUDGED, SKIPPED, FIXED = "lost", "unjudged", "skipped", "fixed"
 RULES = {
     SIZE: "An argument has another size than its directive takes on some platform.",
     KIND: "An argument is missing, or of another kind than its directive takes, as a double for %d.",
@@ -29,29 +30,33 @@ RULES = {
     COMPOSED: "An argument doesn't fit a directive whose length modifier may have been chosen by #if.",
     LOST: "A call is only there on some platforms.",
     UNJUDGED: "What may be the format of a call isn't accepted.",
-    LEFT: "A file, or a part of it, wasn't judged.",
-    SKIPPED: "A header, or a file of a folder that isn't compiled, wasn't judged by itself.",
+    SKIPPED: "A file, or a part of it, wasn't judged; or not by itself, as a header.",
     FIXED: "A directive was replaced by one that fits on every platform.",
 }
-LEVELS = {SIZE: ERROR, KIND: ERROR, RANK: NOTE, SIGN: NOTE, COMPOSED: NOTE}
-FITS = {
-    Fit.SIZE: "another size",
-    Fit.KIND: "another kind",
-    Fit.RANK: "another type",
-    Fit.SIGN: "another sign",
-}
-
+# The kinds for which the status is 1, unless --fail-on names others.
+ERRORS = (SIZE, KIND)
+FITS = {Fit.SIZE: "wrong size", Fit.RANK: "wrong type", Fit.SIGN: "wrong sign"}
+# What the platforms are called.
+TITLES = dict(zip([it.name for it in PLATFORMS], ["64-bit Unix", "32-bit systems", "32-bit systems with a 64-bit time_t"]))
+TITLES[PLATFORMS[-1].name] = "64-bit Windows"
+VOWELS = re.compile(r"[aeio]|un[^_]")
 # The signed and the unsigned type whose length modifier or end of a PRI macro this is.
 NAMES = {"z": ("ssize_t", "size_t"), "t": ("ptrdiff_t", "size_t"), "64": ("int64_t", "uint64_t")}
 
 
+# The headers of the types that casts name.
+HEADERS = dict.fromkeys(["intmax_t", "uintmax_t", "int64_t", "uint64_t", "uintptr_t"], "stdint.h")
+HEADERS.update(size_t="stddef.h", wint_t="wchar.h")
+
+
 class Spot(NamedTuple):
-    """A position: a file, a line, and a column and an end if they are known."""
+    """A position: a file, a line, and a column, an end and the offsets of both if they are known."""
 
     file: str
     line: int
     column: Optional[int] = None
     end: Optional[Tuple[int, int]] = None
+    offsets: Optional[Tuple[int, int]] = None
 
 
 def shown_file(path: str) -> str:
@@ -70,7 +75,8 @@ def spot_of(fault: Fault, where: Optional[Located]) -> Spot:
     last = where.offset_of(fault, after - 1)
     line = source.count(b"\n", 0, start) + 1
     end = (source.count(b"\n", 0, last) + 1, column_of(source, last) + 1) if last is not None else None
-    return Spot(where.file.path, line, column_of(source, start), end)
+    offsets = (start, last + 1) if last is not None else None
+    return Spot(where.file.path, line, column_of(source, start), end, offsets)
 
 
 def kind_of(fault: Fault, models: Sequence[Model], composed: Callable[[Fault], bool]) -> Optional[str]:
@@ -92,31 +98,43 @@ def taken(fault: Fault) -> str:
     for type, platform in zip(fault.wanted, PLATFORMS):
         names.setdefault(TYPE_NAMES[type], []).append(platform.name)
     if len(names) == 1:
-        return TYPE_NAMES[fault.wanted[0]]
-    return ", ".join(f"{name} in {listed(platforms)}" for name, platforms in names.items())
+        return a(TYPE_NAMES[fault.wanted[0]])
+    return ", ".join(f"{a(name)}{listed(platforms)}" for name, platforms in names.items())
+
+
+def a(name: str) -> str:
+    """Returns the name of a type with its article."""
+    return f"an {name}" if VOWELS.match(name) else f"a {name}"
 
 
 def message_of(fault: Fault, models: Sequence[Model]) -> str:
-    """Returns what is said of a fault: what the directive takes, what the argument is, and what to write."""
+    """Returns what is said of a fault: the directive and the argument, what is wrong where, and what to write."""
+    what = f"the * of {fault.shown}" if fault.is_star else fault.shown
+    if fault.given[0] is MISSING:
+        return f"no argument for {what}"
     groups: Dict[Fit, List[str]] = {}
     for fit, platform in zip(fault.fits, PLATFORMS):
         if platform.model in models and fit is not Fit.EQUAL:
             groups.setdefault(fit, []).append(platform.name)
-    wrong = [f"{FITS[it]} in {listed(groups[it])}" for it in reversed(ORDER) if it in groups]
-    what = f"a * of {fault.shown}" if fault.is_star else fault.shown
+    wrong = [f"{FITS[it]}{listed(groups[it])}" for it in reversed(ORDER) if it in groups and it in FITS]
+    if Fit.KIND in groups:
+        wrong.append(f"it takes {taken(fault)}")
+    return f"{what} for {a(name_of(fault))}: {', '.join(wrong)}{advice(fault)}"
+
+
+def advice(fault: Fault) -> str:
     written = proposal(fault)
-    return (
-        f"{what} takes {taken(fault)}, and the argument is {name_of(fault)}: {', '.join(wrong)}"
-        + (f"; write {written}" if written else "")
-    )
+    return f"; use {written}" if written else ""
 
 
 def listed(names: Sequence[str]) -> str:
-    """Returns platforms as a list of words. Both kinds of ILP32 are named once."""
+    """Returns on which platforms something is so, in words; nothing if it is so on all. Both 32-bit systems are named
+    once.
+    """
     if len(names) == len(PLATFORMS):
-        return "all data models"
-    shown = [it for it in names if not any(it.startswith(f"{other} ") for other in names)]
-    return " and ".join(filter(None, [", ".join(shown[:-1]), shown[-1]]))
+        return ""
+    shown = [TITLES[it] for it in names if not any(it.startswith(f"{other} ") for other in names)]
+    return " on " + " and ".join(filter(None, [", ".join(shown[:-1]), shown[-1]]))
 
 
 def name_of(fault: Fault) -> str:
@@ -146,13 +164,13 @@ def details_of(fault: Fault) -> Dict[str, Any]:
 
 def finding_of(fault: Fault, kind: str, spot: Spot, models: Sequence[Model]) -> Finding:
     wrong = {it.model for it, fit in zip(PLATFORMS, fault.fits) if fit is not Fit.EQUAL and it.model in models}
-    details = details_of(fault)
+    details: Dict[str, Any] = {**details_of(fault), "fix": fix_of(fault, spot)}
     return Finding(
         shown_file(spot.file),
         spot.line,
         spot.column,
         kind,
-        LEVELS[kind],
+        ERROR if kind in ERRORS else NOTE,
         message_of(fault, models),
         spot.end,
         (details["format"],),
@@ -161,10 +179,36 @@ def finding_of(fault: Fault, kind: str, spot: Spot, models: Sequence[Model]) -> 
     )
 
 
+def fix_of(fault: Fault, spot: Spot) -> Optional[Dict[str, Any]]:
+    """Returns what may be written instead of the bytes of the source from `start` to `end`, for JSON: `cast` is what the
+    argument needs, and `include` a header. `verified` is whether --fix writes it. None if no place or text is known.
+    """
+    written = proposal(fault)
+    if written is None or spot.offsets is None:
+        return None
+    text = written.directive or None
+    include = "inttypes.h" if text and '" PRI' in text else HEADERS.get(written.cast)
+    start, end = spot.offsets
+    return {
+        "start": start,
+        "end": end,
+        "text": text,
+        "cast": written.cast or None,
+        "include": include,
+        "verified": False,
+    }
+
+
+def as_verified(finding: Finding) -> Finding:
+    """Returns a finding whose fix --fix writes."""
+    fix = finding.details.get("fix")
+    return replace(finding, details={**finding.details, "fix": {**fix, "verified": True}}) if fix else finding
+
+
 def as_fixed(finding: Finding) -> Finding:
     """Returns the finding of a directive that was replaced by what a finding proposes."""
     details = finding.details
-    message = f"fixed: {details['directive']} is now {details['proposal']}, for {details['type']}"
+    message = f"{details['directive']} is now {details['proposal']}, for {a(details['type'])}"
     return replace(finding, kind=FIXED, level=NOTE, message=message)
 
 
@@ -196,14 +240,9 @@ def finding_of_call(call: Call, kind: str, message: str, models: Sequence[Model]
     )
 
 
-def left(path: str, why: str, models: Sequence[Model]) -> Finding:
-    """Returns the finding of a file that is left, as a whole or in part."""
-    return Finding(shown_file(path), 0, None, LEFT, WARNING, f"left: {why}", models=model_names(models))
-
-
-def skipped(path: str, why: str, models: Sequence[Model]) -> Finding:
-    """Returns the finding of a file that isn't judged by itself."""
-    return Finding(shown_file(path), 0, None, SKIPPED, NOTE, f"skipped: {why}", models=model_names(models))
+def skipped(path: str, why: str, models: Sequence[Model], level: str) -> Finding:
+    """Returns the finding of a file that isn't judged, as a whole or in part: a note if nothing is wrong with that."""
+    return Finding(shown_file(path), 0, None, SKIPPED, level, f"not judged: {why}", models=model_names(models))
 
 
 def with_source(finding: Finding) -> Finding:
@@ -214,7 +253,7 @@ def with_source(finding: Finding) -> Finding:
     is_short = finding.end is not None and finding.end[0] == finding.line
     end = finding.end[1] if finding.end and is_short else finding.column + 1
     written = finding.details.get("proposal")
-    words = f"write {written}" if written and finding.kind != FIXED else ""
+    words = f"use {written}" if written and finding.kind != FIXED else ""
     return replace(finding, excerpts=(Excerpt(str(finding.line), lines[0], finding.column - 1, end - 1, words),))
 
 

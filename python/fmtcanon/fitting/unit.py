@@ -28,8 +28,6 @@ class Unit:
     """The calls of a unit on each platform, and why libclang can't parse a part of it, if so."""
 
     def __init__(self, command: CompileCommand, settings: Settings) -> None:
-        if command.is_cxx():
-            raise Left("it is C++")
         model = model_in(command.macros())
         if model is not Model.LP64:
             raise Left(f"it is compiled for {model.name if model else 'another data model'}, and not for LP64")

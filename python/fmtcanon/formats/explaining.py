@@ -12,7 +12,7 @@ import fmtcanon
 from fmtcanon import DirectiveSpan, Kind, Model, Refused, Type
 
 from ..kinds import TYPE_NAMES
-from ..specification import Specification, specification_of
+from ..specification import SpelledSpecification, specification_of
 from .rejections import instead_of, sentence
 from .verdicts import Argument, Library, PairKind, PairVerdict, taker_of, telling_arguments
 from .wording import Stars, meaning, meaning_of_number, note
@@ -130,7 +130,7 @@ def part_of(text: bytes, span: DirectiveSpan, types: Dict[Model, Type]) -> Expla
     return ExplainedDirective(span.start, span.end, spelling, span.argument + 1, types, meaning(effective, stars), notes)
 
 
-def effects(found: Specification) -> Tuple[Specification, Tuple[str, ...]]:
+def effects(found: SpelledSpecification) -> Tuple[SpelledSpecification, Tuple[str, ...]]:
     """Returns the parts of a specification that have an effect, and a note on each other one."""
     notes: List[str] = []
     effective = found.without_numbers()
@@ -143,7 +143,7 @@ def effects(found: Specification) -> Tuple[Specification, Tuple[str, ...]]:
     return effective, tuple(notes)
 
 
-def is_same(first: Specification, second: Specification) -> bool:
+def is_same(first: SpelledSpecification, second: SpelledSpecification) -> bool:
     """Returns whether two specifications are interchangeable in all data models."""
     try:
         return len(fmtcanon.same_in(str(first), str(second), whole=True)) == len(Model)

@@ -8,7 +8,7 @@ from typing import Iterator, NamedTuple, Optional
 
 import fmtcanon
 
-from ..specification import Specification, specification_of
+from ..specification import SpelledSpecification, specification_of
 
 # A macro of <inttypes.h> comes in angle brackets, as xgettext writes it. Its name has its conversion (C11 7.8.1). d and
 # i take one type, and so do o, u, x and X.
@@ -60,7 +60,7 @@ def is_unexpected(text: bytes) -> bool:
     return False
 
 
-def errno_parts(item: Item) -> Optional[Specification]:
+def errno_parts(item: Item) -> Optional[SpelledSpecification]:
     """Returns the parts of a `%m`, the text of errno in the GNU C library, with another conversion; None if it isn't one.
 
     It has any flags, a width and a precision. The flag I, for other digits, does nothing.

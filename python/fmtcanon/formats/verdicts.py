@@ -160,7 +160,7 @@ def taker_of(text: bytes, argument: int, model: Model) -> Optional[Taker]:
 
 def argument_words(index: int) -> str:
     """Returns how an argument is named: by its number from 1, as in `%1$d`."""
-    return f"argument {index + 1}, counted from 1"
+    return f"argument {index + 1}"
 
 
 def both_take(takers: Sequence[Optional[Taker]]) -> str:

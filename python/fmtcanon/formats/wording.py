@@ -4,7 +4,7 @@ from __future__ import annotations
 
 from typing import List, NamedTuple, Optional
 
-from ..specification import Specification
+from ..specification import SpelledSpecification
 
 # What a conversion prints; {} is the number of its precision, or the default.
 INTEGERS = {
@@ -63,7 +63,7 @@ def amount(precision: str, star: Optional[int], word: str) -> str:
     return f"as many {word}s as argument {star} says" if star else counted(number_of(precision), word)
 
 
-def integer(found: Specification, stars: Stars) -> str:
+def integer(found: SpelledSpecification, stars: Stars) -> str:
     """Returns what an integer conversion prints."""
     parts = [INTEGERS[found.conversion]]
     if stars.precision:
@@ -79,7 +79,7 @@ def integer(found: Specification, stars: Stars) -> str:
     return ", ".join(parts)
 
 
-def floating(found: Specification, stars: Stars) -> str:
+def floating(found: SpelledSpecification, stars: Stars) -> str:
     """Returns what a floating conversion prints."""
     precision, letter = found.precision or f".{DEFAULT_PRECISION}", found.conversion.lower()
     places = amount(precision, stars.precision, "place")
@@ -95,7 +95,7 @@ def floating(found: Specification, stars: Stars) -> str:
     return ", ".join(parts)
 
 
-def other(found: Specification, stars: Stars) -> str:
+def other(found: SpelledSpecification, stars: Stars) -> str:
     """Returns what any other conversion prints."""
     wide = found.conversion.upper() if found.modifier == "l" and found.conversion in "cs" else found.conversion
     if not found.precision:
@@ -103,14 +103,14 @@ def other(found: Specification, stars: Stars) -> str:
     return f"{OTHERS[wide]}, {amount(found.precision, stars.precision, 'byte')} of it at most"
 
 
-def signs(found: Specification) -> List[str]:
+def signs(found: SpelledSpecification) -> List[str]:
     """Returns what the flags say of a sign."""
     if found.conversion not in SIGNED:
         return []
     return ["with a sign always"] if "+" in found.flags else ["with a space or a sign"] if " " in found.flags else []
 
 
-def field(found: Specification, stars: Stars) -> List[str]:
+def field(found: SpelledSpecification, stars: Stars) -> List[str]:
     """Returns what is said of the field width, the side and the zeros."""
     if not found.width:
         return []
@@ -121,13 +121,13 @@ def field(found: Specification, stars: Stars) -> List[str]:
     return [f"with zeros up to {columns}" if "0" in found.flags else f"{side} of {columns}"]
 
 
-def meaning(found: Specification, stars: Stars) -> str:
+def meaning(found: SpelledSpecification, stars: Stars) -> str:
     """Returns what a specification prints. It has no part without an effect."""
     say = integer if found.conversion in INTEGERS else floating if found.conversion.lower() in FLOATING else other
     return ", ".join([say(found, stars), *signs(found), *field(found, stars)])
 
 
-def meaning_of_number(found: Specification, number: int) -> Optional[str]:
+def meaning_of_number(found: SpelledSpecification, number: int) -> Optional[str]:
     """Returns what an integer conversion does with the sign of a number, which tells zeros from digits; or None."""
     has_sign = found.conversion in "di" and (number < 0 or "+" in found.flags or " " in found.flags)
     if not has_sign or "*" in found.width + found.precision:
@@ -139,7 +139,7 @@ def meaning_of_number(found: Specification, number: int) -> Optional[str]:
     return None
 
 
-def flag_note(flag: str, found: Specification) -> str:
+def flag_note(flag: str, found: SpelledSpecification) -> str:
     """Returns why a flag has no effect, by the first reason that applies."""
     reasons = {
         "next to `-`": flag == "0" and "-" in found.flags,
@@ -153,7 +153,7 @@ def flag_note(flag: str, found: Specification) -> str:
     return f"`{flag}` has no effect {next(it for it, applies in reasons.items() if applies)}"
 
 
-def note(name: str, spelling: str, found: Specification) -> str:
+def note(name: str, spelling: str, found: SpelledSpecification) -> str:
     """Returns why a part has no effect, which the library has said."""
     if name == "flag":
         return flag_note(spelling, found)

@@ -4,9 +4,10 @@ from __future__ import annotations
 
 import json
 import os
+import re
 import sys
-from dataclasses import dataclass, field
-from typing import Any, Callable, Dict, List, Mapping, Optional, TextIO, Tuple
+from dataclasses import dataclass, field, replace
+from typing import Any, Dict, Iterable, List, Mapping, Optional, Sequence, TextIO, Tuple
 from urllib.parse import quote
 
 from .. import __version__
@@ -19,6 +20,10 @@ from .visible import visible
 ERROR, WARNING, NOTE = "error", "warning", "note"
 # What GitHub calls the levels.
 GITHUB_LEVELS = {ERROR: "error", WARNING: "warning", NOTE: "notice"}
+# What vim takes for the name of a file: a text in quotes before a number with a colon; and if no column is known, all
+# that is before a line and a column.
+NAME_TO_VIM = re.compile(r'".*"\D*\d+: ')
+POSITION = re.compile(r":(\d+):\d+: ")
 SARIF_SCHEMA = "https://json.schemastore.org/sarif-2.1.0.json"
 
 
@@ -47,13 +52,28 @@ class Finding:
 
     @property
     def place(self) -> str:
-        """The file and the position, as GNU programs write them."""
-        known = [it for it in (self.line or None, self.column) if it is not None]
+        """The file and the position, as compilers write them. A file as a whole has its first line."""
+        known = [it for it in (self.line or 1, self.column) if it is not None]
         return "".join(f"{it}:" for it in (self.file, *known))
 
 
+def leveled(finding: Finding, fail_on: Sequence[str]) -> Finding:
+    """Returns a finding as an error if its kind sets the status, and as none otherwise."""
+    level = WARNING if finding.level == ERROR else finding.level
+    return replace(finding, level=ERROR if finding.kind in fail_on else level)
+
+
 def as_text(finding: Finding) -> str:
-    return visible(f"{finding.place} {finding.message}")
+    """Returns a finding as compilers write it, so that editors read it."""
+    message = finding.message.replace('"', "'") if NAME_TO_VIM.search(finding.message) else finding.message
+    if finding.column is None:
+        message = POSITION.sub(r":\1: ", message)
+    return visible(f"{finding.place} {finding.level}: {message} [{finding.kind}]")
+
+
+def by_place(findings: Iterable[Finding]) -> List[Finding]:
+    """Returns findings in the order of their places."""
+    return sorted(findings, key=lambda it: (it.file, it.line, it.column or 0))
 
 
 def as_json(finding: Finding) -> str:
@@ -126,8 +146,8 @@ OUTPUTS = ("text", "json", "sarif", "github")
 class Printer:
     """Prints findings in one form, each as soon as it is there; only SARIF waits for the last.
 
-    `rules` are the kinds that the command has, each with what it means; `text` is how it prints a finding in one line.
-    On a terminal, a finding as text has its excerpts, and long work says how far it is.
+    `rules` are the kinds that the command has, each with what it means. On a terminal, a finding as text has its
+    excerpts, and long work says how far it is.
     """
 
     def __init__(
@@ -136,13 +156,11 @@ class Printer:
         output: str,
         rules: Mapping[str, str],
         stream: Optional[TextIO] = None,
-        text: Callable[[Finding], str] = as_text,
         color: str = "auto",
     ) -> None:
         self.command, self.output, self.rules = command, output, rules
         self.stream = sys.stdout if stream is None else stream
         self.style = style_of(color, self.stream)
-        self.text = text
         self.line = {"text": self.as_text, "json": as_json, "github": as_github}.get(output, as_text)
         self.progress = Progress()
         self.waiting: List[Finding] = []
@@ -154,7 +172,7 @@ class Printer:
 
     def as_text(self, finding: Finding) -> str:
         """Returns a finding as text: in one line, or with its excerpts for a terminal."""
-        line = self.text(finding)
+        line = as_text(finding)
         if not self.style.is_terminal and not self.style.is_coloured:
             return line
         file = visible(finding.file)

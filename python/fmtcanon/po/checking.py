@@ -22,6 +22,8 @@ from .tokens import BadCatalog
 INTEGERS = {fmtcanon.Type.INT, fmtcanon.Type.UINT}
 # How much of a message a report shows.
 SHOWN = 60
+# In a catalog of more bytes, and in a longer text, the place of a directive isn't looked for.
+LONGEST, LONG = 20_000_000, 10_000
 # The kinds of findings.
 TYPES, NUMBER, FORMAT, NEWLINE, PLURALS, CHARSET, USE, EMPTY, UNJUDGED, UNREADABLE = (
     "types",
@@ -98,8 +100,8 @@ def difference(wanted: MessageFormat, found: MessageFormat, may_be_fewer: bool, 
     for at, (one, other) in enumerate(zip(first, second)):
         if macros.get(at) != others.get(at) or (at not in macros and one != other):
             types = shown_type(one, macros.get(at)), shown_type(other, others.get(at))
-            both = " and ".join(f"{taker(it, at, model)} takes {type}" for it, type in zip((wanted, found), types))
-            return Reason(TYPES, f"types of '{{}}' and '{{}}' differ at {argument_words(at)}: {both}", at)
+            both = [f"{type} ({taker(it, at, model)}) in '{{}}'" for it, type in zip((wanted, found), types)]
+            return Reason(TYPES, f"{argument_words(at)} is {both[0]}, and {both[1]}", at)
     return None
 
 
@@ -116,7 +118,7 @@ def changed_kind(wanted: MessageFormat, found: MessageFormat, model: fmtcanon.Mo
     for at, (code, one, other) in enumerate(zip(codes[0], *kinds)):
         if one != other and code in INTEGERS:
             uses = [f"{taker(it, at, model)} as {shown_kinds(kind)}" for it, kind in ((wanted, one), (found, other))]
-            return Reason(USE, f"'{{}}' and '{{}}' use {argument_words(at)}, otherwise: {uses[0]}, and {uses[1]}", at)
+            return Reason(USE, f"'{{}}' and '{{}}' use {argument_words(at)} otherwise: {uses[0]}, and {uses[1]}", at)
     return None
 
 
@@ -205,17 +207,23 @@ class Checker:
         details = {"msgid": message.msgid.decode(errors="backslashreplace"), "formats": list(formats), **more}
         names = model_names(models or self.models)
         self.reports += 1
-        text = f"{reason.text} [{shown(message.msgid)}]"
+        # A .mo file has no lines: its messages are found by their texts.
+        text = reason.text if self.data else f"{reason.text}, of {shown(message.msgid)}"
         finding = Finding(file, message.line, message.column, reason.kind, level, text, None, formats, names, details)
-        if self.is_shown:
-            finding = self.with_excerpts(finding, message, reason, texts, (models or self.models)[0])
-        self.add(finding)
+        self.add(self.with_source(finding, message, reason, texts, (models or self.models)[0]))
 
-    def with_excerpts(
+    def with_source(
         self, finding: Finding, message: Message, reason: Reason, texts: Sequence[MessageText], model: fmtcanon.Model
     ) -> Finding:
-        """Returns a finding with the lines that it is about, and what helps."""
-        marks = marks_of(reason, texts, model)
+        """Returns a finding at the directive that it is about, with the lines if these are shown, and what helps."""
+        is_long = len(self.data) > LONGEST or any(len(it.text) > LONG for it in texts)
+        marks = list(marks_of(reason, texts, model)) if self.is_shown or (self.data and not is_long) else []
+        last = self.source.found(message.line, marks[-1]) if marks else None
+        if last:
+            line = int(last.label)
+            finding = replace(finding, line=line, column=last.start + 1, end=(line, last.end + 1))
+        if not self.is_shown:
+            return finding
         excerpts = tuple(self.source.excerpt(message.line, it) for it in marks)
         refused = texts[-1].text if texts and reason.refusal else b""
         help = advice_on(refused, reason.refusal, model) if reason.refusal else ""
@@ -287,7 +295,7 @@ class Checker:
         """Reports bytes that aren't of the charset. Such a message isn't judged further."""
         for line, column, name, byte in message.bad_bytes:
             self.faults += 1
-            text = f"'{name}' has a byte that is not of the charset {charset}: 0x{byte:02x} [{shown(message.msgid)}]"
+            text = f"'{name}' has a byte that is not of the charset {charset}: 0x{byte:02x}"
             self.add(Finding(file, line, column, CHARSET, ERROR, text))
 
     def check_forms(self, file: str, message: Message, rule: Optional[PluralRule]) -> None:

@@ -118,7 +118,7 @@ class MessageFormat:
             other = found.setdefault(use.argument, use)
             if other.macro != use.macro:
                 both = " and ".join(it.specification.decode() for it in (other, use))
-                return f"{both} give argument {use.argument + 1}, counted from 1, different types"
+                return f"{both} give argument {use.argument + 1} different types"
         return None
 
     def macros(self, model: fmtcanon.Model) -> Dict[int, bytes]:

@@ -45,13 +45,16 @@ class CatalogSource:
 
     def excerpt(self, line: int, mark: Mark) -> Excerpt:
         """Returns the line with a part of a text of the message whose translation begins in this line, or the text."""
-        try:
-            found = self.found(line, mark)
-        except BadCatalog:
-            found = None
-        return found or literal_excerpt(*mark)
+        return self.found(line, mark) or literal_excerpt(*mark)
 
     def found(self, line: int, mark: Mark) -> Optional[Excerpt]:
+        """Returns the line with the part, or None if it can't be found."""
+        try:
+            return self.searched(line, mark)
+        except BadCatalog:
+            return None
+
+    def searched(self, line: int, mark: Mark) -> Optional[Excerpt]:
         begin = self.begin_of(line)
         if begin is None:
             return None

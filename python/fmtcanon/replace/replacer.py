@@ -3,7 +3,6 @@
 from typing import Any, List, Optional, Sequence, Tuple
 
 from ..compiling.functions import Functions
-from ..compiling.parsing import Shape
 from ..compiling.sources import Files, Name
 from ..frame.command_line import MODELS, model_names
 from ..frame.excerpts import Excerpt, line_of, literal_excerpt
@@ -12,11 +11,8 @@ from ..rewriting.files import Change
 from ..rewriting.rewriter import Report, Rewriter, change_to
 from ..source.places import column_of
 from ..source.respelling import LiteralRun, runs_in, span_in
-from .options import NAME
+from .options import NAME, REPLACED, RULES, SKIPPED
 from .pairs import Pairs
-
-REPLACED, LEFT = "replaced", "left"
-RULES = {REPLACED: "A format was replaced by another of the same meaning.", LEFT: "A format was left as it is."}
 
 
 class Replacer(Rewriter):
@@ -25,7 +21,7 @@ class Replacer(Rewriter):
     name, rules = NAME, RULES
 
     def __init__(self, options: Any, files: Files) -> None:
-        functions = Functions({name: Shape(it, None) for name, it in options.function}, options.attribute)
+        functions = Functions(dict(options.function), options.attribute)
         super().__init__(files, functions, MODELS[options.model], options.diff)
         self.pairs = Pairs(options.formats, self.models, options.posix_locale, bool(options.pairs))
 
@@ -45,8 +41,8 @@ class Replacer(Rewriter):
         return [self.finding_of(name, source, it) for it in changes]
 
     def left(self, name: str, why: str) -> Report:
-        finding = Finding(name, 0, None, LEFT, WARNING, f"left: {why}", models=model_names(self.models))
-        return Report(name, [finding], is_left=True)
+        finding = Finding(name, 0, None, SKIPPED, WARNING, f"not judged: {why}", models=model_names(self.models))
+        return Report(name, [finding], is_skipped=True)
 
     def finding_of(self, file: str, source: bytes, change: Change) -> Finding:
         place = change.place
@@ -55,8 +51,8 @@ class Replacer(Rewriter):
             formats.append(self.pairs.rules[place.text].new.decode(errors="backslashreplace"))
         column = column_of(source, place.start)
         end = (place.line + place.source.count(b"\n"), column_of(source, place.end))
-        message = f"left: {change.why_left}" if change.why_left else REPLACED
-        kind, level = (LEFT, WARNING) if change.why_left else (REPLACED, NOTE)
+        message = f"not replaced: {change.why_left}" if change.why_left else REPLACED
+        kind, level = (SKIPPED, WARNING) if change.why_left else (REPLACED, NOTE)
         excerpts = self.excerpts_of(source, change) if change.why_left else ()
         return Finding(
             file,

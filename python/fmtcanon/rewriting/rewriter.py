@@ -10,7 +10,7 @@ from ..compiling.left import Left
 from ..compiling.sources import Files, Name
 from ..compiling.stand_ins import Original, original
 from ..compiling.targets import check_model
-from ..frame.findings import Finding, as_text
+from ..frame.findings import Finding
 from ..frame.progress import Progress
 from ..models import Model
 from ..source.respelling import LiteralRun, respelled
@@ -19,8 +19,8 @@ from .units import Units, units_of
 
 
 class Report(NamedTuple):
-    """What is found in a file, the file and its new bytes, its unified diff, whether something was left, and whether
-    there was an error.
+    """What is found in a file, the file and its new bytes, its unified diff, whether it wasn't judged, and whether there
+    was an error.
     """
 
     name: str
@@ -28,7 +28,7 @@ class Report(NamedTuple):
     original: Optional[Original] = None
     after: bytes = b""
     diff: bytes = b""
-    is_left: bool = False
+    is_skipped: bool = False
     error: str = ""
 
 
@@ -49,7 +49,6 @@ class Rewriter:
 
     name = ""
     rules: Mapping[str, str] = {}
-    as_text = staticmethod(as_text)
 
     def __init__(self, files: Files, functions: Functions, models: Sequence[Model], with_diff: bool) -> None:
         self.files, self.functions, self.models, self.with_diff = files, functions, models, with_diff
@@ -101,8 +100,7 @@ class Rewriter:
             return Report(name, error=f"{name}: {error.strerror or error}")
         findings = self.findings_of(name, read.source, changes)
         diff = unified_diff(name, read.source, after) if self.with_diff else b""
-        is_left = any(it.why_left for it in changes)
-        return Report(name, findings, read if after != read.source else None, after, diff, is_left)
+        return Report(name, findings, read if after != read.source else None, after, diff)
 
     def judged(self, read: Original, changes: List[Change]) -> bytes:
         """Returns a file with what is right replaced. Raises Left if that is nothing."""

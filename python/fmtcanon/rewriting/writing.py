@@ -9,7 +9,7 @@ from typing import Any, Callable, Iterable, Iterator, List, NoReturn, Sequence, 
 from ..compiling.left import Left
 from ..compiling.sources import Name
 from ..frame.command_line import USAGE
-from ..frame.findings import Printer
+from ..frame.findings import Printer, by_place
 from ..frame.interrupting import LOOK, Interrupted, Signals, clean, end, interruptible
 from ..frame.output import Unwritable, complain, write
 from ..rewriting.rewriter import Report
@@ -38,7 +38,7 @@ def replace(options: Any, replacer: Rewriter, names: Sequence[Name]) -> int:
             with signals.raised():
                 reports = [as_it_is(replacer, it) for it in replacer.reports(names, pool)]
                 print_reports(options, replacer, reports)
-                status = max([USAGE if it.error else int(it.is_left) for it in reports], default=0)
+                status = max((status_of(it, options.fail_on) for it in reports), default=0)
                 if options.dry_run or options.diff:
                     return status
                 return max(status, put_all_in_place(reports, signals, changed))
@@ -47,6 +47,11 @@ def replace(options: Any, replacer: Rewriter, names: Sequence[Name]) -> int:
             end_early(pool, replacer.name, interrupted.number, changed)
         finally:
             pool.shutdown(wait=False)
+
+
+def status_of(report: Report, fail_on: Sequence[str]) -> int:
+    """Returns the exit status of the report on a file."""
+    return USAGE if report.error or report.is_skipped else int(any(it.kind in fail_on for it in report.findings))
 
 
 def as_it_is(replacer: Rewriter, report: Report) -> Report:
@@ -61,12 +66,12 @@ def as_it_is(replacer: Rewriter, report: Report) -> Report:
 def print_reports(options: Any, replacer: Rewriter, reports: Sequence[Report]) -> None:
     """Prints the reports. Raises Unwritable before a file is replaced."""
     stream = sys.stderr if options.diff else None
-    printer = Printer(replacer.name, options.output, replacer.rules, stream, replacer.as_text, options.color)
+    printer = Printer(replacer.name, options.output, replacer.rules, stream, options.color)
     try:
         for report in reports:
             if report.diff:
                 write(sys.stdout, report.diff)
-            for finding in report.findings:
+            for finding in by_place(report.findings):
                 printer.add(finding)
             if report.error:
                 complain(report.error)

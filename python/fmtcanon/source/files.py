@@ -1,8 +1,9 @@
 """Files of C source: which these are, and how one is read."""
 
+import fnmatch
 import os
 import re
-from typing import List, Set, Tuple
+from typing import List, Sequence, Set, Tuple
 
 # The endings of C and C++, of what they include, and of what is made into them.
 SOURCES = re.compile(r".*\.(?:[chyl]|cc|cpp|cxx|c\+\+|hh|hpp|hxx|h\+\+|inc|inl|ipp|tcc|def|C|H|m|mm|pc|ec)", re.DOTALL)
@@ -39,3 +40,10 @@ def files_below(top: str) -> Tuple[Set[str], List[str]]:
             if SOURCES.fullmatch(name) and os.path.isfile(path):
                 found.add(os.path.relpath(path, top))
     return found, [f"{it.filename}: {it.strerror}" for it in errors]
+
+
+def is_excluded(name: str, globs: Sequence[str]) -> bool:
+    """Returns whether a glob matches the path of a file or of a folder that it is in, or a name in the path."""
+    names = name.split(os.sep)
+    paths = [os.sep.join(names[: at + 1]) for at in range(len(names))]
+    return any(fnmatch.fnmatchcase(it, glob) for glob in globs for it in {*names, *paths})

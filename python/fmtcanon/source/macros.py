@@ -27,7 +27,7 @@ DEFINITION = re.compile(
 PARTS = re.compile(rb"(?P<string>" + STRING + rb")|(?P<name>" + NAME + rb")")
 
 
-class Part(NamedTuple):
+class PlacePart(NamedTuple):
     """A part of a place: "string", "raw", "wide" or "name", and its source, or of a raw string its bytes."""
 
     kind: str
@@ -52,16 +52,16 @@ def expansion(name: bytes, model: Model) -> Optional[bytes]:
     return (FAST[model] if how == b"FAST" and size != b"8" else b"") + letter
 
 
-def definitions(text: bytes) -> Dict[bytes, Tuple[Part, ...]]:
+def definitions(text: bytes) -> Dict[bytes, Tuple[PlacePart, ...]]:
     """Returns the macros that a source without spliced lines defines as string literals, with their parts.
 
     One that is defined in several ways is left out.
     """
-    found: Dict[bytes, Tuple[Part, ...]] = {}
+    found: Dict[bytes, Tuple[PlacePart, ...]] = {}
     several = set()
     for definition in DEFINITION.finditer(text):
         name, body = definition.groups()
-        parts = tuple(Part(str(it.lastgroup), it.group()) for it in PARTS.finditer(body))
+        parts = tuple(PlacePart(str(it.lastgroup), it.group()) for it in PARTS.finditer(body))
         if all(it.kind == "name" and not PRI.fullmatch(it.source) for it in parts):
             continue
         if found.setdefault(name, parts) != parts:

@@ -11,7 +11,7 @@ from ..formats.verdicts import without_specifications
 from ..frame.excerpts import line_of
 from ..models import Model
 from .known import GETTEXT
-from .macros import Part, definitions, expansion
+from .macros import PlacePart, definitions, expansion
 from .tokens import CHARACTER, COMMENT, NAME, NUMBER, SPLICE, STRING
 
 # A comment that isn't closed goes to the end.
@@ -95,7 +95,7 @@ class Place:
 
     __slots__ = ("source", "start", "end", "quote", "parts", "call", "_texts")
 
-    def __init__(self, source: "Source", start: int, end: int, quote: int, parts: Tuple[Part, ...], call: EnclosingCall) -> None:
+    def __init__(self, source: "Source", start: int, end: int, quote: int, parts: Tuple[PlacePart, ...], call: EnclosingCall) -> None:
         self.source, self.start, self.end, self.quote, self.parts, self.call = source, start, end, quote, parts, call
         self._texts: Optional[Dict[Model, Tuple[Optional[bytes], str]]] = None
 
@@ -112,7 +112,7 @@ class Place:
         names = {it.source for it in self.parts if it.kind == "name"}
         return {it for it in names if it not in self.source.macros and expansion(it, Model.LP64) is None}
 
-    def define(self, macros: Dict[bytes, Tuple[Part, ...]], model: Model) -> None:
+    def define(self, macros: Dict[bytes, Tuple[PlacePart, ...]], model: Model) -> None:
         """Makes the text in a data model with more macros than those of the file."""
         self._texts = {model: joined(self.parts, {**macros, **self.source.macros}, model)}
 
@@ -180,7 +180,7 @@ class Place:
 
 
 def joined(
-    parts: Tuple[Part, ...], macros: Dict[bytes, Tuple[Part, ...]], model: Model, depth: int = 0
+    parts: Tuple[PlacePart, ...], macros: Dict[bytes, Tuple[PlacePart, ...]], model: Model, depth: int = 0
 ) -> Tuple[Optional[bytes], str]:
     """Returns the bytes of parts; or None, and why they aren't known."""
     out = b""
@@ -371,7 +371,7 @@ class Reader:
                 name = token["call"]
                 brackets.append([b"" if name in KEYWORDS else name, 0])
             elif kind == "string" and text[start] == QUOTE and text[token.end() : token.end() + 1] in ENDS:
-                self.add(start, token.end(), start, (Part("string", token["string"]),))
+                self.add(start, token.end(), start, (PlacePart("string", token["string"]),))
             elif kind == "defined":
                 end = text.find(b"\n", token.end())
                 self.clear(len(text) if end < 0 else end, token["defined"])
@@ -381,7 +381,7 @@ class Reader:
                     return end
         return None
 
-    def add(self, start: int, end: int, quote: int, parts: Tuple[Part, ...]) -> None:
+    def add(self, start: int, end: int, quote: int, parts: Tuple[PlacePart, ...]) -> None:
         self.found.append(Place(self.source, start, end, quote, parts, self.call()))
 
     def clear(self, limit: int, defined: bytes) -> None:
@@ -408,7 +408,7 @@ class Reader:
 
     def place(self, token: "re.Match[bytes]", first: int) -> int:
         """Adds the place that begins with a token at this offset, and returns its end."""
-        parts: List[Part] = []
+        parts: List[PlacePart] = []
         quote: Optional[int] = None
         following: Optional["re.Match[bytes]"] = token
         end = token.end()
@@ -427,7 +427,7 @@ class Reader:
             self.add(first, end, first if quote is None else quote, tuple(parts))
         return end
 
-    def part(self, token: "re.Match[bytes]", kind: str) -> Tuple[Optional[Part], int]:
+    def part(self, token: "re.Match[bytes]", kind: str) -> Tuple[Optional[PlacePart], int]:
         """Returns the part of a place that a token of a kind is, or None, and its end."""
         if kind not in ("wide", "string", "name"):
             delimiter = token["delimiter"]
@@ -437,7 +437,7 @@ class Reader:
                 return None, token.end()
             end = self.text.index(b")" + delimiter + b'"', token.end())
             is_wide = token["prefix"] in (b"u", b"U", b"L")
-            return Part("wide" if is_wide else "raw", self.source.raw(token.end(), end)), end + len(delimiter) + 2
+            return PlacePart("wide" if is_wide else "raw", self.source.raw(token.end(), end)), end + len(delimiter) + 2
         if kind == "name" and token["name"] in KEYWORDS:
             return None, token.start("name")
-        return Part(kind, token[kind]), token.end()
+        return PlacePart(kind, token[kind]), token.end()
