@@ -230,10 +230,9 @@ def refused_finding(refused: RefusedFormat, models: Sequence[Model]) -> Finding:
 def errno_finding(found: ErrnoFormat) -> Finding:
     """Returns the finding of a format with `%m`, on the platform whose C library lacks it."""
     call, text, at = found
-    message = f"%m in a format of {call.function}: the C library of {TITLES[LLP64.name]} doesn't have it"
+    message = f"%m in a format of {call.function}: missing on {TITLES[LLP64.name]}; use %s and strerror(errno)"
     excerpt = literal_excerpt("format", text, at, at + 2, "")
-    finding = finding_of_call(call, ERRNO, message, [LLP64.model])
-    return replace(finding, excerpts=(excerpt,), help="Write %s, and strerror(errno) as its argument.")
+    return replace(finding_of_call(call, ERRNO, message, [LLP64.model]), excerpts=(excerpt,))
 
 
 def finding_of_call(call: Call, kind: str, message: str, models: Sequence[Model]) -> Finding:
