@@ -14,6 +14,7 @@ enum { MOST = 1 << 20 };
 static char texts[4 * MOST], other[MOST], out[MOST];
 static int types[MOST];
 static fmtcanon_directive found[MOST];
+static fmtcanon_specification parts[MOST];
 /* The lengths of the formats without their last directives, and the number of the format of this call. */
 static size_t fronts[MOST], now;
 static fmtcanon_error error;
@@ -77,6 +78,11 @@ static int64_t bounds(const char *text, size_t len)
     return fmtcanon_bounds(FMTCANON_LP64, text, len, &most, &error) + (int64_t)most.least;
 }
 
+static int64_t specifications(const char *text, size_t len)
+{
+    return fmtcanon_specifications(FMTCANON_LP64, text, len, parts, sizeof parts / sizeof *parts, NULL, &error);
+}
+
 static int64_t directives(const char *text, size_t len)
 {
     return fmtcanon_directives(FMTCANON_LP64, text, len, found, sizeof found / sizeof *found, &error);
@@ -131,6 +137,7 @@ static const struct {
     {"same, last byte changed", last_changed},
     {"same, a byte appended", appended},
     {"directives", directives},
+    {"specifications", specifications},
     {"whole_canonical", whole_canonical},
     {"whole_canonical_length", whole_length},
     {"whole_same, itself", whole_itself},

@@ -2,7 +2,6 @@
 use Rattle.std.proofs.Common.{◌≡◌, ◌∙◌, ℕ, ◌+◌, ◌<◌, ◌≤◌, List, [], ◌∷◌, ◌++◌, length, take, drop, slice_set, get_or, refl, sym, ap, arith, subst}
 use Rattle.std.specs.List.{AllZip}
 use Rattle.std.proofs.lemmas.List.{append_assoc, drop_more, length_push, set_at, take_more}
-use Rattle.std.proofs.Math.Seq.{take-length}
 use Rattle.pf_values.specs.declared.models.Model.{Model}
 use Rattle.pf_values.specs.meaning.Text.{Text}
 use Rattle.pf_posix.specs.declared.specification_spans.SpecificationSpan.{SpecificationSpan}
@@ -25,9 +24,6 @@ zip_push R [] (b ∷ ys) x y h r = absurd h
 zip_push R (a ∷ xs) [] x y h r = absurd h
 zip_push R (a ∷ xs) (b ∷ ys) x y h r = (h.0, zip_push R xs ys x y h.1 r)
 
-pub none_put : (model : Model) (listed : List SpecificationSpan) (before : List CSpecification) → ArePutTo model listed before before 0
-none_put model listed before = record { within = omega arith; records = []; each = tt; long = refl; now_is = refl }
-
 pub one_put : (model : Model) (listed : List SpecificationSpan) (before now : List CSpecification) (at : ℕ) (entry : CSpecification) (d : SpecificationSpan)
     → ArePutTo model listed before now at → at < length listed → length listed ≤ length before → IsRecordOf model (get_or listed at d) entry
     → ArePutTo model listed before (slice_set now at entry) (at + 1)
@@ -41,15 +37,6 @@ one_put model listed before now at entry d h low room is = record {
       ∙ set_at h.records (get_or before at entry) (drop (at + 1) before) entry at h.long
       ∙ sym (append_assoc h.records (entry ∷ []) (drop (at + 1) before));
 }
-
-pub all_put : (model : Model) (listed : List SpecificationSpan) (before now : List CSpecification) (at : ℕ) → ArePutTo model listed before now at
-    → length listed ≤ at → (records : List CSpecification) × AllZip (IsRecordOf model) listed records × (now ≡ records ++ drop (length listed) before)
-all_put model listed before now at h over =
-    let same : at ≡ length listed = omega (arith, over, h.within) in (
-      h.records,
-      subst (λ l. AllZip (IsRecordOf model) l h.records) (ap (λ n. take n listed) same ∙ take-length listed) h.each,
-      h.now_is ∙ ap (λ n. h.records ++ drop n before) same,
-    )
 
 -- the specifications that a call has put at the front of a slice that has room for them
 pub taken_specifications : (model : Model) (t : Text) (old new : List SpecificationSpan) (count : ℕ) (h : HasSpecificationCount model t old new count)

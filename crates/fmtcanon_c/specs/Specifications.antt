@@ -1,5 +1,5 @@
 -- Conversion specifications with their parts as records. This project's own.
-use Rattle.std.specs.Prelude.{◌≡◌, ◌⊎◌, ◌++◌, ◌+◌, ℕ, ℤ, pos, Bool, List, MatchBool, MatchOption, Option, Some, None, drop, leb, length, if◌then◌else◌}
+use Rattle.std.specs.Prelude.{◌≡◌, ◌⊎◌, ◌++◌, ◌+◌, ℕ, ℤ, pos, List, MatchBool, MatchOption, Option, Some, None, drop, leb, length, if◌then◌else◌}
 use Rattle.std.specs.List.{AllZip}
 use Rattle.pf_values.specs.declared.flags.Flag.TheVariants.{Minus, Plus, Space, Alt, Zero, Group}
 use Rattle.pf_values.specs.declared.models.Model.{Model}
@@ -13,7 +13,7 @@ use Rattle.pf_posix.specs.declared.refused_specifications.RefusedSpecification.{
 use Rattle.pf_posix.specs.declared.refused_specifications.WholeSpecification.{WholeSpecification}
 use Rattle.pf_posix.specs.declared.specification_spans.PartOffsets.{PartOffsets}
 use Rattle.pf_posix.specs.declared.specification_spans.SpecificationSpan.{SpecificationSpan}
-use Rattle.pf_posix.specs.MissingArguments.{IsMissing}
+use Rattle.pf_posix.specs.MissingArguments.{IsMissingArgument}
 use Rattle.pf_posix.specs.OpaqueParts.{amount_of, parts_of_opaque}
 use Rattle.pf_posix.specs.Refusals.{IsPosixRefusedAt}
 use Rattle.pf_posix.specs.RefusedSpecifications.{HasItemsTo, IsRefusedWithin}
@@ -82,7 +82,7 @@ ArePut model listed out out_now = MatchBool (leb (length listed) (length out))
     × (out_now ≡ records ++ drop (length listed) out))
     (out_now ≡ out)
 
--- a record of which these numbers alone are known
+-- a record with these numbers alone
 abbrev pub known_record : ℕ → ℕ → PartOffsets → ℕ → CSpecification
 known_record begin end offsets argument = record {
   begin = begin;
@@ -123,7 +123,7 @@ rejected_record at (Some found) = begun_record found.begin at found.whole
 -- the record is of the specification in which the text is rejected, or of the argument that it leaves out
 abbrev pub IsRejection : Model → Text → RefusalKind → ℕ → CSpecification → Type 0
 IsRejection model t MissingArgument at rejected =
-    (missing : Missing) × IsMissing model t missing × (rejected ≡ missing_record missing)
+    (missing : Missing) × IsMissingArgument model t missing × (rejected ≡ missing_record missing)
 IsRejection model t kind at rejected = (found : Option RefusedSpecification)
     × MatchOption found (HasItemsTo t at) (IsRefusedWithin t at) × (rejected ≡ rejected_record at found)
 

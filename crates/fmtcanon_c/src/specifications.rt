@@ -254,7 +254,7 @@ fn offsets_at(at: u64) -> PartOffsets
     }
 }
 
-// A record of which no more is known.
+// A record with no more than this.
 fn known_record(begin: u64, end: u64, offsets: PartOffsets, argument: u64) -> CSpecification
     ensures { result ≡ known_record begin end offsets argument }
 {

@@ -24,7 +24,7 @@ use Rattle.pf_posix.specs.Items.{Byte, Errno, PosixItem, ReadsPosix, Specificati
 use Rattle.pf_posix.specs.MissingArguments.{AreMarked, IsAhead, IsFirstLater, is_index, takes, takes_any, takes_later}
 use Rattle.pf_posix.specs.PartsInText.{specification_read}
 use Rattle.pf_posix.specs.Refusals.{HasGap, IsPosixRefusalCause, IsPosixRefusedAt, IsWrong, MayFollow, numbering_by, numbering_of}
-use Rattle.pf_posix.specs.SpecificationSpans.{ArePartsAt, HasItsParts}
+use Rattle.pf_posix.specs.SpecificationSpans.{ArePosixPartsAt, HasItsParts}
 use Rattle.pf_posix.specs.Specifications.{Amount, Fetched, Given, PosixSpecification}
 use Rattle.pf_posix.specs.Types.{IsFetched, conversion_type, fetch, fetches, star_fetches}
 use Rattle.pf_text.proofs.Sound.{find_holds}
@@ -54,7 +54,7 @@ module _ (model : Model) (t : Text) where
     ahead_passed listed = record { listed = listed; limit = h.limit; few = omega (arith, h.few, low) }
 
     pub ahead_found : (read : Read) → IsListedBehind model t all place.at place.fetched done (Some read) end
-        → IsBehindItem t h.listed.items (Some read) end → ArePartsAt t place.at end (offsets_read read) (specification_read read)
+        → IsBehindItem t h.listed.items (Some read) end → ArePosixPartsAt t place.at end (offsets_read read) (specification_read read)
         → (span : SpecificationSpan) → span.directive ≡ directive_between model place.at end place.fetched (specification_read read)
         → span.parts ≡ read.parts → span.offsets ≡ offsets_read read
         → (more : ℕ) → more ≡ length (fetches model (specification_read read)) → more ≤ 3

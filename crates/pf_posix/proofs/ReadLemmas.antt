@@ -46,7 +46,6 @@ use Rattle.pf_posix.specs.Types.{int_type, star_fetches}
 use Rattle.pf_posix.specs.Beginnings.{IsBegunAs, IsUndecided}
 use Rattle.pf_posix.proofs.FrontRefusals.{undecided_own}
 use Rattle.pf_posix.proofs.HaltLemmas.{IsNoOther, halt_at, halt_stray, one_on, halt_begins_no, halt_begins_none}
-use Rattle.pf_posix.proofs.LetterLemmas.{letter_tests}
 use Rattle.pf_posix.proofs.OneState.{one_state}
 use Rattle.pf_posix.proofs.OutcomeLemmas.{no_some, nowhere}
 use Rattle.pf_posix.proofs.Outcomes.{exceeds, mixes}

@@ -1,24 +1,16 @@
 -- Where the specification begins in which a text is refused: after items, where no more begins.
-use Rattle.std.proofs.Common.{◌≡◌, ◌≢◌, ℕ, ◌+◌, ◌-◌, ◌<◌, ◌≤◌, Bool, true, false, List, [], ◌∷◌, ◌++◌, length, length-append, get_or, drop, drop-drop, take, inl, inr, refl, sym, ap, ap₂, ◌∙◌, arith, subst}
-use Rattle.std.specs.Prelude.{◌⊎◌, ◌==◌, Option, if◌then◌else◌}
+use Rattle.std.proofs.Common.{◌≡◌, ◌≢◌, ℕ, ◌+◌, ◌-◌, ◌<◌, ◌≤◌, Bool, true, false, List, [], ◌∷◌, ◌++◌, length, length-append, get_or, drop, drop-drop, take, inl, inr, refl, sym, ap, ◌∙◌, arith, subst}
+use Rattle.std.specs.Prelude.{◌⊎◌, ◌==◌, if◌then◌else◌}
 use Rattle.std.proofs.lemmas.Bool.{eqb-true}
-use Rattle.std.proofs.lemmas.List.{append_assoc, drop-append-le, drop_more, length-drop, length-take-le, take-append-drop, take-append-le}
-use Rattle.std.proofs.Math.Seq.{drop-append_seam, take-append_seam}
-use Rattle.pf_values.specs.declared.models.Model.{Model}
+use Rattle.std.proofs.lemmas.List.{append_assoc, drop-append-le, drop_more, length-drop}
+use Rattle.std.proofs.Math.Seq.{drop-append_seam}
 use Rattle.pf_values.specs.meaning.Text.{Text}
-use Rattle.pf_text.specs.Offsets.{HasBytes}
-use Rattle.pf_text.proofs.NoDirectiveLemmas.{bytes_rest}
-use Rattle.pf_values.specs.declared.refusals.RefusalKind.{RefusalKind}
-use Rattle.pf_posix.specs.declared.fetches.Fetch.{Fetch}
-use Rattle.pf_posix.specs.declared.specifications.Numbering.{Numbering}
 use Rattle.pf_posix.specs.declared.specifications.Numbering.TheVariants.{Undecided}
 use Rattle.pf_posix.specs.declared.specifications.Specification.{Specification as Read}
-use Rattle.pf_posix.specs.Beginnings.{IsBegunAs}
 use Rattle.pf_posix.specs.Halts.{BeginsNoneAfter}
 use Rattle.pf_posix.specs.Items.{Byte, Errno, PosixItem, ReadsPosix, Specification, SpellsPosixItem, errno}
 use Rattle.pf_posix.specs.PartsInText.{IsSpecificationAt, specification_read}
-use Rattle.pf_posix.specs.Refusals.{IsPosixRefusedAt, MayFollow}
-use Rattle.pf_posix.specs.RefusedSpecifications.{BeginsNoSpecification, HasItemsTo, IsAtPart, IsBeforePart, IsBegunAt, IsPartOfOne}
+use Rattle.pf_posix.specs.RefusedSpecifications.{BeginsNoSpecification, IsAtPart, IsBeforePart, IsPartOfOne}
 use Rattle.pf_posix.proofs.DirectiveLemmas.{errno_split, percent_split}
 use Rattle.pf_posix.proofs.ItemsOnce.{HasText, item_once, percent_twice, text_there}
 use Rattle.pf_posix.proofs.OneState.{ends_here}
@@ -36,7 +28,6 @@ no_item state (Byte x) first more h a = go (x == 37) refl (second_begun _ state 
   go true e (inr two) = let second : two.0 ≡ 37 = let t = two.3 in cc in two.2 (ap sign_of second)
   go false e (inl one) = let is : x ≡ 37 = cc in bool_no (ap (λ k. k == 37) is) e
   go false e (inr two) = let is : x ≡ 37 = let t = two.3 in cc in bool_no (ap (λ k. k == 37) is) e
-
 no_item state Errno first more h a = go (second_begun _ state (subst (λ u. IsStateAfter state (u ++ more)) h a)) where
   go : (errno ++ more ≡ 37 ∷ []) ⊎ HasSecond (errno ++ more) → ⊥
   go (inl one) = cc
@@ -127,69 +118,6 @@ module _ (t : Text) (at : ℕ) (h : IsBeforePart t at) where
         go Errno first rest h e =
             let more : drop (at + 1) t ≡ 109 ∷ rest = let both = sym first_is ∙ e ∙ ap (λ u. u ++ rest) h in cc in
             bool_no (ap (λ b. b == 109) (head_at t (at + 1) 109 rest more)) letter
-
--- the front up to where a text is refused
-pub front_of_refused : (model : Model) (t : Text) (kind : RefusalKind) (at : ℕ) → IsPosixRefusedAt model t kind at → IsBeforePart (take at t) 0
-front_of_refused model t kind at h = record {
-  whole = h.good.whole;
-  part = h.part;
-  items = h.good.items;
-  left = h.good.items;
-  split = front ∙ h.good.split;
-  reads = h.good.reads;
-  begun = begun h.good.begun;
-  within = omega arith;
-  reads_left = h.good.reads;
-} where
-  front : take at t ≡ h.front
-  front = ap₂ take h.offset h.split ∙ take-append_seam h.front h.rest
-
-  begun : {numbering : Numbering} {own : List Fetch} → MayFollow numbering h.part own → IsPartOfOne h.part
-  begun (inl none) = inl none.0
-  begun (inr some) = inr (some.0, _, some.1)
-
-pub refused_inside : (model : Model) (t : Text) (kind : RefusalKind) (at : ℕ) → IsPosixRefusedAt model t kind at → at ≤ length t
-refused_inside model t kind at h = omega (arith, h.offset, ap length h.split, length-append h.front h.rest)
-
--- the part at which the code is
-module _ (t : Text) (at begin : ℕ) (within : at ≤ length t) (h : IsAtPart (take at t) begin) where
-  abbrev b : IsBeforePart (take at t) begin
-  b = h.0
-
-  long : length (take at t) ≡ at
-  long = length-take-le at t within
-
-  pub begin_within : begin ≤ at
-  begin_within = omega (arith, h.1, ap length b.split, length-append b.whole b.part, long)
-
-  whole_is : take begin t ≡ b.whole
-  whole_is = ap (take begin) (sym (take-append-drop at t)) ∙ take-append-le begin (take at t) (drop at t) (omega (arith, begin_within, long))
-      ∙ ap₂ take h.1 b.split ∙ take-append_seam b.whole b.part
-
-  pub items_before : HasItemsTo t begin
-  items_before = (b.items, subst (λ u. ReadsPosix u b.items) (sym whole_is) b.reads)
-
-  bytes : HasBytes t begin at b.part
-  bytes = record { from = begin_within; within = within; whole = b.split ∙ ap (λ u. u ++ b.part) (sym whole_is) }
-
-  begun : begin ≢ at → (position : Option ℕ) × (own : List Fetch) × IsBegunAs b.part position own
-  begun other = go b.begun where
-    go : IsPartOfOne b.part → (position : Option ℕ) × (own : List Fetch) × IsBegunAs b.part position own
-    go (inl none) = absurd (other (omega (arith, h.1, ap length b.split, length-append b.whole b.part, long, ap length none)))
-    go (inr some) = some
-
-  pub part_begun : begin ≢ at → IsBegunAt t begin at
-  part_begun other = (b.part, bytes, begun other)
-
-  pub percent_there : begin ≢ at → get_or t begin 0 ≡ 37
-  percent_there other =
-      let own = begun other in
-      let s = state_of b.part own.0 own.1 own.2 in
-      let rest = bytes_rest t begin at b.part bytes in
-      elim (second_begun b.part s.state s.after) [
-        | inl one ↦ head_at t begin 37 (drop at t) (rest ∙ ap (λ u. u ++ drop at t) one)
-        | inr two ↦ head_at t begin 37 (two.0 ∷ (two.1 ++ drop at t)) (rest ∙ ap (λ u. u ++ drop at t) two.3)
-      ]
 
 -- no specification begins with `%%` or `%m`
 pub begins_none_before : (byte : ℕ) → sign_of byte ≡ Strange → (t : Text) (begin : ℕ) → begin < length t → (get_or t (begin + 1) 0 == byte) ≡ true

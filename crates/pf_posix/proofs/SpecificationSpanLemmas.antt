@@ -20,7 +20,7 @@ use Rattle.pf_posix.specs.Items.{HasArguments, ReadsPosix}
 use Rattle.pf_posix.specs.Laws.{filled}
 use Rattle.pf_posix.specs.OpaqueParts.{amount_at, amount_of, parts_of_opaque}
 use Rattle.pf_posix.specs.PartsInText.{specification_read}
-use Rattle.pf_posix.specs.SpecificationSpans.{ArePartsAt, HasItsParts, HasSpecificationCount, HasSpecifications, alone, without_number}
+use Rattle.pf_posix.specs.SpecificationSpans.{ArePosixPartsAt, HasItsParts, HasSpecificationCount, HasSpecifications, alone, without_number}
 use Rattle.pf_posix.specs.Types.{fetches}
 use Rattle.pf_posix.proofs.Agreeing.{all_push}
 use Rattle.pf_posix.proofs.DirectiveLemmas.{IsListing, has_listed, listing_found, listing_passed, listing_starts}
@@ -39,7 +39,7 @@ read_alone read =
 
 -- the parts of a specification that the code has read
 pub its_parts : (model : Model) (t : Text) (begin end next : ℕ) (read : Read) → IsPosixDefined (specification_read read)
-    → ArePartsAt t begin end (offsets_read read) (specification_read read)
+    → ArePosixPartsAt t begin end (offsets_read read) (specification_read read)
     → (span : SpecificationSpan) → span.directive ≡ directive_between model begin end next (specification_read read)
     → span.parts ≡ read.parts → span.offsets ≡ offsets_read read → HasItsParts t span
 its_parts model t begin end next read defined places span spanned parts offsets = record {
@@ -93,7 +93,7 @@ module _ (model : Model) (t : Text) where
 
       pub parts_found : (read : Read) → IsListedBehind model t listed_so walk.at fetched h.listing.done (Some read) end
           → IsBehindItem t h.listing.listed.items (Some read) end
-          → ArePartsAt t walk.at end (offsets_read read) (specification_read read)
+          → ArePosixPartsAt t walk.at end (offsets_read read) (specification_read read)
           → (span : SpecificationSpan) → span.directive ≡ directive_between model walk.at end fetched (specification_read read)
           → span.parts ≡ read.parts → span.offsets ≡ offsets_read read
           → (more : ℕ) → more ≡ length (fetches model (specification_read read)) → more ≤ 3

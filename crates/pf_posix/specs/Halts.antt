@@ -19,7 +19,7 @@ use Rattle.pf_posix.specs.Beginnings.{EndsInStarDigits, IsBegunAs, IsUndecided, 
 use Rattle.pf_posix.specs.Defined.{IsPosixDefined}
 use Rattle.pf_posix.specs.PartsInText.{IsSpecificationAt, specification_read}
 use Rattle.pf_posix.specs.Refusals.{Follows, IsPosixRefusedByte, numbering_by, numbering_of}
-use Rattle.pf_posix.specs.SpecificationSpans.{ArePartsAt}
+use Rattle.pf_posix.specs.SpecificationSpans.{ArePosixPartsAt}
 use Rattle.pf_posix.specs.Specifications.{Amount, PosixSpecification}
 use Rattle.pf_posix.specs.Spelling.{SpellsPosix, SpellsUpToFlags, SpellsUpToWidth}
 use Rattle.pf_posix.specs.Types.{fetch, int_type, star_fetches}
@@ -145,7 +145,7 @@ offsets_read read = record {
 -- a specification that may follow others of a numbering is the bytes from an offset up to where it ends
 pub record IsReadAt (t : Text) (start : ℕ) (numbering : Numbering) (found : Specification × ℕ) : Type 0 where
   pub read : IsSpecificationAt t start found
-  pub parts : ArePartsAt t start found.1 (offsets_read found.0) (specification_read found.0)
+  pub parts : ArePosixPartsAt t start found.1 (offsets_read found.0) (specification_read found.0)
   pub follows : FollowsBy numbering found.0.position
   pub stars : HasStars t start found.0.position found.0.stars
       (star_fetches (specification_read found.0).width ++ star_fetches (specification_read found.0).precision)

@@ -43,7 +43,7 @@ pub record IsFirstLater (directives : List DirectiveSpan) (index : ℕ) (first :
 
 -- Of a text that is read as items, it is the first argument that no specification takes, and the first specification
 -- that takes a later one (POSIX fprintf on `%n$`).
-pub record IsMissing (model : Model) (t : Text) (missing : MissingArgument) : Type 0 where
+pub record IsMissingArgument (model : Model) (t : Text) (missing : MissingArgument) : Type 0 where
   pub items : List PosixItem
   pub reads : ReadsPosix t items
   pub none : takes_any (directives_from model 0 0 t items reads) missing.argument ≡ false

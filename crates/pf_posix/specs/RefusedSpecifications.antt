@@ -7,7 +7,7 @@ use Rattle.pf_posix.specs.declared.refused_specifications.RefusedSpecification.{
 use Rattle.pf_posix.specs.declared.refused_specifications.WholeSpecification.{WholeSpecification}
 use Rattle.pf_posix.specs.Beginnings.{IsBegunAs}
 use Rattle.pf_posix.specs.Items.{PosixItem, ReadsPosix}
-use Rattle.pf_posix.specs.SpecificationSpans.{ArePartsAt}
+use Rattle.pf_posix.specs.SpecificationSpans.{ArePosixPartsAt}
 use Rattle.pf_posix.specs.Specifications.{PosixSpecification}
 use Rattle.pf_posix.specs.Spelling.{SpellsPosix}
 
@@ -26,7 +26,7 @@ BeginsNoSpecification t = (text rest : Text) (s : PosixSpecification) → Spells
 
 -- the specification that begins at an offset can be read up to its end, and these are its parts
 abbrev pub IsWholeFrom : Text → ℕ → WholeSpecification → Type 0
-IsWholeFrom t begin whole = (s : PosixSpecification) × ArePartsAt t begin whole.end whole.offsets s
+IsWholeFrom t begin whole = (s : PosixSpecification) × ArePosixPartsAt t begin whole.end whole.offsets s
 
 -- A text that is refused at an offset is items before a specification, which has begun by then. It can be read up to its
 -- end, defined or not, and has these parts; or it can't.

@@ -21,7 +21,7 @@ use Rattle.pf_posix.specs.Spelling.{SpellsPosition, SpellsPosixPrecision, Spells
 -- The bytes from one offset to the next spell the parts of a specification: `%` and the number of its argument, flags,
 -- a width, a precision, a length modifier, and the conversion, which is the last byte (C11 7.21.6.1 p4; POSIX fprintf
 -- on `%n$`). A part that it doesn't have has no bytes.
-pub record ArePartsAt (t : Text) (begin end : ℕ) (at : PartOffsets) (s : PosixSpecification) : Type 0 where
+pub record ArePosixPartsAt (t : Text) (begin end : ℕ) (at : PartOffsets) (s : PosixSpecification) : Type 0 where
   pub sign : HasBytes t begin (begin + 1) (percent ∷ [])
   pub number : (bytes : Text) × SpellsPosition bytes s.position × HasBytes t (begin + 1) at.flags bytes
   pub flags : (flags : List Flag) × (s.flags ≡ flag_set flags) × HasBytes t at.flags at.width (map flag_byte flags)
@@ -45,7 +45,7 @@ alone s = record s { position = None; width = without_number s.width; precision 
 pub record HasItsParts (t : Text) (span : SpecificationSpan) : Type 0 where
   pub s : PosixSpecification
   pub defined : IsPosixDefined s
-  pub places : ArePartsAt t span.directive.begin span.directive.end span.offsets s
+  pub places : ArePosixPartsAt t span.directive.begin span.directive.end span.offsets s
   pub parts_are : parts_of_opaque span.parts ≡ alone s
 
 -- a text is accepted, these are its specifications, and each has its parts

@@ -10,7 +10,7 @@ ghost use Rattle.pf_posix.specs.Items.{IsPosixAccepted, PosixItem, ReadsPosix};
 ghost use Rattle.pf_posix.specs.OpaqueParts.{amount_at};
 ghost use Rattle.pf_posix.specs.PartsInText.{specification_read};
 ghost use Rattle.pf_posix.specs.Refusals.{IsPosixRefusedAt};
-ghost use Rattle.pf_posix.specs.SpecificationSpans.{ArePartsAt};
+ghost use Rattle.pf_posix.specs.SpecificationSpans.{ArePosixPartsAt};
 ghost use Rattle.pf_posix.specs.Types.{fetches, star_fetches};
 
 use crate::argument_types::{arguments, put, room_for};
@@ -120,7 +120,7 @@ pub(crate) fn item_at(text: &[u8], at: usize) -> (Option<Specification>, usize)
         → IsBehindItem text.now items result.0 result.1 }
     ensures listed { (model : ModelOf) (all done : List DirectiveSpanOf) (next : ℕ) → IsListedTo model text.now all at next done
         → IsListedBehind model text.now all at next done result.0 result.1 }
-    ensures parts { IfSome result.0 (λ read. ArePartsAt text.now at result.1 (offsets_read read) (specification_read read)) }
+    ensures parts { IfSome result.0 (λ read. ArePosixPartsAt text.now at result.1 (offsets_read read) (specification_read read)) }
 {
     if text[at] != b'%' {
         return (None, at + 1);

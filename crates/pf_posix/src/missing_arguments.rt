@@ -1,12 +1,11 @@
 //! The argument that a format leaves out (POSIX fprintf on numbered arguments).
-ghost use Rattle.std.specs.Prelude.{◌≡◌, ◌≢◌, ◌||◌, ◌==◌, ◌<◌, ◌≤◌, ◌++◌, ◌∷◌, [], ℕ, List, IfSome, MatchOption, false, true, get_or, length};
+ghost use Rattle.std.specs.Prelude.{◌≡◌, ◌||◌, ◌<◌, ◌++◌, ◌∷◌, [], ℕ, List, IfSome, MatchOption, false, true, get_or, length};
 ghost use Rattle.std.specs.List.{AllByRecursion};
 ghost use Rattle.pf_values.specs.declared.refusals.RefusalKind.TheVariants.{MissingArgument as IsMissingKind};
 ghost use Rattle.pf_posix.specs.declared.directive_spans.DirectiveSpan.{DirectiveSpan as DirectiveSpanOf};
-ghost use Rattle.pf_posix.specs.declared.numbered.TheConstants.{ROOM as MOST};
 ghost use Rattle.pf_posix.specs.Directives.{directives_from};
 ghost use Rattle.pf_posix.specs.Items.{PosixItem, ReadsPosix};
-ghost use Rattle.pf_posix.specs.MissingArguments.{AreMarked, IsAhead, IsFirstLater, IsMissing, IsReadable, takes, takes_later, is_index, is_later};
+ghost use Rattle.pf_posix.specs.MissingArguments.{AreMarked, IsAhead, IsFirstLater, IsMissingArgument, IsReadable, takes_later, is_index, is_later};
 ghost use Rattle.pf_posix.specs.Refusals.{IsPosixRefusedAt};
 ghost use Rattle.pf_posix.specs.SpecificationSpans.{HasItsParts};
 
@@ -34,7 +33,7 @@ struct Place {
 /// Returns the argument that a format leaves out, which `arguments` refuses as `MissingArgument`.
 pub fn missing_argument(model: Model, text: &[u8]) -> MissingArgument
     requires { (at : ℕ) × IsPosixRefusedAt model text.now IsMissingKind at }
-    ensures { IsMissing model text.now result }
+    ensures { IsMissingArgument model text.now result }
 {
     let mut taken = [false; ROOM];
     mark_taken(model, text, &mut taken);

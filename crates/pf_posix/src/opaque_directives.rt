@@ -42,9 +42,9 @@ pub enum Opaque {
     Errno,
 }
 
-// Whether the profile lacks a directive with these parts.
+/// Returns whether the profile lacks a directive with these parts.
 #[inline(always)]
-pub(crate) fn is_opaque(directive: OpaqueDirective) -> bool
+pub fn is_opaque(directive: OpaqueDirective) -> bool
     ensures { result ≡ is_opaque (parts_of_opaque directive) }
 {
     if is_star(directive.width) {

@@ -1,5 +1,5 @@
 //! The conversion specifications of a format with their parts: where each part is, and what it says.
-ghost use Rattle.std.specs.Prelude.{◌≡◌, ◌<◌, ◌≤◌, ◌*◌, length, MatchResult};
+ghost use Rattle.std.specs.Prelude.{◌≡◌, ◌≤◌, ◌*◌, length, MatchResult};
 ghost use Rattle.pf_values.specs.declared.limits.TheConstants.{MAX_TEXT_LEN as LIMIT};
 ghost use Rattle.pf_posix.specs.Directives.{directive_between};
 ghost use Rattle.pf_posix.specs.Halts.{offsets_read};

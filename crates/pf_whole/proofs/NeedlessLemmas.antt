@@ -1,6 +1,6 @@
 -- That parts have no effect is shown by one spelling of a specification, and one of it without them.
-use Rattle.std.proofs.Common.{◌≡◌, ◌≢◌, ◌≤◌, ℕ, inl, inr, Bool, true, false, List, [], ◌∷◌, length, refl, sym, arith, subst}
-use Rattle.std.specs.Prelude.{◌↔◌, ◌⊎◌, IsTrue, Option, None, Some, is_some}
+use Rattle.std.proofs.Common.{◌≡◌, ◌≢◌, ◌∙◌, ◌≤◌, ℕ, inl, inr, Bool, true, false, List, [], ◌∷◌, length, refl, sym, arith, subst}
+use Rattle.std.specs.Prelude.{◌↔◌, ◌⊎◌, ◌&&◌, ◌||◌, not, IsTrue, Option, None, Some, is_some, if◌then◌else◌}
 use Rattle.std.proofs.lemmas.List.{append-nil}
 use Rattle.pf_values.specs.declared.flags.Flag.TheVariants.{Minus, Plus, Space, Alt, Zero, Group}
 use Rattle.pf_values.specs.declared.limits.TheConstants.{MAX_TEXT_LEN}
@@ -10,31 +10,39 @@ use Rattle.pf_text.specs.Refusals.{RefusesOne}
 use Rattle.pf_text.specs.declared.refusals.Refusal.{Refusal}
 use Rattle.pf_text.specs.declared.refusals.Side.{Side}
 use Rattle.pf_text.specs.declared.refusals.Side.TheVariants.{First, Second}
-use Rattle.pf_posix.specs.Defined.{IsPosixDefined}
+use Rattle.pf_posix.specs.Defined.{IsPosixDefined, has_any_flag, is_count, takes_alt, takes_group, takes_modifier, takes_precision, takes_zero}
+use Rattle.pf_posix.specs.Opaque.{OpaqueSpecification, is_opaque}
+use Rattle.pf_posix.specs.declared.conversions.Conversion.{Conversion}
+use Rattle.pf_posix.specs.declared.conversions.Modifier.{Modifier as ModifierOf}
+use Rattle.pf_posix.specs.declared.conversions.Modifier.TheVariants.{Integer}
+use Rattle.pf_values.specs.declared.flags.FlagSet.{FlagSet}
+use Rattle.pf_values.specs.declared.lengths.Length.TheVariants as lengths
 use Rattle.pf_posix.specs.Items.{PosixItem, ReadsPosix, Specification, SpellsPosixItem}
 use Rattle.pf_posix.specs.OpaqueParts.{parts_of_opaque}
 use Rattle.pf_posix.specs.SpecificationSpans.{HasItsParts, alone, without_number}
 use Rattle.pf_posix.specs.declared.specification_spans.SpecificationSpan.{SpecificationSpan}
 use Rattle.pf_posix.specs.Specifications.{Amount, Fetched, Given, PosixSpecification}
 use Rattle.pf_posix.specs.Spelling.{SpellsPosix, SpellsPosixPrecision, SpellsPosixWidth}
-use Rattle.pf_posix.specs.Stretches.{Stretches, IsWholeAccepted, ReadsWhole}
+use Rattle.pf_posix.specs.Stretches.{Stretches, Before, Last, IsWholeAccepted, ReadsWhole}
 use Rattle.pf_posix.specs.Unnumbered.{IsWholeRefusedAt}
 use Rattle.pf_posix.proofs.ItemsOnce.{first_item}
 use Rattle.pf_posix.proofs.KeptTypes.{flat, posix_reads}
 use Rattle.pf_posix.proofs.Narrowed.{reads_whole}
-use Rattle.pf_posix.proofs.ReadOnce.{stretched}
-use Rattle.pf_posix.proofs.SpecificationsOnce.{HasParts, parts_of}
+use Rattle.pf_posix.proofs.ReadOnce.{pushed_or, stretched}
+use Rattle.pf_posix.proofs.SpecificationsOnce.{HasParts, is_defined, no_reason, parts_of}
 use Rattle.pf_posix.proofs.UnnumberedVerdicts.{judged}
-use Rattle.pf_whole.specs.declared.needless.Found.{Found}
+use Rattle.pf_whole.specs.declared.needless.Question.{Question}
 use Rattle.pf_whole.specs.declared.parts.Part.{Part}
 use Rattle.pf_whole.specs.declared.parts.Part.TheVariants.{Flag, Width, Precision, Modifier}
 use Rattle.pf_whole.specs.declared.parts.PartSet.{PartSet}
 use Rattle.pf_whole.specs.Faults.{AreWholeSame, FaultForWholeSame}
-use Rattle.pf_whole.specs.Needless.{HaveNoEffect, IsFoundOf}
-use Rattle.pf_whole.specs.Parts.{given_parts, has_part, left_out, no_parts, only, with_part, without}
-use Rattle.pf_whole.specs.meaning.NormalSpellings.{posix_spelling_of}
+use Rattle.pf_whole.specs.Needless.{AreFound, AreNeedless, AreTogether, HaveNoEffect, IsPartQuestion}
+use Rattle.pf_whole.specs.Parts.{given_parts, has_part, left_out, no_parts, only, with_part, without, without_flags}
+use Rattle.pf_whole.specs.meaning.NormalSpellings.{directive_spelling, posix_spelling_of}
 use Rattle.pf_whole.specs.meaning.Traces.{AreWholeAlike}
+use Rattle.pf_whole.specs.Laws.{Correspond}
 use Rattle.pf_whole.proofs.Corresponding.{alike_is_corresponding}
+use Rattle.pf_whole.proofs.OneCanonical.{print_refl}
 use Rattle.pf_whole.proofs.SpelledNormally.{IsFew, few_of, spelled_parts}
 
 -- the items of a text that is a specification alone
@@ -110,6 +118,79 @@ module _ (model : Model) (s : PosixSpecification) (unnumbered : s.position ≡ N
       go First r = (judged model w).1 fault.1.kind fault.1.at r (record { stretches = alike.first; reads = alike.reads_first; limit = short })
       go Second r = (judged model v).1 fault.1.kind fault.1.at r.1 (record { stretches = alike.second; reads = alike.reads_second; limit = short_rest })
 
+-- a defined specification is defined without any of its parts
+defined_without : (s : PosixSpecification) (set : PartSet) → IsPosixDefined s → IsPosixDefined (without s set)
+defined_without s set h =
+    let none = no_reason s.flags (is_some s.width) (is_some s.precision) s.modifier s.conversion h in
+    is_defined (without_flags s.flags set.flags) (is_some (left_out set.width s.width)) (is_some (left_out set.precision s.precision))
+    (if set.modifier then Integer lengths.None else s.modifier) s.conversion (record {
+      alt = fewer s.flags.alt set.flags.alt (takes_alt s.conversion) none.alt;
+      zero_flag = fewer s.flags.zero set.flags.zero (takes_zero s.conversion) none.zero_flag;
+      group = fewer s.flags.group set.flags.group (takes_group s.conversion) none.group;
+      precision_is = fewer_amounts set.precision s.precision (takes_precision s.conversion) none.precision_is;
+      modifier_is = no_modifier set.modifier s.conversion s.modifier none.modifier_is;
+      count = fewer_parts (is_count s.conversion) s.flags set.flags set.width s.width set.precision s.precision none.count;
+    }) where
+      fewer : (a b c : Bool) → (a && not c) ≡ false → ((a && not b) && not c) ≡ false
+      fewer a b c e = grind arith
+
+      fewer_amounts : (out : Bool) (amount : Option Amount) (c : Bool) → (is_some amount && not c) ≡ false → (is_some (left_out out amount) && not c) ≡ false
+      fewer_amounts out amount c e = grind arith
+
+      no_modifier : (out : Bool) (conversion : Conversion) (modifier : ModifierOf) → not (takes_modifier conversion modifier) ≡ false
+          → not (takes_modifier conversion (if out then Integer lengths.None else modifier)) ≡ false
+      no_modifier false conversion modifier e = e
+      no_modifier true conversion modifier e = grind arith
+
+      fewer_parts : (count : Bool) (flags others : FlagSet) (wide : Bool) (width : Option Amount) (precise : Bool) (precision : Option Amount)
+          → (count && (has_any_flag flags || is_some width || is_some precision)) ≡ false
+          → (count && (has_any_flag (without_flags flags others) || is_some (left_out wide width) || is_some (left_out precise precision))) ≡ false
+      fewer_parts false flags others wide width precise precision e = refl
+      fewer_parts true flags others wide width precise precision e = grind arith
+
+-- of one that the profile lacks
+abbrev alone_opaque : PosixSpecification → Stretches
+alone_opaque s = Before [] (OpaqueSpecification s) (Last [])
+
+module _ (model : Model) (s : PosixSpecification) (unnumbered : s.position ≡ None) (text : Text) (h : SpellsPosixItem text (Specification s)) (set : PartSet)
+    (opaque : is_opaque s ≡ true) where
+  abbrev rest : PosixSpecification
+  rest = without s set
+
+  kept : IsPosixDefined rest
+  kept = defined_without s set h.1
+
+  opaque_read : (t : Text) (p : PosixSpecification) → p.position ≡ None → IsPosixDefined p → is_opaque p ≡ true → SpellsPosix t p
+      → ReadsWhole t (alone_opaque p)
+  opaque_read t p none defined is spelled =
+      ([], t, [], refl, record { spelled = spelled; defined = defined; unnumbered = none; opaque = is }, refl, sym (append-nil t))
+
+  -- its normal spelling stays, or it has an effect
+  pub called : is_opaque rest ≡ true → (directive_spelling model s ≡ directive_spelling model rest) ↔ HaveNoEffect model s set
+  called other = (
+    λ same t u x y. (corresponds t u x y).1 (print_refl model [], same, print_refl model []),
+    λ none.
+        let w = whole_spelled model s unnumbered text h set in
+        let v = rest_spelled model s unnumbered text h set in
+        ((corresponds (posix_spelling_of s) (posix_spelling_of rest) w v).0 (none (posix_spelling_of s) (posix_spelling_of rest) w v)).1,
+  ) where
+    corresponds : (t u : Text) → SpellsPosix t s → SpellsPosix u rest
+        → (AreWholeAlike model t u ↔ Correspond model (alone_opaque s) (alone_opaque rest))
+    corresponds t u x y =
+        alike_is_corresponding model t u (alone_opaque s) (alone_opaque rest) (opaque_read t s unnumbered h.1 opaque x)
+        (opaque_read u rest unnumbered kept other y)
+
+  -- without it the profile has it
+  pub not_called : is_opaque rest ≡ false → ¬ HaveNoEffect model s set
+  not_called other none =
+      let w = whole_spelled model s unnumbered text h set in
+      let v = rest_spelled model s unnumbered text h set in
+      let read : ReadsWhole (posix_spelling_of rest) (pushed_or (is_opaque rest) rest (Last [])) = reads_alone (posix_spelling_of rest) rest v kept unnumbered in
+      let narrow_read : ReadsWhole (posix_spelling_of rest) (pushed_or false rest (Last [])) =
+      subst (λ b. ReadsWhole (posix_spelling_of rest) (pushed_or b rest (Last []))) other read in
+      (alike_is_corresponding model (posix_spelling_of s) (posix_spelling_of rest) (alone_opaque s) (pushed_or false rest (Last []))
+      (opaque_read (posix_spelling_of s) s unnumbered h.1 opaque w) narrow_read).0 (none (posix_spelling_of s) (posix_spelling_of rest) w v)
+
 -- a set with one part more
 pub with_own : (set : PartSet) (part : Part) → has_part (with_part set part) part ≡ true
 with_own set part = grind arith
@@ -121,79 +202,59 @@ with_either : (set : PartSet) (part other : Part) → has_part (with_part set pa
 with_either set part other e = grind arith
 
 -- what is found when one part more is asked of
-module _ (model : Model) (s : PosixSpecification) (asked : PartSet) (found : Found) (part : Part) (h : IsFoundOf model s asked found) where
+module _ (question : Question) (asked each : PartSet) (part : Part) (h : AreFound question asked each) where
   -- a part that isn't there, or has an effect
-  pub found_same : (IsTrue (has_part (given_parts s) part) → HaveNoEffect model s (only part) → ⊥) → IsFoundOf model s (with_part asked part) found
-  found_same effect = record {
-    each = λ other. (
-      λ has. let was = (h.each other).0 has in (with_kept asked part other was.0, was.1, was.2),
-      λ all. elim (with_either asked part other all.0) [
-        | inl e ↦ absurd (effect (subst (λ p. IsTrue (has_part (given_parts s) p)) e all.1) (subst (λ p. HaveNoEffect model s (only p)) e all.2))
-        | inr was ↦ (h.each other).1 (was, all.1, all.2)
-      ],
-    );
-    among = h.among;
-    together = h.together;
-    none = h.none;
-  }
+  pub found_same : (IsTrue (has_part question.given part) → HaveNoEffect question.model (parts_of_opaque question.directive) (only part) → ⊥)
+      → AreFound question (with_part asked part) each
+  found_same effect other = (
+    λ has. let was = (h other).0 has in (with_kept asked part other was.0, was.1, was.2),
+    λ all. elim (with_either asked part other all.0) [
+      | inl e ↦ absurd (effect (subst (λ p. IsTrue (has_part question.given p)) e all.1)
+          (subst (λ p. HaveNoEffect question.model (parts_of_opaque question.directive) (only p)) e all.2))
+      | inr was ↦ (h other).1 (was, all.1, all.2)
+    ],
+  )
 
-  module _ (given : IsTrue (has_part (given_parts s) part)) (none : HaveNoEffect model s (only part)) where
-    found_each : (other : Part) → IsTrue (has_part (with_part found.each part) other)
-        ↔ (IsTrue (has_part (with_part asked part) other) × IsTrue (has_part (given_parts s) other) × HaveNoEffect model s (only other))
-    found_each other = (
-      λ has. elim (with_either found.each part other has) [
-        | inl e ↦ (
-          subst (λ p. IsTrue (has_part (with_part asked part) p)) (sym e) (with_own asked part),
-          subst (λ p. IsTrue (has_part (given_parts s) p)) (sym e) given,
-          subst (λ p. HaveNoEffect model s (only p)) (sym e) none,
-        )
-        | inr was ↦ let all = (h.each other).0 was in (with_kept asked part other all.0, all.1, all.2)
-      ],
-      λ all. elim (with_either asked part other all.0) [
-        | inl e ↦ subst (λ p. IsTrue (has_part (with_part found.each part) p)) (sym e) (with_own found.each part)
-        | inr was ↦ with_kept found.each part other ((h.each other).1 (was, all.1, all.2))
-      ],
-    )
+  -- one that has none
+  pub found_more : IsTrue (has_part question.given part) → HaveNoEffect question.model (parts_of_opaque question.directive) (only part)
+      → AreFound question (with_part asked part) (with_part each part)
+  found_more given none other = (
+    λ has. elim (with_either each part other has) [
+      | inl e ↦ (
+        subst (λ p. IsTrue (has_part (with_part asked part) p)) (sym e) (with_own asked part),
+        subst (λ p. IsTrue (has_part question.given p)) (sym e) given,
+        subst (λ p. HaveNoEffect question.model (parts_of_opaque question.directive) (only p)) (sym e) none,
+      )
+      | inr was ↦ let all = (h other).0 was in (with_kept asked part other all.0, all.1, all.2)
+    ],
+    λ all. elim (with_either asked part other all.0) [
+      | inl e ↦ subst (λ p. IsTrue (has_part (with_part each part) p)) (sym e) (with_own each part)
+      | inr was ↦ with_kept each part other ((h other).1 (was, all.1, all.2))
+    ],
+  )
 
-    -- one that has none, together with others
-    pub found_together : HaveNoEffect model s (with_part found.together part)
-        → IsFoundOf model s (with_part asked part) (record { each = with_part found.each part; together = with_part found.together part; any = true })
-    found_together effect = record {
-      each = found_each;
-      among = λ other has. elim (with_either found.together part other has) [
-        | inl e ↦ subst (λ p. IsTrue (has_part (with_part found.each part) p)) (sym e) (with_own found.each part)
-        | inr was ↦ with_kept found.each part other (h.among other was)
-      ];
-      together = effect;
-      none = λ e. cc;
-    }
-
-    -- the first one
-    pub found_first : found.any ≡ false
-        → IsFoundOf model s (with_part asked part) (record { each = with_part found.each part; together = with_part found.together part; any = true })
-    found_first first = found_together (subst (λ set. HaveNoEffect model s (with_part set part)) (sym (h.none first)) none)
-
-    -- by itself
-    pub found_alone : IsFoundOf model s (with_part asked part) (record { each = with_part found.each part; together = found.together; any = true })
-    found_alone = record {
-      each = found_each;
-      among = λ other has. with_kept found.each part other (h.among other has);
-      together = h.together;
-      none = λ e. cc;
-    }
+no_part : (part : Part) → has_part no_parts part ≢ true
+no_part part e = grind arith
 
 -- before any is asked of
-pub found_none : (model : Model) (s : PosixSpecification) (text : Text) → s.position ≡ None → SpellsPosixItem text (Specification s)
-    → IsFoundOf model s no_parts (record { each = no_parts; together = no_parts; any = false })
-found_none model s text unnumbered h = record {
-  each = λ part. (λ has. absurd (no_part part has), λ all. absurd (no_part part all.0));
-  among = λ part has. has;
-  together = λ t u x y. alike_self t u x (subst (SpellsPosix u) (without_none s) y);
-  none = λ e. refl;
-} where
-  no_part : (part : Part) → has_part no_parts part ≢ true
-  no_part part e = grind arith
+pub found_none : (question : Question) → AreFound question no_parts no_parts
+found_none question part = (λ has. absurd (no_part part has), λ all. absurd (no_part part all.0))
 
+-- one part more of those that have no effect
+pub together_more : (question : Question) (each some : PartSet) (part : Part) → AreTogether question each some → IsTrue (has_part each part)
+    → HaveNoEffect question.model (parts_of_opaque question.directive) (with_part some part) → AreTogether question each (with_part some part)
+together_more question each some part h has none = record {
+  among = λ other is. elim (with_either some part other is) [
+    | inl e ↦ subst (λ p. IsTrue (has_part each p)) (sym e) has
+    | inr was ↦ h.among other was
+  ];
+  none = none;
+}
+
+-- no parts have no effect
+pub nothing_left : (model : Model) (s : PosixSpecification) (text : Text) → s.position ≡ None → SpellsPosixItem text (Specification s)
+    → HaveNoEffect model s no_parts
+nothing_left model s text unnumbered h t u x y = alike_self t u x (subst (SpellsPosix u) (without_none s) y) where
   without_none : (s : PosixSpecification) → without s no_parts ≡ s
   without_none s = grind arith
 
@@ -207,6 +268,27 @@ found_none model s text unnumbered h = record {
         reads_second = reads_alone u s y h.1 unnumbered;
         alike = record { same_types = refl; same_calls = refl; same_traces = λ args trace typed. (λ g. g, λ g. g) };
       }
+
+pub none_together : (question : Question) (each : PartSet) → IsPartQuestion question → AreTogether question each no_parts
+none_together question each q = record {
+  among = λ part has. absurd (no_part part has);
+  none = nothing_left question.model (parts_of_opaque question.directive) q.text refl q.spelled;
+}
+
+-- of a specification that has no parts
+pub needless_none : (model : Model) (s : PosixSpecification) (text : Text) → s.position ≡ None → SpellsPosixItem text (Specification s) → (given : PartSet)
+    → given ≡ given_parts s → given ≡ no_parts → AreNeedless model s (record { given = given; each = given; together = given })
+needless_none model s text unnumbered h given is none =
+    let empty : given_parts s ≡ no_parts = sym is ∙ none in
+    record {
+      given = is;
+      each = λ part. (
+        λ has. absurd (no_part part (subst (λ set. IsTrue (has_part set part)) none has)),
+        λ all. absurd (no_part part (subst (λ set. IsTrue (has_part set part)) empty all.0)),
+      );
+      among = λ part has. has;
+      together = subst (HaveNoEffect model s) (sym none) (nothing_left model s text unnumbered h);
+    }
 
 -- after all nine
 pub all_asked : (part : Part) → has_part (with_part (with_part (with_part (with_part (with_part (with_part (with_part (with_part (with_part no_parts

@@ -1,17 +1,16 @@
 -- Which parts of a conversion specification have no effect: without them, it is alike.
-use Rattle.std.specs.Prelude.{◌≡◌, ◌≤◌, ◌↔◌, IsTrue, false, length}
+use Rattle.std.specs.Prelude.{◌≡◌, ◌≤◌, ◌↔◌, IsTrue, length}
 use Rattle.pf_values.specs.declared.models.Model.{Model}
 use Rattle.pf_values.specs.meaning.Text.{Text}
 use Rattle.pf_posix.specs.Items.{Specification, SpellsPosixItem}
 use Rattle.pf_posix.specs.OpaqueParts.{parts_of_opaque}
 use Rattle.pf_posix.specs.Specifications.{PosixSpecification}
 use Rattle.pf_posix.specs.Spelling.{SpellsPosix}
-use Rattle.pf_whole.specs.declared.needless.Found.{Found}
 use Rattle.pf_whole.specs.declared.needless.NeedlessParts.{NeedlessParts}
 use Rattle.pf_whole.specs.declared.needless.Question.{Question}
 use Rattle.pf_whole.specs.declared.parts.Part.{Part}
 use Rattle.pf_whole.specs.declared.parts.PartSet.{PartSet}
-use Rattle.pf_whole.specs.Parts.{given_parts, has_part, no_parts, only, without}
+use Rattle.pf_whole.specs.Parts.{given_parts, has_part, only, without}
 use Rattle.pf_whole.specs.meaning.NormalSpellings.{posix_spelling_of}
 use Rattle.pf_whole.specs.meaning.Traces.{AreWholeAlike}
 
@@ -32,17 +31,20 @@ pub record AreNeedless (model : Model) (s : PosixSpecification) (found : Needles
 -- The rest is about how the code asks. No public contract names it.
 
 -- a question about a specification that some text is, and its one spelling
-pub record IsQuestion (question : Question) : Type 0 where
+pub record IsPartQuestion (question : Question) : Type 0 where
   pub text : Text
   pub spelled : SpellsPosixItem text (Specification (parts_of_opaque question.directive))
   pub given : question.given ≡ given_parts (parts_of_opaque question.directive)
   pub whole : question.whole.now ≡ posix_spelling_of (parts_of_opaque question.directive)
   pub short : length question.whole.now ≤ 21
 
--- what was found when these parts were asked of
-pub record IsFoundOf (model : Model) (s : PosixSpecification) (asked : PartSet) (found : Found) : Type 0 where
-  pub each : (part : Part) → IsTrue (has_part found.each part)
-      ↔ (IsTrue (has_part asked part) × IsTrue (has_part (given_parts s) part) × HaveNoEffect model s (only part))
-  pub among : (part : Part) → IsTrue (has_part found.together part) → IsTrue (has_part found.each part)
-  pub together : HaveNoEffect model s found.together
-  pub none : found.any ≡ false → found.together ≡ no_parts
+-- of these parts, those that the specification has and that have no effect are found
+abbrev pub AreFound : Question → PartSet → PartSet → Type 0
+AreFound question asked each = (part : Part) → IsTrue (has_part each part)
+    ↔ (IsTrue (has_part asked part) × IsTrue (has_part question.given part)
+    × HaveNoEffect question.model (parts_of_opaque question.directive) (only part))
+
+-- some parts are among others, and have no effect together
+pub record AreTogether (question : Question) (each together : PartSet) : Type 0 where
+  pub among : (part : Part) → IsTrue (has_part together part) → IsTrue (has_part each part)
+  pub none : HaveNoEffect question.model (parts_of_opaque question.directive) together

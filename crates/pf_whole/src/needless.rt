@@ -1,16 +1,18 @@
 //! Which parts of a conversion specification have no effect.
-ghost use Rattle.std.specs.Prelude.{◌≡◌, ◌↔◌, IsTrue, false};
+ghost use Rattle.std.specs.Prelude.{◌≡◌, ◌↔◌, IsTrue, true};
 ghost use Rattle.pf_values.specs.meaning.Text.{Text};
 ghost use Rattle.pf_posix.specs.Items.{Specification, SpellsPosixItem};
+ghost use Rattle.pf_posix.specs.Opaque.{is_opaque};
 ghost use Rattle.pf_posix.specs.OpaqueParts.{parts_of_opaque};
+ghost use Rattle.pf_whole.specs.declared.parts.Part.{Part as PartOf};
 ghost use Rattle.pf_whole.specs.declared.parts.PartSet.{PartSet as PartSetOf};
-ghost use Rattle.pf_whole.specs.Needless.{AreNeedless, HaveNoEffect, IsFoundOf, IsQuestion};
-ghost use Rattle.pf_whole.specs.Parts.{no_parts, with_part};
+ghost use Rattle.pf_whole.specs.Needless.{AreFound, AreNeedless, AreTogether, HaveNoEffect, IsPartQuestion};
+ghost use Rattle.pf_whole.specs.Parts.{has_part, only, with_part, without};
 
-use crate::comparison::same_text;
+use crate::comparison::{make_one_call, same_text};
 use crate::parts::{Part, PartSet, given_parts, without};
 use crate::spelling::spell_parts;
-use pf_posix::OpaqueDirective;
+use pf_posix::{Opaque, OpaqueDirective, is_opaque};
 use pf_values::{Flag, Model};
 
 /// Sets of parts of a conversion specification.
@@ -33,14 +35,6 @@ struct Question<'a> {
     whole: &'a [u8],
 }
 
-// What was found so far: the parts that have no effect, some that have none together, and whether there are any.
-#[derive(Clone, Copy)]
-struct Found {
-    each: PartSet,
-    together: PartSet,
-    any: bool,
-}
-
 /// Returns which parts of a directive have no effect in a data model: those without which `same_text` says that it is
 /// alike, each by itself; and a set of these without which it is alike, too. Of `%02.2u` both the width and the
 /// precision have no effect, but without both it prints less.
@@ -48,86 +42,129 @@ pub fn needless_parts(model: Model, directive: OpaqueDirective) -> NeedlessParts
     requires { (t : Text) × SpellsPosixItem t (Specification (parts_of_opaque directive)) }
     ensures { AreNeedless model (parts_of_opaque directive) result }
 {
+    let given = given_parts(directive);
+    if given.is_empty() {
+        return NeedlessParts {
+            given,
+            each: given,
+            together: given,
+        };
+    }
     let spelling = spell_parts(directive);
     let question = Question {
         model,
         directive,
-        given: given_parts(directive),
+        given,
         whole: spelling.as_slice(),
     };
-    let found = question.ask(Found::none(), Part::Flag(Flag::Minus));
-    let found = question.ask(found, Part::Flag(Flag::Plus));
-    let found = question.ask(found, Part::Flag(Flag::Space));
-    let found = question.ask(found, Part::Flag(Flag::Alt));
-    let found = question.ask(found, Part::Flag(Flag::Zero));
-    let found = question.ask(found, Part::Flag(Flag::Group));
-    let found = question.ask(found, Part::Width);
-    let found = question.ask(found, Part::Precision);
-    let found = question.ask(found, Part::Modifier);
+    let each = question.each();
     NeedlessParts {
-        given: question.given,
-        each: found.each,
-        together: found.together,
-    }
-}
-
-impl Found {
-    fn none() -> Found
-        ensures { result ≡ record { each = no_parts; together = no_parts; any = false } }
-    {
-        Found {
-            each: PartSet::empty(),
-            together: PartSet::empty(),
-            any: false,
-        }
+        given,
+        each,
+        together: question.together(each),
     }
 }
 
 impl Question<'_> {
+    // The parts that have no effect.
+    fn each(&self) -> PartSet
+        requires { IsPartQuestion self.now }
+        ensures { (part : PartOf) → IsTrue (has_part result part)
+            ↔ (IsTrue (has_part self.now.given part) × HaveNoEffect self.now.model (parts_of_opaque self.now.directive) (only part)) }
+    {
+        let each = self.ask(PartSet::empty(), Part::Flag(Flag::Minus));
+        let each = self.ask(each, Part::Flag(Flag::Plus));
+        let each = self.ask(each, Part::Flag(Flag::Space));
+        let each = self.ask(each, Part::Flag(Flag::Alt));
+        let each = self.ask(each, Part::Flag(Flag::Zero));
+        let each = self.ask(each, Part::Flag(Flag::Group));
+        let each = self.ask(each, Part::Width);
+        let each = self.ask(each, Part::Precision);
+        self.ask(each, Part::Modifier)
+    }
+
     // Asks of one part more.
-    fn ask(&self, found: Found, part: Part) -> Found
-        requires { IsQuestion self.now }
-        ensures { (asked : PartSetOf) → IsFoundOf self.now.model (parts_of_opaque self.now.directive) asked found
-            → IsFoundOf self.now.model (parts_of_opaque self.now.directive) (with_part asked part) result }
+    fn ask(&self, each: PartSet, part: Part) -> PartSet
+        requires { IsPartQuestion self.now }
+        ensures { (asked : PartSetOf) → AreFound self.now asked each → AreFound self.now (with_part asked part) result }
     {
         if !self.given.has(part) {
-            return found;
+            return each;
         }
         if !self.have_no_effect(PartSet::empty().with(part)) {
-            return found;
+            return each;
         }
-        let each = found.each.with(part);
-        let together = found.together.with(part);
-        if !found.any {
-            return Found {
-                each,
-                together,
-                any: true,
-            };
+        each.with(part)
+    }
+
+    // Some of these parts, which have no effect together: all of them, if that holds.
+    fn together(&self, each: PartSet) -> PartSet
+        requires { IsPartQuestion self.now }
+        ensures { AreTogether self.now each result }
+    {
+        if each.is_empty() {
+            return each;
         }
-        if self.have_no_effect(together) {
-            return Found {
-                each,
-                together,
-                any: true,
-            };
+        if self.have_no_effect(each) {
+            return each;
         }
-        Found {
-            each,
-            together: found.together,
-            any: true,
+        let some = self.gather(PartSet::empty(), each, Part::Flag(Flag::Minus));
+        let some = self.gather(some, each, Part::Flag(Flag::Plus));
+        let some = self.gather(some, each, Part::Flag(Flag::Space));
+        let some = self.gather(some, each, Part::Flag(Flag::Alt));
+        let some = self.gather(some, each, Part::Flag(Flag::Zero));
+        let some = self.gather(some, each, Part::Flag(Flag::Group));
+        let some = self.gather(some, each, Part::Width);
+        let some = self.gather(some, each, Part::Precision);
+        self.gather(some, each, Part::Modifier)
+    }
+
+    // These parts and one more, if it is one of the others and has no effect with them.
+    fn gather(&self, some: PartSet, each: PartSet, part: Part) -> PartSet
+        requires question { IsPartQuestion self.now }
+        requires some { AreTogether self.now each some }
+        ensures { AreTogether self.now each result }
+    {
+        if !each.has(part) {
+            return some;
         }
+        let more = some.with(part);
+        if self.have_no_effect(more) {
+            return more;
+        }
+        some
     }
 
     // Whether the directive is alike without these parts.
     fn have_no_effect(&self, set: PartSet) -> bool
-        requires { IsQuestion self.now }
+        requires { IsPartQuestion self.now }
         ensures { IsTrue result ↔ HaveNoEffect self.now.model (parts_of_opaque self.now.directive) set }
     {
-        let shorter = spell_parts(without(self.directive, set));
-        match same_text(self.model, self.whole, shorter.as_slice()) {
+        let shorter = without(self.directive, set);
+        if is_opaque(self.directive) {
+            return self.is_opaque_alike(set, shorter);
+        }
+        let spelling = spell_parts(shorter);
+        match same_text(self.model, self.whole, spelling.as_slice()) {
             Ok(is) => is,
             Err(_) => false,
         }
+    }
+
+    // Whether a directive that the profile lacks is alike without these parts: it makes the same call.
+    fn is_opaque_alike(&self, set: PartSet, shorter: OpaqueDirective) -> bool
+        requires question { IsPartQuestion self.now }
+        requires opaque { is_opaque (parts_of_opaque self.now.directive) ≡ true }
+        requires shorter { parts_of_opaque shorter ≡ without (parts_of_opaque self.now.directive) set }
+        ensures { IsTrue result ↔ HaveNoEffect self.now.model (parts_of_opaque self.now.directive) set }
+    {
+        if !is_opaque(shorter) {
+            return false;
+        }
+        make_one_call(
+            self.model,
+            Opaque::Directive(self.directive),
+            Opaque::Directive(shorter),
+        )
     }
 }

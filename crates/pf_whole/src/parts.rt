@@ -1,6 +1,6 @@
 //! The parts that a conversion specification can be without (C11 7.21.6.1, paragraph 4).
-ghost use Rattle.std.specs.Prelude.{◌≡◌, if◌then◌else◌};
-ghost use Rattle.pf_values.specs.meaning.Flags.{has, with_flag};
+ghost use Rattle.std.specs.Prelude.{◌≡◌, IsTrue, if◌then◌else◌};
+ghost use Rattle.pf_values.specs.meaning.Flags.{has, no_flags, with_flag};
 ghost use Rattle.pf_values.specs.declared.lengths.Length.TheVariants as lengths;
 ghost use Rattle.pf_posix.specs.declared.conversions.Modifier.TheVariants.{Integer};
 ghost use Rattle.pf_posix.specs.OpaqueParts.{amount_of, parts_of_opaque};
@@ -62,6 +62,16 @@ impl PartSet {
         set
     }
 
+    /// Whether the set is known to have no part.
+    pub(crate) fn is_empty(self) -> bool
+        ensures { IsTrue result → self ≡ no_parts }
+    {
+        if self.width || self.precision || self.modifier {
+            return false;
+        }
+        has_none(self.flags)
+    }
+
     /// Returns whether the part is in the set.
     pub fn has(self, part: Part) -> bool
         ensures { result ≡ has_part self part }
@@ -73,6 +83,17 @@ impl PartSet {
             Part::Modifier => self.modifier,
         }
     }
+}
+
+fn has_none(flags: FlagSet) -> bool
+    ensures { IsTrue result → flags ≡ no_flags }
+{
+    !flags.has(Flag::Minus)
+        && !flags.has(Flag::Plus)
+        && !flags.has(Flag::Space)
+        && !flags.has(Flag::Alt)
+        && !flags.has(Flag::Zero)
+        && !flags.has(Flag::Group)
 }
 
 /// The parts that a directive has.
