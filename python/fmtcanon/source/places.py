@@ -87,7 +87,9 @@ class Place:
 
     __slots__ = ("source", "start", "end", "quote", "parts", "call", "_texts")
 
-    def __init__(self, source: "Source", start: int, end: int, quote: int, parts: Tuple[PlacePart, ...], call: EnclosingCall) -> None:
+    def __init__(
+        self, source: "Source", start: int, end: int, quote: int, parts: Tuple[PlacePart, ...], call: EnclosingCall
+    ) -> None:
         self.source, self.start, self.end, self.quote, self.parts, self.call = source, start, end, quote, parts, call
         self._texts: Optional[Dict[Model, Tuple[Optional[bytes], str]]] = None
 
