@@ -38,8 +38,8 @@ RULES = {
 ERRORS = (SIZE, KIND)
 FITS = {Fit.SIZE: "wrong size", Fit.RANK: "wrong type", Fit.SIGN: "wrong sign"}
 # What the platforms are called.
-TITLES = dict(zip([it.name for it in PLATFORMS], ["64-bit Unix", "32-bit systems", "32-bit systems with a 64-bit time_t"]))
-TITLES[LLP64.name] = "64-bit Windows"
+NAMES_OF_SYSTEMS = ["64-bit Unix", "32-bit systems", "32-bit systems with a 64-bit time_t", "64-bit Windows"]
+TITLES = dict(zip([it.name for it in PLATFORMS], NAMES_OF_SYSTEMS))
 VOWELS = re.compile(r"[aeio]|un[^_]")
 # The signed and the unsigned type whose length modifier or end of a PRI macro this is.
 NAMES = {"z": ("ssize_t", "size_t"), "t": ("ptrdiff_t", "size_t"), "64": ("int64_t", "uint64_t")}

@@ -166,7 +166,8 @@ def compare(first: bytes, second: bytes, model: Model) -> Union[Difference, Reje
         found = LIBRARY.compared(first, second, model)
     except Refused as refusal:
         rejection = reject(formats[refusal.side], refusal, model, refusal.side)
-        return rejection._replace(types=by_types(formats, model, refusal)) if refusal.kind is Kind.NUMBERED else rejection
+        is_numbered = refusal.kind is Kind.NUMBERED
+        return rejection._replace(types=by_types(formats, model, refusal)) if is_numbered else rejection
     if found.kind is PairKind.SAME:
         return Difference(formats, found.kind, canonical=LIBRARY.canonical(first, model))
     if found.kind is PairKind.DIFFERENT:
