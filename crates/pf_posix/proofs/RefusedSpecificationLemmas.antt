@@ -1,23 +1,15 @@
 -- Where the specification begins in which a text is refused: after items, where no more begins.
-use Rattle.std.proofs.Common.{◌≡◌, ◌≢◌, ℕ, ◌+◌, ◌-◌, ◌<◌, ◌≤◌, Bool, true, false, List, [], ◌∷◌, ◌++◌, length, length-append, get_or, drop, drop-drop, take, inl, inr, refl, sym, ap, ap₂, ◌∙◌, arith, subst}
-use Rattle.std.specs.Prelude.{◌⊎◌, ◌==◌, Option, if◌then◌else◌}
-use Rattle.std.proofs.lemmas.List.{append_assoc, drop-append-le, drop_more, length-drop, length-take-le, take-append-drop, take-append-le}
-use Rattle.std.proofs.Math.Seq.{drop-append_seam, take-append_seam}
-use Rattle.pf_values.specs.declared.models.Model.{Model}
+use Rattle.std.proofs.Common.{◌≡◌, ◌≢◌, ℕ, ◌+◌, ◌-◌, ◌<◌, ◌≤◌, Bool, true, false, List, [], ◌∷◌, ◌++◌, length, length-append, get_or, drop, drop-drop, take, inl, inr, refl, sym, ap, ◌∙◌, arith, subst}
+use Rattle.std.specs.Prelude.{◌⊎◌, ◌==◌, if◌then◌else◌}
+use Rattle.std.proofs.lemmas.List.{append_assoc, drop-append-le, drop_more, length-drop}
+use Rattle.std.proofs.Math.Seq.{drop-append_seam}
 use Rattle.pf_values.specs.meaning.Text.{Text}
-use Rattle.pf_text.specs.Offsets.{HasBytes}
-use Rattle.pf_text.proofs.NoDirectiveLemmas.{bytes_rest}
-use Rattle.pf_values.specs.declared.refusals.RefusalKind.{RefusalKind}
-use Rattle.pf_posix.specs.declared.fetches.Fetch.{Fetch}
-use Rattle.pf_posix.specs.declared.specifications.Numbering.{Numbering}
 use Rattle.pf_posix.specs.declared.specifications.Numbering.TheVariants.{Undecided}
 use Rattle.pf_posix.specs.declared.specifications.Specification.{Specification as Read}
-use Rattle.pf_posix.specs.Beginnings.{IsBegunAs}
 use Rattle.pf_posix.specs.Halts.{BeginsNoneAfter}
 use Rattle.pf_posix.specs.Items.{Byte, PosixItem, ReadsPosix, Specification, SpellsPosixItem}
 use Rattle.pf_posix.specs.PartsInText.{IsSpecificationAt, specification_read}
-use Rattle.pf_posix.specs.Refusals.{IsPosixRefusedAt, MayFollow}
-use Rattle.pf_posix.specs.RefusedSpecifications.{BeginsNoSpecification, HasItemsTo, IsAtPart, IsBeforePart, IsBegunAt, IsPartOfOne}
+use Rattle.pf_posix.specs.RefusedSpecifications.{BeginsNoSpecification, IsAtPart, IsBeforePart, IsPartOfOne}
 use Rattle.pf_posix.proofs.DirectiveLemmas.{percent_split}
 use Rattle.pf_posix.proofs.ItemsOnce.{HasText, item_once, percent_twice, text_there}
 use Rattle.pf_posix.proofs.OneState.{ends_here}
