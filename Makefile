@@ -20,7 +20,7 @@
 #                        what the commands say of a machine's own catalogs, of source trees with a
 #                        compile_commands.json in these folders, and of releases in pairs of folders
 
-# The file VERSION has the version; tests/versions.py compares every other copy of it. The major version names the ABI.
+# The file VERSION has the version; tests/documents/ compares every other copy of it. The major version names the ABI.
 VERSION := $(file < VERSION)
 SONAME = libfmtcanon.so.$(firstword $(subst ., ,$(VERSION)))
 # The processor: x86_64, or aarch64. An archive has no sources of the library, and is for one of them.
@@ -106,57 +106,43 @@ MINUTES = out/minutes
 TIMED = tests/timed.sh $(MINUTES)
 
 # The trials use the program that `gate` has just proved and built. Nothing can go on from the proofs of `rt ci`, so beside
-# it the crates are proved once more for the mutants and the library, in folders that stay (tests/work.py).
+# it the crates are proved once more for the mutants and the library, in folders that stay (tests/mutants/work.py).
 test: tools c-tools
 	mkdir -p $(dir $(MINUTES))
 	rm -f $(MINUTES)
-	python3 tests/mutants.py --recorded
+	python3 -m tests.mutants --recorded
 	$(TIMED) tests/both.sh '$(TIMED) $(MAKE) gate' '$(TIMED) $(MAKE) beside-gate'
 	$(TIMED) $(MAKE) tried
 	@cat $(MINUTES)
 
+# The tests try this program and this library, whatever the environment names.
+TRY = FMTCANON_PROGRAM=$(CURDIR)/$(PROGRAM) FMTCANON_LIBRARY=$(CURDIR)/$(C)/$(SONAME) python3 -m unittest
 tried:
-	$(TRIALS)
+	$(TRY) -q tests.documents
+	$(TRY) -q tests.program
+	$(TRY) -q tests.library
+	$(TRY) -q tests.packages
+	$(TRY) -q tests.commands
 
 gate: tools
 	RT_JOBS=$(JOBS) rt ci
 
 beside-gate: tools c-tools
-	tests/both.sh 'python3 tests/mutants.py --gate --jobs $(BESIDE)' 'python3 tests/mutants_test.py'
-	python3 tests/statements.py
+	tests/both.sh 'python3 -m tests.mutants --gate --jobs $(BESIDE)' '$(TRY) -q tests.mutants'
+	$(TRY) -q tests.mutants.statements
 
 trials: program library
 	$(MAKE) tried
 
-define TRIALS
-	python3 tests/documents.py
-	python3 tests/program.py $(PROGRAM)
-	python3 tests/rows.py $(PROGRAM) $(C)
-	python3 tests/canonical_rows.py $(PROGRAM) $(C)
-	python3 tests/devices.py $(PROGRAM)
-	python3 tests/short_streams.py $(PROGRAM)
-	python3 tests/records.py $(PROGRAM)
-	python3 tests/memory.py $(PROGRAM)
-	python3 tests/sizes.py $(PROGRAM) $(C)
-	python3 tests/header.py $(C)
-	python3 tests/bounds_peers.py $(PROGRAM) $(C)
-	python3 tests/library.py $(PROGRAM) $(C)
-	python3 tests/literals.py $(PROGRAM) $(C)
-	python3 tests/whole_types.py $(PROGRAM) $(C)
-	python3 tests/opaque.py $(PROGRAM) $(C)
-	python3 tests/python_commands.py $(PROGRAM) $(C)
-endef
-
+# What the gate doesn't try is in files more_*.py.
 check-more: program library $(C)/second.a
-	python3 tests/outside_tools.py $(PROGRAM) $(C)
-	python3 tests/short_streams.py --each $(PROGRAM)
-	python3 bench/paths.py $(C)
 	$(MAKE) library TARGET=aarch64
-	python3 tests/aarch64.py $(C) out/c-aarch64
 	cd $(C_CRATE) && rt lib $(CPU)
+	python3 bench/paths.py $(C)
+	$(TRY) discover -q -s tests -t . -p 'more_*.py'
 
 mutants: tools
-	python3 tests/mutants.py --jobs $(JOBS)
+	python3 -m tests.mutants --jobs $(JOBS)
 
 # A tool that is missing is named, and that fails.
 tools:
@@ -200,8 +186,9 @@ wheel: built
 	python3 -B packaging/make_wheel.py out $(TARGET) $(SHARED) $(PROGRAM)
 	$(CHECKSUMS)
 
+tables: TABLE = FMTCANON_LIBRARY=$(C)/$(SONAME) python3 -m tests.field
 tables:
-	FMTCANON_LIBRARY=$(C)/$(SONAME) python3 tests/field/catalogs.py
-	FMTCANON_LIBRARY=$(C)/$(SONAME) python3 tests/field/mutations.py
-	$(if $(SOURCES),FMTCANON_LIBRARY=$(C)/$(SONAME) python3 tests/field/sources.py $(SOURCES))
-	$(if $(RELEASES),FMTCANON_LIBRARY=$(C)/$(SONAME) python3 tests/field/releases.py $(RELEASES))
+	$(TABLE).catalogs
+	$(TABLE).mutations
+	$(if $(SOURCES),$(TABLE).sources $(SOURCES))
+	$(if $(RELEASES),$(TABLE).releases $(RELEASES))

@@ -3,7 +3,7 @@
 
     bench/charts.py
 
-`bench/run charts` calls it, and `tests/documents.py` compares the charts with the tables.
+`bench/run charts` calls it, and tests/documents/ compares the charts with the tables.
 """
 import math
 from html import escape

@@ -16,9 +16,9 @@ sys.dont_write_bytecode = True
 
 from library import build, count
 
-sys.path.insert(0, str(Path(__file__).resolve().parent.parent / "tests"))
+sys.path.append(str(Path(__file__).resolve().parent.parent))
 
-from harness import main
+from tests.frame.cases import Trials
 
 # How often a format stands in the file, and how much more than it did a call may cost.
 COPIES, MORE = 100, 2
@@ -59,14 +59,17 @@ def cost(driver, work, number, call, text):
     return (one - empty) / 2 / COPIES
 
 
-def try_all(folder, trials):
+def main(folder):
+    trials = Trials()
     with tempfile.TemporaryDirectory() as work, ThreadPoolExecutor() as workers:
         driver = build(folder, Path(work), "library")
         rows = list(PATHS.items())
         costs = workers.map(lambda it: cost(driver, Path(work), it[0], *it[1][1][:2]), enumerate(rows))
         for (path, (call, _, known)), now in zip(rows, costs):
             trials.expect(f"{call}: {path}: {now:.0f} instructions, at most {MORE} times {known}", now <= MORE * known, True)
+    print(trials)
+    return 1 if trials.failed else 0
 
 
 if __name__ == "__main__":
-    main(__doc__, try_all)
+    sys.exit(main(Path(sys.argv[1]).resolve()))

@@ -6,9 +6,9 @@ from pathlib import Path
 
 BENCH = Path(__file__).resolve().parent
 ROOT = BENCH.parent
-sys.path.append(str(ROOT / "tests"))
+sys.path.append(str(ROOT))
 
-from mutant_files import Pair  # noqa: E402
+from tests.mutants.mutant_files import Pair  # noqa: E402
 
 EDITS = BENCH / "shortcuts.txt"
 WORDS = ("shortcut", "call", "file", "after", "old", "new")

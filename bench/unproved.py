@@ -11,9 +11,9 @@ from pathlib import Path
 
 BENCH = Path(__file__).resolve().parent
 ROOT = BENCH.parent
-sys.path.append(str(ROOT / "tests"))
+sys.path.append(str(ROOT))
 
-from rattle_functions import blanked, group_end  # noqa: E402
+from tests.mutants.rattle_functions import blanked, group_end  # noqa: E402
 
 # The libraries, and the names of the kit's libraries that they use. All become modules of one crate, since the kit, too,
 # gives LLVM the whole program as one module.

@@ -6,8 +6,9 @@
  *
  * The profile and the whole language. fmtcanon_arguments(), fmtcanon_directives(), and the calls whose
  * names begin with fmtcanon_fits or fmtcanon_whole accept the whole language of POSIX `fprintf`: numbered
- * arguments, `*`, floating and wide conversions, `%p` and `%n`. The others accept the profile: the
- * conversions `d i u o x X b c s`. In both, widths and precisions are at most 4095.
+ * arguments, `*`, floating and wide conversions, `%p` and `%n`; and the `%m` of `syslog`, which takes no
+ * argument. The others accept the profile: the conversions `d i u o x X b c s`. In both, widths and
+ * precisions are at most 4095.
  *
  * The data model. The meaning of a format depends on it: `%zu` is `%lu` in LP64, `%u` in ILP32 and
  * `%llu` in LLP64. `model` is an enum fmtcanon_model, for the machine on which the format is used,
@@ -358,8 +359,8 @@ int64_t fmtcanon_whole_canonical(int model, const char *text, size_t len, char *
 
 /* Returns 1 if two formats of the whole language without numbered arguments are interchangeable, 0
  * otherwise. They are if they take arguments of the same types, and for all of them print the same bytes and
- * make the same calls: a directive that fmtcanon_same() rejects calls the C library with its normal spelling
- * and its arguments. For formats that fmtcanon_same() accepts, both answers are equal. Directives that
+ * make the same calls in the same places: a directive that fmtcanon_same() rejects calls the C library with
+ * its normal spelling and its arguments, and `%m` without any. For formats that fmtcanon_same() accepts, both answers are equal. Directives that
  * differ, as `%1f` and `%f`, may print the same with some C library. Allocates nothing. */
 int64_t fmtcanon_whole_same(int model, const char *first, size_t first_len, const char *second,
                             size_t second_len, fmtcanon_error *error);
@@ -370,14 +371,14 @@ int64_t fmtcanon_whole_same_models(const char *first, size_t first_len, const ch
                                    size_t second_len, fmtcanon_error *error);
 
 /* Compares two formats of the whole language without numbered arguments, as fmtcanon_compare() does those
- * that it accepts. FMTCANON_DIRECTIVES: the types are equal, and only one of the formats makes a call whose
- * first argument has this index. FMTCANON_DIFFERENT: the calls are equal, too; `any` is written for each
+ * that it accepts. FMTCANON_DIRECTIVES: the types are equal, and this is the place at which their calls differ
+ * first: the smaller index of the first arguments of two calls. FMTCANON_DIFFERENT: the calls are equal, too; `any` is written for each
  * argument of a call, since the formats differ whatever it is. Allocates only for FMTCANON_DIFFERENT. */
 int64_t fmtcanon_whole_compare(int model, const char *first, size_t first_len, const char *second,
                                size_t second_len, char *out, size_t cap,
                                fmtcanon_comparison *comparison, fmtcanon_error *error);
 
-/* Returns the number of conversion specifications of a format of the whole language, without `%%`, and
+/* Returns the number of conversion specifications of a format of the whole language, without `%%` and `%m`, and
  * writes a record of each, in the order of the text, into `out`, which has room for `cap` records. The type
  * in a record is the one that fmtcanon_arguments() writes at that index. Allocates only for more than 16, in
  * proportion to their number. */

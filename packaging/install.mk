@@ -34,7 +34,7 @@ COMMAND = '\#!$(PYTHON)' 'import sys' '' \
     'if not (sys.flags.isolated or getattr(sys.flags, "safe_path", False)):' '    del sys.path[0]' \
     'sys.path.append("$(PYTHONDIR)")' '' "from fmtcanon.$(MODULE_OF_NAME).command import main" '' 'sys.exit(main())'
 CALLS = sed -n 's/^[a-z0-9_][a-z0-9_ ]* \**\(fmtcanon_[a-z_]*\)(.*/\1/p' include/fmtcanon.h
-MODULES = fmtcanon fmtcanon/checker fmtcanon/compiling fmtcanon/diff fmtcanon/explain fmtcanon/po fmtcanon/replace
+MODULES = $(patsubst python/%/__init__.py,%,$(sort $(wildcard python/fmtcanon/__init__.py python/fmtcanon/*/__init__.py)))
 # The commands that are written in Python.
 COMMANDS = check diff explain po replace
 # The manual pages of commands. That of the program comes with it.

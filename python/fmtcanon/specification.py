@@ -11,7 +11,7 @@ FLAGS, LENGTHS = "-+ #0'", "hlLjzt"
 OPTIONAL = ("width", "precision", "modifier")
 
 
-class Specification(NamedTuple):
+class SpelledSpecification(NamedTuple):
     """The parts of a conversion specification, as they are spelled (C11 7.21.6.1 p4; POSIX `fprintf`).
 
     `position` is `2$` of `%2$d`, and `precision` has its point.
@@ -27,12 +27,12 @@ class Specification(NamedTuple):
     def __str__(self) -> str:
         return "%" + "".join(self)
 
-    def without_numbers(self) -> Specification:
+    def without_numbers(self) -> SpelledSpecification:
         """Returns the specification that takes its arguments in order."""
         width, precision = (it[: it.index("*") + 1] if "*" in it else it for it in (self.width, self.precision))
         return self._replace(position="", width=width, precision=precision)
 
-    def shorter(self) -> Iterator[Tuple[str, str, Specification]]:
+    def shorter(self) -> Iterator[Tuple[str, str, SpelledSpecification]]:
         """Yields each part that can be left out: its name, its spelling, and the specification without it."""
         for flag in dict.fromkeys(self.flags):
             yield "flag", flag, self._replace(flags=self.flags.replace(flag, ""))
@@ -42,7 +42,7 @@ class Specification(NamedTuple):
                 yield name, spelling, self._replace(**{name: ""})
 
 
-def specification_of(text: bytes) -> Specification:
+def specification_of(text: bytes) -> SpelledSpecification:
     """Returns the parts of a specification that is accepted."""
     inner, conversion = text[1:-1].decode(), text[-1:].decode()
     front = inner.rstrip(LENGTHS)
@@ -53,4 +53,4 @@ def specification_of(text: bytes) -> Specification:
     fields = before if not position else rest
     width = fields.lstrip(FLAGS)
     flags = fields[: len(fields) - len(width)]
-    return Specification(position, flags, width, point + digits, inner[len(front) :], conversion)
+    return SpelledSpecification(position, flags, width, point + digits, inner[len(front) :], conversion)

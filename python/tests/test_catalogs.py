@@ -17,9 +17,9 @@ from unittest import mock
 import fmtcanon
 from fmtcanon import Model
 from fmtcanon.po.charsets import charset_named
-from fmtcanon.po.formats import DEPENDENT, Format, shape_of
+from fmtcanon.po.formats import DEPENDENT, MessageFormat, shape_of
 from fmtcanon.po.reading import PoReader
-from fmtcanon.po.tokens import Unreadable
+from fmtcanon.po.tokens import BadCatalog
 
 LENGTHS = ["", "hh", "h", "l", "ll", "j", "z", "t", "L"]
 CONVERSIONS = "diouxXbfFeEgGaAcspnCS"
@@ -84,7 +84,7 @@ def read(text, by_tokens):
                 found = list(reader.read(text))
         else:
             found = list(reader.read(text))
-    except Unreadable as fault:
+    except BadCatalog as fault:
         return fault.line, str(fault)
     return [
         (it.line, it.column, it.flags, it.has_context, it.is_fuzzy, it.msgid, it.plural, it.forms, it.bad_bytes)
@@ -95,7 +95,7 @@ def read(text, by_tokens):
 def answer(text, model=Model.LP64):
     """The types that the library finds in a text of a message, or None if it is rejected."""
     try:
-        return Format(text).codes(model)
+        return MessageFormat(text).codes(model)
     except fmtcanon.Refused:
         return None
 
@@ -150,15 +150,15 @@ class Shapes(unittest.TestCase):
     def test_two_types(self):
         """Two macros, or a macro and a conversion, that give one argument two types: its number is from 1."""
         for text, said in [
-            (b"%1$<PRIu64> of %1$u", "%1$<PRIu64> and %1$u give argument 1, counted from 1, different types"),
+            (b"%1$<PRIu64> of %1$u", "%1$<PRIu64> and %1$u give argument 1 different types"),
             (
                 b"%1$d%2$<PRIx8>%2$<PRIx16>",
-                "%2$<PRIx8> and %2$<PRIx16> give argument 2, counted from 1, different types",
+                "%2$<PRIx8> and %2$<PRIx16> give argument 2 different types",
             ),
             (b"%1$<PRIu64> %1$<PRIx64>", None),
             (b"%m %<PRIu64> %d", None),
         ]:
-            self.assertEqual(Format(text).two_types(Model.LP64), said, text)
+            self.assertEqual(MessageFormat(text).two_types(Model.LP64), said, text)
 
     def test_rejected(self):
         """Where a text with `%m` or the flag I is rejected: by hand. I is a flag of translations, and no number."""
@@ -173,7 +173,7 @@ class Shapes(unittest.TestCase):
             (b"%m %<PRIu64> %y", False, (3, 14)),
         ]:
             with self.assertRaises(fmtcanon.Refused) as caught:
-                Format(text, is_translation).codes(Model.LP64)
+                MessageFormat(text, is_translation).codes(Model.LP64)
             self.assertEqual((int(caught.exception.kind), caught.exception.byte), wanted, text)
 
     def test_uses(self):
@@ -184,7 +184,7 @@ class Shapes(unittest.TestCase):
             (b"%Id", [(0, b"%Id", 0)]),
             (b"%2$*1$d", [(0, b"%2$*1$d", 0), (1, b"%2$*1$d", 0)]),
         ]:
-            found = [(it.argument, it.specification, it.start) for it in Format(text, True).uses(Model.LP64)]
+            found = [(it.argument, it.specification, it.start) for it in MessageFormat(text, True).uses(Model.LP64)]
             self.assertEqual(found, wanted, text)
 
     def test_models(self):
@@ -286,13 +286,13 @@ class Once(unittest.TestCase):
             unjudged = [it for it in found if it["kind"] == "unjudged"]
             listed = [(Path(it["file"]).name, it["line"], it["msgid"], it["source"]) for it in unjudged]
             wanted = [
-                ("0.po", 10, "%Zd x", ["a.c:0", "b.c:7", "c.c:8"]),
-                ("0.po", 18, "%Zd y", ['"d.c":9']),
-                ("0.po", 23, "%Zd z", []),
+                ("0.po", 9, "%Zd x", ["a.c:0", "b.c:7", "c.c:8"]),
+                ("0.po", 17, "%Zd y", ['"d.c":9']),
+                ("0.po", 22, "%Zd z", []),
             ]
             self.assertEqual((listed, len(found) - len(unjudged), status), (wanted, 12, 1))
-            self.assertIn("; the message is from a.c:0 and 2 more [", unjudged[0]["message"])
-            self.assertIn('; the message is from "d.c":9 [', unjudged[1]["message"])
+            self.assertIn("; the message is from a.c:0 and 2 more", unjudged[0]["message"])
+            self.assertIn('; the message is from "d.c":9', unjudged[1]["message"])
             counts = ["12 messages judged, 36 not judged", "33 more warnings about the same messages"]
             self.assertEqual(said, [*counts, "found 12 fatal errors"])
 

@@ -13,18 +13,20 @@ from pathlib import Path
 
 import fmtcanon
 from fmtcanon import Model, Type
-from fmtcanon.checker import composing, fitting, fixing, options, proposals, reporting
-from fmtcanon.checker.calls import Argument, Call
-from fmtcanon.checker.formats import Format, Token
-from fmtcanon.checker.judging import Fit, fit_of, judged, without_errno
-from fmtcanon.checker.locating import Located, Piece, with_markers
-from fmtcanon.checker.platforms import PLATFORMS
-from fmtcanon.checker.retargeting import retargeted, write_headers
+from fmtcanon.checker import options
+from fmtcanon.compiling.calls import Argument, Call
+from fmtcanon.compiling.formats import Format, Literal
+from fmtcanon.compiling.markers import Marker
 from fmtcanon.compiling.parsing import Shape
+from fmtcanon.compiling.platforms import PLATFORMS
+from fmtcanon.compiling.retargeting import retargeted, write_headers
 from fmtcanon.compiling.stand_ins import Original
-from fmtcanon.findings import Finding
-from fmtcanon.replace.calls import Marker
-from fmtcanon.replace.places import places_in
+from fmtcanon.diff import compiled
+from fmtcanon.fitting import composing, fixing, proposals, reporting
+from fmtcanon.fitting.judging import Fit, fit_of, judged, without_errno
+from fmtcanon.fitting.locating import Located, Piece, with_markers
+from fmtcanon.frame.findings import Finding
+from fmtcanon.source.respelling import runs_in
 
 L, UL, LL, ULL, I, U = Type.LONG, Type.ULONG, Type.LONG_LONG, Type.ULONG_LONG, Type.INT, Type.UINT
 # The types of arguments on each platform, by their names.
@@ -201,7 +203,7 @@ OF_COMPILER = (
 def calls_of(format, name, count=1, tokens=None):
     """A call on each platform with arguments whose types have a name."""
     source = f'"{format}"'
-    written = Format(source, tokens or (Token(source),))
+    written = Format(source, tokens or (Literal(source),))
     number = format.count("*") + 1
     return [
         Call("a.c", 1, "printf", (written,), tuple(Argument(type, name, name) for _ in range(number * count)))
@@ -216,7 +218,7 @@ def faults_of(format, name, **more):
 def fault_in(tokens):
     """The fault of a size_t in a format of these literals, each with the PRI macro that made it."""
     text = "".join(it.strip('"') for it, _ in tokens)
-    return faults_of(text, "size_t", tokens=tuple(Token(*it) for it in tokens))[0]
+    return faults_of(text, "size_t", tokens=tuple(Literal(*it) for it in tokens))[0]
 
 
 class Defined:
@@ -285,7 +287,7 @@ class Judging(unittest.TestCase):
     def test_skipped(self):
         """What is left out in front of a format isn't judged, and the rest is at its place."""
         calls = [
-            it._replace(formats=(Format('"%d %lu"', (Token('"%d %lu"'),), 3),)) for it in calls_of("%lu", "size_t")
+            it._replace(formats=(Format('"%d %lu"', (Literal('"%d %lu"'),), 3),)) for it in calls_of("%lu", "size_t")
         ]
         [fault] = judged([{(1, "printf", 0): it} for it in calls]).faults
         self.assertEqual((fault.text, fault.directive, fault.shown, fault.range), (b"%lu", "%lu", "%lu", (0, 3)))
@@ -347,7 +349,7 @@ class Judging(unittest.TestCase):
             (None, b"#define OTHER PRIu32\n", False),
         ]:
             fault = fault_in([('"%"', ""), ('"lu"', "PRIu64")])
-            places = list(places_in(source)) if source else []
+            places = list(runs_in(source)) if source else []
             pieces = [Piece(it, 0) for it in places[:1]]
             where = Located(Original("a.c", source or b"", os.stat(".")), {(fault.key, 0): (b"%lu", pieces)})
             found = composing.is_composed(fault, Defined(definitions), where)
@@ -363,7 +365,7 @@ class Judging(unittest.TestCase):
         ]:
             fault = fault_in(tokens)
             self.assertEqual(fault.shown, shown, tokens)
-            self.assertIn(f"{shown} takes unsigned long", reporting.message_of(fault, list(Model)))
+            self.assertIn(f"{shown} for a size_t: wrong size", reporting.message_of(fault, list(Model)))
             self.assertEqual(reporting.details_of(fault)["directive"], shown)
 
 
@@ -378,15 +380,29 @@ class Reporting(unittest.TestCase):
 
     def test_messages(self):
         fault = faults_of("%lu", "size_t")[0]
-        said = "%lu takes unsigned long, and the argument is size_t: another size in LLP64, another type in ILP32; "
-        said += "write %zu"
+        said = "%lu for a size_t: wrong size on 64-bit Windows, wrong type on 32-bit systems; use %zu"
         self.assertEqual(reporting.message_of(fault, list(Model)), said)
         fault = faults_of("%*d", "ptrdiff_t")[0]
-        said = "a * of %*d takes int, and the argument is ptrdiff_t: another size in LP64; write a cast to int"
+        said = "the * of %*d for a ptrdiff_t: wrong size on 64-bit Unix; use a cast to int"
         self.assertEqual(reporting.message_of(fault, [Model.LP64]), said)
-        fault = faults_of("%zd", "long")[0]
-        said = "takes long in LP64, int in ILP32, long long in LLP64, and"
-        self.assertIn(said, reporting.message_of(fault, list(Model)))
+        fault = faults_of("%ld", "time_t")[0]
+        said = "%ld for a time_t: wrong size on 32-bit systems with a 64-bit time_t and 64-bit Windows; "
+        self.assertEqual(reporting.message_of(fault, list(Model)), said + "use %jd with a cast to intmax_t")
+        names = [reporting.a(it) for it in ("int", "uint8_t", "unsigned long")]
+        self.assertEqual(names, ["an int", "a uint8_t", "an unsigned long"])
+
+    def test_fix(self):
+        """What JSON says of a fix: the bytes that it replaces, and what it needs."""
+        spot = reporting.Spot("a.c", 1, 1, (1, 4), (7, 10))
+        for name, format, wanted in [
+            ("size_t", "%lu", ("%zu", None, None)),
+            ("uint64_t", "%lu", ('%" PRIu64 "', None, "inttypes.h")),
+            ("off_t", "%ld", ("%jd", "intmax_t", "stdint.h")),
+        ]:
+            fix = reporting.fix_of(faults_of(format, name)[0], spot)
+            self.assertEqual((fix["start"], fix["end"], fix["verified"]), (7, 10, False))
+            self.assertEqual((fix["text"], fix["cast"], fix["include"]), wanted)
+        self.assertIsNone(reporting.fix_of(faults_of("%lu", "size_t")[0], reporting.Spot("a.c", 1)))
 
     def test_source(self):
         with tempfile.TemporaryDirectory() as work:
@@ -403,7 +419,7 @@ class Reporting(unittest.TestCase):
 class Changes(unittest.TestCase):
     def test_fitting(self):
         found = Finding("a.c", 3, 10, "types", "error", "wrong", (3, 20), ("%d", "%zu"))
-        note = fitting.as_note(found)
+        note = compiled.as_note(found)
         self.assertEqual((note.level, note.message), ("note", 'types differ, and the call fits: "%d" and "%zu"'))
 
 
@@ -520,7 +536,7 @@ class Texts(unittest.TestCase):
 
     def test_markers(self):
         source = b'f("%d" /* x */ "a", "b%u"); g("%s");'
-        places = [it for it in places_in(source) if b"%" in it.text]
+        places = [it for it in runs_in(source) if b"%" in it.text]
         marker = Marker()
         text = with_markers(source, places, marker)
         literals = [marker.literal(it) for it in range(3)]
@@ -536,7 +552,7 @@ class Options(unittest.TestCase):
         return raised.exception.code, stream.read().splitlines()[-1]
 
     def test_words(self):
-        words = ["--function", "failf:1:2", "--type", "counter_t=uint64_t", "--rank", "a.c", "--", "-b.c"]
+        words = ["--function", "failf:2:3", "--type", "counter_t=uint64_t", "--rank", "a.c", "--", "-b.c"]
         found = options.parsed(words)
         self.assertEqual((found.function, found.type), ([("failf", Shape(1, 2))], [("counter_t", "uint64_t")]))
         self.assertEqual((found.files, found.rank, found.sign), (["a.c", "-b.c"], True, False))
@@ -544,8 +560,9 @@ class Options(unittest.TestCase):
     def test_refused(self):
         for words, said in [
             ([], "give files or folders, or the folder of a compile_commands.json"),
-            (["--function", "failf:1", "a.c"], "'failf:1' isn't NAME:FORMAT:FIRST"),
-            (["--function", "failf:2:1", "a.c"], "'failf:2:1' isn't NAME:FORMAT:FIRST"),
+            (["--function", "failf", "a.c"], "'failf' isn't NAME:FORMAT[:FIRST], counted from 1"),
+            (["--function", "failf:0:1", "a.c"], "'failf:0:1' isn't NAME:FORMAT[:FIRST], counted from 1"),
+            (["--function", "failf:2:1", "a.c"], "'failf:2:1' isn't NAME:FORMAT[:FIRST], counted from 1"),
             (["--type", "counter_t", "a.c"], "'counter_t' isn't NAME=TYPE"),
             (["--type", "counter_t=other", "a.c"], "'other' is neither an integer type nor a typedef of the C library"),
             (["--fix", "--diff", "a.c"], "not allowed with argument"),

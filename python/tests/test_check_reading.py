@@ -8,11 +8,12 @@ from pathlib import Path
 from types import SimpleNamespace
 from unittest import mock
 
-from fmtcanon.checker import checking, command
-from fmtcanon.checker.formats import MARK_AFTER, TOKEN, type_name_of
+from fmtcanon.checker import command
 from fmtcanon.compiling.attributes import constant_of, printf_indexes, returned_index
+from fmtcanon.compiling.formats import MARK_AFTER, TOKEN, type_name_of
 from fmtcanon.compiling.left import Left, own_trouble
 from fmtcanon.compiling.sources import Files
+from fmtcanon.fitting import checking
 from fmtcanon.models import Model
 
 # Texts of attributes, and the numbers in them; None if it is another attribute.
@@ -134,7 +135,7 @@ class Troubles(unittest.TestCase):
         with mock.patch.object(checking, "Unit", side_effect=AssertionError("of libclang")):
             found = checking.answer(job)
         [one] = found.found.values()
-        self.assertEqual(one.finding.message, "left: it can't be read: AssertionError: of libclang")
+        self.assertEqual(one.finding.message, "not judged: it can't be read: AssertionError: of libclang")
         self.assertEqual((found.counts["left"], found.counts["files"], found.fixes), (1, 1, {}))
 
     def test_a_process_that_ends(self):
@@ -142,7 +143,7 @@ class Troubles(unittest.TestCase):
         question = checking.Question(list(Model), [], None)
         found = checking.answer_without(checking.Job(os.path.realpath("a.c"), (), question), "ended by signal 11")
         [one] = found.found.values()
-        said = "left: it can't be read: the process that read it ended by signal 11"
+        said = "not judged: it can't be read: the process that read it ended by signal 11"
         self.assertEqual((one.finding.message, one.finding.level, found.counts["left"]), (said, "warning", 1))
 
 
@@ -154,7 +155,7 @@ class Names(unittest.TestCase):
             for one in ("a.c", "b.c", "a.h", "read.me"):
                 Path(work, one).write_text("")
             os.mkfifo(os.path.join(work, "fifo.c"))
-            options = SimpleNamespace(database=None, files=[os.path.join(work, it) for it in given or (name,)], flag=[])
+            options = SimpleNamespace(database=None, files=[os.path.join(work, it) for it in given or (name,)], flag=[], exclude=[])
             files = Files(options)
             options.database = database
             files.database = {os.path.join(work, "a.c"): ["a command"]}
@@ -182,6 +183,6 @@ class Names(unittest.TestCase):
         found = checking.answer(checking.Job(os.path.realpath("a.h"), (), question, why_skipped="it is a header"))
         [one] = found.found.values()
         self.assertEqual(
-            (one.finding.kind, one.finding.level, one.finding.message), ("skipped", "note", "skipped: it is a header")
+            (one.finding.kind, one.finding.level, one.finding.message), ("skipped", "note", "not judged: it is a header")
         )
         self.assertEqual((found.counts["left"], found.counts["files"]), (0, 0))

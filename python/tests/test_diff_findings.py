@@ -6,15 +6,25 @@ import io
 import json
 import re
 import unittest
+from dataclasses import replace
 
 import fmtcanon
 from fmtcanon import Model, Type
 from fmtcanon.diff.judging import RULES, judge
-from fmtcanon.diff.literals import Source
 from fmtcanon.diff.pairing import paired
-from fmtcanon.findings import ERROR, NOTE, WARNING, Finding, Printer
+from fmtcanon.formats.verdicts import (
+    Library,
+    PairKind,
+    Taker,
+    directives_in,
+    narrowed,
+    shortened,
+    specifications,
+    taker_of,
+)
+from fmtcanon.frame.findings import ERROR, NOTE, WARNING, Finding, Printer, by_place
 from fmtcanon.kinds import TYPE_NAMES
-from fmtcanon.verdicts import Kind, Library, Taker, directives_in, narrowed, shortened, specifications, taker_of
+from fmtcanon.source.places import Source
 
 ALL = list(Model)
 
@@ -39,7 +49,7 @@ SAID = [
         '"%s %lu"',
         '"%s %d"',
         "types",
-        'types differ at argument 2, counted from 1: %lu takes unsigned long and %d takes int, in "%s %lu" and "%s %d"',
+        'types differ at argument 2: %lu takes unsigned long and %d takes int, in "%s %lu" and "%s %d"',
         "lp64 ilp32 llp64",
     ),
     ('"%td"', '"%ld"', "types", 'same in lp64 only: "%td" and "%ld"', "ilp32 llp64"),
@@ -59,7 +69,7 @@ SAID = [
         '"%d"',
         '"none"',
         "types",
-        'types differ at argument 1, counted from 1: %d takes int and no argument, in "%d" and "none"',
+        'types differ at argument 1: %d takes int and no argument, in "%d" and "none"',
         "lp64 ilp32 llp64",
     ),
     ('"%" PRIu64', '"%lu"', "types", 'same in lp64 only: "%" PRIu64 and "%lu"', "ilp32 llp64"),
@@ -81,7 +91,7 @@ SAID = [
         '"%1$d"',
         '"%1$s"',
         "types",
-        'types differ at argument 1, counted from 1: %1$d takes int and %1$s takes string, in "%1$d" and "%1$s"',
+        'types differ at argument 1: %1$d takes int and %1$s takes string, in "%1$d" and "%1$s"',
         "lp64 ilp32 llp64",
     ),
     (
@@ -135,17 +145,17 @@ WHOLE = [
         "different",
         'different: "%.6lf %s|" and "%f %.10s|" print "%f AAAAAAAAAAA|" and "%f AAAAAAAAAA|" for any, "AAAAAAAAAAA"',
     ),
-    ('"%d %f"', '"%d %e"', "directives", 'directives differ at argument 2, counted from 1: "%f" and "%e"'),
-    ('"%*d %s"', '"%d%d %s"', "directives", 'directives differ at argument 1, counted from 1: "%*d" and "%d"'),
+    ('"%d %f"', '"%d %e"', "directives", 'directives differ at argument 2: "%f" and "%e"'),
+    ('"%*d %s"', '"%d%d %s"', "directives", 'directives differ at argument 1: "%*d" and "%d"'),
     ('"%*d"', '"%*i"', "same", 'same: "%*d" and "%*i"'),
     ('"%f km"', '"%f miles"', "words", 'the words differ: "%f km" and "%f miles"'),
     (
         '"%f and %d"',
         '"%f and %s"',
         "types",
-        'types differ at argument 2, counted from 1: %d takes int and %s takes string, in "%f and %d" and "%f and %s"',
+        'types differ at argument 2: %d takes int and %s takes string, in "%f and %d" and "%f and %s"',
     ),
-    ('"%.2f"', '"%.3f"', "directives", 'directives differ at argument 1, counted from 1: "%.2f" and "%.3f"'),
+    ('"%.2f"', '"%.3f"', "directives", 'directives differ at argument 1: "%.2f" and "%.3f"'),
     ('"%f at %p"', '"%.6lf at %p"', "same", 'same: "%f at %p" and "%.6lf at %p"'),
     ('"%jn"', '"%ln"', "types", 'same in lp64 only: "%jn" and "%ln"'),
     ('"%2$s %1$f"', '"%2$s  %1$f"', "unjudged", 'not judged: refused 6 Numbered at byte 2 of "%2$s %1$f"'),
@@ -194,7 +204,7 @@ class Judging(unittest.TestCase):
         self.assertEqual(
             (found.message, found.models),
             (
-                'types differ at argument 1, counted from 1: %td takes int and %ld takes long, in "%td" and "%ld"',
+                'types differ at argument 1: %td takes int and %ld takes long, in "%td" and "%ld"',
                 ("ilp32", "llp64"),
             ),
         )
@@ -217,7 +227,7 @@ class Judging(unittest.TestCase):
         found = finding('"%d" "\\n"', '"%" PRIu64', call="fprintf(stderr, %s)")
         self.assertEqual(
             {it: found.details[it] for it in ["old", "new", "function", "argument"]},
-            {"old": "%d\n", "new": "%lu", "function": "fprintf", "argument": 1},
+            {"old": "%d\n", "new": "%lu", "function": "fprintf", "argument": 2},
         )
         self.assertEqual((found.formats, found.end), (("%d\n", "%lu"), (1, 27)))
         self.assertEqual(finding('"%d" "\\n"', '"%d" X').details["new"], '"%d" X')
@@ -285,7 +295,7 @@ class Judging(unittest.TestCase):
                 )
                 if at is not None:
                     self.assertIn(
-                        f"at argument {front.count('%') + 1}, counted from 1: %d takes int and %u takes unsigned int",
+                        f"at argument {front.count('%') + 1}: %d takes int and %u takes unsigned int",
                         found.message,
                     )
                 if old == "%05d":
@@ -297,7 +307,7 @@ class Judging(unittest.TestCase):
     def test_long_of_whole_language(self):
         front = "%d x" * 5_000
         found = finding(f'"{front}%f "', f'"{front}%e "').message
-        self.assertEqual(found, 'directives differ at argument 5001, counted from 1: "%f" and "%e"')
+        self.assertEqual(found, 'directives differ at argument 5001: "%f" and "%e"')
 
     def test_titles(self):
         """What no call takes is no format if it is rejected, as a title may be; otherwise it is judged."""
@@ -342,14 +352,48 @@ class Judging(unittest.TestCase):
             self.assertEqual(found, wanted, text)
 
 
+# What reads a line: `%f:%l:%c:%m` and `%f:%l:%m` of vim's errorformat, the entry `gnu` of Emacs' list for compilers,
+# `$gcc` of VS Code, and `%f:%l:%c: %m` and `%f:%l: %m`, which are given to reviewdog.
+EDITORS = {
+    "vim": r"^(?P<file>[^:]+):(?P<line>\d+):(?:(?P<column>\d+):)?(?P<text>.+)$",
+    "Emacs": r"^(?:[A-Za-z][-\w.]+: ?)?(?P<file>(?:[0-9]*[^0-9\n])(?:[^\n :]|\x20[^-/\n]|:[^ \n])*?): ?"
+    r"(?P<line>[0-9]+)(?:[.:](?P<column>[0-9]+))?(?:-[0-9]+(?:\.[0-9]+)?)?:(?: *warning:| *note:|[^0-9\n]|[0-9][0-9][0-9])",
+    "VS Code": r"^(?P<file>.*?):(?P<line>\d+):(?P<column>\d*):?\s+(?:fatal\s+)?(?:warning|error):\s+(?P<text>.*)$",
+    "reviewdog": r"^(?P<file>.+?):(?P<line>\d+):(?:(?P<column>\d+):)? (?P<text>.+)$",
+}
+
+
 class Forms(unittest.TestCase):
     def test_names_of_types(self):
         self.assertEqual(set(TYPE_NAMES), set(Type))
         self.assertEqual(len(set(TYPE_NAMES.values())), len(Type))
 
     def test_text(self):
-        self.assertEqual(printed("text", FOUND), 'a b.c:3:7: types: 100% "%d", a\n')
+        self.assertEqual(printed("text", FOUND), 'a b.c:3:7: error: types: 100% "%d", a [types]\n')
+        whole = Finding("b.c", 0, None, "skipped", WARNING, "not judged: x")
+        self.assertEqual(printed("text", whole), "b.c:1: warning: not judged: x [skipped]\n")
         self.assertEqual(printed("text"), "")
+        # Vim would take the text in quotes for the name of a file, and all before `:1:9` for one.
+        said = Finding("b.c", 2, 3, "different", ERROR, 'print "%d" and "0: x" for 1')
+        self.assertEqual(printed("text", said), "b.c:2:3: error: print '%d' and '0: x' for 1 [different]\n")
+        said = Finding("b.c", 2, None, "skipped", WARNING, "a.h:1:9: error: x")
+        self.assertEqual(printed("text", said), "b.c:2: warning: a.h:1: error: x [skipped]\n")
+
+    def test_editors(self):
+        """Editors and reviewers read a line by the patterns that they have for compilers."""
+        for level in (ERROR, WARNING, NOTE):
+            for column in (7, None):
+                line = printed("text", Finding("a/b.c", 3, column, "types", level, 'text: "%d" and "%5d: 3", 1')).rstrip()
+                for editor, pattern in EDITORS.items():
+                    found = re.search(pattern, line)
+                    if editor == "VS Code" and level == NOTE:
+                        # Its pattern knows no notes.
+                        self.assertIsNone(found)
+                        continue
+                    self.assertIsNotNone(found, (editor, line))
+                    wanted = ("a/b.c", "3", str(column) if column else None)
+                    self.assertEqual((found["file"], found["line"], found["column"] or None), wanted, (editor, line))
+        self.assertEqual(by_place([FOUND, replace(FOUND, line=2), replace(FOUND, column=1)])[0].line, 2)
 
     def test_json(self):
         lines = printed("json", FOUND, Finding("b.c", 0, None, "unjudged", WARNING, "x")).splitlines()
@@ -402,7 +446,7 @@ class Forms(unittest.TestCase):
         driver = run["tool"]["driver"]
         self.assertEqual((set(driver), driver["version"]), ({"name", "version", "rules"}, fmtcanon.__version__))
         ids = [it["id"] for it in driver["rules"]]
-        self.assertEqual((ids, len(set(ids))), ([it.value for it in Kind], len(ids)))
+        self.assertEqual((ids, len(set(ids))), ([it.value for it in PairKind], len(ids)))
         for rule in driver["rules"]:
             self.assertEqual((set(rule), set(rule["shortDescription"])), ({"id", "shortDescription"}, {"text"}))
         for result in run["results"]:

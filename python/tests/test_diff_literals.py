@@ -5,9 +5,9 @@ import unittest
 
 from fmtcanon import Model
 from fmtcanon.diff.judging import is_judged
-from fmtcanon.diff.literals import Call, Position, Source
-from fmtcanon.diff.macros import expansion
 from fmtcanon.diff.pairing import matching, paired
+from fmtcanon.source.macros import expansion
+from fmtcanon.source.places import EnclosingCall, Position, Source
 
 # A source, and of each place the line and column of its quote, its call and its bytes in LP64, or why there are none.
 READ = [
@@ -168,7 +168,7 @@ class Reading(unittest.TestCase):
             for place in source.places:
                 text, why = place.text(Model.LP64)
                 found.append((source.position(place.quote), place.call, why if text is None else text))
-            self.assertEqual(found, [(Position(*at), Call(*call), text) for at, call, text in wanted], data)
+            self.assertEqual(found, [(Position(*at), EnclosingCall(*call), text) for at, call, text in wanted], data)
 
     def test_end(self):
         source = Source(b'f("a"\n  "bc" , 1)').read()
@@ -252,10 +252,12 @@ class Judged(unittest.TestCase):
             (b'log_error("%V")', b'log_error("%d")', False),
             (b'_(log_error("%V"))', b'_(log_error("%d"))', False),
             (b'log_errors("%V")', b'log_errors("%d")', True),
+            (b'trace("%d")', b'trace("%u")', False),
+            (b'trace(1, "%d")', b'trace(1, "%u")', True),
         ]:
             places = [Source(it).read().places for it in (old, new)]
-            others = frozenset([b"log_error", b"other"])
-            self.assertEqual(bool(places[0]) and is_judged(places[0][0], places[1][0], others), wanted, (old, new))
+            functions = {b"log_error": None, b"other": None, b"trace": 1}
+            self.assertEqual(bool(places[0]) and is_judged(places[0][0], places[1][0], functions), wanted, (old, new))
 
 
 class Pairing(unittest.TestCase):

@@ -13,8 +13,8 @@ from pathlib import Path
 import fmtcanon
 from fmtcanon import Kind, Model
 from fmtcanon.explain.command import main
-from fmtcanon.explaining import explain
-from fmtcanon.rejections import ADVICE, HELP
+from fmtcanon.formats.explaining import explain
+from fmtcanon.formats.rejections import ADVICE, HELP
 from fmtcanon.specification import specification_of
 
 TOP = Path(__file__).resolve().parents[2]
@@ -235,7 +235,7 @@ class Pairs(unittest.TestCase):
 
     def test_types(self):
         status, lines = run("%zu", "%lu", "--model", "ilp32")
-        self.assertEqual((status, lines[0]), (1, "types differ at argument 1, counted from 1"))
+        self.assertEqual((status, lines[0]), (1, "types differ at argument 1"))
         _, found = asked("%s: %d", "%d: %s")
         self.assertEqual((found["verdict"], found["argument"]), ("types", 1))
         self.assertEqual([it["text"] for it in found["directives"]], ["%s", "%d"])

@@ -1,12 +1,21 @@
-"""Tests of what compile commands say of a changed place, without libclang: python3 -m unittest, in the folder above."""
+"""Tests of what compile commands say of a changed place, and of what a check writes: python3 -m unittest, in the folder
+above.
+"""
 
+import json
+import os
+import subprocess
+import sys
+import tempfile
 import unittest
+from pathlib import Path
 
 from fmtcanon import Model, Type
-from fmtcanon.checker.checking import Question
-from fmtcanon.checker.fitting import NO_COMMAND, Compiled, Use
-from fmtcanon.checker.unit import Settings
-from fmtcanon.findings import Finding
+from fmtcanon.compiling.libclang import cindex
+from fmtcanon.diff.compiled import NO_COMMAND, Compiled, JudgedUse
+from fmtcanon.fitting.checking import Question
+from fmtcanon.fitting.unit import Settings
+from fmtcanon.frame.findings import Finding
 
 from .test_check import faults_of
 
@@ -25,7 +34,7 @@ def compiled(uses, places=(), models=tuple(Model)):
 class Notes(unittest.TestCase):
     def test_places(self):
         """A finding is a note if there are literals in its place, and all calls fit."""
-        fits, fits_not = [Use((), True)], [Use((), True), Use((), False)]
+        fits, fits_not = [JudgedUse((), True)], [JudgedUse((), True), JudgedUse((), False)]
         for uses, does in [
             ({}, False),
             ({(3, 10): fits}, True),
@@ -43,7 +52,7 @@ class Notes(unittest.TestCase):
             (compiled({}), "; the call isn't compiled here"),
             (compiled({(3, 9): []}, [(3, 20)]), "; the call isn't compiled here"),
             (compiled({}, [(3, 10)]), "; no call of a known function has it as its format"),
-            (compiled({(3, 10): [Use((), False)]}), ""),
+            (compiled({(3, 10): [JudgedUse((), False)]}), ""),
         ]:
             self.assertEqual(found.noted(FOUND, *TYPES).message, "wrong" + said)
             is_format = said != "; no call of a known function has it as its format"
@@ -60,14 +69,29 @@ class Notes(unittest.TestCase):
             (faults_of("%lu", "int"), unsigned, 1, False),
             ([], signed, 1, True),
         ]:
-            self.assertEqual(Use(faults, True).fits(before, count, list(Model)), does, (before, count))
+            self.assertEqual(JudgedUse(faults, True).fits(before, count, list(Model)), does, (before, count))
 
     def test_models(self):
         """Only the data models that are asked about count."""
         faults = faults_of("%lu", "size_t")
         for models, does in [([Model.LP64], True), ([Model.ILP32], False), (list(Model), False)]:
-            self.assertEqual(Use(faults, True).fits(bytes([Type.ULONG]), 1, models), does, models)
+            self.assertEqual(JudgedUse(faults, True).fits(bytes([Type.ULONG]), 1, models), does, models)
 
 
 if __name__ == "__main__":
     unittest.main()
+
+
+@unittest.skipIf(cindex is None, "it needs libclang")
+class Written(unittest.TestCase):
+    def test_nothing(self):
+        """Columns are known, and no file is made in the folder, which would change its time."""
+        with tempfile.TemporaryDirectory() as work:
+            source = Path(work) / "a.c"
+            source.write_text('#include <stdio.h>\nvoid f(unsigned long *p) { printf("%p %s: %lu\\n", p, "x", sizeof p); }\n')
+            before = os.stat(work).st_mtime_ns
+            words = [sys.executable, "-m", "fmtcanon.checker", "--output=json", str(source)]
+            done = subprocess.run(words, stdout=subprocess.PIPE, check=False)
+            [found] = map(json.loads, done.stdout.splitlines())
+            self.assertEqual((found["line"], found["column"], found["end_column"]), (2, 43, 46))
+            self.assertEqual((os.listdir(work), os.stat(work).st_mtime_ns), (["a.c"], before))

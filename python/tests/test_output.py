@@ -51,7 +51,7 @@ class Streams(unittest.TestCase):
     def test_numbers_of_streams(self):
         """No file takes the number of a stream that is closed."""
         script = (
-            "import os, sys; from fmtcanon.output import occupy; occupy(); "
+            "import os, sys; from fmtcanon.frame.output import occupy; occupy(); "
             "sys.exit(min(os.open(os.devnull, os.O_RDONLY), 3))"
         )
         words = ["sh", "-c", 'exec "$0" -B -c "$1" <&- >&- 2>&-', sys.executable, script]

@@ -10,16 +10,16 @@ import time
 import unittest
 from pathlib import Path
 
-from fmtcanon.processes import Ended, in_order
+from fmtcanon.frame.processes import Ended, in_order
 
 # The seconds in which a command and its processes end after a signal, and those to wait for something.
 SOON, LATE = 2, 60
 # A command whose work takes long, and runs a program.
 SLOW = """
 import signal, subprocess, sys, threading, time
-from fmtcanon.command_line import status_of
 from fmtcanon.compiling import running
-from fmtcanon.processes import in_order
+from fmtcanon.frame.command_line import status_of
+from fmtcanon.frame.processes import in_order
 
 def work(item):
     if sys.argv[1] == "run":
@@ -86,7 +86,7 @@ def end(number):
 # A command that gets a signal where an exception is lost: in a destructor, or in what Python calls for a lost object.
 LOST = """
 import os, signal, sys, time, weakref
-from fmtcanon.command_line import status_of
+from fmtcanon.frame.command_line import status_of
 
 def kill(_):
     os.kill(os.getpid(), signal.SIGINT)
@@ -112,8 +112,8 @@ sys.exit(status_of("lost", run))
 # A command that ends early within another block that ends it, and has a folder that a process works in.
 FOLDER = """
 import os, sys
-from fmtcanon.command_line import status_of
-from fmtcanon.interrupting import clean, end, temporary_folder
+from fmtcanon.frame.command_line import status_of
+from fmtcanon.frame.interrupting import clean, end, temporary_folder
 
 def run():
     with temporary_folder() as folder:

@@ -4,14 +4,14 @@ import tempfile
 import time
 import unittest
 
-from fmtcanon.compiling.known import GETTEXT, KNOWN
 from fmtcanon.compiling.left import Left
-from fmtcanon.compiling.targets import assertions_in
-from fmtcanon.replace import doubts
 from fmtcanon.compiling.parsing import GNU_PRINTF, as_utf8
-from fmtcanon.replace.files import with_sources
-from fmtcanon.replace.places import literals_of, places_in, respelled
-from fmtcanon.replace.tokens import Tokens, common_front
+from fmtcanon.compiling.targets import assertions_in
+from fmtcanon.rewriting import doubts
+from fmtcanon.rewriting.files import with_sources
+from fmtcanon.source.known import GETTEXT, KNOWN
+from fmtcanon.source.respelling import literals_of, respelled, runs_in
+from fmtcanon.source.tokens import Tokens, common_front
 
 ASSERTIONS = (b"_Static_assert", b"static_assert")
 # A source, and the bytes of the literals in it.
@@ -25,6 +25,8 @@ FOUND = [
     (b'L"a" u8"b" u"c" U"d" R"x("e")x" "f"', [b"f"]),
     (b'R"("a")" u8R"--("b"))--" "c"', [b"c"]),
     (b'1\'000 "a" 0x1p+3', [b"a"]),
+    (b'"a" L"b" "c" u8"d" "e" R"(f)" "g"', [b"a", b"c", b"e", b"g"]),
+    (b'#include "a%d.h"\n#error "%d"\n#pragma x "%d"\n#define F "%i"\nf("b")', [b"%i", b"b"]),
     (b'"\\q" "a', []),
     (b'"a\\0b"', []),
     (b'"??=" "a\\??="', []),
@@ -54,29 +56,29 @@ SPELLED = [
 class Literals(unittest.TestCase):
     def test_found(self):
         for source, wanted in FOUND:
-            self.assertEqual([it.text for it in places_in(source)], wanted, source)
+            self.assertEqual([it.text for it in runs_in(source)], wanted, source)
 
     def test_time(self):
         """What comes after a literal is read once, however it could be cut into comments."""
         for between in [b"// x " * 2_000 + b"\n", b"/* x */ " * 2_000, b"/***/ // /* \n" * 2_000, b" \\\n" * 2_000]:
             began = time.process_time()
             source = b'"a" ' + between + b"; " + b'"b" ' + between + b'"c"'
-            self.assertEqual([it.text for it in places_in(source)], [b"a", b"bc"])
+            self.assertEqual([it.text for it in runs_in(source)], [b"a", b"bc"])
             self.assertLess(time.process_time() - began, 5)
 
     def test_lines(self):
-        self.assertEqual([it.line for it in places_in(b'"a"; /*\n\n*/ "b"\n"c"; "d"')], [1, 3, 4])
+        self.assertEqual([it.line for it in runs_in(b'"a"; /*\n\n*/ "b"\n"c"; "d"')], [1, 3, 4])
 
     def test_spelled(self):
         for source, new, wanted in SPELLED:
-            [place] = places_in(source)
+            [place] = runs_in(source)
             self.assertEqual(respelled(place, new), wanted, source)
 
     def test_spliced(self):
-        [place] = places_in(b'"a\\\n%i"')
+        [place] = runs_in(b'"a\\\n%i"')
         self.assertEqual(respelled(place, b"a%d"), b'"a\\\n%d"')
         self.assertEqual(respelled(place, b"b%i"), b'"b\\\n%i"')
-        [place] = places_in(b'"%\\\ni"')
+        [place] = runs_in(b'"%\\\ni"')
         self.assertIsNone(respelled(place, b"x"))
 
     def test_parts(self):
@@ -84,7 +86,7 @@ class Literals(unittest.TestCase):
 
     def test_a_file(self):
         source = b'f("a"); g("b");'
-        self.assertEqual(with_sources(source, list(places_in(source)), [b'"c"', b'"d" "e"']), b'f("c"); g("d" "e");')
+        self.assertEqual(with_sources(source, list(runs_in(source)), [b'"c"', b'"d" "e"']), b'f("c"); g("d" "e");')
 
 
 class Preprocessed(unittest.TestCase):

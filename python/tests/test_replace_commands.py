@@ -10,11 +10,15 @@ from pathlib import Path
 from fmtcanon import Model
 from fmtcanon.compiling.compile_commands import SOURCES, CompileCommand, names_in_rule, said
 from fmtcanon.compiling.left import Left
-from fmtcanon.compiling.stand_ins import StandIn
 from fmtcanon.compiling.targets import check_model, model_in
-from fmtcanon.replace.units import Answer, Units, asked, units_of
+from fmtcanon.rewriting.units import Inclusions, Units, asked, units_of
 
 SOURCE = "int f(void);\nint f(void) { return 1; }\n"
+# A source that has its own name and its position in it.
+NAMED = """#include "b.h"
+const char *names[] = {__FILE__, __BASE_FILE__};
+int d = 1; int line = __LINE__;
+"""
 # Words that make a compiler write the file `keep`, or one with a name of its own, and what becomes of them.
 WRITING = [
     (["-Wp,-DX,-MD,keep"], ["-Wp,-DX"]),
@@ -126,9 +130,7 @@ class Words(unittest.TestCase):
                 file.write_text(SOURCE)
                 command = CompileCommand(work, os.path.realpath(file), ("gcc", *words, "-c", "a.c"))
                 self.assertIn(b"return 1", command.preprocessed())
-                with StandIn(command.file) as stand_in:
-                    stand_in.write(SOURCE.encode())
-                    command.check_compiles(stand_in)
+                command.check_compiles(SOURCE.encode())
                 command.included()
                 self.assertEqual((sorted(os.listdir(work)), keep.read_text()), (["a.c", "keep"], "precious"), words)
 
@@ -140,6 +142,28 @@ class Words(unittest.TestCase):
             with unittest.mock.patch.dict(os.environ, {"DEPENDENCIES_OUTPUT": f"{work}/rule"}):
                 command.preprocessed()
             self.assertEqual(os.listdir(work), ["a.c"])
+
+    def test_standard_input(self):
+        """A source that is given is preprocessed as the file is, and nothing is written next to it."""
+        with tempfile.TemporaryDirectory() as work:
+            for name, text in [("in/b.h", "int b = __LINE__;\n"), ("c.h", "int c;\n"), ("in/a \\ b.c", NAMED)]:
+                (Path(work) / name).parent.mkdir(exist_ok=True)
+                (Path(work) / name).write_text(text)
+            os.symlink("in/a \\ b.c", f"{work}/link.c")
+            rows = [(work, "in/a \\ b.c"), (f"{work}/in", "a \\ b.c"), (work, f"{work}/in/a \\ b.c")]
+            file, before = os.path.realpath(f"{work}/in/a \\ b.c"), os.stat(f"{work}/in").st_mtime_ns
+            for folder, name in rows:
+                words = ("gcc", "-std=c99", "-include", f"{work}/c.h", "-Wall", "-Wpedantic", "-Werror", "-c", name)
+                command = CompileCommand(folder, file, words)
+                self.assertEqual(command.preprocessed(NAMED.encode()), command.preprocessed(), name)
+                command.check_compiles(NAMED.encode())
+                other = command.preprocessed(NAMED.replace("d = 1", "d = 2").encode())
+                self.assertEqual(other, command.preprocessed().replace(b"d = 1", b"d = 2"))
+            with self.assertRaisesRegex(Left, r"a .* b\.c:1.*error"):
+                CompileCommand(*[work, file, ("gcc", "-c", "in/a \\ b.c")]).check_compiles(b"int")
+            linked = CompileCommand(work, file, ("gcc", f"-I{work}/in", "-c", "link.c"))
+            self.assertEqual(linked.preprocessed(NAMED.encode()), linked.preprocessed())
+            self.assertEqual(os.stat(f"{work}/in").st_mtime_ns, before)
 
     def test_language(self):
         for words, name, wanted in [
@@ -174,9 +198,7 @@ class Results(unittest.TestCase):
             file = Path(work) / "a.c"
             file.write_text("int x;\n")
             command = CompileCommand(work, os.path.realpath(file), ("gcc", *words, "-c", "a.c"))
-            with StandIn(command.file) as stand_in:
-                stand_in.write(source)
-                command.check_compiles(stand_in)
+            command.check_compiles(source)
 
     def test_results(self):
         self.check(b"int x = 1;")
@@ -263,7 +285,7 @@ class Program(unittest.TestCase):
 
     def test_other_languages(self):
         self.assertIsNone(asked(CompileCommand("/", __file__, ("python3", __file__))))
-        Units([None, Answer("/a.c", {"/b.h"})]).check("/c.c")
+        Units([None, Inclusions("/a.c", {"/b.h"})]).check("/c.c")
 
     def test_rules(self):
         rule = "x: a.c in\\ der.h \\\n  b\\#.h \\\n c$$d.h\n"

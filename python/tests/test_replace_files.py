@@ -15,8 +15,8 @@ from fmtcanon.compiling import running
 from fmtcanon.compiling.left import Left
 from fmtcanon.compiling.sources import Files
 from fmtcanon.compiling.stand_ins import StandIn, original
-from fmtcanon.interrupting import Interrupted, interruptible
-from fmtcanon.replace.files import put_in_place
+from fmtcanon.frame.interrupting import Interrupted, interruptible
+from fmtcanon.rewriting.files import put_in_place
 
 # The seconds in which the command ends after a signal.
 SOON = 2
@@ -125,7 +125,7 @@ class StandIns(InFolder):
 
 class Names(InFolder):
     def names(self, *operands):
-        options = argparse.Namespace(database=None, files=[str(self.work / it) for it in operands], flag=[])
+        options = argparse.Namespace(database=None, files=[str(self.work / it) for it in operands], flag=[], exclude=[])
         return [os.path.relpath(it.shown, self.work) for it in Files(options).names()]
 
     def test_links_out_of_a_folder(self):
@@ -221,10 +221,11 @@ SCRIPT = """
 import argparse, os, signal, sys, threading, time
 from fmtcanon.compiling import running
 from fmtcanon.compiling.stand_ins import StandIn, original
-from fmtcanon.findings import Finding
-from fmtcanon.progress import Progress
-from fmtcanon.replace import writing
-from fmtcanon.replace.replacer import Replacer, Report
+from fmtcanon.frame.findings import Finding
+from fmtcanon.frame.progress import Progress
+from fmtcanon.replace.replacer import Replacer
+from fmtcanon.rewriting import writing
+from fmtcanon.rewriting.rewriter import Report
 
 names, how = sys.argv[2:], sys.argv[1]
 
@@ -242,7 +243,7 @@ class Fake(Replacer):
         return found
 
     def left(self, name, why):
-        return Report(name, [Finding(name, 0, None, "left", "warning", "left: " + why)], is_left=True)
+        return Report(name, [Finding(name, 0, None, "skipped", "warning", "not judged: " + why)], is_skipped=True)
 
     def hang(self, name):
         with StandIn(name) as stand_in:
@@ -261,8 +262,8 @@ def put_in_place(*rest, real=writing.put_in_place):
         os.kill(os.getpid(), signal.SIGTERM)
 
 writing.put_in_place = put_in_place
-options = argparse.Namespace(jobs=2, output="text", diff=False, dry_run=False, color="auto")
-from fmtcanon.command_line import status_of
+options = argparse.Namespace(jobs=2, output="text", diff=False, dry_run=False, color="auto", fail_on=["skipped"])
+from fmtcanon.frame.command_line import status_of
 sys.exit(status_of("fmtcanon-replace", lambda: writing.replace(options, Fake(), names)))
 """
 
@@ -284,14 +285,14 @@ class Ends(InFolder):
     def test_all(self):
         run = self.run_of("", stdout=subprocess.PIPE)
         output, errors = run.communicate(timeout=60)
-        self.assertEqual((run.returncode, output.count(b"replaced"), errors), (0, 3, b""))
+        self.assertEqual((run.returncode, output.count(b"note: replaced"), errors), (0, 3, b""))
         self.assertEqual(self.texts(), ["new\n"] * 3)
 
     def test_an_edit_meanwhile(self):
         run = self.run_of("edit", stdout=subprocess.PIPE)
         output = run.communicate(timeout=60)[0].decode()
-        self.assertEqual((run.returncode, output.count("replaced")), (1, 2))
-        self.assertIn(f"{self.files[0]}: left: it was changed meanwhile\n", output)
+        self.assertEqual((run.returncode, output.count("note: replaced")), (2, 2))
+        self.assertIn(f"{self.files[0]}:1: warning: not judged: it was changed meanwhile [skipped]\n", output)
         self.assertEqual(self.texts(), ["old\nmore", "new\n", "new\n"])
 
     def test_full_output(self):

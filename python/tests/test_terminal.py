@@ -11,10 +11,10 @@ import unittest
 from pathlib import Path
 from unittest import mock
 
-from fmtcanon import progress
-from fmtcanon.excerpts import Excerpt, excerpt_lines, shown_finding
+from fmtcanon.frame import progress
+from fmtcanon.frame.excerpts import Excerpt, excerpt_lines, shown_finding
+from fmtcanon.frame.terminals import Style, columns, style_of
 from fmtcanon.po.sources import CatalogSource, Mark
-from fmtcanon.terminals import Style, columns, style_of
 
 from .terminal import on_terminal, plain
 
@@ -42,21 +42,20 @@ msgstr "%s: %#d"
 """
 # What a terminal of 80 columns shows of it: the lines, and carets under the specifications, by hand.
 CATALOG_SHOWN = """\
-de.po:6: types of 'msgid' and 'msgstr' differ at argument 2, counted from 1:
-    %zu takes unsigned int and %lu takes unsigned long, in ILP32 ["%d of %zu
-    files were copied"]
+de.po:6:16: error: argument 2 is unsigned int (%zu) in 'msgid', and unsigned
+    long (%lu) in 'msgstr', in ILP32 [types]
  5 | msgid "%d of %zu files were copied"
    |              ^^^ unsigned int
  6 | msgstr "%d von %lu Dateien kopiert"
    |                ^^^ unsigned long
-de.po:11: types of 'msgid_plural' and 'msgstr[1]' differ at argument 1, counted
-    from 1: %d takes int and %s takes string ["\\tremoved %d file"]
+de.po:14:12: error: argument 1 is int (%d) in 'msgid_plural', and string (%s)
+    in 'msgstr[1]' [types]
  10 | msgid_plural "\\tremoved %d files"
     |                         ^^ int
  14 | "gel\u00f6scht: %s Dateien"
     |            ^^ string
-de.po:18: 'msgstr' is not a valid C format string, unlike 'msgid'. Reason:
-    refused 13 AltUndefined at byte 6 ["%s: %5d"]
+de.po:18:13: error: 'msgstr' is not a valid C format string, unlike 'msgid'.
+    Reason: refused 13 AltUndefined at byte 6 [format]
  18 | msgstr "%s: %#d"
     |             ^^^ AltUndefined
     help: `#` has no meaning with `d`. Write %d.
@@ -73,33 +72,33 @@ void f(int n, const char *name, double d) {
 """
 NEW = OLD.replace("%d files", "%s files").replace("%05d", "%.5d").replace("%f", "%e").replace("%d ok", "%y ok")
 DIFF_SHOWN = """\
-new.c:2:9: types differ at argument 2, counted from 1: %d takes int and %s
-    takes string, in "%-20s|%d files\\n" and "%-20s|%s files\\n"
+new.c:2:9: error: types differ at argument 2: %d takes int and %s takes string,
+    in "%-20s|%d files\\n" and "%-20s|%s files\\n" [types]
  old 2 |     printf("%-20s|%d files\\n", name, n);
        |                   ^^ int
  new 2 |     printf("%-20s|%s files\\n", name, n);
        |                   ^^ string
-new.c:3:9: different: "%05d\\n" and "%.5d\\n" print "-0001\\n" and "-00001\\n" for
-    -1
+new.c:3:9: error: different: "%05d\\n" and "%.5d\\n" print "-0001\\n" and
+    "-00001\\n" for -1 [different]
  old 3 |     printf("%05d\\n", n);
        |             ^^^^ the sign is one of the 5 columns
  new 3 |     printf("%.5d\\n", n);
        |             ^^^^ 5 digits, and the sign before them
-new.c:4:9: directives differ at argument 2, counted from 1: "%f" and "%e"
+new.c:4:9: error: directives differ at argument 2: "%f" and "%e" [directives]
  old 4 |     printf("%d %f\\n", n, d);
        |                ^^ digits with 6 places after the point
  new 4 |     printf("%d %e\\n", n, d);
        |                ^^ one digit, the point, 6 places, and an exponent
        |                   after `e`
-new.c:5:9: rejected now: refused 3 Unexpected at byte 1 of "%y ok\\n"
+new.c:5:9: error: rejected now: refused 3 Unexpected at byte 1 of "%y ok\\n"
+    [rejected]
  new 5 |     printf("%y ok\\n", n);
        |             ^^ Unexpected
     help: The byte can't continue the specification. Flags, width, precision,
           length modifier and conversion come in this order. A percent sign is
           `%%`.
-4 places changed: 0 same, 0 with other words, 1 different, 1 with other types,
-    1 with other directives, 1 rejected now, 0 not judged; 0 literals added, 0
-    removed
+4 formats changed: 1 printing differently, 1 taking different types, 1 with
+    other directives, 1 rejected now; 0 literals added, 0 removed
 """
 
 
@@ -132,7 +131,7 @@ class Screens(InFolder):
         self.assertEqual(self.shown(*words, NO_COLOR="1"), (1, CATALOG_SHOWN))
         status, text = self.piped(words)
         self.assertEqual((status, len(text.splitlines())), (1, 5))
-        self.assertEqual(len(re.findall(r"^de\.po:\d+: ", text, re.MULTILINE)), 3)
+        self.assertEqual(len(re.findall(r"^de\.po:\d+:\d+: error: ", text, re.MULTILINE)), 3)
 
     def test_diff(self):
         self.put("old.c", OLD)
@@ -192,7 +191,7 @@ class Screens(InFolder):
             ("po", names, ["1 of 3", "2 of 3", "3 of 3"]),
             ("diff", ["old", "new"], ["1 of 2", "2 of 2"]),
         ]:
-            script = "from fmtcanon import progress; progress.BEGIN = progress.EVERY = 0; "
+            script = "from fmtcanon.frame import progress; progress.BEGIN = progress.EVERY = 0; "
             script += f"from fmtcanon.{package}.command import main; main({words})"
             _, text = self.shown("-c", script)
             self.assertEqual(re.findall(r"\r\x1b\[K(\d+ of \d+) files done", text), wanted)

@@ -12,7 +12,8 @@ from unittest import mock
 
 from fmtcanon.diff import trees
 from fmtcanon.diff.renames import renamed
-from fmtcanon.diff.trees import Git, Unreadable, changes_of
+from fmtcanon.diff.trees import Git, changes_of
+from fmtcanon.source.files import Unreadable
 
 # The seconds that git may take here, and those in which what it runs has ended.
 LIMIT, SOON = 0.5, 5

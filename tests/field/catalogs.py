@@ -1,7 +1,6 @@
-#!/usr/bin/env python3
-"""What fmtcanon-po says of a machine's own message catalogs, beside `msgfmt -c`: a table in Markdown.
+"""What fmtcanon-po says of a machine's own message catalogs, compared with `msgfmt -c`: a table in Markdown.
 
-Usage: tests/field/catalogs.py [--list] [FOLDER]
+Usage: python3 -m tests.field.catalogs [--list] [FOLDER]
 
 FOLDER is /usr/share/locale where it isn't given. Each .mo file below it is turned into a .po file by
 msgunfmt, and each message with a % gets the flag c-format, since a .mo file has no flags. Both tools
@@ -19,18 +18,16 @@ from concurrent.futures import ThreadPoolExecutor
 from pathlib import Path
 from tempfile import TemporaryDirectory
 
-TOP = Path(__file__).resolve().parent.parent.parent
-sys.path.insert(0, str(TOP / "python"))
-
-import fmtcanon  # noqa: E402
-from fmtcanon.po.checking import Checker  # noqa: E402
-from fmtcanon.po.command import as_msgfmt  # noqa: E402
+import fmtcanon
+from fmtcanon.frame.findings import as_text
+from fmtcanon.po.checking import Checker
+from tests.commands.more_catalogs import translation_line
 
 ENVIRONMENT = {**os.environ, "LC_ALL": "C", "LANGUAGE": ""}
 FAULT = re.compile(
-    r"^[^\n]*?:(\d+): (?!warning)(.*(?:format specifications|types of|valid C format|do not both).*)", re.MULTILINE
+    r"^[^\n]*?:(\d+):(?:\d+:)? (?!warning)(.*(?:format specifications|is .* in .*, and|valid C format|do not both).*)", re.MULTILINE
 )
-WARNING = re.compile(r"^[^\n]*?:(\d+): warning: (.*)", re.MULTILINE)
+WARNING = re.compile(r"^[^\n]*?:(\d+):(?:\d+:)? warning: (.*)", re.MULTILINE)
 ROWS = [
     ("catalogs", "Catalogs"),
     ("unread", "Catalogs that one of the two couldn't read"),
@@ -54,11 +51,11 @@ def flagged(text):
     return b"\n\n".join(b"#, c-format\n" + part if b"%" in part and at else part for at, part in enumerate(parts))
 
 
-def faults_of(text, pattern=FAULT):
-    """The lines of the catalog with a fault, each with what is said of it first."""
+def faults_of(text, catalog, pattern=FAULT):
+    """The lines of a catalog with a translation that has a fault, each with what is said of it first."""
     found = {}
     for line, words in pattern.findall(text):
-        found.setdefault(int(line), words)
+        found.setdefault(translation_line(catalog, int(line)), words)
     return found
 
 
@@ -71,15 +68,16 @@ def compared(mo):
     with TemporaryDirectory() as work:
         po = Path(work) / "a.po"
         po.write_bytes(flagged(plain.stdout))
+        text = po.read_text(encoding="utf-8", errors="replace")
         report = run(["msgfmt", "-c", "-o", os.devnull, str(po)]).stderr.decode(errors="replace")
         ours = io.StringIO()
-        checker = Checker(lambda it: print(as_msgfmt(it), file=ours), list(fmtcanon.Model))
+        checker = Checker(lambda it: print(as_text(it), file=ours), list(fmtcanon.Model))
         checker.check_data("a.po", po.read_bytes())
     if "can't be read" in ours.getvalue() or "multibyte" in report:
         return Counter(catalogs=1, unread=1), [f"{mo}: {ours.getvalue()[:100]}"]
     counts.update(judged=checker.judged, unjudged=checker.unjudged, messages=checker.judged + checker.unjudged)
-    theirs, found = faults_of(report), faults_of(ours.getvalue())
-    unjudged = faults_of(ours.getvalue(), WARNING)
+    theirs, found = faults_of(report, text), faults_of(ours.getvalue(), text)
+    unjudged = faults_of(ours.getvalue(), text, WARNING)
     for line in theirs.keys() | found.keys():
         if line in theirs and line in found:
             counts["both"] += 1

@@ -1,7 +1,6 @@
-#!/usr/bin/env python3
 """What fmtcanon-po says of mutated translations, compared with `msgfmt -c`: a table in Markdown.
 
-Usage: tests/field/mutations.py [--list] [COUNT]
+Usage: python3 -m tests.field.mutations [--list] [COUNT]
 
 COUNT messages, 40,000 by default, are formats of bench/shapes.nul and a list of the whole language, a fifth of them
 after one edit. Each translation is its message after one to three edits of its specifications, made by a generator with
@@ -19,12 +18,10 @@ import tempfile
 from collections import Counter
 from pathlib import Path
 
-TOP = Path(__file__).resolve().parent.parent.parent
-sys.path.insert(0, str(TOP / "python"))
-
-import fmtcanon  # noqa: E402
-from fmtcanon.po.checking import Checker  # noqa: E402
-from fmtcanon.po.command import as_msgfmt  # noqa: E402
+import fmtcanon
+from fmtcanon.frame.findings import as_text
+from fmtcanon.po.checking import Checker
+from tests.frame.harness import TOP
 
 COUNT = 40_000
 SEED = 56
@@ -177,10 +174,10 @@ def catalog(messages):
 
 def by_line(report):
     found = {}
-    for line, words in re.findall(r"^[^:\n]+:(\d+): ([^\n]*)", report, flags=re.MULTILINE):
+    for line, words in re.findall(r"^[^:\n]+:(\d+):(?:\d+:)? ([^\n]*)", report, flags=re.MULTILINE):
         if (
             "format specifications" in words
-            or "types of" in words
+            or "[types]" in words
             or "valid C format" in words
             or words.startswith("warning")
         ):
@@ -198,7 +195,7 @@ def reports(text):
             ["msgfmt", "-c", "-o", os.devnull, str(file)], env=environment, check=False, stderr=subprocess.PIPE
         )
         ours = io.StringIO()
-        Checker(lambda it: print(as_msgfmt(it), file=ours), list(fmtcanon.Model)).check_data("a.po", file.read_bytes())
+        Checker(lambda it: print(as_text(it), file=ours), list(fmtcanon.Model)).check_data("a.po", file.read_bytes())
     return by_line(ours.getvalue()), by_line(done.stderr.decode(errors="replace"))
 
 

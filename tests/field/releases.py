@@ -1,7 +1,6 @@
-#!/usr/bin/env python3
 """Prints what fmtcanon-diff says of releases of source trees: a table in Markdown.
 
-Usage: tests/field/releases.py OLD NEW [OLD NEW]..
+Usage: python3 -m tests.field.releases OLD NEW [OLD NEW]..
 
 Each OLD and NEW are folders with two releases of one package. With --list it prints what is found instead. It needs the
 module fmtcanon with its library.
@@ -14,14 +13,11 @@ import time
 from collections import Counter
 from pathlib import Path
 
-TOP = Path(__file__).resolve().parent.parent.parent
-sys.path.insert(0, str(TOP / "python"))
-
-from fmtcanon import Model  # noqa: E402
-from fmtcanon.diff.reporting import Question, report_on  # noqa: E402
-from fmtcanon.diff.trees import changes_of  # noqa: E402
-from fmtcanon.findings import as_text  # noqa: E402
-from fmtcanon.processes import in_order  # noqa: E402
+from fmtcanon import Model
+from fmtcanon.diff.reporting import DiffQuestion, report_on
+from fmtcanon.diff.trees import changes_of
+from fmtcanon.frame.findings import as_text
+from fmtcanon.frame.processes import in_order
 
 COLUMNS = [
     "places",
@@ -56,7 +52,7 @@ HEADS = [
 def surveyed(old, new, is_listed):
     """Returns the numbers of places of each kind."""
     counts = Counter()
-    work = functools.partial(report_on, question=Question(list(Model)))
+    work = functools.partial(report_on, question=DiffQuestion(list(Model)))
     for report in in_order(work, changes_of(old, new), os.cpu_count() or 1):
         counts.update(came=report.came, went=report.went, places=len(report.findings))
         for finding in report.findings:

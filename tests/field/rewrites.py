@@ -1,7 +1,6 @@
-#!/usr/bin/env python3
 """Respells the formats of a source tree by fmtcanon-replace, and compares the assembler of each unit before and after.
 
-Usage: tests/field/rewrites.py DIR
+Usage: python3 -m tests.field.rewrites DIR
 
 DIR has a `compile_commands.json`; its files are changed. Each place that the library accepts and that has another
 spelling, as %i for %d, %lf for %f and %-s for %s, is replaced if fmtcanon-replace judges so, with --attribute. The
@@ -16,19 +15,15 @@ import subprocess
 import sys
 from collections import Counter
 from concurrent.futures import ProcessPoolExecutor
-from pathlib import Path
 
-TOP = Path(__file__).resolve().parent.parent.parent
-sys.path[:0] = [str(TOP / "python"), str(TOP / "tests/field")]
-
-import fmtcanon  # noqa: E402
-from fmtcanon.compiling.compile_commands import SOURCES, commands_in  # noqa: E402
-from fmtcanon.compiling.left import Left  # noqa: E402
-from fmtcanon.compiling.stand_ins import original  # noqa: E402
-from fmtcanon.replace.calls import Functions  # noqa: E402
-from fmtcanon.replace.files import Change, File, put_in_place  # noqa: E402
-from fmtcanon.replace.places import places_in, respelled  # noqa: E402
-from sources import is_accepted  # noqa: E402
+import fmtcanon
+from fmtcanon.compiling.compile_commands import SOURCES, commands_in
+from fmtcanon.compiling.left import Left
+from fmtcanon.compiling.stand_ins import original
+from fmtcanon.compiling.functions import Functions
+from fmtcanon.rewriting.files import Change, File, put_in_place
+from fmtcanon.source.respelling import respelled, runs_in
+from tests.field.sources import is_accepted
 
 # What a format may be instead: each pattern is tried in turn, once.
 SPELLINGS = [
@@ -77,7 +72,7 @@ def rewritten(path, commands):
     """Respells what it may of a file, and returns counts, and the units whose assembler differs."""
     read = original(path)
     changes = []
-    for place in places_in(read.source):
+    for place in runs_in(read.source):
         new = other_spelling(place.text)
         text = new and respelled(place, new)
         if text:

@@ -1,7 +1,6 @@
-#!/usr/bin/env python3
 """Prints what fmtcanon-replace says of a source tree: a table in Markdown.
 
-Usage: tests/field/sources.py DIR..
+Usage: python3 -m tests.field.sources DIR..
 
 Each DIR has a `compile_commands.json`. A place is one or more string literals side by side with a `%`. Of each that the
 library accepts it is asked whether it would be replaced by itself, with --attribute. No file is changed. It needs the
@@ -13,18 +12,14 @@ import re
 import sys
 from collections import Counter
 from concurrent.futures import ProcessPoolExecutor
-from pathlib import Path
 
-TOP = Path(__file__).resolve().parent.parent.parent
-sys.path.insert(0, str(TOP / "python"))
-
-import fmtcanon  # noqa: E402
-from fmtcanon.compiling.compile_commands import SOURCES, commands_in  # noqa: E402
-from fmtcanon.compiling.left import Left  # noqa: E402
-from fmtcanon.compiling.stand_ins import original  # noqa: E402
-from fmtcanon.replace.calls import Functions  # noqa: E402
-from fmtcanon.replace.files import Change, File  # noqa: E402
-from fmtcanon.replace.places import places_in  # noqa: E402
+import fmtcanon
+from fmtcanon.compiling.compile_commands import SOURCES, commands_in
+from fmtcanon.compiling.left import Left
+from fmtcanon.compiling.stand_ins import original
+from fmtcanon.compiling.functions import Functions
+from fmtcanon.rewriting.files import Change, File
+from fmtcanon.source.respelling import runs_in
 
 TRANSLATORS = "it is a key for translators"
 # What a reason has for one place alone.
@@ -56,7 +51,7 @@ def is_accepted(text):
 def surveyed(path, commands):
     """Returns what it says of each place of a file, as counts."""
     read = original(path)
-    places = [it for it in places_in(read.source) if b"%" in it.text]
+    places = [it for it in runs_in(read.source) if b"%" in it.text]
     accepted = [it for it in places if is_accepted(it.text)]
     counts = Counter(files=1, places=len(places), accepted=len(accepted))
     changes = [Change(it, it.source) for it in accepted]

@@ -1,4 +1,4 @@
-/* Calls of all sorts. The compilers of tests/checking.py say what is wrong with them on each platform. */
+/* Calls of all sorts. The compilers of more_check.py say what is wrong with them on each platform. */
 #include <limits.h>
 #include <stdio.h>
 #include <stdlib.h>

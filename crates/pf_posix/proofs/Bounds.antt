@@ -9,7 +9,7 @@ use Rattle.pf_values.specs.declared.models.Model.{Model}
 use Rattle.pf_values.specs.meaning.Text.{Text}
 use Rattle.pf_posix.specs.declared.fetches.Fetch.{Fetch}
 use Rattle.pf_posix.specs.declared.types.ArgumentType.{ArgumentType}
-use Rattle.pf_posix.specs.Items.{Byte, ReadsPosix, Specification, PosixItem, fetched}
+use Rattle.pf_posix.specs.Items.{Byte, Errno, ReadsPosix, Specification, PosixItem, fetched}
 use Rattle.pf_posix.specs.Specifications.{Amount, Fetched, PosixSpecification}
 use Rattle.pf_posix.specs.Spelling.{SpellsUpToPrecision, SpellsPosixPrecision, SpellsPositive, SpellsPosition, SpellsPosix, SpellsPosixWidth, SpellsStar}
 use Rattle.pf_posix.specs.Types.{conversion_type, fetch, fetches, int_type, star_fetches, HaveTypes, HasTypeIn}
@@ -58,6 +58,7 @@ spelled_within model t s h =
 pub items_within : (model : Model) (t : Text) (items : List PosixItem) → ReadsPosix t items → AllByRecursion IsWithin (fetched model items)
 items_within model t [] h = tt
 items_within model t (Byte b ∷ items) h = items_within model h.1 items h.3
+items_within model t (Errno ∷ items) h = items_within model h.1 items h.3
 items_within model t (Specification s ∷ items) h = all_append IsWithin (fetches model s) (fetched model items) (spelled_within model h.0 s h.2.0)
     (items_within model h.1 items h.3)
 
@@ -110,6 +111,7 @@ module _ (model : Model) (types : List ArgumentType) where
       → AllByRecursion (TakesFrom types) (directives_from model at next t items reads)
   typed_from at next t [] reads h = tt
   typed_from at next t (Byte byte ∷ items) reads h = typed_from (at + length reads.0) next reads.1 items reads.3 h
+  typed_from at next t (Errno ∷ items) reads h = typed_from (at + length reads.0) next reads.1 items reads.3 h
   typed_from at next t (Specification s ∷ items) reads h =
       let stars = star_fetches s.width ++ star_fetches s.precision in
       let last = fetch s.position (conversion_type model s.modifier s.conversion) in

@@ -16,7 +16,7 @@ use Rattle.pf_text.specs.declared.walk.Walk.{Walk}
 use Rattle.pf_text.proofs.ReadingLemmas.{moved_over}
 use Rattle.pf_posix.specs.Directives.{HasDirectiveCount, HasDirectives, TakesFrom, directive_between, directives_from}
 use Rattle.pf_posix.specs.DirectivesInText.{IsBehindItem, IsListedBehind, IsListedTo}
-use Rattle.pf_posix.specs.Items.{Byte, HasArguments, PosixItem, ReadsPosix, Specification}
+use Rattle.pf_posix.specs.Items.{Byte, Errno, HasArguments, PosixItem, ReadsPosix, Specification, errno}
 use Rattle.pf_posix.specs.Laws.{filled}
 use Rattle.pf_posix.specs.PartsInText.{IsSpecificationAt, specification_read}
 use Rattle.pf_posix.specs.Halts.{BeginsNoneAfter}
@@ -29,11 +29,18 @@ use Rattle.pf_posix.proofs.ListLemmas.{same_from, filled_none}
 use Rattle.pf_posix.proofs.Bounds.{all_typed}
 use Rattle.pf_posix.proofs.PassedLemmas.{walked}
 
-pub percent_split : (t : Text) (at : ℕ) → get_or t at 0 ≡ 37 → (get_or t (at + 1) 0 == 37) ≡ true → at + 1 < length t → drop at t ≡ 37 ∷ 37 ∷ drop (at + 2) t
-percent_split t at first second more =
+-- `%` and another byte
+two_split : (t : Text) (at byte : ℕ) → get_or t at 0 ≡ 37 → (get_or t (at + 1) 0 == byte) ≡ true → at + 1 < length t → drop at t ≡ 37 ∷ byte ∷ drop (at + 2) t
+two_split t at byte first second more =
     let next : at + 1 + 1 ≡ at + 2 = omega arith in
     drop_more t at 0 (omega (arith, more)) ∙ ap (λ b. b ∷ drop (at + 1) t) first
-    ∙ ap (λ u. 37 ∷ u) (drop_more t (at + 1) 0 more ∙ ap (λ b. b ∷ drop (at + 1 + 1) t) (eqb-true _ 37 second) ∙ ap (λ k. 37 ∷ drop k t) next)
+    ∙ ap (λ u. 37 ∷ u) (drop_more t (at + 1) 0 more ∙ ap (λ b. b ∷ drop (at + 1 + 1) t) (eqb-true _ byte second) ∙ ap (λ k. byte ∷ drop k t) next)
+
+pub percent_split : (t : Text) (at : ℕ) → get_or t at 0 ≡ 37 → (get_or t (at + 1) 0 == 37) ≡ true → at + 1 < length t → drop at t ≡ 37 ∷ 37 ∷ drop (at + 2) t
+percent_split t at = two_split t at 37
+
+pub errno_split : (t : Text) (at : ℕ) → get_or t at 0 ≡ 37 → (get_or t (at + 1) 0 == 109) ≡ true → at + 1 < length t → drop at t ≡ errno ++ drop (at + 2) t
+errno_split t at = two_split t at 109
 
 -- what comes after an item of a text that is read from an offset on
 item_there : (t : Text) (at stop : ℕ) (item : PosixItem) (first : Text) → HasText item first → drop at t ≡ first ++ drop stop t → (items : List PosixItem)
@@ -49,10 +56,13 @@ module _ (t : Text) (at : ℕ) (less : at < length t) where
       bool_no (ap (λ b. b == 37) (head_at t (at + 1) 37 reads.1 twice)) other
 
   pub some_specification : (items : List PosixItem) → ReadsPosix (drop at t) items → get_or t at 0 ≡ 37 → (get_or t (at + 1) 0 == 37) ≡ false
-      → BeginsNoneAfter Undecided (drop at t) → ⊥
-  some_specification [] reads percent other none = omega (arith, less, ap length reads, length-drop at t)
-  some_specification (Byte x ∷ later) reads percent other none = no_byte x later reads percent other
-  some_specification (Specification s ∷ later) reads percent other none = none reads.0 reads.1 s reads.2.0 reads.4 (inl refl) reads.2.1
+      → (get_or t (at + 1) 0 == 109) ≡ false → BeginsNoneAfter Undecided (drop at t) → ⊥
+  some_specification [] reads percent other letter none = omega (arith, less, ap length reads, length-drop at t)
+  some_specification (Byte x ∷ later) reads percent other letter none = no_byte x later reads percent other
+  some_specification (Errno ∷ later) reads percent other letter none =
+      let split = sym (ap (λ u. u ++ reads.1) reads.2) ∙ sym reads.4 ∙ drop_more t at 0 less in
+      bool_no (ap (λ b. b == 109) (head_at t (at + 1) 109 reads.1 (sym (ap (drop 1) split)))) letter
+  some_specification (Specification s ∷ later) reads percent other letter none = none reads.0 reads.1 s reads.2.0 reads.4 (inl refl) reads.2.1
 
   byte_text : (get_or t at 0 == 37) ≡ false → HasText (Byte (get_or t at 0)) (get_or t at 0 ∷ [])
   byte_text other = rw other refl
@@ -62,14 +72,20 @@ module _ (t : Text) (at : ℕ) (less : at < length t) where
   item_byte other items reads =
       let byte = get_or t at 0 in
       let front = item_there t at (at + 1) (Byte byte) (byte ∷ []) (byte_text other) (drop_more t at 0 less) items reads in
-      (byte, front.later, front.items_are, front.reads, omega (arith, less))
+      (Byte byte, front.later, tt, front.items_are, front.reads, omega (arith, less))
 
   module _ (percent : get_or t at 0 ≡ 37) where
     pub item_percent : (get_or t (at + 1) 0 == 37) ≡ true → at + 1 < length t → (items : List PosixItem) → ReadsPosix (drop at t) items
         → IsBehindItem t items None (at + 2)
     item_percent second more items reads =
         let front = item_there t at (at + 2) (Byte 37) (37 ∷ 37 ∷ []) refl (percent_split t at percent second more) items reads in
-        (37, front.later, front.items_are, front.reads, omega (arith, more))
+        (Byte 37, front.later, tt, front.items_are, front.reads, omega (arith, more))
+
+    pub item_errno : (get_or t (at + 1) 0 == 109) ≡ true → at + 1 < length t → (items : List PosixItem) → ReadsPosix (drop at t) items
+        → IsBehindItem t items None (at + 2)
+    item_errno second more items reads =
+        let front = item_there t at (at + 2) Errno errno refl (errno_split t at percent second more) items reads in
+        (Errno, front.later, tt, front.items_are, front.reads, omega (arith, more))
 
     pub item_specification : (read : Read) (stop : ℕ) → (get_or t (at + 1) 0 == 37) ≡ false → IsSpecificationAt t at (read, stop) → (items : List PosixItem)
         → ReadsPosix (drop at t) items → IsBehindItem t items (Some read) stop
@@ -81,6 +97,7 @@ module _ (t : Text) (at : ℕ) (less : at < length t) where
 module _ (model : Model) (t : Text) (all done : List DirectiveSpan) (at next : ℕ) (h : IsListedTo model t all at next done) where
   abbrev After : PosixItem → ℕ → Type 0
   After (Byte x) stop = IsListedTo model t all stop next done
+  After Errno stop = IsListedTo model t all stop next done
   After (Specification s) stop = IsListedTo model t all stop (next + length (fetches model s)) (done ++ directive_between model at stop next s ∷ [])
 
   -- an item that ends at an offset, and the specifications after it
@@ -102,6 +119,8 @@ module _ (model : Model) (t : Text) (all done : List DirectiveSpan) (at next : �
     after_first : (item : PosixItem) (later : List PosixItem) (reads : ReadsPosix (drop at t) (item ∷ later)) → reads.1 ≡ drop stop t
         → all ≡ done ++ directives_from model at next (drop at t) (item ∷ later) reads → After item stop
     after_first (Byte x) later reads rest e =
+        moved (at + length reads.0) next done reads.1 later reads.3 (ends reads.0 reads.1 reads.4 rest) rest e
+    after_first Errno later reads rest e =
         moved (at + length reads.0) next done reads.1 later reads.3 (ends reads.0 reads.1 reads.4 rest) rest e
     after_first (Specification s) later reads rest e =
         let end = at + length reads.0 in
@@ -133,6 +152,10 @@ module _ (model : Model) (t : Text) (all done : List DirectiveSpan) (at next : �
               | inl l ↦ l
               | inr over ↦ absurd (bool_no second (ap (λ b. b == 37) (get_or_past t (at + 1) 0 over)))
             ]
+
+      pub listed_errno : (get_or t (at + 1) 0 == 109) ≡ true → at + 1 < length t → IsListedTo model t all (at + 2) next done
+      listed_errno second more =
+          listed_item (at + 2) (omega (arith, more)) Errno errno refl (errno_split t at percent second more)
 
       pub listed_specification : (read : Read) (stop : ℕ) → (get_or t (at + 1) 0 == 37) ≡ false → IsSpecificationAt t at (read, stop)
           → IsListedTo model t all stop (next + length (fetches model (specification_read read)))

@@ -25,7 +25,7 @@ use Rattle.pf_posix.specs.declared.types.ArgumentType.{ArgumentType}
 use Rattle.pf_posix.specs.Beginnings.{IsBegunAs, IsUndecided, TakesAmount}
 use Rattle.pf_posix.specs.Endings.{end_refusal, refusal_of_long}
 use Rattle.pf_posix.specs.Halts.{FollowsBy, IsDefinedAt, IsHalt, IsStarAt}
-use Rattle.pf_posix.specs.Items.{PosixItem, ReadsPosix, Specification, SpellsPosixItem, fetched}
+use Rattle.pf_posix.specs.Items.{PosixItem, ReadsPosix, SpellsPosixItem, errno_letter, fetched}
 use Rattle.pf_posix.specs.Laws.{HasCount}
 use Rattle.pf_posix.specs.PartsInText.{specification_read}
 use Rattle.pf_posix.specs.Readings.{conflicts}
@@ -175,10 +175,10 @@ module _ (model : Model) (t : Text) (start : ℕ) (items : List PosixItem) (shor
 
   -- two types at a byte with which an argument is fetched
   conflict_refused : (at : ℕ) (part : Text) (position : Option ℕ) (own : List Fetch) (byte : ℕ) (f : Fetch) → HasBytes t start at part
-      → IsBegunAs part position own → AreAgreed (seen ++ own) → FollowsBy (numbering_of seen) position → get_or t at 0 ≡ byte → byte ≢ 0 → byte ≢ percent
+      → IsBegunAs part position own → AreAgreed (seen ++ own) → FollowsBy (numbering_of seen) position → get_or t at 0 ≡ byte → byte ≢ 0 → byte ≢ percent → byte ≢ errno_letter
       → (FollowsBy (numbering_of (seen ++ own)) position → FetchesStar part byte f ⊎ FetchesLast model (numbering_of (seen ++ own)) part byte f)
       → conflicts (seen ++ own) f ≡ true → IsPosixRefusedAt model t TwoTypes at
-  conflict_refused at part position own byte f bytes begun agreed before there nul other fetches c =
+  conflict_refused at part position own byte f bytes begun agreed before there nul other errno fetches c =
       refused_at_byte at part own bytes agreed (inr (position, begun, inr follows)) TwoTypes less
       (subst (λ b. IsPosixRefusedByte model (seen ++ own) part b TwoTypes) (sym there) cause) where
         follows : FollowsBy (numbering_of (seen ++ own)) position
@@ -194,14 +194,14 @@ module _ (model : Model) (t : Text) (start : ℕ) (items : List PosixItem) (shor
         cause =
             let no_nul = ne_eqb byte 0 nul in
             let no_percent = ne_eqb byte percent other in
-            rw (no_nul, no_percent) (inr (inr (inr (inl (refl, f, fetches follows, no_type)))))
+            rw (no_nul, no_percent) (λ one. errno, inr (inr (inr (inl (refl, f, fetches follows, no_type)))))
 
   -- at the `$` of a `*`
   pub star_conflict : (position : Option ℕ) (own : List Fetch) (stop n : ℕ) → IsStarAt t start stop n position own → AreAgreed (seen ++ own)
       → FollowsBy (numbering_of seen) position → conflicts (seen ++ own) (fetch (Some n) int_type) ≡ true → IsPosixRefusedAt model t TwoTypes (stop - 1)
   star_conflict position own stop n star agreed follows c =
       conflict_refused (stop - 1) star.part position own dollar (fetch (Some n) int_type) star.bytes (inr (inr (star.kind, n, star.digits))) agreed follows
-      star.dollar_is (λ e. omega (arith, e)) (λ e. omega (arith, e)) (λ f. inl (star.kind, n, position, own, star.digits, refl, refl)) c
+      star.dollar_is (λ e. omega (arith, e)) (λ e. omega (arith, e)) (λ e. omega (arith, e)) (λ f. inl (star.kind, n, position, own, star.digits, refl, refl)) c
 
   -- and at a conversion
   pub last_conflict : (read : Read) (stop : ℕ) → IsDefinedAt t start (numbering_of seen) (read, stop)
@@ -212,7 +212,7 @@ module _ (model : Model) (t : Text) (start : ℕ) (items : List PosixItem) (shor
       conflict_refused (stop - 1) part s.position (star_fetches s.width ++ star_fetches s.precision) letter
       (fetch s.position (conversion_type model s.modifier s.conversion))
       (record { from = omega (arith, h.is.read.some); within = omega (arith, h.is.read.within); whole = last.0 }) begins agreed h.is.follows last.1
-      (λ e. omega (arith, e, high)) (λ e. omega (arith, e, high))
+      (λ e. omega (arith, e, high)) (λ e. omega (arith, e, high)) (letter_tests s.conversion).no_errno
       (λ follows. inr (record { s = s; spelled = spelled; follows = follows }, h.defined, refl)) c where
         s : PosixSpecification
         s = specification_read read
@@ -268,12 +268,12 @@ module _ (model : Model) (t : Text) (start : ℕ) (items : List PosixItem) (shor
         rw other (refused_at_end (length t) one [] (subst (λ k. HasBytes t start k one) end (bytes_one t start percent less (sym h.1))) agrees
         (inr (None, begun_of Opened one refl, inl (inl refl))) (omega arith) (λ e. cc))
 
--- a specification more
-pub whole_item : (t : Text) (start stop : ℕ) (items : List PosixItem) (s : PosixSpecification) → start ≤ stop → ReadsPosix (take start t) items
-    → SpellsPosixItem (take (stop - start) (drop start t)) (Specification s) → ReadsPosix (take stop t) (items ++ Specification s ∷ [])
-whole_item t start stop items s from reads h =
-    subst (λ u. ReadsPosix u (items ++ Specification s ∷ [])) (sym (take_between t start stop from))
-    (reads_push (take start t) (take (stop - start) (drop start t)) items (Specification s) reads h)
+-- an item more
+pub whole_item : (t : Text) (start stop : ℕ) (items : List PosixItem) (item : PosixItem) → start ≤ stop → ReadsPosix (take start t) items
+    → SpellsPosixItem (take (stop - start) (drop start t)) item → ReadsPosix (take stop t) (items ++ item ∷ [])
+whole_item t start stop items item from reads h =
+    subst (λ u. ReadsPosix u (items ++ item ∷ [])) (sym (take_between t start stop from))
+    (reads_push (take start t) (take (stop - start) (drop start t)) items item reads h)
 
 -- a text goes on after a good front of as many bytes as are allowed
 too_long : (model : Model) (t : Text) (fetches : List Fetch) (part : Text) → IsGoodPosixFront model (take MAX_TEXT_LEN t) fetches part → MAX_TEXT_LEN < length t

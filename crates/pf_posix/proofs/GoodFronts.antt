@@ -11,7 +11,7 @@ use Rattle.pf_posix.specs.declared.fetches.Fetch.{Fetch}
 use Rattle.pf_posix.specs.declared.specifications.Numbering.{Numbering}
 use Rattle.pf_posix.specs.Beginnings.{IsUndecided}
 use Rattle.pf_posix.specs.Defined.{undefined_of}
-use Rattle.pf_posix.specs.Items.{Byte, PosixItem, ReadsPosix, Specification, SpellsPosixItem, fetched}
+use Rattle.pf_posix.specs.Items.{Byte, Errno, PosixItem, ReadsPosix, Specification, SpellsPosixItem, errno_letter, fetched}
 use Rattle.pf_posix.specs.Readings.{conflicts}
 use Rattle.pf_posix.specs.Refusals.{AreAgreed, Follows, IsGoodPosixFront, IsPosixRefusedByte, IsWrong, MayFollow, numbering_by, numbering_of}
 use Rattle.pf_posix.specs.Specifications.{PosixSpecification, conversion_letter, modifier_letters}
@@ -22,7 +22,7 @@ use Rattle.pf_posix.proofs.Growing.{finishes, grows}
 use Rattle.pf_posix.proofs.OneState.{never_empty, ends, shrinks}
 use Rattle.pf_posix.proofs.OutcomeLemmas.{refused, refuses, HasNumber, end_back, end_forth, fetch_follows, follows_fetch, own_end, own_step, step_back, step_forth}
 use Rattle.pf_posix.proofs.OutcomeLemmas.{unmixed, with_fetch, begins, completes}
-use Rattle.pf_posix.proofs.Outcomes.{Begins, Doubles, Ends, MayGoOn, Outcome, Refuses, ended, exceeds, fetched_on, finished, last_fetch, mixes, on_percent, begun}
+use Rattle.pf_posix.proofs.Outcomes.{Begins, EndsOther, Ends, MayGoOn, Outcome, Refuses, ended, ends_errno, exceeds, fetched_on, finished, last_fetch, mixes, on_percent, begun}
 use Rattle.pf_posix.proofs.Outcomes.{outcome, stepped, within}
 use Rattle.pf_posix.proofs.PartStates.{begun_of, may_follow, may_go_on, state_of}
 use Rattle.pf_posix.proofs.Steps.{IsStateAfter, Opened, Sign, StarDigits, State, finish, own_in, position_in, sign_of, step}
@@ -46,6 +46,7 @@ reads_push whole first (i ∷ items) item h g =
 pub fetched_append : (model : Model) (items more : List PosixItem) → fetched model (items ++ more) ≡ fetched model items ++ fetched model more
 fetched_append model [] more = refl
 fetched_append model (Byte c ∷ items) more = fetched_append model items more
+fetched_append model (Errno ∷ items) more = fetched_append model items more
 fetched_append model (Specification s ∷ items) more = ap (λ r. fetches model s ++ r) (fetched_append model items more)
     ∙ sym (append_assoc (fetches model s) (fetched model items) (fetched model more))
 
@@ -58,6 +59,7 @@ item_some t (Byte b) h = go (b == percent) h where
   go : (c : Bool) → MatchBool c (t ≡ percent ∷ percent ∷ []) ((b ≢ 0) × (t ≡ b ∷ [])) → t ≢ []
   go true e = λ none. cc
   go false e = λ none. cc
+item_some t Errno h = λ none. cc
 item_some t (Specification s) h = λ none.
     omega (arith, ap length (sym none ∙ h.0.whole), length_push (h.0.before ++ modifier_letters s.modifier) (conversion_letter s.conversion))
 
@@ -100,7 +102,7 @@ pub data Next : Type 0 where
 abbrev pub next_of : List Fetch → Outcome → Next
 next_of fetches (Begins to o) = Goes (with_fetch fetches o) (Some to)
 next_of fetches (Ends s last) = Goes (fetches ++ last ∷ []) None
-next_of fetches Doubles = Goes fetches None
+next_of fetches EndsOther = Goes fetches None
 next_of fetches (Refuses kind) = Halts kind
 
 abbrev pub next : Model → List Fetch → Option State → ℕ → Next
@@ -254,6 +256,12 @@ module _ (model : Model) (before : List Fetch) where
         (g.fetches_are ∙ ap (λ q. before ++ fetched model g.items ++ own_in q) e ∙ append_assoc before (fetched model g.items) []) g.agreed
     doubled _ e b = tt
 
+    closed : (q : State) → state ≡ q → ends_errno q byte ≡ true → Comes EndsOther
+    closed Opened e b = with_item front fetches (Some state) byte g Errno fetches
+        (ap (λ u. u ++ byte ∷ []) (subst (λ q. IsStateAfter q g.part) e g.begun.0) ∙ ap (λ c. percent ∷ c ∷ []) (eqb-true byte errno_letter b))
+        (g.fetches_are ∙ ap (λ q. before ++ fetched model g.items ++ own_in q) e ∙ append_assoc before (fetched model g.items) []) g.agreed
+    closed _ e b = cc
+
     by_conflict : (f : Fetch) (o : Outcome) → (conflicts fetches f ≡ false → Comes o) → (b : Bool) → conflicts fetches f ≡ b
         → Comes (if b then Refuses TwoTypes else o)
     by_conflict f o clear true e = tt
@@ -286,18 +294,21 @@ module _ (model : Model) (before : List Fetch) where
       by_step None e = by_end (finish state sign) refl
       by_step (Some to) e = by_fetch to e (fetched_on sign state) refl
 
-    by_tests : (nul percents mixed : Bool) (o : Option RefusalKind) → (byte == percent) ≡ percents → mixes state numbering sign ≡ mixed
-        → Comes (if nul then Refuses NulByte else (if percents then on_percent state else (if mixed then Refuses Mixed else within model fetches state sign o)))
-    by_tests false true mixed o p m = doubled state refl (eqb-true byte percent p)
-    by_tests false false false None p m = by_step m (step state sign) refl
-    by_tests _ _ _ o p m = tt
+    by_tests : (nul percents errno mixed : Bool) (o : Option RefusalKind) → (byte == percent) ≡ percents → ends_errno state byte ≡ errno
+        → mixes state numbering sign ≡ mixed
+        → Comes (if nul then Refuses NulByte else (if percents then on_percent state else (if errno then EndsOther else
+        (if mixed then Refuses Mixed else within model fetches state sign o))))
+    by_tests false true errno mixed o p q m = doubled state refl (eqb-true byte percent p)
+    by_tests false false true mixed o p q m = closed state refl q
+    by_tests false false false false None p q m = by_step m (step state sign) refl
+    by_tests _ _ _ _ o p q m = tt
 
   -- what the next byte makes of a good front is good
   pub advance : (front : Text) (fetches : List Fetch) (state : Option State) (byte : ℕ) (g : IsFrontIn model before front fetches state)
       → Advances front fetches state byte g (next model fetches state byte)
-  advance front fetches (Some state) byte g = by_tests front fetches state byte g (byte == 0) (byte == percent)
+  advance front fetches (Some state) byte g = by_tests front fetches state byte g (byte == 0) (byte == percent) (ends_errno state byte)
       (mixes state (numbering_of fetches) (sign_of byte))
-      (exceeds state (sign_of byte)) refl refl
+      (exceeds state (sign_of byte)) refl refl refl
   advance front fetches None byte g = go (byte == 0) (byte == percent) refl refl where
     part_is : g.part ++ byte ∷ [] ≡ byte ∷ []
     part_is = ap (λ u. u ++ byte ∷ []) g.begun
@@ -353,14 +364,16 @@ module _ (model : Model) (before : List Fetch) where
       now_is : (item : PosixItem) → g.items ≡ earlier ++ item ∷ [] → now ≡ before ++ (fetched model earlier ++ fetched model (item ∷ []))
       now_is item e = g.fetches_are ∙ append-nil _ ∙ ap (λ k. before ++ fetched model k) e ∙ ap (λ k. before ++ k) (fetched_append model earlier (item ∷ []))
 
-      by_byte : (b : ℕ) → g.items ≡ earlier ++ Byte b ∷ [] → (state : Option State) (part : Text) → last ≡ part ++ b ∷ [] → own_at state ≡ []
+      by_byte : (b : ℕ) (item : PosixItem) → fetched model (item ∷ []) ≡ [] → g.items ≡ earlier ++ item ∷ [] → (state : Option State) (part : Text)
+          → last ≡ part ++ b ∷ [] → own_at state ≡ []
           → ((numbering : Numbering) → IsPart numbering state part) → ((f : List Fetch) → next model f state b ≡ Goes f None) → Retreats front byte now None
-      by_byte b e state part is own begun goes =
+      by_byte b item none e state part is own begun goes =
           let same = same_from_push part less b byte (sym is ∙ last_is) in (
             now,
             state,
             front_by earlier whole part reads (front_is ∙ ap (λ u. whole ++ u) (sym same.0))
-                (now_is (Byte b) e ∙ sym (append_assoc before (fetched model earlier) []) ∙ ap (λ o. before ++ fetched model earlier ++ o) (sym own))
+                (now_is item e ∙ ap (λ l. before ++ (fetched model earlier ++ l)) none ∙ sym (append_assoc before (fetched model earlier) [])
+                ∙ ap (λ o. before ++ fetched model earlier ++ o) (sym own))
                 g.agreed (begun (numbering_of now)),
             ap (next model now state) (sym same.1) ∙ goes now,
           )
@@ -368,9 +381,10 @@ module _ (model : Model) (before : List Fetch) where
       by_item : (item : PosixItem) → g.items ≡ earlier ++ item ∷ [] → SpellsPosixItem last item → Retreats front byte now None
       by_item (Byte b) e h = by_percent (b == percent) refl h where
         by_percent : (c : Bool) → (b == percent) ≡ c → MatchBool c (last ≡ percent ∷ percent ∷ []) ((b ≢ 0) × (last ≡ b ∷ [])) → Retreats front byte now None
-        by_percent true c h = by_byte b e (Some Opened) (percent ∷ []) (h ∙ ap (λ k. percent ∷ k ∷ []) (sym (eqb-true b percent c))) refl (λ n. (refl, tt))
+        by_percent true c h = by_byte b (Byte b) refl e (Some Opened) (percent ∷ []) (h ∙ ap (λ k. percent ∷ k ∷ []) (sym (eqb-true b percent c))) refl (λ n. (refl, tt))
             (λ f. ap (next model f (Some Opened)) (eqb-true b percent c))
-        by_percent false c h = let some = ne_eqb b 0 h.0 in by_byte b e None [] h.1 refl (λ n. refl) (λ f. rw (some, c) refl)
+        by_percent false c h = let some = ne_eqb b 0 h.0 in by_byte b (Byte b) refl e None [] h.1 refl (λ n. refl) (λ f. rw (some, c) refl)
+      by_item Errno e h = by_byte errno_letter Errno refl e (Some Opened) (percent ∷ []) h refl (λ n. (refl, tt)) (λ f. refl)
       by_item (Specification s) e h =
           let end = ends less byte s (subst (λ u. SpellsPosix u s) last_is h.0) in
           let ending = last_fetch model s in

@@ -45,11 +45,11 @@ use Rattle.pf_posix.specs.Defined.{is_undefined_as, undefined_of}
 use Rattle.pf_posix.specs.Readings.{conflicts}
 use Rattle.pf_posix.proofs.Outcomes.{Begins, Ends, MayGoOn, Refuses, begun, ended, fetched_on, last_fetch, mixes}
 
--- tests of a byte
-digit_plain : (byte : ℕ) → is_digit byte ≡ true → (byte == 0 || byte == 37) ≡ false
+-- tests of a byte: it isn't NUL, `%`, or the letter of `%m`
+digit_plain : (byte : ℕ) → is_digit byte ≡ true → (byte == 0 || (byte == 37 || byte == 109)) ≡ false
 digit_plain byte d = grind (arith, nat_tests)
 
-dollar_plain : (byte : ℕ) → (byte == 36) ≡ true → (byte == 0 || byte == 37) ≡ false
+dollar_plain : (byte : ℕ) → (byte == 36) ≡ true → (byte == 0 || (byte == 37 || byte == 109)) ≡ false
 dollar_plain byte d = grind (arith, nat_tests)
 
 -- one byte
@@ -58,16 +58,20 @@ one_on t start stop byte h =
     let split = bytes_rest t start stop (byte ∷ []) h in
     omega (arith, h.from, h.within, ap length split, length-drop start t, length-drop stop t)
 
+-- the byte ends neither `%%` nor `%m`
+abbrev pub IsNoOther : Text → ℕ → Type 0
+IsNoOther part byte = part ≡ 37 ∷ [] → (byte ≡ 37) ⊎ (byte ≡ 109) → ⊥
+
 -- a byte that isn't allowed where it is, with kinds of their own for NUL and `%`
-stray_refused : (model : Model) (fetches : List Fetch) (part : Text) (byte : ℕ) (kind : RefusalKind) → part ≢ [] → (byte ≡ 37 → part ≢ 37 ∷ [])
+stray_refused : (model : Model) (fetches : List Fetch) (part : Text) (byte : ℕ) (kind : RefusalKind) → part ≢ [] → IsNoOther part byte
     → IsWrong model fetches part byte kind → IsPosixRefusedByte model fetches part byte (stray byte kind)
-stray_refused model fetches part byte kind some more wrong = go (byte == 0) (byte == 37) (λ e. more (eqb-true byte 37 e)) where
+stray_refused model fetches part byte kind some more wrong = go (byte == 0) (byte == 37) (λ e one. more one (inl (eqb-true byte 37 e))) where
   go : (zero percent : Bool) → (percent ≡ true → part ≢ 37 ∷ []) → MatchBool zero ((if zero then NulByte else if percent then BadPercent else kind) ≡ NulByte)
       (MatchBool percent (((if zero then NulByte else if percent then BadPercent else kind) ≡ BadPercent) × (part ≢ []) × (part ≢ 37 ∷ []))
-      (IsWrong model fetches part byte (if zero then NulByte else if percent then BadPercent else kind)))
+      ((part ≡ 37 ∷ [] → byte ≢ 109) × IsWrong model fetches part byte (if zero then NulByte else if percent then BadPercent else kind)))
   go true percent more = refl
   go false true more = (refl, some, more refl)
-  go false false more = wrong
+  go false false percent = (λ one letter. more one (inr letter), wrong)
 
 pub past_percent : (state : State) (part : Text) → IsStateAfter state part → state ≢ Opened → part ≢ 37 ∷ []
 past_percent state part h some one = some (one_state state Opened part h one)
@@ -81,7 +85,7 @@ module _ (t : Text) (begin : ℕ) (numbering : Numbering) (part : Text) (positio
       → IsUndecided part ⊎ FollowsBy (numbering_of fetches) position → IsWrong model fetches part (get_or t stop 0) kind
 
   -- a byte that isn't allowed there, or the end
-  pub halt_stray : IsStrayAt t stop kind refusal → (get_or t stop 0 ≡ 37 → part ≢ 37 ∷ []) → (stop < length t → Wrong)
+  pub halt_stray : IsStrayAt t stop kind refusal → IsNoOther part (get_or t stop 0) → (stop < length t → Wrong)
       → IsHalt t begin numbering position own refusal
   halt_stray s more wrong =
       record {
@@ -100,14 +104,18 @@ module _ (t : Text) (begin : ℕ) (numbering : Numbering) (part : Text) (positio
         some none = let s = state_of part position own begun in never_empty s.state (subst (IsStateAfter s.state) none s.after)
 
   -- a byte that is there
-  pub halt_at : refusal ≡ record { kind = kind; at = stop } → stop < length t → (get_or t stop 0 == 0 || get_or t stop 0 == 37) ≡ false → Wrong
+  pub halt_at : refusal ≡ record { kind = kind; at = stop } → stop < length t
+      → (get_or t stop 0 == 0 || (get_or t stop 0 == 37 || get_or t stop 0 == 109)) ≡ false → Wrong
       → IsHalt t begin numbering position own refusal
   halt_at is inside plain wrong =
       halt_stray (subst (IsStrayAt t stop kind) (sym is) (record {
         at_is = refl;
         inside = λ less. grind (arith, nat_tests, plain);
         ended = λ over. absurd (omega (arith, over, inside));
-      })) (λ e. absurd (grind (arith, nat_tests, plain, e))) (λ less. wrong)
+      })) (λ one e. plainly (get_or t stop 0) plain e) (λ less. wrong) where
+        plainly : (byte : ℕ) → (byte == 0 || (byte == 37 || byte == 109)) ≡ false → (byte ≡ 37) ⊎ (byte ≡ 109) → ⊥
+        plainly byte plain (inl e) = absurd (grind (arith, nat_tests, plain, e))
+        plainly byte plain (inr e) = absurd (grind (arith, nat_tests, plain, e))
 
 -- specifications with numbers, or without, may follow
 pub may_be_unnumbered : (numbering : Numbering) → numbering ≢ Numbered → FollowsBy numbering None
@@ -119,12 +127,16 @@ may_be_numbered numbering n h = grind arith
 -- after `%`
 module _ (t : Text) (start begin : ℕ) (numbering : Numbering) (h : HasBytes t begin start (37 ∷ [])) where
   -- no number, where there must be one
-  pub position_missing : (stop : ℕ) (refusal : Refusal) → HasBytes t start stop [] → EndsWidth None t stop → get_or t start 0 ≢ 37 → numbering ≡ Numbered
+  pub position_missing : (stop : ℕ) (refusal : Refusal) → HasBytes t start stop [] → EndsWidth None t stop → get_or t start 0 ≢ 37 → get_or t start 0 ≢ 109
+      → numbering ≡ Numbered
       → IsStrayAt t stop Mixed refusal → IsHalt t begin numbering None [] refusal
-  position_missing stop refusal none ends other numbered s =
+  position_missing stop refusal none ends other errno numbered s =
       halt_stray t begin numbering (37 ∷ []) None [] (begun_of Opened (37 ∷ []) refl) (inl (inl refl)) stop (bytes_join t begin start stop (37 ∷ []) [] h none)
-      Mixed refusal s (λ e. absurd (other (ap (λ k. get_or t k 0) (same_place t start stop none) ∙ e)))
-      (λ less model fetches same f. inl (refl, inl (refl, same refl ∙ numbered, no_first_digit t stop ends)))
+      Mixed refusal s (λ one e. go (subst (λ k. (get_or t k 0 ≡ 37) ⊎ (get_or t k 0 ≡ 109)) (sym (same_place t start stop none)) e))
+      (λ less model fetches same f. inl (refl, inl (refl, same refl ∙ numbered, no_first_digit t stop ends))) where
+        go : (get_or t start 0 ≡ 37) ⊎ (get_or t start 0 ≡ 109) → ⊥
+        go (inl e) = other e
+        go (inr e) = errno e
 
   -- after a number
   module _ (n stop : ℕ) (read : HasBytes t start stop (width_spelled (Some n))) (some : Some n ≢ Some 0) (few : is_above_limit (Some n) ≡ false)
@@ -159,7 +171,7 @@ module _ (t : Text) (start begin : ℕ) (numbering : Numbering) (h : HasBytes t 
         → numbering ≡ Numbered → IsHalt t begin numbering None [] refusal
     position_open refusal s digit dollar numbered =
         halt_stray t begin numbering part_here None [] begun_here (inl (inr (n, first_here))) stop bytes_here Mixed refusal s
-        (λ e. past_percent (First n) part_here first_here (λ same. cc))
+        (λ one e. past_percent (First n) part_here first_here (λ same. cc) one)
         (λ less model fetches same f. inl (refl, inr (inl (n, first_here, inr (same refl ∙ numbered, digit, eqb-false (get_or t stop 0) 36 dollar)))))
 
 -- after a `*`
@@ -192,7 +204,7 @@ module _ (t : Text) (start begin : ℕ) (numbering : Numbering) (position : Opti
       own,
       halt_stray t begin numbering (before ++ 42 ∷ []) position own (inr (inl (star_here, ap is_some numbered))) (inr follows) stop
           (subst (λ u. HasBytes t begin u (before ++ 42 ∷ [])) (same_place t start stop none) h) Mixed refusal s
-          (λ e. past_percent (Star p.place) (before ++ 42 ∷ []) (before, p.before, refl) (λ same. cc))
+          (λ one e. past_percent (Star p.place) (before ++ 42 ∷ []) (before, p.before, refl) (λ same. cc) one)
           (λ less model fetches same f.
           inl (refl, inr (inr (inl (position, own, star_here, subst (λ o. MixesStar o (get_or t stop 0)) (sym numbered) (no_first_digit t stop ends)))))),
       λ some. refl,
@@ -234,8 +246,8 @@ module _ (t : Text) (start begin : ℕ) (numbering : Numbering) (position : Opti
       star_open refusal s digit dollar = (
         own,
         halt_stray t begin numbering (before ++ 42 ∷ digits) position own (inr (inr (kind, n, star_digits))) (inr follows) stop star_bytes Mixed refusal s
-            (λ e. let q = star_digits_at (before ++ 42 ∷ digits) kind n position own star_digits in
-            past_percent (StarDigits q.0.place n) (before ++ 42 ∷ digits) q.1 (λ same. cc))
+            (λ one e. let q = star_digits_at (before ++ 42 ∷ digits) kind n position own star_digits in
+            past_percent (StarDigits q.0.place n) (before ++ 42 ∷ digits) q.1 (λ same. cc) one)
             (λ less model fetches same f.
             inl (refl, inr (inr (inr (kind, n, position, own, star_digits, digit, eqb-false (get_or t stop 0) 36 dollar))))),
         λ has. refl,

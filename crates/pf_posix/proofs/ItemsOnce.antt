@@ -3,11 +3,12 @@ use Rattle.std.proofs.Common.{◌≡◌, ◌≢◌, ℕ, Bool, true, false, List
 use Rattle.std.specs.Prelude.{◌==◌, MatchBool, if◌then◌else◌}
 use Rattle.std.proofs.lemmas.Bool.Decides.{nat_tests}
 use Rattle.pf_values.specs.meaning.Text.{Text}
-use Rattle.pf_posix.specs.Items.{Byte, PosixItem, ReadsPosix, Specification, SpellsPosixItem}
+use Rattle.pf_posix.specs.Items.{Byte, Errno, PosixItem, ReadsPosix, Specification, SpellsPosixItem, errno}
 use Rattle.pf_posix.specs.Specifications.{PosixSpecification}
 use Rattle.pf_posix.specs.Spelling.{SpellsPosix}
 use Rattle.pf_posix.proofs.OneState.{some_spelled}
-use Rattle.pf_posix.proofs.SpecificationsOnce.{begins_no_percent, specification_once}
+use Rattle.pf_posix.proofs.SpecificationsOnce.{begins_known, specification_once}
+use Rattle.pf_posix.proofs.Steps.{sign_of}
 
 abbrev spelled_byte : ℕ → Text
 spelled_byte byte = if byte == 37 then 37 ∷ 37 ∷ [] else byte ∷ []
@@ -16,9 +17,11 @@ spelled_byte byte = if byte == 37 then 37 ∷ 37 ∷ [] else byte ∷ []
 abbrev pub HasText : PosixItem → Text → Type 0
 HasText (Byte byte) t = t ≡ spelled_byte byte
 HasText (Specification s) t = SpellsPosix t s
+HasText Errno t = t ≡ errno
 
 pub text_there : (t : Text) (item : PosixItem) → SpellsPosixItem t item → HasText item t
 text_there t (Specification s) h = h.0
+text_there t Errno h = h
 text_there t (Byte byte) h = go (byte == 37) h where
   go : (b : Bool) → MatchBool b (t ≡ 37 ∷ 37 ∷ []) ((byte ≢ 0) × (t ≡ byte ∷ [])) → t ≡ (if b then 37 ∷ 37 ∷ [] else byte ∷ [])
   go true h = h
@@ -32,7 +35,7 @@ same_byte x y r q e = go (x == 37) (y == 37) refl refl e where
   go false true h g e = let first : x ≡ 37 = cc in let no : false ≡ true = sym h ∙ ap (λ k. k == 37) first in cc
   go false false h g e = (cc, cc)
 
--- a byte that begins with `%` is `%%`, and no specification is
+-- a byte that begins with `%` is `%%`; a specification and `%m` go on in other ways
 pub percent_twice : (x : ℕ) (rest more : Text) → spelled_byte x ++ rest ≡ 37 ∷ more → more ≡ 37 ∷ rest
 percent_twice x rest more e = go (x == 37) refl e where
   go : (b : Bool) → (x == 37) ≡ b → (if b then 37 ∷ 37 ∷ [] else x ∷ []) ++ rest ≡ 37 ∷ more → more ≡ 37 ∷ rest
@@ -41,21 +44,41 @@ percent_twice x rest more e = go (x == 37) refl e where
 
 no_specification : (x : ℕ) (rest first more : Text) (s : PosixSpecification) → SpellsPosix first s → spelled_byte x ++ rest ≢ first ++ more
 no_specification x rest first more s h e =
-    let parts = begins_no_percent first s h in
+    let parts = begins_known first s h in
     let twice = percent_twice x rest _ (e ∙ ap (λ u. u ++ more) parts.3) in
     let second : parts.0 ≡ 37 = cc in
-    let no : true ≡ false = ap (λ k. k == 37) (sym second) ∙ parts.2 in cc
+    parts.2 (ap sign_of second)
+
+-- no specification begins with `%m`
+pub errno_alone : (rest first more : Text) (s : PosixSpecification) → SpellsPosix first s → errno ++ rest ≢ first ++ more
+errno_alone rest first more s h e =
+    let parts = begins_known first s h in
+    let whole : errno ++ rest ≡ 37 ∷ (parts.0 ∷ parts.1) ++ more = e ∙ ap (λ u. u ++ more) parts.3 in
+    let second : parts.0 ≡ 109 = cc in
+    parts.2 (ap sign_of second)
+
+byte_no_errno : (x : ℕ) (rest more : Text) → spelled_byte x ++ rest ≢ errno ++ more
+byte_no_errno x rest more e = let twice = percent_twice x rest _ e in absurd (grind (arith, twice))
 
 pub item_once : (a b : PosixItem) (first rest other more : Text) → HasText a first → HasText b other → first ++ rest ≡ other ++ more → (a ≡ b) × (rest ≡ more)
 item_once (Byte x) (Byte y) first rest other more h g e =
     let same = same_byte x y rest more (sym (ap (λ u. u ++ rest) h) ∙ e ∙ ap (λ u. u ++ more) g) in (ap Byte same.0, same.1)
 item_once (Byte x) (Specification s) first rest other more h g e = absurd (no_specification x rest other more s g (sym (ap (λ u. u ++ rest) h) ∙ e))
 item_once (Specification s) (Byte y) first rest other more h g e = absurd (no_specification y more first rest s h (sym (ap (λ u. u ++ more) g) ∙ sym e))
+item_once Errno Errno first rest other more h g e =
+    let same : errno ++ rest ≡ errno ++ more = sym (ap (λ u. u ++ rest) h) ∙ e ∙ ap (λ u. u ++ more) g in (refl, cc)
+item_once (Byte x) Errno first rest other more h g e =
+    absurd (byte_no_errno x rest more (sym (ap (λ u. u ++ rest) h) ∙ e ∙ ap (λ u. u ++ more) g))
+item_once Errno (Byte y) first rest other more h g e =
+    absurd (byte_no_errno y more rest (sym (ap (λ u. u ++ more) g) ∙ sym e ∙ ap (λ u. u ++ rest) h))
+item_once Errno (Specification s) first rest other more h g e = absurd (errno_alone rest other more s g (sym (ap (λ u. u ++ rest) h) ∙ e))
+item_once (Specification s) Errno first rest other more h g e = absurd (errno_alone more first rest s h (sym (ap (λ u. u ++ more) g) ∙ sym e))
 item_once (Specification s) (Specification p) first rest other more h g e =
     let same = specification_once first other rest more s p h g e in (ap Specification same.0, same.1)
 
 some_text : (item : PosixItem) (first rest : Text) → HasText item first → first ++ rest ≢ []
 some_text (Specification s) first rest h e = omega (arith, ap length e, length-append first rest, some_spelled first s h)
+some_text Errno first rest h e = let no : errno ++ rest ≡ [] = sym (ap (λ u. u ++ rest) h) ∙ e in cc
 some_text (Byte x) first rest h e = go (x == 37) (sym (ap (λ u. u ++ rest) h) ∙ e) where
   go : (b : Bool) → (if b then 37 ∷ 37 ∷ [] else x ∷ []) ++ rest ≢ []
   go true e = cc

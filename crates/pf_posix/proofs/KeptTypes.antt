@@ -24,7 +24,8 @@ use Rattle.pf_posix.specs.declared.conversions.Conversion.TheVariants.{Profile}
 use Rattle.pf_posix.specs.declared.conversions.Modifier.TheVariants.{Integer}
 use Rattle.pf_posix.specs.declared.types.ArgumentType.{ArgumentType}
 use Rattle.pf_posix.specs.Defined.{IsPosixDefined}
-use Rattle.pf_posix.specs.Items.{Byte, HasArguments, SpellsPosixItem, ReadsPosix, Specification, PosixItem, fetched}
+use Rattle.pf_posix.specs.Items.{Byte, Errno, HasArguments, SpellsPosixItem, ReadsPosix, Specification, PosixItem, fetched}
+use Rattle.pf_posix.specs.Opaque.{OpaqueErrno, OpaqueItem, OpaqueSpecification, SpellsOpaqueItem}
 use Rattle.pf_posix.specs.Laws.{ComparesArgumentTypes}
 use Rattle.pf_posix.specs.Specifications.{Amount, Given, PosixSpecification}
 use Rattle.pf_posix.specs.Spelling.{SpellsPosixPrecision, SpellsPosix, SpellsPosixWidth}
@@ -143,10 +144,22 @@ pub wanted_here : {X : Type 0} (f : X → ArgumentType) (xs : List X) → map f 
 wanted_here f [] = refl
 wanted_here f (x ∷ xs) = ap (λ l. f x ∷ l) (wanted_here f xs)
 
--- the items and directives of stretches, in one list
+abbrev pub posix_item : OpaqueItem → PosixItem
+posix_item (OpaqueSpecification s) = Specification s
+posix_item OpaqueErrno = Errno
+
+pub other_spelled : (t : Text) (other : OpaqueItem) → SpellsOpaqueItem t other → SpellsPosixItem t (posix_item other)
+other_spelled t (OpaqueSpecification s) h = (h.spelled, h.defined)
+other_spelled t OpaqueErrno h = h
+
+pub other_unnumbered : (t : Text) (other : OpaqueItem) → SpellsOpaqueItem t other → IsUnnumbered (posix_item other)
+other_unnumbered t (OpaqueSpecification s) h = h.unnumbered
+other_unnumbered t OpaqueErrno h = tt
+
+-- the items of stretches and what is between them, in one list
 abbrev pub flat : Stretches → List PosixItem
 flat (Last items) = map item_of items
-flat (Before items s rest) = map item_of items ++ Specification s ∷ flat rest
+flat (Before items other rest) = map item_of items ++ posix_item other ∷ flat rest
 
 pub posix_append : (t u : Text) (a b : List PosixItem) → ReadsPosix t a → ReadsPosix u b → ReadsPosix (t ++ u) (a ++ b)
 posix_append t u [] b h g = rw h g
@@ -154,9 +167,9 @@ posix_append t u (item ∷ a) b h g = (h.0, h.1 ++ u, h.2, posix_append h.1 u a 
 
 pub posix_reads : (t : Text) (a : Stretches) → ReadsWhole t a → ReadsPosix t (flat a)
 posix_reads t (Last items) h = reads_here t items h
-posix_reads t (Before items s rest) h =
-    rw (h.6, append_assoc h.0 h.1 h.2) (posix_append h.0 (h.1 ++ h.2) (map item_of items) (Specification s ∷ flat rest) (reads_here h.0 items h.3)
-    (h.1, h.2, (h.4.spelled, h.4.defined), posix_reads h.2 rest h.5, refl))
+posix_reads t (Before items other rest) h =
+    rw (h.6, append_assoc h.0 h.1 h.2) (posix_append h.0 (h.1 ++ h.2) (map item_of items) (posix_item other ∷ flat rest) (reads_here h.0 items h.3)
+    (h.1, h.2, other_spelled h.1 other h.4, posix_reads h.2 rest h.5, refl))
 
 pub items_unnumbered : (items : List Item) → AllByRecursion IsUnnumbered (map item_of items)
 items_unnumbered [] = tt
@@ -165,8 +178,8 @@ items_unnumbered (Directive s ∷ items) = (refl, items_unnumbered items)
 
 pub unnumbered : (t : Text) (a : Stretches) → ReadsWhole t a → AllByRecursion IsUnnumbered (flat a)
 unnumbered t (Last items) h = items_unnumbered items
-unnumbered t (Before items s rest) h = all_append IsUnnumbered (map item_of items) (Specification s ∷ flat rest) (items_unnumbered items)
-    (h.4.unnumbered, unnumbered h.2 rest h.5)
+unnumbered t (Before items other rest) h = all_append IsUnnumbered (map item_of items) (posix_item other ∷ flat rest) (items_unnumbered items)
+    (other_unnumbered h.1 other h.4, unnumbered h.2 rest h.5)
 
 pub accepted_there : (t : Text) → IsWholeAccepted t → IsAcceptedUnnumbered t
 accepted_there t h = record {
@@ -182,11 +195,15 @@ wanted_items model t items h = ap (map (λ f. f.wanted)) (fetched_here model t i
 
 wanted : (model : Model) (t : Text) (a : Stretches) → ReadsWhole t a → map (λ f. f.wanted) (fetched model (flat a)) ≡ whole_types model a
 wanted model t (Last items) h = wanted_items model t items h
-wanted model t (Before items s rest) h =
-    ap (map (λ f. f.wanted)) (fetched_append model (map item_of items) (Specification s ∷ flat rest))
-    ∙ map-append (λ f. f.wanted) (fetched model (map item_of items)) (fetches model s ++ fetched model (flat rest))
+wanted model t (Before items other rest) h =
+    ap (map (λ f. f.wanted)) (fetched_append model (map item_of items) (posix_item other ∷ flat rest))
+    ∙ map-append (λ f. f.wanted) (fetched model (map item_of items)) (fetched model (posix_item other ∷ flat rest))
     ∙ ap₂ (λ x y. x ++ y) (wanted_items model h.0 items h.3)
-    (map-append (λ f. f.wanted) (fetches model s) (fetched model (flat rest)) ∙ ap (λ l. types_of_opaque model s ++ l) (wanted model h.2 rest h.5))
+    (of_other other (flat rest) ∙ ap (λ l. types_of_opaque model other ++ l) (wanted model h.2 rest h.5)) where
+      of_other : (other : OpaqueItem) (later : List PosixItem)
+          → map (λ f. f.wanted) (fetched model (posix_item other ∷ later)) ≡ types_of_opaque model other ++ map (λ f. f.wanted) (fetched model later)
+      of_other (OpaqueSpecification s) later = map-append (λ f. f.wanted) (fetches model s) (fetched model later)
+      of_other OpaqueErrno later = refl
 
 pub own_unnumbered : (model : Model) (t : Text) (s : PosixSpecification) → SpellsPosix t s → s.position ≡ None
     → AllByRecursion (λ f. f.number ≡ None) (fetches model s)
@@ -200,6 +217,7 @@ pub items_free : (model : Model) (t : Text) (items : List PosixItem) → ReadsPo
     → AllByRecursion (λ f. f.number ≡ None) (fetched model items)
 items_free model t [] h u = tt
 items_free model t (Byte byte ∷ items) h u = items_free model h.1 items h.3 u.1
+items_free model t (Errno ∷ items) h u = items_free model h.1 items h.3 u.1
 items_free model t (Specification s ∷ items) h u =
     all_append (λ f. f.number ≡ None) (fetches model s) (fetched model items) (own_unnumbered model h.0 s h.2.0 u.0) (items_free model h.1 items h.3 u.1)
 

@@ -13,6 +13,7 @@ use Rattle.pf_text.proofs.NumberDigits.{digit_of as small_digit}
 use Rattle.pf_text.specs.States.{is_digit}
 use Rattle.pf_posix.specs.declared.conversions.Conversion.{Conversion}
 use Rattle.pf_posix.specs.declared.conversions.Modifier.TheVariants.{Integer}
+use Rattle.pf_posix.specs.Items.{errno_letter}
 use Rattle.pf_posix.specs.Letters.{conversion_of, length_modifier_of, is_first_digit}
 use Rattle.pf_posix.specs.Specifications.{conversion_letter, modifier_letters}
 use Rattle.pf_posix.specs.declared.specifications.Numbering.{Numbering}
@@ -26,12 +27,13 @@ pub record LetterTests (conversion : Conversion) : Type 0 where
   pub no_h : (conversion_letter conversion == 104) ≡ false
   pub no_l : (conversion_letter conversion == 108) ≡ false
   pub high : 57 < conversion_letter conversion
+  pub no_errno : conversion_letter conversion ≢ errno_letter
   pub conversion_is : conversion_of (conversion_letter conversion) ≡ Some conversion
   pub sign_is : sign_of (conversion_letter conversion) ≡ Last conversion
 
 pub letter_tests : (conversion : Conversion) → LetterTests conversion
 letter_tests conversion =
-    record { modifier = grind arith; no_h = grind arith; no_l = grind arith; high = grind arith; conversion_is = grind arith; sign_is = grind arith }
+    record { modifier = grind arith; no_h = grind arith; no_l = grind arith; high = grind arith; no_errno = λ e. grind arith; conversion_is = grind arith; sign_is = grind arith }
 
 pub byte_of_conversion : (byte : ℕ) (conversion : Conversion) → conversion_of byte ≡ Some conversion → byte ≡ conversion_letter conversion
 byte_of_conversion byte conversion e = grind (arith, nat_tests)

@@ -29,6 +29,7 @@ pub mod PlainLemmas
 pub mod StretchLemmas
 mod Examples
 pub mod DirectiveLemmas
+pub mod ErrnoAside
 pub mod SpecificationSpanLemmas
 mod RefusedSpecificationLemmas
 mod MissingArgumentLemmas

@@ -5,7 +5,7 @@ use Rattle.pf_values.specs.meaning.Text.{Text}
 use Rattle.pf_posix.specs.Laws.{filled, HasCount}
 use Rattle.pf_posix.specs.declared.directive_spans.DirectiveSpan.{DirectiveSpan}
 use Rattle.pf_posix.specs.Directives.{HasDirectives, directive_between, directives_from, HasDirectiveCount}
-use Rattle.pf_posix.specs.Items.{Byte, PosixItem, ReadsPosix, Specification, SpellsPosixItem, HasArguments}
+use Rattle.pf_posix.specs.Items.{Byte, Errno, PosixItem, ReadsPosix, Specification, SpellsPosixItem, HasArguments}
 use Rattle.pf_posix.specs.Types.{fetches}
 use Rattle.pf_posix.specs.declared.types.ArgumentType.{ArgumentType}
 use Rattle.pf_posix.proofs.ItemsOnce.{item_once, items_once, text_there}
@@ -43,6 +43,9 @@ module _ (model : Model) where
   same_from at from next t u [] h k a e = refl
   same_from at from next t u (Byte x ∷ items) h k a e =
       let same = ends at from (Byte x) h.0 h.1 k.0 k.1 h.2 k.2 a (sym h.4 ∙ e ∙ k.4) in
+      same_from (at + length h.0) (from + length k.0) next h.1 k.1 items h.3 k.3 same.0 same.1
+  same_from at from next t u (Errno ∷ items) h k a e =
+      let same = ends at from Errno h.0 h.1 k.0 k.1 h.2 k.2 a (sym h.4 ∙ e ∙ k.4) in
       same_from (at + length h.0) (from + length k.0) next h.1 k.1 items h.3 k.3 same.0 same.1
   same_from at from next t u (Specification s ∷ items) h k a e =
       let same = ends at from (Specification s) h.0 h.1 k.0 k.1 h.2 k.2 a (sym h.4 ∙ e ∙ k.4) in

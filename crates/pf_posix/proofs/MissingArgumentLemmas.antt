@@ -20,7 +20,7 @@ use Rattle.pf_posix.specs.declared.specifications.Specification.{Specification a
 use Rattle.pf_posix.specs.Directives.{argument_index, directive_between, directives_from, star_index}
 use Rattle.pf_posix.specs.DirectivesInText.{IsBehindItem, IsListedBehind, IsListedTo}
 use Rattle.pf_posix.specs.Halts.{offsets_read}
-use Rattle.pf_posix.specs.Items.{Byte, PosixItem, ReadsPosix, Specification, fetched}
+use Rattle.pf_posix.specs.Items.{Byte, Errno, PosixItem, ReadsPosix, Specification, errno_letter, fetched}
 use Rattle.pf_posix.specs.MissingArguments.{AreMarked, IsAhead, IsFirstLater, is_index, takes, takes_any, takes_later}
 use Rattle.pf_posix.specs.PartsInText.{specification_read}
 use Rattle.pf_posix.specs.Refusals.{HasGap, IsPosixRefusalCause, IsPosixRefusedAt, IsWrong, MayFollow, numbering_by, numbering_of}
@@ -226,6 +226,7 @@ module _ (model : Model) (k : ℕ) where
       → takes_any (directives_from model at next t items reads) k ≡ true
   any_taken at next t [] reads h = absurd h
   any_taken at next t (Byte byte ∷ items) reads h = any_taken (at + length reads.0) next reads.1 items reads.3 h
+  any_taken at next t (Errno ∷ items) reads h = any_taken (at + length reads.0) next reads.1 items reads.3 h
   any_taken at next t (Specification s ∷ items) reads h = elim (in_either k (fetches model s) (fetched model items) h) [
     | inl own ↦ first _ _ (one_taken k model at (at + length reads.0) next s own)
     | inr other ↦ second _ _ (any_taken (at + length reads.0) (next + length (fetches model s)) reads.1 items reads.3 other)
@@ -240,6 +241,7 @@ module _ (model : Model) (k : ℕ) where
       → takes_any (directives_from model at next t items reads) k ≡ true → IsFetched k (fetched model items)
   any_fetched at next t [] reads numbered is = cc
   any_fetched at next t (Byte byte ∷ items) reads numbered is = any_fetched (at + length reads.0) next reads.1 items reads.3 numbered is
+  any_fetched at next t (Errno ∷ items) reads numbered is = any_fetched (at + length reads.0) next reads.1 items reads.3 numbered is
   any_fetched at next t (Specification s ∷ items) reads numbered is = elim (either _ _ is) [
     | inl own ↦ in_front k (fetches model s) (fetched model items) (one_fetched k model at (at + length reads.0) next s
         (all_front HasNumber (fetches model s) (fetched model items) numbered) own)
@@ -281,11 +283,12 @@ module _ (model : Model) (fetches : List Fetch) (part : Text) (at : ℕ) where
   missing_at_end [] (inr h) = (refl, h.1, h.2)
   missing_at_end (byte ∷ rest) h = absurd (never (at == MAX_TEXT_LEN) (byte == 0) (byte == 37) h) where
     never : (full nul percent : Bool) → MatchBool full (MissingArgument ≡ TooLong) (MatchBool nul (MissingArgument ≡ NulByte)
-        (MatchBool percent ((MissingArgument ≡ BadPercent) × (part ≢ []) × (part ≢ 37 ∷ [])) (IsWrong model fetches part byte MissingArgument))) → ⊥
+        (MatchBool percent ((MissingArgument ≡ BadPercent) × (part ≢ []) × (part ≢ 37 ∷ []))
+        ((part ≡ 37 ∷ [] → byte ≢ errno_letter) × IsWrong model fetches part byte MissingArgument))) → ⊥
     never true nul percent e = cc
     never false true percent e = cc
     never false false true e = let no = e.0 in cc
-    never false false false e = wrong byte e
+    never false false false e = wrong byte e.1
 
 -- the items of a text that is refused so
 pub record LeavesOut (model : Model) (t : Text) : Type 0 where

@@ -18,7 +18,7 @@ use Rattle.pf_posix.specs.declared.conversions.Conversion.TheVariants.{Profile}
 use Rattle.pf_posix.specs.declared.conversions.Modifier.{Modifier}
 use Rattle.pf_posix.specs.declared.conversions.Modifier.TheVariants.{Integer, LongDouble}
 use Rattle.pf_posix.specs.Defined.{IsPosixDefined, undefined_as}
-use Rattle.pf_posix.specs.Items.{Byte as PosixByte, PosixItem, ReadsPosix, Specification as PosixDirective}
+use Rattle.pf_posix.specs.Items.{Byte as PosixByte, Errno as PosixErrno, PosixItem, ReadsPosix, Specification as PosixDirective}
 use Rattle.pf_posix.specs.Specifications.{Amount, Given, Fetched, PosixSpecification}
 use Rattle.pf_posix.specs.Spelling.{SpellsPosix, SpellsPosixPrecision, SpellsPosixWidth}
 use Rattle.pf_posix.specs.StretchesInText.{push}
@@ -81,7 +81,7 @@ narrowed t s h d u e =
 -- one item more at the front
 pushed : (t u : Text) (item : Item) (a : Stretches) → IsReadAs t item → ReadsWhole u a → ReadsWhole (t ++ u) (push item a)
 pushed t u item (Last items) h g = (t, u, h, g, refl)
-pushed t u item (Before items s rest) h g = (
+pushed t u item (Before items other rest) h g = (
   t ++ g.0,
   g.1,
   g.2,
@@ -95,6 +95,7 @@ pushed t u item (Before items s rest) h g = (
 pub reads_whole : (t : Text) (items : List PosixItem) → ReadsPosix t items → AllByRecursion IsUnnumbered items → ReadsWhole t (stretched items)
 reads_whole t [] h u = h
 reads_whole t (PosixByte byte ∷ items) h u = rw h.4 (pushed h.0 h.1 (Byte byte) (stretched items) h.2 (reads_whole h.1 items h.3 u.1))
+reads_whole t (PosixErrno ∷ items) h u = ([], h.0, h.1, refl, h.2, reads_whole h.1 items h.3 u.1, h.4)
 reads_whole t (PosixDirective s ∷ items) h u = go (is_opaque s) refl (reads_whole h.1 items h.3 u.1) where
   go : (b : Bool) → is_opaque s ≡ b → ReadsWhole h.1 (stretched items) → ReadsWhole t (pushed_or b s (stretched items))
   go true e rest = ([], h.0, h.1, refl, record { spelled = h.2.0; defined = h.2.1; unnumbered = u.0; opaque = e }, rest, h.4)

@@ -1,5 +1,5 @@
 -- A format whose arguments are numbered, read one specification after another.
-use Rattle.std.proofs.Common.{◌≡◌, ℕ, ◌<◌, ◌≤◌, true, List, [], ◌∷◌, ◌++◌, length, take, refl, sym, ap, ap₂, ◌∙◌, arith, subst, inl, inr, Err, Ok, Result}
+use Rattle.std.proofs.Common.{◌+◌, get_or, ◌≡◌, ℕ, ◌<◌, ◌≤◌, true, List, [], ◌∷◌, ◌++◌, length, take, refl, sym, ap, ap₂, ◌∙◌, arith, subst, inl, inr, Err, Ok, Result}
 use Rattle.std.specs.Prelude.{Option, Some, None, ◌⊎◌, MatchResult, is_some}
 use Rattle.std.specs.List.{AllByRecursion}
 use Rattle.std.proofs.lemmas.List.{append-nil, append_assoc, take_all}
@@ -7,7 +7,7 @@ use Rattle.pf_values.specs.declared.limits.TheConstants.{MAX_TEXT_LEN}
 use Rattle.pf_values.specs.declared.models.Model.{Model}
 use Rattle.pf_values.specs.declared.refusals.RefusalKind.TheVariants.{MissingArgument}
 use Rattle.pf_values.specs.meaning.Text.{Text}
-use Rattle.pf_text.specs.Walks.{BeginsNothing, HasPassed, IsPercent}
+use Rattle.pf_text.specs.Walks.{BeginsNothing, HasPassed, HasPercent, IsPercent}
 use Rattle.pf_text.specs.declared.refusals.Refusal.{Refusal}
 use Rattle.pf_text.specs.declared.walk.Walk.{Walk}
 use Rattle.pf_posix.specs.declared.fetches.Fetch.{Fetch}
@@ -20,7 +20,7 @@ use Rattle.pf_posix.specs.declared.types.ArgumentType.{ArgumentType}
 use Rattle.pf_posix.specs.Beginnings.{IsUndecided}
 use Rattle.pf_posix.specs.Endings.{end_refusal}
 use Rattle.pf_posix.specs.Halts.{FollowsBy, HasStar, HasStars, IsDefinedAt, IsHalt, IsRefusedIn, IsStarAt, one_fetch}
-use Rattle.pf_posix.specs.Items.{PosixItem, ReadsPosix, Specification, fetched}
+use Rattle.pf_posix.specs.Items.{Errno, errno_letter, PosixItem, ReadsPosix, Specification, fetched}
 use Rattle.pf_posix.specs.Laws.{HasCount, filled}
 use Rattle.pf_posix.specs.PartsInText.{specification_read}
 use Rattle.pf_posix.specs.Readings.{conflicts, listed}
@@ -31,7 +31,7 @@ use Rattle.pf_posix.specs.Types.{AreNumbered, IsFetched, conversion_type, fetch,
 use Rattle.pf_posix.proofs.Bounds.{all_append, items_within}
 use Rattle.pf_posix.proofs.FrontRefusals.{IsRefused, agreed_by, end_refused, halt_refused, halt_refused_plain, last_conflict, star_conflict, undecided_own}
 use Rattle.pf_posix.proofs.FrontRefusals.{whole_item}
-use Rattle.pf_posix.proofs.PlainFrontLemmas.{passed_more}
+use Rattle.pf_posix.proofs.PlainFrontLemmas.{plain_errno, passed_more}
 use Rattle.pf_posix.proofs.GoodFronts.{Taken, fetched_append}
 use Rattle.pf_posix.proofs.Agreeing.{length_listed, numbered_types}
 use Rattle.pf_posix.proofs.Unique.{missing}
@@ -119,7 +119,7 @@ module _ (model : Model) (t : Text) (at : ℕ) (items : List PosixItem) (short :
         (all_append _ seen (of_stars read.stars) numbered (stars_numbered read.stars)) (one_numbered read.position type) in
         record {
           items = items ++ Specification s ∷ [];
-          reads = whole_item t at stop items s (omega (arith, h.is.read.some)) reads (h.is.read.spelled, h.defined);
+          reads = whole_item t at stop items (Specification s) (omega (arith, h.is.read.some)) reads (h.is.read.spelled, h.defined);
           within = h.is.read.within;
           some = ap numbering_of more_is ∙ some_numbered before read.position type some all;
           numbered = subst AreAllNumbered (sym more_is) all;
@@ -161,6 +161,20 @@ module _ (model : Model) (t : Text) (at : ℕ) (table : Table) (h : IsTabledTo m
   next_added read stop d r new k =
       added model t at h.items short h.reads h.numbered read stop (subst (λ n. IsDefinedAt t at n (read, stop)) (sym h.some) d)
       (follows_numbered read.position d.is.follows) table h.holds r new k
+
+  -- `%m`
+  pub errno_tabled : HasPercent t at → get_or t (at + 1) 0 ≡ errno_letter → IsTabledTo model t (at + 2) table
+  errno_tabled p letter =
+      let plain = plain_errno t at p letter in
+      let same : fetched model (h.items ++ Errno ∷ []) ≡ there = fetched_append model h.items (Errno ∷ []) ∙ append-nil there in
+      record {
+        items = h.items ++ Errno ∷ [];
+        reads = whole_item t at (at + 2) h.items Errno (omega arith) h.reads plain.spelled;
+        within = plain.within;
+        some = ap numbering_of same ∙ h.some;
+        numbered = subst AreAllNumbered (sym same) h.numbered;
+        holds = subst (TableHolds table) (sym same) h.holds;
+      }
 
   -- one that is refused
   module _ (refused : Refused) (k : IsRefusedIn t at Numbered refused) where

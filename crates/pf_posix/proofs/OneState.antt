@@ -6,7 +6,6 @@ use Rattle.std.specs.Fmt.{digit_glyph}
 use Rattle.std.proofs.lemmas.Grind.{fold-append}
 use Rattle.std.proofs.lemmas.List.{append_assoc, append-nil, map_push, same_from_push, length_push}
 use Rattle.pf_values.specs.declared.flags.Flag.{Flag}
-use Rattle.pf_values.specs.declared.flags.Flag.TheVariants as flags
 use Rattle.pf_values.specs.declared.flags.FlagSet.{FlagSet}
 use Rattle.pf_values.specs.declared.lengths.Length.TheVariants as lengths
 use Rattle.pf_values.specs.declared.limits.TheConstants.{MAX_NUMBER}

@@ -1,9 +1,9 @@
 -- What a step of a specification keeps, and what its end tells; and the outcome of a byte is a refusal exactly where the
 -- definitions refuse it.
-use Rattle.std.proofs.Common.{◌≡◌, ◌≢◌, ℕ, ◌+◌, ◌-◌, ◌*◌, ◌<◌, Bool, true, false, List, [], ◌∷◌, ◌++◌, drop, refl, sym, ap, ◌∙◌, subst, arith, inl, inr}
+use Rattle.std.proofs.Common.{◌≡◌, ◌≢◌, ℕ, ◌+◌, ◌-◌, ◌*◌, ◌<◌, Bool, true, false, List, [], ◌∷◌, ◌++◌, drop, refl, sym, ap, ap₂, ◌∙◌, subst, arith, inl, inr}
 use Rattle.std.specs.Prelude.{Option, Some, None, is_some, ◌⊎◌, MatchBool, ◌==◌, if◌then◌else◌, ⊤}
 use Rattle.std.specs.List.{AllByRecursion}
-use Rattle.std.proofs.lemmas.Bool.{cases_Bool, false_from_ne_true, true_from_ne_false}
+use Rattle.std.proofs.lemmas.Bool.{cases_Bool, eqb-true, false_from_ne_true, ne_eqb, true_from_ne_false}
 use Rattle.std.proofs.lemmas.Bool.Decides.{nat_tests}
 use Rattle.std.proofs.lemmas.List.{append-nil}
 use Rattle.pf_values.specs.declared.limits.TheConstants.{MAX_NUMBER}
@@ -26,11 +26,11 @@ use Rattle.pf_posix.specs.Types.{fetch, int_type, star_fetches}
 use Rattle.pf_posix.proofs.Agreeing.{conflicts_no, conflicts_not}
 use Rattle.pf_posix.proofs.Growing.{finishes, grows}
 use Rattle.pf_posix.proofs.OneState.{never_empty, one_state, Earlier, ends, shrinks}
-use Rattle.pf_posix.proofs.Outcomes.{MayGoOn, Outcome, Begins, Doubles, Ends, Refuses, begun, by_sign, dollar_fetched, ended, exceeds, exceeds_by, fetched_on}
+use Rattle.pf_posix.proofs.Outcomes.{MayGoOn, Outcome, Begins, EndsOther, Ends, Refuses, begun, by_sign, dollar_fetched, ended, ends_errno, exceeds, exceeds_by, fetched_on}
 use Rattle.pf_posix.proofs.Outcomes.{last_fetch, mixes, mixes_opened, mixes_star, on_percent, outcome, passes, star_fetched}
-use Rattle.pf_posix.proofs.PartStates.{IsMore, PlaceOf, begun_of, known, more_than, place_of, position_is, state_of, takes}
+use Rattle.pf_posix.proofs.PartStates.{IsMore, PlaceOf, begun_of, known, more_than, place_of, state_of, takes}
 use Rattle.pf_posix.proofs.Steps.{IsBefore, IsStateAfter, Place, Width, Precision, Sign, Digit, Dollar, Asterisk, SpellsDigits, State, Opened, First, Digits, Star}
-use Rattle.pf_posix.proofs.Steps.{StarDigits, finish, own_before, own_in, place_in, position_in, position_of, sign_of, step, too_large, Dot, Letter}
+use Rattle.pf_posix.proofs.Steps.{StarDigits, finish, own_before, own_in, place_in, position_in, position_of, sign_of, step, too_large, Dot, Letter, Strange}
 use Rattle.pf_posix.proofs.LetterLemmas.{digit_of, digits_mix, dollar_of, first_mixes, mixes_after_digits, mixes_after_first, mixes_after_percent, mixes_after_star}
 use Rattle.pf_posix.proofs.LetterLemmas.{passes_limit, passes_so, percent_mixes, sign_of_digit, star_mixes}
 
@@ -84,6 +84,13 @@ module _ (state : State) (sign : Sign) (s : PosixSpecification) (e : finish stat
     pub end_forth : MayGoOn numbering state → mixes state numbering sign ≡ false → Follows numbering (Some (numbering_by s.position))
     end_forth h m = grind arith
 
+-- the letter of `%m` has no meaning in a specification
+pub no_errno : (state : State) (byte : ℕ) → (sign_of byte ≢ Strange) → ends_errno state byte ≡ false
+no_errno state byte known = false_from_ne_true (ends_errno state byte) (λ e. known (ap sign_of (letter_is state byte e))) where
+  letter_is : (state : State) (byte : ℕ) → ends_errno state byte ≡ true → byte ≡ 109
+  letter_is Opened byte e = eqb-true byte 109 e
+  letter_is _ byte e = cc
+
 -- what is refused for no mixing begins or ends as its sign says, which is neither NUL nor `%`
 module _ (model : Model) (fetches : List Fetch) (state : State) where
   pub completes_sign : (sign : Sign) → mixes state (numbering_of fetches) sign ≡ false → (s : PosixSpecification) → finish state sign ≡ Some s
@@ -92,10 +99,14 @@ module _ (model : Model) (fetches : List Fetch) (state : State) where
 
   module _ (byte : ℕ) (m : mixes state (numbering_of fetches) (sign_of byte) ≡ false) where
     pub begins : (to : State) → step state (sign_of byte) ≡ Some to → outcome model fetches state byte ≡ begun fetches to (fetched_on (sign_of byte) state)
-    begins to e = grind (arith, nat_tests)
+    begins to e =
+        let signed = no_errno state byte (λ strange. let no = sym e ∙ ap (step state) strange in cc) in
+        rw signed (grind (arith, nat_tests))
 
     pub completes : (s : PosixSpecification) → finish state (sign_of byte) ≡ Some s → outcome model fetches state byte ≡ ended model fetches s (undefined_of s)
-    completes s e = grind (arith, nat_tests)
+    completes s e =
+        let signed = no_errno state byte (λ strange. let no = sym e ∙ ap (finish state) strange in cc) in
+        rw signed (grind (arith, nat_tests))
 
 star_digits_there : (place : Place) (n : ℕ) (part : Text) → IsStateAfter (StarDigits place n) part
     → EndsInStarDigits part (too_large place) n (position_of place) (own_before place)
@@ -370,7 +381,7 @@ pub refuses : (model : Model) (fetches : List Fetch) (part : Text) (state : Stat
     → MayGoOn (numbering_of fetches) state → outcome model fetches state byte ≡ Refuses kind → IsPosixRefusedByte model fetches part byte kind
 refuses model fetches part state byte kind h follows e =
     on_test (byte == 0) (Refuses NulByte) _ _ e (λ z. cc)
-    (λ e. on_test (byte == 37) (on_percent state) _ _ e percent (wrong part state byte h model fetches kind follows)) where
+    (λ e. on_test (byte == 37) (on_percent state) _ _ e percent (other (ends_errno state byte) refl)) where
       kind_is : (state : State) → on_percent state ≡ Refuses kind → kind ≡ BadPercent
       kind_is Opened e = cc
       kind_is _ e = cc
@@ -379,14 +390,30 @@ refuses model fetches part state byte kind h follows e =
       percent e = (
         kind_is state e,
         (λ none. never_empty state (subst (IsStateAfter state) none h)),
-        (λ one. let no : Doubles ≡ Refuses kind = sym (ap on_percent (one_state state Opened part h one)) ∙ e in cc),
+        (λ one. let no : EndsOther ≡ Refuses kind = sym (ap on_percent (one_state state Opened part h one)) ∙ e in cc),
+      )
+
+      other : (errno : Bool) → ends_errno state byte ≡ errno → (if errno then EndsOther else by_sign model fetches state (sign_of byte)) ≡ Refuses kind
+          → (part ≡ 37 ∷ [] → byte ≢ 109) × IsWrong model fetches part byte kind
+      other true is e = cc
+      other false is e = (
+        (λ one letter. let no : true ≡ false = sym (ap₂ ends_errno (one_state state Opened part h one) letter) ∙ is in cc),
+        wrong part state byte h model fetches kind follows e,
       )
 
 pub refused : (model : Model) (fetches : List Fetch) (part : Text) (state : State) (byte : ℕ) (kind : RefusalKind) → IsStateAfter state part
     → IsPosixRefusedByte model fetches part byte kind → outcome model fetches state byte ≡ Refuses kind
 refused model fetches part state byte kind h r =
     by_test (byte == 0) (Refuses NulByte) _ _ r (λ k. ap Refuses (sym k))
-    (λ r. by_test (byte == 37) (on_percent state) _ _ r (percent state h) (right part state byte h model fetches kind)) where
+    (λ r. by_test (byte == 37) (on_percent state) _ _ r (percent state h) other) where
       percent : (state : State) → IsStateAfter state part → (kind ≡ BadPercent) × (part ≢ []) × (part ≢ 37 ∷ []) → on_percent state ≡ Refuses kind
       percent Opened h m = absurd (m.2 h)
       percent _ h m = ap Refuses (sym m.0)
+
+      none : (state : State) → IsStateAfter state part → (part ≡ 37 ∷ [] → byte ≢ 109) → ends_errno state byte ≡ false
+      none Opened h m = ne_eqb byte 109 (m h)
+      none _ h m = refl
+
+      other : (part ≡ 37 ∷ [] → byte ≢ 109) × IsWrong model fetches part byte kind
+          → (if ends_errno state byte then EndsOther else by_sign model fetches state (sign_of byte)) ≡ Refuses kind
+      other r = let no = none state h r.0 in rw no (right part state byte h model fetches kind r.1)

@@ -9,6 +9,7 @@ use Rattle.pf_posix.specs.declared.fetches.Fetch.{Fetch}
 use Rattle.pf_posix.specs.declared.specifications.Numbering.{Numbering}
 use Rattle.pf_posix.specs.declared.specifications.Numbering.TheVariants.{Unnumbered, Numbered}
 use Rattle.pf_posix.specs.Defined.{undefined_of}
+use Rattle.pf_posix.specs.Items.{errno_letter}
 use Rattle.pf_posix.specs.Readings.{conflicts}
 use Rattle.pf_posix.specs.Refusals.{Follows, numbering_by, numbering_of}
 use Rattle.pf_posix.specs.Specifications.{PosixSpecification}
@@ -22,8 +23,8 @@ pub data Outcome : Type 0 where
   Begins : (state : State) (fetched : Option Fetch) → Outcome
   -- it has ended, and its last argument is fetched
   Ends : (s : PosixSpecification) (last : Fetch) → Outcome
-  -- it is `%%`
-  Doubles : Outcome
+  -- it is `%%` or `%m`
+  EndsOther : Outcome
   Refuses : (kind : RefusalKind) → Outcome
 
 -- numbered specifications and others are mixed (POSIX fprintf), by what comes after `%`, a first number, a `*`,
@@ -121,13 +122,19 @@ by_sign model fetches state sign =
     within model fetches state sign (exceeds state sign)
 
 abbrev pub on_percent : State → Outcome
-on_percent Opened = Doubles
+on_percent Opened = EndsOther
 on_percent _ = Refuses BadPercent
+
+-- `%m` ends with the byte
+abbrev pub ends_errno : State → ℕ → Bool
+ends_errno Opened byte = byte == errno_letter
+ends_errno _ byte = false
 
 abbrev pub outcome : Model → List Fetch → State → ℕ → Outcome
 outcome model fetches state byte =
     if byte == 0 then Refuses NulByte else
     if byte == percent then on_percent state else
+    if ends_errno state byte then EndsOther else
     by_sign model fetches state (sign_of byte)
 
 -- where it shows whether the specification is numbered, it may follow others of a numbering

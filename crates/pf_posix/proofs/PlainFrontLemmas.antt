@@ -26,7 +26,7 @@ use Rattle.pf_posix.specs.declared.specifications.Specification.{Specification a
 use Rattle.pf_posix.specs.declared.types.ArgumentType.{ArgumentType}
 use Rattle.pf_posix.specs.declared.types.ArgumentType.TheVariants.{Profile}
 use Rattle.pf_posix.specs.Defined.{undefined_of}
-use Rattle.pf_posix.specs.Items.{PosixItem, ReadsPosix, Specification, fetched}
+use Rattle.pf_posix.specs.Items.{Byte, Errno, PosixItem, ReadsPosix, Specification, SpellsPosixItem, errno_letter, fetched}
 use Rattle.pf_posix.specs.Laws.{HasCount, filled}
 use Rattle.pf_posix.specs.Letters.{conversion_of}
 use Rattle.pf_posix.specs.OpaqueParts.{parts_of_opaque}
@@ -46,7 +46,7 @@ use Rattle.pf_posix.specs.Spelling.{SpellsPosix, SpellsPosixPrecision, SpellsPos
 use Rattle.pf_posix.specs.Types.{conversion_type, fetch, fetches, star_fetches, widened}
 use Rattle.pf_posix.proofs.Bounds.{all_append}
 use Rattle.pf_posix.proofs.Growing.{finishes}
-use Rattle.pf_posix.proofs.KeptTypes.{own_unnumbered, posix_append, fetched_here, fetches_here, item_of, read_here, reads_here, whole_of}
+use Rattle.pf_posix.proofs.KeptTypes.{items_free, posix_append, fetched_here, fetches_here, item_of, read_here, reads_here, whole_of}
 use Rattle.pf_posix.proofs.LetterLemmas.{byte_of_conversion, letter_tests}
 use Rattle.pf_posix.proofs.ListLemmas.{filled_none}
 use Rattle.pf_posix.proofs.SpecificationsOnce.{same_there, unnumbered_parts}
@@ -62,7 +62,7 @@ typed_profile model t at found wanted h e =
       plain = record {
         some = h.some;
         within = h.within;
-        item = read_here (take (found.stop - at) (drop at t)) (Directive found.directive) h.read;
+        spelled = read_here (take (found.stop - at) (drop at t)) (Directive found.directive) h.read;
         unnumbered = refl;
       };
       fetches_are = fetches_here model found.directive h.read.1 ∙ ap (λ w. fetch None (Profile w) ∷ []) (sym e);
@@ -90,7 +90,7 @@ typed_bare model t at wanted h e = go (conversion_of (get_or t (at + 1) 0)) refl
         plain = record {
           some = omega arith;
           within = omega (arith, h.0);
-          item = (subst (λ u. SpellsPosix u (bare_of conversion)) text spelled, defined);
+          spelled = (subst (λ u. SpellsPosix u (bare_of conversion)) text spelled, defined);
           unnumbered = refl;
         };
         fetches_are = ap (λ k. fetch None k ∷ []) (sym same);
@@ -102,24 +102,25 @@ pub typed_put : (model : Model) (t : Text) (at : ℕ) (wanted : ArgumentType) (s
     → ((first before : List ArgumentType) → old ≡ filled first before → count ≡ length before → new ≡ filled first (before ++ wanted ∷ []))
     → length new ≡ length old → IsPutAt model t at old new count (record { at = stop; count = count + 1 })
 typed_put model t at wanted stop old new count h puts long =
+    let same : fetched model (Specification h.s ∷ []) ≡ fetch None wanted ∷ [] = append-nil (fetches model h.s) ∙ h.fetches_are in
     record {
-      s = h.s;
+      item = Specification h.s;
       plain = h.plain;
-      more = ap (λ l. count + length l) (sym h.fetches_are);
-      put = λ first before e c. puts first before e c ∙ ap (λ l. filled first (before ++ wanted_types l)) (sym h.fetches_are);
+      more = ap (λ l. count + length l) (sym same);
+      put = λ first before e c. puts first before e c ∙ ap (λ l. filled first (before ++ wanted_types l)) (sym same);
       same_length = long;
     }
 
 -- and so are those of another specification
 pub plain_there : (t : Text) (at : ℕ) (numbering : Numbering) (read : Read) (stop : ℕ) → IsDefinedAt t at numbering (read, stop) → read.position ≡ None
-    → IsPlain t at stop (parts_of_opaque read.parts)
+    → IsPlain t at stop (Specification (parts_of_opaque read.parts))
 plain_there t at numbering read stop h e =
     let text = take (stop - at) (drop at t) in
     let same = unnumbered_parts text read h.is.read.spelled e in
     record {
       some = h.is.read.some;
       within = h.is.read.within;
-      item = (subst (SpellsPosix text) (sym same) h.is.read.spelled, ap undefined_of same ∙ h.defined);
+      spelled = (subst (SpellsPosix text) (sym same) h.is.read.spelled, ap undefined_of same ∙ h.defined);
       unnumbered = refl;
     }
 
@@ -170,23 +171,51 @@ fetches_few model t s h =
       length-append (star_fetches s.width) (star_fetches s.precision),
     )
 
--- types were put exactly if a specification was read
+-- `%m`
+pub plain_errno : (t : Text) (at : ℕ) → HasPercent t at → get_or t (at + 1) 0 ≡ errno_letter → IsPlain t at (at + 2) Errno
+plain_errno t at h letter =
+    let two : 2 ≡ at + 2 - at = omega arith in
+    record {
+      some = omega arith;
+      within = omega (arith, h.0);
+      spelled = ap (λ n. take n (drop at t)) (sym two) ∙ two_bytes t at h ∙ ap (λ b. 37 ∷ b ∷ []) letter;
+      unnumbered = tt;
+    }
+
+pub errno_put : (model : Model) (t : Text) (at : ℕ) (old : List ArgumentType) (count : ℕ) → HasPercent t at → get_or t (at + 1) 0 ≡ errno_letter
+    → IsPutAt model t at old old count (record { at = at + 2; count = count })
+errno_put model t at old count h letter =
+    record {
+      item = Errno;
+      plain = plain_errno t at h letter;
+      more = omega arith;
+      put = λ first before e c. e ∙ ap (filled first) (sym (append-nil before));
+      same_length = refl;
+    }
+
+-- types were put exactly if an item was read
 module _ (model : Model) (t : Text) (at : ℕ) (old new : List ArgumentType) (count : ℕ) (read : PlainFront) where
   pub was_put : IsPut model t at old new count read → read.at ≢ at → IsPutAt model t at old new count read
   was_put (inl h) other = absurd (other h.0)
   was_put (inr h) other = h
 
   pub none_put : IsPut model t at old new count read → read.at ≡ at
-      → (read.count ≡ count) × (new ≡ old) × ((found : Read × ℕ) → IsDefinedAt t at (numbering_after count) found → found.0.position ≢ None)
-  none_put (inl h) same = (h.1, h.2, h.3)
+      → (read.count ≡ count) × (new ≡ old) × (get_or t (at + 1) 0 ≢ errno_letter)
+      × ((found : Read × ℕ) → IsDefinedAt t at (numbering_after count) found → found.0.position ≢ None)
+  none_put (inl h) same = (h.1, h.2, h.3, h.4)
   none_put (inr h) same = absurd (omega (arith, h.plain.some, same))
+
+item_few : (model : Model) (t : Text) (item : PosixItem) → SpellsPosixItem t item → length (fetched model (item ∷ [])) ≤ length t
+item_few model t (Byte byte) h = omega arith
+item_few model t Errno h = omega arith
+item_few model t (Specification s) h = subst (λ l. length l ≤ length t) (sym (append-nil (fetches model s))) (fetches_few model t s h.0)
 
 pub put_few : (model : Model) (t : Text) (at : ℕ) (old new : List ArgumentType) (count stop after : ℕ)
     → IsPutAt model t at old new count (record { at = stop; count = after }) → count ≤ at → after ≤ stop
 put_few model t at old new count stop after h few =
     let text = take (stop - at) (drop at t) in
     let long = length-take-le (stop - at) (drop at t) (omega (arith, h.plain.within, length-drop at t)) in
-    omega (arith, few, h.more, h.plain.some, long, fetches_few model text h.s h.plain.item.0)
+    omega (arith, few, h.more, h.plain.some, long, item_few model text h.item h.plain.spelled)
 
 pub no_front : (model : Model) (t : Text) (old : List ArgumentType) → IsPlainFront model t 0 old old 0
 no_front model t old = record { plain = record { items = []; reads = refl; unnumbered = tt; count_is = refl }; front = sym (filled_none old) }
@@ -235,23 +264,22 @@ module _ (model : Model) (t : Text) (at : ℕ) (old new : List ArgumentType) (co
   abbrev seen : List Fetch
   seen = fetched model h.plain.items
 
-  -- a specification
+  -- an item more
   pub front_put : (more : List ArgumentType) (stop after : ℕ) → IsPutAt model t at new more count (record { at = stop; count = after })
       → IsPlainFront model t stop old more after
   front_put more stop after p =
-      let s = p.s in
-      let own = fetches model s in
-      let items = h.plain.items ++ Specification s ∷ [] in
+      let own = fetched model (p.item ∷ []) in
+      let items = h.plain.items ++ p.item ∷ [] in
       let text = take (stop - at) (drop at t) in
-      let same : fetched model items ≡ seen ++ own =
-      fetched_append model h.plain.items (Specification s ∷ []) ∙ ap (λ l. seen ++ l) (append-nil own) in
+      let same : fetched model items ≡ seen ++ own = fetched_append model h.plain.items (p.item ∷ []) in
       let long = length-append seen own in
       record {
         plain = record {
           items = items;
-          reads = whole_item t at stop h.plain.items s (omega (arith, p.plain.some)) h.plain.reads p.plain.item;
+          reads = whole_item t at stop h.plain.items p.item (omega (arith, p.plain.some)) h.plain.reads p.plain.spelled;
           unnumbered = subst (AllByRecursion (λ f. f.number ≡ None)) (sym same)
-              (all_append (λ f. f.number ≡ None) seen own h.plain.unnumbered (own_unnumbered model text s p.plain.item.0 p.plain.unnumbered));
+              (all_append (λ f. f.number ≡ None) seen own h.plain.unnumbered
+              (items_free model text (p.item ∷ []) (text, [], p.plain.spelled, refl, sym (append-nil text)) (p.plain.unnumbered, tt)));
           count_is = omega (arith, p.more, h.plain.count_is, ap length same, long);
         };
         front =

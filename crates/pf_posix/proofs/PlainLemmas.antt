@@ -1,5 +1,6 @@
 -- Specifications without numbers at an offset of a text, and what is there if none begins.
-use Rattle.pf_posix.proofs.KeptTypes.{item_of, reads_here, accepted_there, posix_append, items_unnumbered}
+use Rattle.pf_posix.proofs.KeptTypes.{item_of, reads_here, accepted_there, posix_append, posix_item, items_unnumbered, other_spelled, other_unnumbered}
+use Rattle.pf_posix.proofs.DirectiveLemmas.{errno_split}
 use Rattle.pf_posix.proofs.Bounds.{all_append}
 use Rattle.pf_posix.specs.Unnumbered.{IsUnnumbered}
 use Rattle.pf_text.proofs.WalkLemmas.{run_is_read}
@@ -11,21 +12,22 @@ use Rattle.pf_text.specs.declared.specification.FoundDirective.{FoundDirective}
 use Rattle.pf_text.specs.Walks.{BeginsNothing, Finds, HasPassed, HasPercent, IsWalkOver}
 use Rattle.std.specs.List.{AllByRecursion}
 use Rattle.std.proofs.Common.{◌≡◌, ◌≢◌, ℕ, ◌+◌, ◌-◌, ◌≤◌, Bool, true, false, List, [], ◌∷◌, ◌++◌, drop, get_or, length, take, refl, sym, ap, ◌∙◌, arith, subst, map}
-use Rattle.std.specs.Prelude.{IsTrue, IsFalse}
+use Rattle.std.specs.Prelude.{IsTrue, IsFalse, ◌==◌, ◌<◌}
 use Rattle.std.proofs.lemmas.List.{append-nil, length-take, take_all}
 use Rattle.pf_values.specs.declared.limits.TheConstants.{MAX_TEXT_LEN}
 use Rattle.pf_values.specs.meaning.Items.{Directive, Item, Reads}
 use Rattle.pf_values.specs.meaning.Text.{Text, percent}
 use Rattle.pf_text.specs.FoundDirectives.{BeginsNoItem, BeginsNoDirective, IsFoundAt}
-use Rattle.pf_posix.specs.declared.opaque_directives.OpaqueDirective.{OpaqueDirective}
+use Rattle.pf_posix.specs.declared.opaque_directives.Opaque.{Opaque}
+use Rattle.pf_posix.specs.declared.opaque_directives.Opaque.TheVariants.{Directive as OpaqueDirective, Errno as OpaqueErrno}
 use Rattle.pf_posix.specs.declared.specifications.Numbering.TheVariants.{Unnumbered}
 use Rattle.pf_posix.specs.declared.specifications.Specification.{Specification as Read}
 use Rattle.pf_posix.specs.Defined.{IsPosixDefined, undefined_of}
 use Rattle.pf_posix.specs.PartsInText.{IsSpecificationAt, specification_read}
 use Rattle.pf_posix.specs.Heads.{IsOpaqueAt}
-use Rattle.pf_posix.specs.Items.{Specification, PosixItem, ReadsPosix}
-use Rattle.pf_posix.specs.Opaque.{SpellsOpaque, is_opaque}
-use Rattle.pf_posix.specs.OpaqueParts.{parts_of_opaque}
+use Rattle.pf_posix.specs.Items.{PosixItem, ReadsPosix, errno}
+use Rattle.pf_posix.specs.Opaque.{OpaqueItem, SpellsOpaque, SpellsOpaqueItem, is_opaque}
+use Rattle.pf_posix.specs.OpaqueParts.{item_of_opaque, parts_of_opaque}
 use Rattle.pf_posix.specs.Specifications.{PosixSpecification}
 use Rattle.pf_posix.specs.Stretches.{Last, IsWholeAccepted}
 use Rattle.pf_posix.proofs.SpecificationsOnce.{parted, unnumbered_parts}
@@ -38,7 +40,7 @@ use Rattle.pf_posix.specs.Spelling.{SpellsPosix}
 -- A specification that was read in the front of a text up to the limit isn't one of the profile, if no item of that
 -- begins there and ends within the limit.
 pub opaque_read : (t : Text) (at : ℕ) (read : Read) (stop : ℕ) → BeginsNoItem (drop at (take MAX_TEXT_LEN t))
-    → IsDefinedAt (take MAX_TEXT_LEN t) at Unnumbered (read, stop) → IsOpaqueAt t at (read.parts, stop)
+    → IsDefinedAt (take MAX_TEXT_LEN t) at Unnumbered (read, stop) → IsOpaqueAt t at (OpaqueDirective read.parts, stop)
 opaque_read t at read stop none h = go (is_opaque s) refl where
   found : IsSpecificationAt (take MAX_TEXT_LEN t) at (read, stop)
   found = h.is.read
@@ -58,7 +60,7 @@ opaque_read t at read stop none h = go (is_opaque s) refl where
   defined : IsPosixDefined s
   defined = ap undefined_of same ∙ h.defined
 
-  go : (b : Bool) → is_opaque s ≡ b → IsOpaqueAt t at (read.parts, stop)
+  go : (b : Bool) → is_opaque s ≡ b → IsOpaqueAt t at (OpaqueDirective read.parts, stop)
   go true e = record {
     some = found.some;
     within = omega (arith, found.within, length-take MAX_TEXT_LEN t);
@@ -68,6 +70,20 @@ opaque_read t at read stop none h = go (is_opaque s) refl where
   }
   go false e = absurd (none text (drop stop (take MAX_TEXT_LEN t)) (Directive (narrow s))
       (parted (take MAX_TEXT_LEN t) at stop (omega (arith, found.some))) (narrowed text s spelled defined refl e))
+
+-- `%m` there
+pub errno_read : (t : Text) (at : ℕ) → get_or (take MAX_TEXT_LEN t) at 0 ≡ percent → (get_or (take MAX_TEXT_LEN t) (at + 1) 0 == 109) ≡ true
+    → at + 1 < length (take MAX_TEXT_LEN t) → IsOpaqueAt t at (OpaqueErrno, at + 2)
+errno_read t at first second less =
+    let front = take MAX_TEXT_LEN t in
+    let two : 2 ≡ at + 2 - at = omega arith in
+    record {
+      some = omega arith;
+      within = omega (arith, less, length-take MAX_TEXT_LEN t);
+      limit = omega (arith, less, length-take MAX_TEXT_LEN t);
+      spelled = sym (part_of_front t MAX_TEXT_LEN at (at + 2) (omega arith) (omega (arith, less)))
+          ∙ ap (take (at + 2 - at)) (errno_split front at first second less) ∙ ap (λ n. take n (errno ++ drop (at + 2) front)) (sym two);
+    }
 
 -- more items after an accepted front
 module _ (t : Text) (at stop : ℕ) (front : IsWholeAccepted (take at t)) (up : at ≤ stop) (few : stop ≤ MAX_TEXT_LEN) where
@@ -82,10 +98,10 @@ module _ (t : Text) (at stop : ℕ) (front : IsWholeAccepted (take at t)) (up : 
         limit = omega (arith, length-take stop t, few);
       })
 
-  pub accepted_opaque : (s : PosixSpecification) → SpellsOpaque (take (stop - at) (drop at t)) s → IsWholeAccepted (take stop t)
-  accepted_opaque s h =
+  pub accepted_opaque : (other : OpaqueItem) → SpellsOpaqueItem (take (stop - at) (drop at t)) other → IsWholeAccepted (take stop t)
+  accepted_opaque other h =
       let text = take (stop - at) (drop at t) in
-      accepted_more (Specification s ∷ []) (text, [], (h.spelled, h.defined), refl, sym (append-nil text)) (h.unnumbered, tt)
+      accepted_more (posix_item other ∷ []) (text, [], other_spelled text other h, refl, sym (append-nil text)) (other_unnumbered text other h, tt)
 
   -- items of the profile, in the front of the text up to the limit
   accepted_items : (u : Text) (items : List Item) → u ≡ take MAX_TEXT_LEN t → stop ≤ length u → Reads (take (stop - at) (drop at u)) items
@@ -125,11 +141,11 @@ module _ (t : Text) (walk : Walk) (h : HasAccepted t walk) where
             (Directive found.directive ∷ []) h.over.text_is g.within (text, [], g.read, refl, sym (append-nil text));
       }
 
-  pub accepted_other : (found : OpaqueDirective × ℕ) → IsOpaqueAt t walk.at found → HasAccepted t (record walk { at = found.1 })
+  pub accepted_other : (found : Opaque × ℕ) → IsOpaqueAt t walk.at found → HasAccepted t (record walk { at = found.1 })
   accepted_other found g = record {
     over = moved_over t walk found.1 h.over;
     within = omega (arith, g.within, g.limit, ap length h.over.text_is, length-take MAX_TEXT_LEN t);
-    front = accepted_opaque t walk.at found.1 h.front (omega (arith, g.some)) g.limit (parts_of_opaque found.0) g.spelled;
+    front = accepted_opaque t walk.at found.1 h.front (omega (arith, g.some)) g.limit (item_of_opaque found.0) g.spelled;
   }
 
   pub accepted_whole : walk.at ≡ length t → IsWholeAccepted t

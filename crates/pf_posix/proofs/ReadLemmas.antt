@@ -45,8 +45,8 @@ use Rattle.pf_posix.specs.Spelling.{SpellsUpToPrecision, SpellsUpToWidth}
 use Rattle.pf_posix.specs.Types.{int_type, star_fetches}
 use Rattle.pf_posix.specs.Beginnings.{IsBegunAs, IsUndecided}
 use Rattle.pf_posix.proofs.FrontRefusals.{undecided_own}
-use Rattle.pf_posix.proofs.HaltLemmas.{halt_at, halt_stray, one_on, past_percent, halt_begins_no, halt_begins_none}
-use Rattle.pf_posix.proofs.LetterLemmas.{letter_tests}
+use Rattle.pf_posix.proofs.HaltLemmas.{IsNoOther, halt_at, halt_stray, one_on, halt_begins_no, halt_begins_none}
+use Rattle.pf_posix.proofs.OneState.{one_state}
 use Rattle.pf_posix.proofs.OutcomeLemmas.{no_some, nowhere}
 use Rattle.pf_posix.proofs.Outcomes.{exceeds, mixes}
 use Rattle.pf_posix.proofs.PartStates.{IsMore, in_part, more_than, takes}
@@ -177,18 +177,18 @@ is_none o e = no_some o (λ x f. let no = sym e ∙ ap is_some f in cc)
 
 -- a byte that isn't allowed after a part, after specifications of a numbering
 record Stops (numbering : Numbering) (byte : ℕ) (part : Text) : Type 0 where
-  more : byte ≡ 37 → part ≢ 37 ∷ []
+  more : IsNoOther part byte
   unexpected : (q : Numbering) → (IsUndecided part → q ≡ numbering) → IsUnexpected q part byte
 
 module _ (numbering : Numbering) (byte : ℕ) where
   stops_like : (part text : Text) → part ≡ text → Stops numbering byte text → Stops numbering byte part
   stops_like part text e s = subst (Stops numbering byte) (sym e) s
 
-  stops_in : (state : State) (part : Text) → IsStateAfter state part → (byte ≡ 37 → state ≢ Opened)
+  stops_in : (state : State) (part : Text) → IsStateAfter state part → (state ≡ Opened → (byte ≡ 37) ⊎ (byte ≡ 109) → ⊥)
       → ((q : Numbering) → (IsUndecided part → q ≡ numbering) → allows state q (sign_of byte) ≡ false) → Stops numbering byte part
   stops_in state part h more quiet =
       record {
-        more = λ e. past_percent state part h (more e);
+        more = λ one. more (one_state state Opened part h one);
         unexpected = λ q same.
             let all = or_parts _ _ (quiet q same) in
             let ends = or_parts _ _ all.0 in
@@ -202,11 +202,11 @@ module _ (numbering : Numbering) (byte : ℕ) where
       → Stops numbering byte (before ++ text)
   star_stops none plain place before text None point h s digit =
       let alone = is_none (position_of place) (sym s.numbering) in
-      stops_in (Star place) (before ++ text) (before, h, ap (λ u. before ++ u) (s.whole ∙ ap (λ d. 42 ∷ d) s.digits_are)) (λ f same. cc)
+      stops_in (Star place) (before ++ text) (before, h, ap (λ u. before ++ u) (s.whole ∙ ap (λ d. 42 ∷ d) s.digits_are)) (λ same f. cc)
       (λ q same. quiet_star byte q none plain place point alone (digit alone))
   star_stops none plain place before text (Some n) point h s digit =
       let whole = ap (λ u. before ++ u) (s.whole ∙ ap (λ d. 42 ∷ d) s.digits_are.2) ∙ sym (append_assoc before (42 ∷ s.digits_are.0) (36 ∷ [])) in
-      stops_in (Placed place n) (before ++ text) (before, s.digits_are.0, h, s.digits_are.1, sym s.numbering, whole) (λ f same. cc)
+      stops_in (Placed place n) (before ++ text) (before, s.digits_are.0, h, s.digits_are.1, sym s.numbering, whole) (λ same f. cc)
       (λ q same. quiet_placed byte q none plain place n point)
 
 -- a text that halts, in the words of the code
@@ -368,7 +368,7 @@ module _ (t : Text) (start : ℕ) (numbering : Numbering) (position : Option ℕ
               whole : HasBytes t start (d + 1) (part ++ conversion_letter conversion ∷ [])
               whole = bytes_join t start d (d + 1) part (conversion_letter conversion ∷ []) part_bytes letter
 
-        module _ (other : get_or t (start + 1) 0 ≢ 37) (first : position ≡ None → IsFirstWidth t (start + 1)) (width_ends : WidthEnds t b position width)
+        module _ (other : get_or t (start + 1) 0 ≢ 37) (errno : get_or t (start + 1) 0 ≢ 109) (first : position ≡ None → IsFirstWidth t (start + 1)) (width_ends : WidthEnds t b position width)
             (precision_ends : PrecisionEnds t b c position precision) (modifier_ends : ModifierEnds t d modifier) where
           abbrev byte : ℕ
           byte = get_or t d 0
@@ -380,7 +380,7 @@ module _ (t : Text) (start : ℕ) (numbering : Numbering) (position : Option ℕ
             modified : (same : Modifier) → modifier ≡ same → same ≢ Integer lengths.None → second_modifier same byte ≡ None → Stops numbering byte part
             modified same e some second =
                 let numbers = numbers_by position set wide_amount precise_amount in
-                stops_in numbering byte (Modified numbers same) part (precise, precise_is, ap (λ m. precise ++ modifier_letters m) e, some) (λ f is. cc)
+                stops_in numbering byte (Modified numbers same) part (precise, precise_is, ap (λ m. precise ++ modifier_letters m) e, some) (λ is f. cc)
                 (λ q is. quiet_modified byte q none numbers same second)
 
             module _ (plain : length_modifier_of byte ≡ None) where
@@ -396,14 +396,14 @@ module _ (t : Text) (start : ℕ) (numbering : Numbering) (position : Option ℕ
                 given_stops : (n : ℕ) → SpellsPositive width_read.0 n → is_digit byte ≡ false → IsMore before position
                     → Stops numbering byte wide
                 given_stops n s digit (inl more) =
-                    stops_in numbering byte (Digits (Width position set) n) wide (before, width_read.0, before_is, s, more, refl) (λ e same. cc)
+                    stops_in numbering byte (Digits (Width position set) n) wide (before, width_read.0, before_is, s, more, refl) (λ same e. cc)
                     (λ q same. quiet_digits byte q none plain (Width position set) n point digit)
                 given_stops n s digit (inr (one, alone)) =
                     let there : HasBytes t (start + 1) d width_read.0 =
                     subst (λ k. HasBytes t k d width_read.0) (sym (opened one)) (subst (λ k. HasBytes t a k width_read.0) place width_read.2) in
                     let dollar = ne_eqb byte 36 (first (sym alone) d n width_read.0 s there) in
                     let here : IsStateAfter (First n) wide = (width_read.0, s, ap (λ u. u ++ width_read.0) one) in
-                    stops_in numbering byte (First n) wide here (λ e same. cc)
+                    stops_in numbering byte (First n) wide here (λ same e. cc)
                     (λ q same. quiet_first byte q none plain point digit n dollar q (unnumbered alone q (same (inr (n, here)))))
 
                 none_stops : a ≡ d → EndsWidth None t d → byte ≢ 42 → IsMore before position → Stops numbering byte before
@@ -420,10 +420,14 @@ module _ (t : Text) (start : ℕ) (numbering : Numbering) (position : Option ℕ
                     | inr over ↦ ap is_digit (get_or_past t d 0 over)
                   ]
 
+                  ends_none : before ≡ 37 ∷ [] → a ≡ d → (byte ≡ 37) ⊎ (byte ≡ 109) → ⊥
+                  ends_none one here (inl e) = other (ap (λ k. get_or t k 0) (opened one ∙ here) ∙ e)
+                  ends_none one here (inr e) = errno (ap (λ k. get_or t k 0) (opened one ∙ here) ∙ e)
+
                   go : IsMore before position → Stops numbering byte before
-                  go (inl more) = stops_in numbering byte (Flags position set) before (before_is, more) (λ e same. cc)
+                  go (inl more) = stops_in numbering byte (Flags position set) before (before_is, more) (λ same e. cc)
                       (λ q same. quiet_flags byte q none plain point digit position set flag (ne_eqb byte 42 star))
-                  go (inr (one, alone)) = stops_in numbering byte Opened before one (λ e. absurd (other (ap (λ k. get_or t k 0) (opened one ∙ here) ∙ e)))
+                  go (inr (one, alone)) = stops_in numbering byte Opened before one (λ same. ends_none one here)
                       (λ q same. quiet_opened byte q none plain point digit flag (ne_eqb byte 42 star) (unnumbered alone q (same (inl one))))
 
                 width_stops : (width : Option OpaqueAmount) (number : Option ℕ) → SpellsPosixWidth width_read.0 position (amount_at width number)
@@ -440,13 +444,13 @@ module _ (t : Text) (start : ℕ) (numbering : Numbering) (position : Option ℕ
                   → is_digit byte ≡ false → (d ≡ b + 1 → byte ≢ 42) → c ≡ d → Stops numbering byte precise
               number_stops n [] digits small e digit star place =
                   let one = one_on t b c 46 (subst (HasBytes t b c) e precision_read.2) in
-                  stops_in numbering byte (Point position set wide_amount) precise (wide, wide_is, ap (λ u. wide ++ u) e) (λ f same. cc)
+                  stops_in numbering byte (Point position set wide_amount) precise (wide, wide_is, ap (λ u. wide ++ u) e) (λ same f. cc)
                   (λ q same. quiet_point byte q none plain position set wide_amount digit (ne_eqb byte 42 (star (sym place ∙ sym one))))
               number_stops n (k ∷ ds) digits small e digit star place =
                   let glyphs = map (digit_glyph false) (k ∷ ds) in
                   let here : IsStateAfter (Digits (Precision position set wide_amount) n) precise =
                   (wide ++ 46 ∷ [], glyphs, (wide, wide_is, refl), (k ∷ ds, digits, (λ f. cc), small, refl), tt, pointed glyphs e) in
-                  stops_in numbering byte (Digits (Precision position set wide_amount) n) precise here (λ f same. cc)
+                  stops_in numbering byte (Digits (Precision position set wide_amount) n) precise here (λ same f. cc)
                   (λ q same. quiet_digits byte q none plain (Precision position set wide_amount) n tt digit)
 
               precision_stops : c ≡ d → (precision : Option OpaqueAmount) (number : Option ℕ)
@@ -495,6 +499,9 @@ refused_position t start numbering refusal less percent halts refused is =
     let h = halts start (bytes_one t start 37 less (sym percent)) in
     refuse t start numbering None [] refusal _ refused is h (record { width = tt; precision = tt; own_is = λ has. refl })
 
+conversion_plain : (conversion : Conversion) → (conversion_letter conversion == 0 || (conversion_letter conversion == 37 || conversion_letter conversion == 109)) ≡ false
+conversion_plain conversion = grind arith
+
 -- a specification that was read, but isn't defined
 same_kind : (read : Specification) → undefined_of (specification_read read) ≡ undefined_of (parts_of_opaque read.parts)
 same_kind read = grind arith
@@ -505,7 +512,7 @@ pub refused_undefined : (t : Text) (start : ℕ) (numbering : Numbering) (read :
 refused_undefined t start numbering read stop kind is undefined refused made =
     refuse t start numbering read.position own (record { kind = kind; at = stop - 1 }) read.stars refused made
     (halt_at t start numbering part read.position own begun (inr is.follows) (stop - 1) last.0 kind (record { kind = kind; at = stop - 1 }) refl
-    (omega (arith, is.read.some, is.read.within)) (rw (last.1) (grind (arith, nat_tests, (letter_tests read.parts.conversion).high)))
+    (omega (arith, is.read.some, is.read.within)) (rw (last.1) (conversion_plain read.parts.conversion))
     (λ model fetches same f. inr (inr (inl (record { s = specification_read read; spelled = spelled; follows = later model fetches same f }, why))))) is.stars where
       why : undefined_of (specification_read read) ≡ Some kind
       why = same_kind read ∙ undefined

@@ -13,14 +13,14 @@ use Rattle.pf_values.specs.meaning.Text.{Text}
 use Rattle.pf_values.proofs.DefinedLemmas.{none_broken}
 use Rattle.pf_posix.specs.declared.conversions.Conversion.{Conversion}
 use Rattle.pf_posix.specs.declared.conversions.Conversion.TheVariants.{Profile}
-use Rattle.pf_posix.specs.Items.{PosixItem, Byte as PosixByte, Specification as PosixDirective}
+use Rattle.pf_posix.specs.Items.{PosixItem, Byte as PosixByte, Errno as PosixErrno, Specification as PosixDirective}
 use Rattle.pf_posix.specs.Specifications.{Amount, Given, Fetched, PosixSpecification}
 use Rattle.pf_posix.specs.StretchesInText.{push, push_all}
 use Rattle.pf_posix.specs.Types.{integer_length}
-use Rattle.pf_posix.specs.Opaque.{is_opaque, is_star}
+use Rattle.pf_posix.specs.Opaque.{OpaqueErrno, OpaqueItem, OpaqueSpecification, SpellsOpaqueItem, is_opaque, is_star}
 use Rattle.pf_posix.specs.Stretches.{Stretches, Last, Before, ReadsWhole}
 use Rattle.pf_posix.proofs.ItemsOnce.{items_once}
-use Rattle.pf_posix.proofs.KeptTypes.{flat, posix_reads, given, item_of, whole_of}
+use Rattle.pf_posix.proofs.KeptTypes.{flat, posix_item, posix_reads, given, item_of, whole_of}
 
 -- from a list of items and directives to stretches
 abbrev pub amount_back : Option Amount → Option ℕ
@@ -42,13 +42,17 @@ narrow s = record {
 }
 
 abbrev pub pushed_or : Bool → PosixSpecification → Stretches → Stretches
-pushed_or true s rest = Before [] s rest
+pushed_or true s rest = Before [] (OpaqueSpecification s) rest
 pushed_or false s rest = push (Directive (narrow s)) rest
+
+abbrev pub stretched_before : PosixItem → Stretches → Stretches
+stretched_before (PosixByte byte) later = push (Byte byte) later
+stretched_before (PosixDirective s) later = pushed_or (is_opaque s) s later
+stretched_before PosixErrno later = Before [] OpaqueErrno later
 
 abbrev pub stretched : List PosixItem → Stretches
 stretched [] = Last []
-stretched (PosixByte byte ∷ items) = push (Byte byte) (stretched items)
-stretched (PosixDirective s ∷ items) = pushed_or (is_opaque s) s (stretched items)
+stretched (item ∷ items) = stretched_before item (stretched items)
 
 narrow_is : (s : Specification) → narrow (whole_of s) ≡ s
 narrow_is s =
@@ -71,9 +75,9 @@ pub push_all-last : (items : List Item) → push_all items (Last []) ≡ Last it
 push_all-last [] = refl
 push_all-last (item ∷ items) = ap (push item) (push_all-last items)
 
-pub push_all-before : (items : List Item) (s : PosixSpecification) (rest : Stretches) → push_all items (Before [] s rest) ≡ Before items s rest
-push_all-before [] s rest = refl
-push_all-before (item ∷ items) s rest = ap (push item) (push_all-before items s rest)
+pub push_all-before : (items : List Item) (other : OpaqueItem) (rest : Stretches) → push_all items (Before [] other rest) ≡ Before items other rest
+push_all-before [] other rest = refl
+push_all-before (item ∷ items) other rest = ap (push item) (push_all-before items other rest)
 
 items_back : (t : Text) (items : List Item) (back : List PosixItem) → Reads t items → stretched (map item_of items ++ back) ≡ push_all items (stretched back)
 items_back t [] back h = refl
@@ -83,11 +87,15 @@ items_back t (Directive s ∷ items) back h = directive_back s (stretched (map i
 
 pub stretches_back : (t : Text) (a : Stretches) → ReadsWhole t a → stretched (flat a) ≡ a
 stretches_back t (Last items) h = ap stretched (sym (append-nil (map item_of items))) ∙ items_back t items [] h ∙ push_all-last items
-stretches_back t (Before items s rest) h =
-    items_back h.0 items (PosixDirective s ∷ flat rest) h.3
-    ∙ ap (push_all items) (ap (λ b. pushed_or b s (stretched (flat rest))) h.4.opaque)
-    ∙ ap (λ r. push_all items (Before [] s r)) (stretches_back h.2 rest h.5)
-    ∙ push_all-before items s rest
+stretches_back t (Before items other rest) h =
+    items_back h.0 items (posix_item other ∷ flat rest) h.3
+    ∙ ap (push_all items) (other_back h.1 other (stretched (flat rest)) h.4)
+    ∙ ap (λ r. push_all items (Before [] other r)) (stretches_back h.2 rest h.5)
+    ∙ push_all-before items other rest where
+      other_back : (middle : Text) (other : OpaqueItem) (later : Stretches) → SpellsOpaqueItem middle other
+          → stretched_before (posix_item other) later ≡ Before [] other later
+      other_back middle (OpaqueSpecification s) later h = ap (λ b. pushed_or b s later) h.opaque
+      other_back middle OpaqueErrno later h = refl
 
 pub read_once : (t : Text) (a b : Stretches) → ReadsWhole t a → ReadsWhole t b → a ≡ b
 read_once t a b h g =

@@ -7,16 +7,16 @@ use Rattle.pf_values.specs.meaning.Text.{Text}
 use Rattle.pf_posix.specs.declared.specifications.Numbering.TheVariants.{Undecided}
 use Rattle.pf_posix.specs.declared.specifications.Specification.{Specification as Read}
 use Rattle.pf_posix.specs.Halts.{BeginsNoneAfter}
-use Rattle.pf_posix.specs.Items.{Byte, PosixItem, ReadsPosix, Specification, SpellsPosixItem}
+use Rattle.pf_posix.specs.Items.{Byte, Errno, PosixItem, ReadsPosix, Specification, SpellsPosixItem, errno}
 use Rattle.pf_posix.specs.PartsInText.{IsSpecificationAt, specification_read}
 use Rattle.pf_posix.specs.RefusedSpecifications.{BeginsNoSpecification, IsAtPart, IsBeforePart, IsPartOfOne}
-use Rattle.pf_posix.proofs.DirectiveLemmas.{percent_split}
+use Rattle.pf_posix.proofs.DirectiveLemmas.{errno_split, percent_split}
 use Rattle.pf_posix.proofs.ItemsOnce.{HasText, item_once, percent_twice, text_there}
 use Rattle.pf_posix.proofs.OneState.{ends_here}
 use Rattle.pf_posix.proofs.PartLemmas.{bool_no, head_at}
 use Rattle.pf_posix.proofs.PartStates.{state_of}
-use Rattle.pf_posix.proofs.SpecificationsOnce.{HasSecond, begins_no_percent, parted, second_begun}
-use Rattle.pf_posix.proofs.Steps.{IsStateAfter, State}
+use Rattle.pf_posix.proofs.SpecificationsOnce.{HasSecond, begins_known, parted, second_begun}
+use Rattle.pf_posix.proofs.Steps.{IsStateAfter, State, Strange, sign_of}
 
 -- no item, defined or not, begins what has begun
 no_item : (state : State) (item : PosixItem) (first more : Text) → HasText item first → ¬ IsStateAfter state (first ++ more)
@@ -24,9 +24,13 @@ no_item state (Specification s) first more h a = ends_here first more s state h 
 no_item state (Byte x) first more h a = go (x == 37) refl (second_begun _ state (subst (λ u. IsStateAfter state (u ++ more)) h a)) where
   go : (b : Bool) → (x == 37) ≡ b → ((if b then 37 ∷ 37 ∷ [] else x ∷ []) ++ more ≡ 37 ∷ []) ⊎ HasSecond ((if b then 37 ∷ 37 ∷ [] else x ∷ []) ++ more) → ⊥
   go true e (inl one) = cc
-  go true e (inr two) = let second : 37 ≡ two.0 = let t = two.3 in cc in bool_no refl (ap (λ k. k == 37) second ∙ two.2)
+  go true e (inr two) = let second : two.0 ≡ 37 = let t = two.3 in cc in two.2 (ap sign_of second)
   go false e (inl one) = let is : x ≡ 37 = cc in bool_no (ap (λ k. k == 37) is) e
   go false e (inr two) = let is : x ≡ 37 = let t = two.3 in cc in bool_no (ap (λ k. k == 37) is) e
+no_item state Errno first more h a = go (second_begun _ state (subst (λ u. IsStateAfter state (u ++ more)) h a)) where
+  go : (errno ++ more ≡ 37 ∷ []) ⊎ HasSecond (errno ++ more) → ⊥
+  go (inl one) = cc
+  go (inr two) = let second : two.0 ≡ 109 = let t = two.3 in cc in two.2 (ap sign_of second)
 
 part_some : (part first rest : Text) (item : PosixItem) → IsPartOfOne part → HasText item first → part ≡ first ++ rest → (part ≡ [])
 part_some part first rest item (inl none) h e = none
@@ -92,23 +96,32 @@ module _ (t : Text) (at : ℕ) (h : IsBeforePart t at) where
       passed_percent second more =
           passed (at + 2) (Byte 37) (37 ∷ 37 ∷ []) refl (percent_split t at percent second more) (omega arith) (omega (arith, more))
 
+      pub passed_errno : (get_or t (at + 1) 0 == 109) ≡ true → at + 1 < length t → IsBeforePart t (at + 2)
+      passed_errno second more = passed (at + 2) Errno errno refl (errno_split t at percent second more) (omega arith) (omega (arith, more))
+
       pub passed_specification : (read : Read) (stop : ℕ) → IsSpecificationAt t at (read, stop) → IsBeforePart t stop
       passed_specification read stop found =
           passed stop (Specification (specification_read read)) (take (stop - at) (drop at t)) found.spelled
           (parted t at stop (omega (arith, found.some))) found.some found.within
 
-      pub at_none : (get_or t (at + 1) 0 == 37) ≡ false → BeginsNoneAfter Undecided (drop at t) → IsAtPart t at
-      at_none other none = at_part go where
+      pub at_none : (get_or t (at + 1) 0 == 37) ≡ false → (get_or t (at + 1) 0 == 109) ≡ false → BeginsNoneAfter Undecided (drop at t) → IsAtPart t at
+      at_none other letter none = at_part go where
+        first_is : drop at t ≡ 37 ∷ drop (at + 1) t
+        first_is = drop_more t at 0 less ∙ ap (λ b. b ∷ drop (at + 1) t) percent
+
         go : (item : PosixItem) (first rest : Text) → SpellsPosixItem first item → drop at t ≢ first ++ rest
         go (Specification s) first rest h e = none first rest s h.0 e (inl refl) h.1
         go (Byte x) first rest h e =
-            let twice = percent_twice x rest (drop (at + 1) t) (sym (ap (λ u. u ++ rest) (text_there first (Byte x) h)) ∙ sym e
-            ∙ drop_more t at 0 less ∙ ap (λ b. b ∷ drop (at + 1) t) percent) in
+            let twice = percent_twice x rest (drop (at + 1) t) (sym (ap (λ u. u ++ rest) (text_there first (Byte x) h)) ∙ sym e ∙ first_is) in
             bool_no (ap (λ b. b == 37) (head_at t (at + 1) 37 rest twice)) other
+        go Errno first rest h e =
+            let more : drop (at + 1) t ≡ 109 ∷ rest = let both = sym first_is ∙ e ∙ ap (λ u. u ++ rest) h in cc in
+            bool_no (ap (λ b. b == 109) (head_at t (at + 1) 109 rest more)) letter
 
--- after `%%` begins no specification
-pub twice_begins_none : (t : Text) (begin : ℕ) → begin < length t → (get_or t (begin + 1) 0 == 37) ≡ true → BeginsNoSpecification (drop begin t)
-twice_begins_none t begin less second text rest s h e =
-    let two = begins_no_percent text s h in
+-- no specification begins with `%%` or `%m`
+pub begins_none_before : (byte : ℕ) → sign_of byte ≡ Strange → (t : Text) (begin : ℕ) → begin < length t → (get_or t (begin + 1) 0 == byte) ≡ true
+    → BeginsNoSpecification (drop begin t)
+begins_none_before byte strange t begin less second text rest s h e =
+    let two = begins_known text s h in
     let more : drop (begin + 1) t ≡ two.0 ∷ (two.1 ++ rest) = let both = sym (drop_more t begin 0 less) ∙ e ∙ ap (λ u. u ++ rest) two.3 in cc in
-    bool_no second (ap (λ b. b == 37) (head_at t (begin + 1) two.0 (two.1 ++ rest) more) ∙ two.2)
+    two.2 (ap sign_of (sym (head_at t (begin + 1) two.0 (two.1 ++ rest) more) ∙ eqb-true _ byte second) ∙ strange)

@@ -1,7 +1,6 @@
 -- The text of a specification determines its parts, and where it ends; and what a defined one has.
-use Rattle.std.proofs.Common.{◌≤◌, ◌≡◌, ℕ, Bool, false, List, [], ◌∷◌, ◌++◌, map, refl, sym, ap, ◌∙◌, arith, subst, inl, inr, ◌+◌, ◌-◌, drop, take, drop-drop}
-use Rattle.std.specs.Prelude.{Option, Some, None, ◌⊎◌, ◌==◌, is_some, not, ◌&&◌, ◌||◌}
-use Rattle.std.proofs.lemmas.Bool.Decides.{nat_tests}
+use Rattle.std.proofs.Common.{◌≢◌, ◌≤◌, ◌≡◌, ℕ, Bool, false, List, [], ◌∷◌, ◌++◌, map, refl, sym, ap, ◌∙◌, arith, subst, inl, inr, ◌+◌, ◌-◌, drop, take, drop-drop}
+use Rattle.std.specs.Prelude.{Option, Some, None, ◌⊎◌, is_some, not, ◌&&◌, ◌||◌}
 use Rattle.std.proofs.lemmas.List.{append_assoc, append-nil, take-append-drop}
 use Rattle.pf_values.specs.declared.flags.Flag.{Flag}
 use Rattle.pf_values.specs.declared.flags.FlagSet.{FlagSet}
@@ -90,12 +89,12 @@ pub one_specification : (t u x y : Text) (a b : PosixSpecification) → HasParts
 one_specification t u x y a b h g e = specification_once t u x y a b h.spelled g.spelled e
 
 abbrev pub HasSecond : Text → Type 0
-HasSecond t = (second : ℕ) × (more : Text) × ((second == 37) ≡ false) × (t ≡ 37 ∷ (second ∷ more))
+HasSecond t = (second : ℕ) × (more : Text) × (sign_of second ≢ Strange) × (t ≡ 37 ∷ (second ∷ more))
 
-no_percent : {X : Type 0} (byte : ℕ) (on : Sign → Option X) (x : X) → on Strange ≡ None → on (sign_of byte) ≡ Some x → (byte == 37) ≡ false
-no_percent byte on x none e = grind (arith, nat_tests)
+known_sign : {X : Type 0} (sign : Sign) (on : Sign → Option X) (x : X) → on Strange ≡ None → on sign ≡ Some x → sign ≢ Strange
+known_sign sign on x none e strange = let no = sym none ∙ ap on (sym strange) ∙ e in cc
 
-second_pushed : (t : Text) (byte : ℕ) → (t ≡ 37 ∷ []) ⊎ HasSecond t → (byte == 37) ≡ false → HasSecond (t ++ byte ∷ [])
+second_pushed : (t : Text) (byte : ℕ) → (t ≡ 37 ∷ []) ⊎ HasSecond t → sign_of byte ≢ Strange → HasSecond (t ++ byte ∷ [])
 second_pushed t byte (inl e) n = (byte, [], n, ap (λ u. u ++ byte ∷ []) e)
 second_pushed t byte (inr h) n = (h.0, h.1 ++ byte ∷ [], h.2, ap (λ u. u ++ byte ∷ []) h.3)
 
@@ -103,14 +102,14 @@ pub second_begun : (t : Text) (state : State) → IsStateAfter state t → (t �
 second_begun = from_end (λ t. (state : State) → IsStateAfter state t → (t ≡ 37 ∷ []) ⊎ HasSecond t) (λ state h. absurd (never_empty state h))
     (λ t byte same state h. elim (shrinks state t byte h) [
       | inl e ↦ inl (ap (λ u. u ++ byte ∷ []) e.0 ∙ ap (λ b. b ∷ []) e.1)
-      | inr a ↦ inr (second_pushed t byte (same a.state a.after) (no_percent byte (step a.state) state refl a.goes))
+      | inr a ↦ inr (second_pushed t byte (same a.state a.after) (known_sign (sign_of byte) (step a.state) state refl a.goes))
     ])
 
--- the text of a specification begins with `%`, and its second byte is another one
-pub begins_no_percent : (t : Text) (s : PosixSpecification) → SpellsPosix t s
-    → (second : ℕ) × (more : Text) × ((second == 37) ≡ false) × (t ≡ 37 ∷ (second ∷ more))
-begins_no_percent t s = from_end (λ t. SpellsPosix t s → HasSecond t) (λ h. absurd (omega (arith, some_spelled [] s h))) (λ t byte same h.
-    let a = ends t byte s h in second_pushed t byte (second_begun t a.state a.after) (no_percent byte (finish a.state) s refl a.goes)) t
+-- the text of a specification begins with `%`, and its second byte is neither another one nor the letter of `%m`
+pub begins_known : (t : Text) (s : PosixSpecification) → SpellsPosix t s
+    → (second : ℕ) × (more : Text) × (sign_of second ≢ Strange) × (t ≡ 37 ∷ (second ∷ more))
+begins_known t s = from_end (λ t. SpellsPosix t s → HasSecond t) (λ h. absurd (omega (arith, some_spelled [] s h))) (λ t byte same h.
+    let a = ends t byte s h in second_pushed t byte (second_begun t a.state a.after) (known_sign (sign_of byte) (finish a.state) s refl a.goes)) t
 
 -- as opaque parts
 pub unnumbered_parts : (t : Text) (read : Specification) → SpellsPosix t (specification_read read) → read.position ≡ None

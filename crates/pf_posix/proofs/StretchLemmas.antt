@@ -7,17 +7,19 @@ use Rattle.std.proofs.lemmas.Bool.{ne_eqb}
 use Rattle.std.proofs.lemmas.Bool.Decides.{nat_tests}
 use Rattle.std.proofs.lemmas.List.{append_assoc, append-nil, drop_all, drop_more, get_or-drop, length-drop, take_at, take_rest}
 use Rattle.memchr.specs.Find.{Nowhere, Passes, is_byte2}
-use Rattle.pf_values.specs.meaning.Items.{Byte, Directive, Item, Reads}
+use Rattle.pf_values.specs.meaning.Items.{Byte, Directive as ProfileDirective, Item, Reads}
 use Rattle.pf_values.specs.meaning.Text.{Text}
 use Rattle.pf_text.proofs.CanonicalRunLemmas.{Reads-append}
+use Rattle.pf_posix.specs.declared.opaque_directives.Opaque.{Opaque}
+use Rattle.pf_posix.specs.declared.opaque_directives.Opaque.TheVariants.{Directive, Errno}
 use Rattle.pf_posix.specs.declared.opaque_directives.OpaqueDirective.{OpaqueDirective}
 use Rattle.pf_posix.specs.declared.specifications.Specification.{Specification}
 use Rattle.pf_posix.specs.declared.stretches.Found.TheVariants as found
 use Rattle.pf_posix.specs.Defined.{IsPosixDefined}
 use Rattle.pf_posix.specs.Heads.{IsHead}
-use Rattle.pf_posix.specs.Items.{Byte as PosixByte, PosixItem, ReadsPosix, Specification as PosixDirective}
-use Rattle.pf_posix.specs.Opaque.{SpellsOpaque, is_opaque}
-use Rattle.pf_posix.specs.OpaqueParts.{parts_of_opaque}
+use Rattle.pf_posix.specs.Items.{Byte as PosixByte, Errno as PosixErrno, PosixItem, ReadsPosix, Specification as PosixDirective, errno}
+use Rattle.pf_posix.specs.Opaque.{OpaqueErrno, OpaqueSpecification, SpellsOpaqueItem, is_opaque}
+use Rattle.pf_posix.specs.OpaqueParts.{item_of_opaque, parts_of_opaque}
 use Rattle.pf_posix.specs.PartsInText.{IsSpecificationAt, specification_read}
 use Rattle.pf_posix.specs.Halts.{BeginsNoneAfter}
 use Rattle.pf_posix.specs.declared.specifications.Numbering.TheVariants.{Undecided}
@@ -28,7 +30,7 @@ use Rattle.pf_posix.specs.StretchesInText.{IsFound, push, push_all}
 use Rattle.pf_posix.specs.Unnumbered.{IsUnnumbered}
 use Rattle.pf_posix.proofs.KeptTypes.{flat, posix_reads, unnumbered}
 use Rattle.pf_posix.proofs.Narrowed.{narrowed, reads_whole}
-use Rattle.pf_posix.proofs.DirectiveLemmas.{percent_split, some_specification}
+use Rattle.pf_posix.proofs.DirectiveLemmas.{errno_split, percent_split, some_specification}
 use Rattle.pf_posix.proofs.ItemsOnce.{HasText, first_item}
 use Rattle.pf_posix.proofs.SpecificationsOnce.{parted, unnumbered_parts}
 use Rattle.pf_posix.proofs.ReadOnce.{narrow, push_all-before, push_all-last, pushed_or, read_once, stretched, stretches_back}
@@ -91,18 +93,18 @@ module _ (t : Text) where
       let long : length bytes ≡ at - from = omega (arith, low, few, ap length e, length-append bytes (drop at t), length-drop from t, length-drop at t) in
       ap (take (at - from)) e ∙ take_at bytes (drop at t) (at - from) long
 
-  pub head_before : (from at stop : ℕ) (directive : OpaqueDirective) (left : Stretches) → from ≤ at → at ≤ stop → stop ≤ length t
+  pub head_before : (from at stop : ℕ) (opaque : Opaque) (left : Stretches) → from ≤ at → at ≤ stop → stop ≤ length t
       → IsFound t from left (found.Items at)
-      → ((later : Stretches) → ReadsWhole (drop at t) later → IsFound t at later (found.Opaque directive stop))
-      → IsHead t from left (record { end = at; opaque = Some directive; after = stop })
-  head_before from at stop directive left low middle few h next =
+      → ((later : Stretches) → ReadsWhole (drop at t) later → IsFound t at later (found.Opaque opaque stop))
+      → IsHead t from left (record { end = at; opaque = Some opaque; after = stop })
+  head_before from at stop opaque left low middle few h next =
       let g = next h.2 h.4 in
-      let s = parts_of_opaque directive in
-      let whole : left ≡ Before h.0 s g.1 = h.6 ∙ ap (push_all h.0) g.5 ∙ push_all-before h.0 s g.1 in
+      let other = item_of_opaque opaque in
+      let whole : left ≡ Before h.0 other g.1 = h.6 ∙ ap (push_all h.0) g.5 ∙ push_all-before h.0 other g.1 in
       let own = sym (taken from at h.1 h.5 low (omega (arith, middle, few))) in
-      let opaque = sym (taken at stop g.0 g.4 middle few) in
-      subst (λ l. IsHead t from l (record { end = at; opaque = Some directive; after = stop })) (sym whole)
-      (refl, subst (λ u. Reads u h.0) own h.3, subst (λ u. SpellsOpaque u s) opaque g.2, g.3)
+      let bytes = sym (taken at stop g.0 g.4 middle few) in
+      subst (λ l. IsHead t from l (record { end = at; opaque = Some opaque; after = stop })) (sym whole)
+      (refl, subst (λ u. Reads u h.0) own h.3, subst (λ u. SpellsOpaqueItem u other) bytes g.2, g.3)
 
   pub head_last : (from at : ℕ) (left : Stretches) → from ≤ at → at ≤ length t → length t ≤ at → IsFound t from left (found.Items at)
       → IsHead t from left (record { end = at; opaque = None; after = at })
@@ -179,10 +181,23 @@ module _ (t : Text) where
       (λ items g u. (byte_items 37 (37 ∷ 37 ∷ []) (drop (at + 2) t) items refl g u).1) in
       (Byte 37 ∷ [], 37 ∷ 37 ∷ [], r.later, (37 ∷ 37 ∷ [], [], refl, refl, refl), r.reads, split, r.whole)
 
-  module _ (at : ℕ) (less : at < length t) (first : get_or t at 0 ≡ 37) (second : (get_or t (at + 1) 0 == 37) ≡ false) (left : Stretches)
-      (h : ReadsWhole (drop at t) left) where
+  -- `%m`
+  pub found_errno : (at : ℕ) → get_or t at 0 ≡ 37 → (get_or t (at + 1) 0 == 109) ≡ true → at + 1 < length t → (left : Stretches) → ReadsWhole (drop at t) left
+      → IsFound t at left (found.Opaque Errno (at + 2))
+  found_errno at first second less left h =
+      let split = errno_split t at first second less in
+      let r = flat_read FirstErrno (errno ++ drop (at + 2) t) left (subst (λ u. ReadsWhole u left) split h) (λ items reads u.
+      let front = first_item PosixErrno errno (drop (at + 2) t) items refl reads in
+      let all = subst (AllByRecursion IsUnnumbered) front.items_are u in
+      (stretched front.later, reads_whole (drop (at + 2) t) front.later front.reads all.1, ap stretched front.items_are)) in
+      (errno, r.0, refl, r.1, split, r.2) where
+        FirstErrno : Stretches → Type 0
+        FirstErrno made = (later : Stretches) × ReadsWhole (drop (at + 2) t) later × (made ≡ Before [] OpaqueErrno later)
+
+  module _ (at : ℕ) (less : at < length t) (first : get_or t at 0 ≡ 37) (second : (get_or t (at + 1) 0 == 37) ≡ false)
+      (letter : (get_or t (at + 1) 0 == 109) ≡ false) (left : Stretches) (h : ReadsWhole (drop at t) left) where
     pub no_specification : BeginsNoneAfter Undecided (drop at t) → ⊥
-    no_specification g = some_specification t at less (flat left) (posix_reads (drop at t) left h) first second g
+    no_specification g = some_specification t at less (flat left) (posix_reads (drop at t) left h) first second letter g
 
     module _ (read : Specification) (stop : ℕ) (g : IsSpecificationAt t at (read, stop)) where
       abbrev directive : OpaqueDirective
@@ -220,7 +235,7 @@ module _ (t : Text) where
       same : s ≡ parts_of_opaque directive
       same = sym (unnumbered_parts bytes read g.spelled there.unnumbered_is)
 
-      pub found_opaque : is_opaque (parts_of_opaque directive) ≡ true → IsFound t at left (found.Opaque directive stop)
+      pub found_opaque : is_opaque (parts_of_opaque directive) ≡ true → IsFound t at left (found.Opaque (Directive directive) stop)
       found_opaque o = (
         bytes,
         there.later,
@@ -232,13 +247,13 @@ module _ (t : Text) where
         },
         there.reads,
         split,
-        there.whole ∙ ap (λ b. pushed_or b s there.later) (ap is_opaque same ∙ o) ∙ ap (λ x. Before [] x there.later) same,
+        there.whole ∙ ap (λ b. pushed_or b s there.later) (ap is_opaque same ∙ o) ∙ ap (λ x. Before [] (OpaqueSpecification x) there.later) same,
       )
 
       pub found_directive : is_opaque (parts_of_opaque directive) ≡ false → IsFound t at left (found.Items stop)
       found_directive o =
           let opaque : is_opaque s ≡ false = ap is_opaque same ∙ o in (
-            Directive (narrow s) ∷ [],
+            ProfileDirective (narrow s) ∷ [],
             bytes,
             there.later,
             (bytes, [], narrowed bytes s g.spelled there.defined there.unnumbered_is opaque, refl, sym (append-nil bytes)),

@@ -11,7 +11,7 @@ use Rattle.pf_posix.specs.declared.fetches.Fetch.{Fetch}
 use Rattle.pf_values.specs.declared.refusals.RefusalKind.{RefusalKind}
 use Rattle.pf_posix.specs.declared.types.ArgumentType.{ArgumentType}
 use Rattle.pf_posix.specs.Types.{int_type, AreInOrder, AreNumbered, HaveTypes, IsFetched, HasTypeIn}
-use Rattle.pf_posix.specs.Items.{HasArguments, fetched, ReadsPosix}
+use Rattle.pf_posix.specs.Items.{HasArguments, errno_letter, fetched, ReadsPosix}
 use Rattle.pf_posix.specs.Refusals.{AreAgreed, HasGap, IsPosixRefusalCause, IsOneType, IsPosixRefusedAt, numbering_by, numbering_of, IsWrong}
 use Rattle.pf_posix.proofs.Agreeing.{all_map, agreed_none, no_gap, types_or_gap}
 use Rattle.pf_posix.proofs.GoodFronts.{front_by, Advances, Goes, Halts, IsFrontIn, Next, Taken, advance, front_empty, front_none, good_front, halted, halts, next}
@@ -405,11 +405,12 @@ module _ (model : Model) (fetches : List Fetch) (part : Text) (kind : RefusalKin
   cause_kind at [] (inr h) = by_kind kind MissingArgument h.0 (refl, λ e. cc)
   cause_kind at (byte ∷ rest) h = by_tests (at == MAX_TEXT_LEN) (byte == 0) (byte == percent) h where
     by_tests : (full nul percents : Bool) → MatchBool full (kind ≡ TooLong) (MatchBool nul (kind ≡ NulByte)
-        (MatchBool percents ((kind ≡ BadPercent) × (part ≢ []) × (part ≢ percent ∷ [])) (IsWrong model fetches part byte kind))) → IsNumberedKind kind
+        (MatchBool percents ((kind ≡ BadPercent) × (part ≢ []) × (part ≢ percent ∷ []))
+        ((part ≡ percent ∷ [] → byte ≢ errno_letter) × IsWrong model fetches part byte kind))) → IsNumberedKind kind
     by_tests true nul percents h = by_kind kind TooLong h (refl, λ e. cc)
     by_tests false true percents h = by_kind kind NulByte h (refl, λ e. cc)
     by_tests false false true h = by_kind kind BadPercent h.0 (refl, λ e. cc)
-    by_tests false false false h = wrong_kind byte h
+    by_tests false false false h = wrong_kind byte h.1
 
 pub numbered_kind : (model : Model) (t : Text) (kind : RefusalKind) (at : ℕ) → IsPosixRefusedAt model t kind at → IsNumberedKind kind
 numbered_kind model t kind at h = cause_kind model h.fetches h.part kind at h.rest h.cause

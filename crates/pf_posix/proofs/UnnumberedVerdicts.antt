@@ -14,7 +14,7 @@ use Rattle.pf_values.specs.meaning.Text.{Text, dollar, percent}
 use Rattle.pf_posix.specs.declared.fetches.Fetch.{Fetch}
 use Rattle.pf_posix.specs.declared.specifications.Numbering.{Numbering}
 use Rattle.pf_posix.specs.declared.specifications.Numbering.TheVariants.{Undecided, Unnumbered}
-use Rattle.pf_posix.specs.Items.{Byte, PosixItem, ReadsPosix, Specification, fetched}
+use Rattle.pf_posix.specs.Items.{Byte, Errno, PosixItem, ReadsPosix, Specification, fetched}
 use Rattle.pf_posix.specs.Refusals.{IsPosixRefusedAt, numbering_by, numbering_of}
 use Rattle.pf_posix.specs.Stretches.{IsWholeAccepted, whole_types}
 use Rattle.pf_posix.specs.Types.{conversion_type, fetch, fetches, int_type, star_fetches}
@@ -56,6 +56,7 @@ AreFree seen = AllByRecursion (λ f. f.number ≡ None) seen
 free_items : (model : Model) (items : List PosixItem) → AreFree (fetched model items) → AllByRecursion IsUnnumbered items
 free_items model [] h = tt
 free_items model (Byte byte ∷ items) h = (tt, free_items model items h)
+free_items model (Errno ∷ items) h = (tt, free_items model items h)
 free_items model (Specification s ∷ items) h =
     let own = all_front (λ f. f.number ≡ None) (fetches model s) (fetched model items) h in (
       (all_back (λ f. f.number ≡ None) (star_fetches s.width ++ star_fetches s.precision)

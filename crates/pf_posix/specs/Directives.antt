@@ -8,7 +8,7 @@ use Rattle.pf_text.specs.declared.refusals.TextFault.{TextFault}
 use Rattle.pf_text.specs.declared.refusals.TextFault.TheVariants as faults
 use Rattle.pf_posix.specs.declared.types.ArgumentType.{ArgumentType}
 use Rattle.pf_posix.specs.Types.{int_type}
-use Rattle.pf_posix.specs.Items.{Byte, Specification, PosixItem, ReadsPosix, HasArguments}
+use Rattle.pf_posix.specs.Items.{Byte, Specification, Errno, PosixItem, ReadsPosix, HasArguments}
 use Rattle.pf_posix.specs.Laws.{filled}
 use Rattle.pf_posix.specs.Refusals.{IsPosixRefusedAt}
 use Rattle.pf_posix.specs.Specifications.{Amount, Given, Fetched, PosixSpecification}
@@ -48,6 +48,8 @@ directives_from model at next t (Byte byte ∷ items) reads =
 directives_from model at next t (Specification s ∷ items) reads =
     directive_between model at (at + length reads.0) next s
     ∷ directives_from model (at + length reads.0) (next + length (fetches model s)) reads.1 items reads.3
+directives_from model at next t (Errno ∷ items) reads =
+    directives_from model (at + length reads.0) next reads.1 items reads.3
 
 -- the argument of a `*`, if it is one, is an int (C11 7.21.6.1 p5)
 abbrev pub TakesInt : List ArgumentType → Option ℕ → Type 0

@@ -1,18 +1,24 @@
 -- The specifications of a text as the code goes through them. No public contract names these.
-use Rattle.std.specs.Prelude.{◌≡◌, ℕ, ◌+◌, ◌≤◌, List, [], ◌∷◌, ◌++◌, drop, length, Option, Some, None}
+use Rattle.std.specs.Prelude.{◌≡◌, ℕ, ◌+◌, ◌≤◌, List, [], ◌∷◌, ◌++◌, drop, length, Option, Some, None, ⊤}
 use Rattle.pf_values.specs.declared.models.Model.{Model}
 use Rattle.pf_values.specs.meaning.Text.{Text}
 use Rattle.pf_posix.specs.declared.directive_spans.DirectiveSpan.{DirectiveSpan}
 use Rattle.pf_posix.specs.declared.specifications.Specification.{Specification}
 use Rattle.pf_posix.specs.Directives.{directive_between, directives_from}
-use Rattle.pf_posix.specs.Items.{Byte, PosixItem, ReadsPosix, Specification as PosixDirective}
+use Rattle.pf_posix.specs.Items.{Byte, Errno, PosixItem, ReadsPosix, Specification as PosixDirective}
 use Rattle.pf_posix.specs.PartsInText.{specification_read}
 use Rattle.pf_posix.specs.Types.{fetches}
 
+-- an item isn't a specification
+abbrev pub IsOther : PosixItem → Type 0
+IsOther (Byte byte) = ⊤
+IsOther (PosixDirective s) = ⊥
+IsOther Errno = ⊤
+
 -- an item, which may be a specification, ends at an offset, and these items begin with it
 abbrev pub IsBehindItem : Text → List PosixItem → Option Specification → ℕ → Type 0
-IsBehindItem t items None stop = (byte : ℕ) × (later : List PosixItem) × (items ≡ Byte byte ∷ later)
-    × ReadsPosix (drop stop t) later × (stop ≤ length t)
+IsBehindItem t items None stop = (item : PosixItem) × (later : List PosixItem) × IsOther item
+    × (items ≡ item ∷ later) × ReadsPosix (drop stop t) later × (stop ≤ length t)
 IsBehindItem t items (Some read) stop = (later : List PosixItem)
     × (items ≡ PosixDirective (specification_read read) ∷ later) × ReadsPosix (drop stop t) later × (stop ≤ length t)
 

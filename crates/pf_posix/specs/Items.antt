@@ -10,17 +10,27 @@ use Rattle.pf_posix.specs.Specifications.{PosixSpecification}
 use Rattle.pf_posix.specs.Spelling.{SpellsPosix}
 use Rattle.pf_posix.specs.Types.{HaveTypes, fetches}
 
--- an ordinary character, or a conversion specification (C11 7.21.6.1 p3)
+-- the letter of `%m`
+abbrev pub errno_letter : ℕ
+errno_letter = 109
+
+-- `%m`, which prints the message of `errno` (POSIX syslog)
+abbrev pub errno : Text
+errno = percent ∷ errno_letter ∷ []
+
+-- an ordinary character, a conversion specification (C11 7.21.6.1 p3), or `%m`
 pub data PosixItem : Type 0 where
   Byte : (byte : ℕ) → PosixItem
   Specification : (s : PosixSpecification) → PosixItem
+  Errno : PosixItem
 
--- `%%` for the byte `%` (C11 7.21.6.1 p8), any other byte but zero for itself (p3), and a
--- specification for its parts (p4), if they are defined together (p4 to p9)
+-- `%%` for the byte `%` (C11 7.21.6.1 p8), any other byte but zero for itself (p3), a specification
+-- for its parts (p4), if they are defined together (p4 to p9), and `%m` as it is
 abbrev pub SpellsPosixItem : Text → PosixItem → Type 0
 SpellsPosixItem t (Byte byte) =
     MatchBool (byte == percent) (t ≡ percent ∷ percent ∷ []) ((byte ≢ 0) × (t ≡ byte ∷ []))
 SpellsPosixItem t (Specification s) = SpellsPosix t s × IsPosixDefined s
+SpellsPosixItem t Errno = t ≡ errno
 
 -- a text is the texts of its items, one after another (C11 7.21.6.1 p3)
 abbrev pub ReadsPosix : Text → List PosixItem → Type 0
@@ -28,11 +38,12 @@ ReadsPosix t [] = t ≡ []
 ReadsPosix t (item ∷ items) =
     (first rest : Text) × SpellsPosixItem first item × ReadsPosix rest items × (t ≡ first ++ rest)
 
--- what the items fetch, in order (C11 7.21.6.1 p3)
+-- what the items fetch, in order (C11 7.21.6.1 p3); `%m` fetches nothing (POSIX syslog)
 abbrev pub fetched : Model → List PosixItem → List Fetch
 fetched model [] = []
 fetched model (Byte byte ∷ items) = fetched model items
 fetched model (Specification s ∷ items) = fetches model s ++ fetched model items
+fetched model (Errno ∷ items) = fetched model items
 
 -- a text is accepted, and takes arguments of these types; the limit is this project's own
 pub record HasArguments (model : Model) (t : Text) (types : List ArgumentType) : Type 0 where

@@ -1,7 +1,8 @@
 -- The statements of the laws, and the results of the calls.
-use Rattle.std.specs.Prelude.{◌≡◌, ◌≢◌, ℕ, ◌<◌, List, [], ◌∷◌, ◌++◌, length, slice_get, ◌⊎◌, Option, Some, None}
+use Rattle.std.specs.Prelude.{◌≡◌, ◌≢◌, ℕ, ◌<◌, List, [], ◌∷◌, ◌++◌, length, slice_get, ◌⊎◌, Option, Some, None, ⊤}
 use Rattle.pf_values.specs.declared.models.Model.{Model}
-use Rattle.pf_values.specs.meaning.Text.{Text}
+use Rattle.std.specs.List.{AllByRecursion}
+use Rattle.pf_values.specs.meaning.Text.{Text, percent}
 use Rattle.pf_text.specs.declared.refusals.Side.{Side}
 use Rattle.pf_values.specs.declared.refusals.RefusalKind.{RefusalKind}
 use Rattle.pf_text.specs.declared.refusals.Refusal.{Refusal}
@@ -9,7 +10,7 @@ use Rattle.pf_text.specs.declared.refusals.TextFault.{TextFault}
 use Rattle.pf_text.specs.declared.refusals.TextFault.TheVariants as faults
 use Rattle.pf_posix.specs.declared.types.ArgumentType.{ArgumentType}
 use Rattle.pf_text.specs.Refusals.{RefusesOne}
-use Rattle.pf_posix.specs.Items.{HasArguments, IsPosixAccepted}
+use Rattle.pf_posix.specs.Items.{Byte, Errno, HasArguments, IsPosixAccepted, PosixItem, ReadsPosix, Specification, errno, errno_letter}
 use Rattle.pf_posix.specs.Refusals.{IsPosixRefusedAt}
 
 -- a text is accepted, or refused
@@ -75,3 +76,20 @@ abbrev pub FaultForArguments : Model → Text → TextFault → Type 0
 FaultForArguments model t (faults.Refused refusal) = IsPosixRefusedAt model t refusal.kind refusal.at
 FaultForArguments model t faults.Memory =
     (types : List ArgumentType) × HasArguments model t types × (types ≢ [])
+
+-- nowhere in the text come the two bytes `%m`
+abbrev pub IsWithoutErrno : Text → Type 0
+IsWithoutErrno t = (front rest : Text) → t ≢ front ++ errno ++ rest
+
+-- the item is one that the standards have in `fprintf`: an ordinary character or a conversion specification
+abbrev pub IsOfFprintf : PosixItem → Type 0
+IsOfFprintf (Byte byte) = ⊤
+IsOfFprintf (Specification s) = ⊤
+IsOfFprintf Errno = ⊥
+
+-- The item `%m` makes no difference to a text: it is read as other items alone, and no byte of it is kept from being
+-- refused since it would end `%m`.
+pub record HasNoPartOfErrno (t : Text) : Type 0 where
+  pub items : (items : List PosixItem) → ReadsPosix t items → AllByRecursion IsOfFprintf items
+  pub bytes : (whole part rest : Text) (byte : ℕ) → t ≡ whole ++ part ++ byte ∷ rest → part ≡ percent ∷ []
+      → byte ≢ errno_letter

@@ -1,4 +1,4 @@
--- Opaque directives: the conversion specifications of the whole language that the profile lacks.
+-- What the whole language has and the profile lacks: opaque directives, and `%m`.
 use Rattle.std.specs.Prelude.{◌≡◌, Bool, true, false, ◌&&◌, ◌||◌, Option, Some, None}
 use Rattle.pf_values.specs.meaning.Conversions.{is_text}
 use Rattle.pf_values.specs.meaning.Lengths.{is_long}
@@ -7,6 +7,7 @@ use Rattle.pf_posix.specs.declared.conversions.Conversion.{Conversion}
 use Rattle.pf_posix.specs.declared.conversions.Conversion.TheVariants.{Profile, Float, UpperC, UpperS, Pointer, Count}
 use Rattle.pf_posix.specs.declared.conversions.Modifier.{Modifier}
 use Rattle.pf_posix.specs.Defined.{IsPosixDefined}
+use Rattle.pf_posix.specs.Items.{errno}
 use Rattle.pf_posix.specs.Specifications.{Amount, Given, Fetched, PosixSpecification}
 use Rattle.pf_posix.specs.Spelling.{SpellsPosix}
 use Rattle.pf_posix.specs.Types.{integer_length}
@@ -39,3 +40,13 @@ pub record SpellsOpaque (t : Text) (s : PosixSpecification) : Type 0 where
   pub defined : IsPosixDefined s
   pub unnumbered : s.position ≡ None
   pub opaque : is_opaque s ≡ true
+
+-- what the profile lacks: an opaque directive, or `%m`
+pub data OpaqueItem : Type 0 where
+  OpaqueSpecification : (s : PosixSpecification) → OpaqueItem
+  OpaqueErrno : OpaqueItem
+
+-- the text spells it
+abbrev pub SpellsOpaqueItem : Text → OpaqueItem → Type 0
+SpellsOpaqueItem t (OpaqueSpecification s) = SpellsOpaque t s
+SpellsOpaqueItem t OpaqueErrno = t ≡ errno

@@ -1,6 +1,9 @@
--- The parts of an opaque directive, as the code holds them.
+-- The parts of an opaque directive, and what the profile lacks, as the code holds them.
 use Rattle.std.specs.Prelude.{ℕ, Option, Some, None}
+use Rattle.pf_posix.specs.Opaque.{OpaqueErrno, OpaqueItem, OpaqueSpecification}
 use Rattle.pf_posix.specs.Specifications.{Amount, Given, Fetched, PosixSpecification}
+use Rattle.pf_posix.specs.declared.opaque_directives.Opaque.{Opaque}
+use Rattle.pf_posix.specs.declared.opaque_directives.Opaque.TheVariants as opaques
 use Rattle.pf_posix.specs.declared.opaque_directives.OpaqueDirective.{OpaqueDirective}
 use Rattle.pf_posix.specs.declared.opaque_directives.OpaqueAmount.{OpaqueAmount}
 use Rattle.pf_posix.specs.declared.opaque_directives.OpaqueAmount.TheVariants as amounts
@@ -25,3 +28,8 @@ parts_of_opaque d = record {
   modifier = d.modifier;
   conversion = d.conversion;
 }
+
+-- the item that the code's value is
+abbrev pub item_of_opaque : Opaque → OpaqueItem
+item_of_opaque (opaques.Directive directive) = OpaqueSpecification (parts_of_opaque directive)
+item_of_opaque opaques.Errno = OpaqueErrno

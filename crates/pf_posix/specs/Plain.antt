@@ -1,6 +1,6 @@
 -- A format's front in which no argument has a number, as the code reads it at offsets of the text. No
 -- public contract names these.
-use Rattle.std.specs.Prelude.{◌≡◌, ◌≢◌, ℕ, ◌+◌, ◌-◌, ◌<◌, ◌≤◌, List, [], ◌∷◌, ◌++◌, ◌⊎◌, drop, length, take, None, ◌==◌, if◌then◌else◌}
+use Rattle.std.specs.Prelude.{◌≡◌, ◌≢◌, ℕ, ◌+◌, ◌-◌, ◌<◌, ◌≤◌, List, [], ◌∷◌, ◌++◌, ◌⊎◌, drop, get_or, length, take, None, ◌==◌, if◌then◌else◌}
 use Rattle.std.specs.List.{AllByRecursion}
 use Rattle.pf_values.specs.declared.models.Model.{Model}
 use Rattle.pf_values.specs.meaning.Text.{Text}
@@ -10,43 +10,44 @@ use Rattle.pf_posix.specs.declared.specifications.Specification.{Specification a
 use Rattle.pf_posix.specs.Halts.{IsDefinedAt}
 use Rattle.pf_posix.specs.declared.argument_types.PlainFront.{PlainFront}
 use Rattle.pf_posix.specs.declared.types.ArgumentType.{ArgumentType}
-use Rattle.pf_posix.specs.Items.{PosixItem, ReadsPosix, Specification, SpellsPosixItem, fetched}
+use Rattle.pf_posix.specs.Items.{PosixItem, ReadsPosix, Specification, SpellsPosixItem, errno_letter, fetched}
 use Rattle.pf_posix.specs.Laws.{filled}
 use Rattle.pf_posix.specs.Readings.{wanted_types}
 use Rattle.pf_posix.specs.Specifications.{PosixSpecification}
 use Rattle.pf_posix.specs.Types.{fetch, fetches}
+use Rattle.pf_posix.specs.Unnumbered.{IsUnnumbered}
 
--- the bytes between two offsets are a specification whose argument has no number
-pub record IsPlain (t : Text) (start stop : ℕ) (s : PosixSpecification) : Type 0 where
+-- the bytes between two offsets are an item that isn't a numbered specification
+pub record IsPlain (t : Text) (start stop : ℕ) (item : PosixItem) : Type 0 where
   pub some : start < stop
   pub within : stop ≤ length t
-  pub item : SpellsPosixItem (take (stop - start) (drop start t)) (Specification s)
-  pub unnumbered : s.position ≡ None
+  pub spelled : SpellsPosixItem (take (stop - start) (drop start t)) item
+  pub unnumbered : IsUnnumbered item
 
--- it fetches one argument, of this type
+-- they are a specification that fetches one argument, of this type
 pub record HasTypeAt (model : Model) (t : Text) (start : ℕ) (found : ArgumentType × ℕ) : Type 0 where
   pub s : PosixSpecification
-  pub plain : IsPlain t start found.1 s
+  pub plain : IsPlain t start found.1 (Specification s)
   pub fetches_are : fetches model s ≡ fetch None found.0 ∷ []
 
--- the types of the arguments of a specification are put after others
+-- the types of the arguments of an item are put after others
 pub record IsPutAt (model : Model) (t : Text) (start : ℕ) (old new : List ArgumentType) (count : ℕ)
     (read : PlainFront) : Type 0 where
-  pub s : PosixSpecification
-  pub plain : IsPlain t start read.at s
-  pub more : read.count ≡ count + length (fetches model s)
+  pub item : PosixItem
+  pub plain : IsPlain t start read.at item
+  pub more : read.count ≡ count + length (fetched model (item ∷ []))
   pub put : (first before : List ArgumentType) → old ≡ filled first before → count ≡ length before
-      → new ≡ filled first (before ++ wanted_types (fetches model s))
+      → new ≡ filled first (before ++ wanted_types (fetched model (item ∷ [])))
   pub same_length : length new ≡ length old
 
 -- whether specifications are numbered after this many arguments without numbers
 abbrev pub numbering_after : ℕ → Numbering
 numbering_after count = if count == 0 then Undecided else Unnumbered
 
--- so they are; or nothing is put, since none begins there
+-- so they are; or nothing is put, since no such item begins there
 abbrev pub IsPut : Model → Text → ℕ → List ArgumentType → List ArgumentType → ℕ → PlainFront → Type 0
 IsPut model t start old new count read =
-    ((read.at ≡ start) × (read.count ≡ count) × (new ≡ old)
+    ((read.at ≡ start) × (read.count ≡ count) × (new ≡ old) × (get_or t (start + 1) 0 ≢ errno_letter)
     × ((found : Read × ℕ) → IsDefinedAt t start (numbering_after count) found → found.0.position ≢ None))
     ⊎ IsPutAt model t start old new count read
 

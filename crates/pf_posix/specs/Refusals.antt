@@ -13,7 +13,7 @@ use Rattle.pf_posix.specs.declared.specifications.Numbering.{Numbering}
 use Rattle.pf_posix.specs.declared.specifications.Numbering.TheVariants.{Undecided, Unnumbered, Numbered}
 use Rattle.pf_posix.specs.Beginnings.{EndsInDigits, EndsInFirst, EndsInStar, EndsInStarDigits, IsBegunAs, IsUndecided}
 use Rattle.pf_posix.specs.Defined.{IsPosixDefined, undefined_of}
-use Rattle.pf_posix.specs.Items.{PosixItem, ReadsPosix, fetched}
+use Rattle.pf_posix.specs.Items.{PosixItem, ReadsPosix, errno_letter, fetched}
 use Rattle.pf_posix.specs.Letters.{is_first_digit}
 use Rattle.pf_posix.specs.Specifications.{PosixSpecification}
 use Rattle.pf_posix.specs.Spelling.{SpellsPosix}
@@ -141,11 +141,12 @@ IsWrong model fetches part byte kind =
     × ¬ AllByRecursion (IsOneType f) fetches)
     ⊎ ((kind ≡ Unexpected) × IsUnexpected (numbering_of fetches) part byte)
 
--- why a byte is refused after a front: NUL everywhere, `%` inside a specification
+-- why a byte is refused after a front: NUL everywhere, `%` inside a specification, and others, but not
+-- the letter of `%m`
 abbrev pub IsPosixRefusedByte : Model → List Fetch → Text → ℕ → RefusalKind → Type 0
 IsPosixRefusedByte model fetches part byte kind = MatchBool (byte == 0) (kind ≡ NulByte)
     (MatchBool (byte == percent) ((kind ≡ BadPercent) × (part ≢ []) × (part ≢ percent ∷ []))
-    (IsWrong model fetches part byte kind))
+    ((part ≡ percent ∷ [] → byte ≢ errno_letter) × IsWrong model fetches part byte kind))
 
 -- why a text is refused after a good front of `at` bytes
 abbrev pub IsPosixRefusalCause : Model → List Fetch → Text → ℕ → Text → RefusalKind → Type 0

@@ -4,30 +4,30 @@ use Rattle.pf_values.specs.meaning.Items.{Item, Reads}
 use Rattle.pf_values.specs.meaning.Text.{Text}
 use Rattle.pf_posix.specs.declared.stretches.Found.{Found}
 use Rattle.pf_posix.specs.declared.stretches.Found.TheVariants as found
-use Rattle.pf_posix.specs.Opaque.{SpellsOpaque}
-use Rattle.pf_posix.specs.OpaqueParts.{parts_of_opaque}
+use Rattle.pf_posix.specs.Opaque.{SpellsOpaqueItem}
+use Rattle.pf_posix.specs.OpaqueParts.{item_of_opaque}
 use Rattle.pf_posix.specs.Stretches.{Stretches, Last, Before, ReadsWhole}
 
 -- an item before the first stretch, which has it then
 abbrev pub push : Item → Stretches → Stretches
 push item (Last items) = Last (item ∷ items)
-push item (Before items s rest) = Before (item ∷ items) s rest
+push item (Before items other rest) = Before (item ∷ items) other rest
 
 -- several items before the first stretch, which has them then
 abbrev pub push_all : List Item → Stretches → Stretches
 push_all [] rest = rest
 push_all (item ∷ items) rest = push item (push_all items rest)
 
--- the text from an offset on is read as stretches, and begins with these items or this directive
+-- the text from an offset on is read as stretches, and begins with these items or with what the profile lacks
 abbrev pub IsFound : Text → ℕ → Stretches → Found → Type 0
 IsFound t at left (found.Items stop) = (items : List Item) × (bytes : Text) × (later : Stretches)
     × Reads bytes items × ReadsWhole (drop stop t) later × (drop at t ≡ bytes ++ drop stop t)
     × (left ≡ push_all items later)
-IsFound t at left (found.Opaque directive stop) = (bytes : Text) × (later : Stretches)
-    × SpellsOpaque bytes (parts_of_opaque directive) × ReadsWhole (drop stop t) later
-    × (drop at t ≡ bytes ++ drop stop t) × (left ≡ Before [] (parts_of_opaque directive) later)
+IsFound t at left (found.Opaque other stop) = (bytes : Text) × (later : Stretches)
+    × SpellsOpaqueItem bytes (item_of_opaque other) × ReadsWhole (drop stop t) later
+    × (drop at t ≡ bytes ++ drop stop t) × (left ≡ Before [] (item_of_opaque other) later)
 
 -- where that ends, which is after the offset
 abbrev pub EndsBehind : Text → ℕ → Found → Type 0
 EndsBehind t at (found.Items stop) = (at < stop) × (stop ≤ length t)
-EndsBehind t at (found.Opaque directive stop) = (at < stop) × (stop ≤ length t)
+EndsBehind t at (found.Opaque other stop) = (at < stop) × (stop ≤ length t)

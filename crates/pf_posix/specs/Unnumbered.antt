@@ -7,7 +7,7 @@ use Rattle.pf_values.specs.declared.models.Model.{Model}
 use Rattle.pf_values.specs.meaning.Text.{Text, dollar, percent}
 use Rattle.pf_values.specs.declared.refusals.RefusalKind.{RefusalKind}
 use Rattle.pf_values.specs.declared.refusals.RefusalKind.TheVariants.{Numbered}
-use Rattle.pf_posix.specs.Items.{HasArguments, Byte, PosixItem, ReadsPosix, Specification}
+use Rattle.pf_posix.specs.Items.{HasArguments, Byte, Errno, PosixItem, ReadsPosix, Specification}
 use Rattle.pf_posix.specs.Refusals.{IsPosixRefusedAt}
 use Rattle.pf_posix.specs.Spelling.{SpellsPositive}
 use Rattle.pf_posix.specs.Stretches.{Stretches, ReadsWhole, IsWholeAccepted, whole_types}
@@ -25,6 +25,7 @@ TypesAreKept model = (t : Text) (a : Stretches) → ReadsWhole t a → length t 
 abbrev pub IsUnnumbered : PosixItem → Type 0
 IsUnnumbered (Byte byte) = ⊤
 IsUnnumbered (Specification s) = s.position ≡ None
+IsUnnumbered Errno = ⊤
 
 -- a text is read as items, with no numbered specification, and is within the limit
 pub record IsAcceptedUnnumbered (t : Text) : Type 0 where

@@ -6,7 +6,7 @@ ghost use Rattle.pf_text.specs.Walks.{HasPercent, IsWalk};
 ghost use Rattle.pf_posix.specs.declared.specifications.Specification.{Specification as Read};
 ghost use Rattle.pf_posix.specs.declared.types.ArgumentType.{ArgumentType as ArgumentTypeOf};
 ghost use Rattle.pf_posix.specs.Halts.{IsDefinedAt};
-ghost use Rattle.pf_posix.specs.Items.{HasArguments};
+ghost use Rattle.pf_posix.specs.Items.{HasArguments, errno_letter};
 ghost use Rattle.pf_posix.specs.Laws.{FaultForArguments, HasCount, filled};
 ghost use Rattle.pf_posix.specs.OpaqueParts.{amount_of, parts_of_opaque};
 ghost use Rattle.pf_posix.specs.Plain.{HasPlainItems, IsPut, numbering_after};
@@ -18,7 +18,7 @@ use crate::fetches::{bare_type, conversion_type};
 use crate::long_texts::{of_long, refusal_at, too_long};
 use crate::numbered::numbered_arguments;
 use crate::opaque_directives::{OpaqueAmount, OpaqueDirective, is_star};
-use crate::specifications::{Numbering, defined_at};
+use crate::specifications::{Numbering, defined_at, has_errno};
 use crate::types::ArgumentType;
 use pf_text::{Percents, Refusal, TextFault, Walk, directive_at};
 use pf_values::limits::MAX_TEXT_LEN;
@@ -137,7 +137,7 @@ fn put_other(
     }
 }
 
-// Puts the types of a specification that the profile lacks.
+// Puts the types of a specification that the profile lacks, or none for `%m`.
 #[inline(never)]
 fn put_any(
     model: Model,
@@ -152,6 +152,9 @@ fn put_any(
     requires few { count ≤ at }
     ensures { IsPut model text.now at out.old out.new count result }
 {
+    if has_errno(text, at) {
+        return PlainFront { at: at + 2, count };
+    }
     let unread = PlainFront { at, count };
     match defined_at(text, at, numbering_after(count)) {
         Ok((read, stop)) => match read.position {
@@ -177,6 +180,7 @@ fn other_arguments(
     requires walk { IsWalk walk }
     requires percent { HasPercent walk.text.now walk.at }
     requires other { get_or walk.text.now (walk.at + 1) 0 ≢ percent }
+    requires errno { get_or walk.text.now (walk.at + 1) 0 ≢ errno_letter }
     requires front { HasPlainItems model walk.text.now walk.at count }
     requires never { (found : Read × ℕ) → IsDefinedAt walk.text.now walk.at (numbering_after count) found
         → found.0.position ≢ None }

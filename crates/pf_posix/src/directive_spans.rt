@@ -16,7 +16,7 @@ ghost use Rattle.pf_posix.specs.Types.{fetches, star_fetches};
 use crate::argument_types::{arguments, put, room_for};
 use crate::fetches::conversion_type;
 use crate::opaque_directives::{OpaqueAmount, is_star};
-use crate::specifications::{Numbering, Specification, has_byte, specification_at};
+use crate::specifications::{Numbering, Specification, has_byte, has_errno, specification_at};
 use crate::types::ArgumentType;
 use pf_text::{Percents, Refusal, TextFault, Walk};
 use pf_values::Model;
@@ -42,7 +42,7 @@ pub struct DirectiveSpan {
 
 /// Lists the conversion specifications of a format of the whole language in a data model, in the order
 /// of the text (C11 7.21.6.1, paragraphs 3 to 5; POSIX fprintf on numbered arguments), and returns
-/// their number; `%%` does not count as one. It writes them to `out` from the front, as far as there
+/// their number; `%%` and `%m` do not count as one. It writes them to `out` from the front, as far as there
 /// is room, and leaves the rest of `out` as it was. `Err` for the formats that `arguments` refuses:
 /// then nothing in `out` changes.
 pub fn directives(model: Model, text: &[u8], out: &mut [DirectiveSpan]) -> Result<u64, Refusal>
@@ -110,7 +110,7 @@ fn put_directives(model: Model, text: &[u8], out: &mut [DirectiveSpan]) -> u64
     count as u64
 }
 
-/// The item at an offset of an accepted format, if it is a specification and no byte; and where it ends.
+/// The item at an offset of an accepted format, if it is a specification; and where it ends.
 #[inline(always)]
 pub(crate) fn item_at(text: &[u8], at: usize) -> (Option<Specification>, usize)
     requires within { at < length text.now }
@@ -126,6 +126,9 @@ pub(crate) fn item_at(text: &[u8], at: usize) -> (Option<Specification>, usize)
         return (None, at + 1);
     }
     if has_byte(text, at + 1, b'%') {
+        return (None, at + 2);
+    }
+    if has_errno(text, at) {
         return (None, at + 2);
     }
     let Ok((read, end)) = specification_at(text, at, Numbering::Undecided) else {

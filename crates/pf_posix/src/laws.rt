@@ -14,7 +14,7 @@ ghost use Rattle.pf_posix.specs.declared.types.TheConstants.ArgumentType.{ALL as
 ghost use Rattle.pf_posix.specs.declared.directive_spans.DirectiveSpan.{DirectiveSpan};
 ghost use Rattle.pf_posix.specs.Directives.{HasDirectives};
 ghost use Rattle.pf_posix.specs.Items.{HasArguments};
-ghost use Rattle.pf_posix.specs.Laws.{ComparesArgumentTypes, ComparesBeginning, IsAcceptedOrRefused};
+ghost use Rattle.pf_posix.specs.Laws.{ComparesArgumentTypes, ComparesBeginning, HasNoPartOfErrno, IsAcceptedOrRefused, IsWithoutErrno};
 ghost use Rattle.pf_posix.specs.Refusals.{IsPosixRefusedAt};
 ghost use Rattle.pf_posix.specs.Types.{widened};
 ghost use Rattle.pf_posix.specs.Unnumbered.{AcceptsUnnumbered, IsJudged, IsReadOnce, IsWholeRefusedAt, TypesAreKept};
@@ -95,6 +95,12 @@ pub fn read_once()
 /// numbered specification, and it is within the limit.
 pub fn accepts_unnumbered()
     ensures { (t : Text) → AcceptsUnnumbered t }
+{}
+
+/// Proves that the item `%m` makes no difference to a text without these two bytes: what it is read as and why
+/// it is refused is as the standards' items alone say.
+pub fn errno_aside()
+    ensures { (t : Text) → IsWithoutErrno t → HasNoPartOfErrno t }
 {}
 
 /// Proves that a text accepted in this way has arguments of the types of its stretches and opaque

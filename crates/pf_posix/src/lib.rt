@@ -1,6 +1,6 @@
 //! The argument types of formats in the whole language of POSIX `fprintf`, with the conversion `b`
-//! of C23: with numbered arguments, `*`, floating and wide conversions, `p` and `n`. Formats without
-//! numbered arguments, split at the directives that the profile lacks.
+//! of C23: with numbered arguments, `*`, floating and wide conversions, `p` and `n`, and the `%m` of `syslog`.
+//! Formats without numbered arguments, split at what the profile lacks.
 //!
 //! The road is `specifications`, which reads a specification part by part, up to its end or to where it can't go
 //! on. `argument_types` goes from one to the next, and `numbered` keeps the arguments of numbered ones in a table.
@@ -34,7 +34,7 @@ pub use comparison::{fits, fits_fewer};
 pub use conversions::{Conversion, Floating, Modifier};
 pub use directive_spans::{DirectiveSpan, directives, directives_vec};
 pub use missing_arguments::{MissingArgument, missing_argument};
-pub use opaque_directives::{OpaqueAmount, OpaqueDirective, is_opaque};
+pub use opaque_directives::{Opaque, OpaqueAmount, OpaqueDirective, is_opaque};
 pub use refused_specifications::{RefusedSpecification, WholeSpecification, refused_specification};
 pub use specification_spans::{
     PartOffsets, SpecificationSpan, specification_list, specification_list_vec,

@@ -4,6 +4,7 @@ ghost use Rattle.pf_values.specs.declared.refusals.RefusalKind.TheVariants.{Miss
 ghost use Rattle.pf_values.specs.meaning.Text.{percent};
 ghost use Rattle.pf_text.specs.Walks.{HasPercent, IsWalk};
 ghost use Rattle.pf_posix.specs.declared.fetches.Fetch.{Fetch as FetchOf};
+ghost use Rattle.pf_posix.specs.Items.{errno_letter};
 ghost use Rattle.pf_posix.specs.Laws.{HasCount, filled};
 ghost use Rattle.pf_posix.specs.Readings.{conflicts, listed};
 ghost use Rattle.pf_posix.specs.Refusals.{HasGap, IsPosixRefusedAt};
@@ -13,7 +14,7 @@ ghost use Rattle.pf_posix.specs.Types.{IsFetched, fetch};
 use crate::argument_types::put;
 use crate::fetches::conversion_type;
 use crate::long_texts::refusal_at;
-use crate::specifications::{Numbering, Specification, Stars, defined_at, refusal};
+use crate::specifications::{Numbering, Specification, Stars, defined_at, has_errno, refusal};
 use crate::types::ArgumentType;
 use pf_text::{Percents, Refusal, Walk};
 use pf_values::{ArgType, Model, RefusalKind};
@@ -39,6 +40,7 @@ pub(crate) fn numbered_arguments(
     requires walk { IsWalk at_first }
     requires percent { HasPercent at_first.text.now at_first.at }
     requires other { get_or at_first.text.now (at_first.at + 1) 0 ≢ percent }
+    requires errno { get_or at_first.text.now (at_first.at + 1) 0 ≢ errno_letter }
     requires first { IsNumberedFirst model at_first.text.now at_first.at }
     ensures types { MatchResult result
         (λ count. HasCount model at_first.entry.text.now out.old out.new count)
@@ -55,6 +57,10 @@ pub(crate) fn numbered_arguments(
         Err(refused) => return Err(refused.refusal),
     }
     while walk.find::<Percents>() {
+        if has_errno(walk.text(), walk.at) {
+            walk.at += 2;
+            continue;
+        }
         match defined_at(walk.text(), walk.at, Numbering::Numbered) {
             Ok((read, stop)) => {
                 table.add(model, &read, stop)?;

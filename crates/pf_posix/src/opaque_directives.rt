@@ -1,4 +1,4 @@
-//! Directives that the profile lacks.
+//! What the profile lacks: directives, and `%m`.
 ghost use Rattle.std.specs.Prelude.{◌≡◌};
 ghost use Rattle.pf_values.specs.meaning.Lengths.{is_long};
 ghost use Rattle.pf_posix.specs.Opaque.{is_opaque, is_outside, is_star};
@@ -31,6 +31,15 @@ pub struct OpaqueDirective {
     pub modifier: Modifier,
     /// Its conversion.
     pub conversion: Conversion,
+}
+
+/// What a text has between two stretches of the profile.
+#[derive(Clone, Copy, Debug, PartialEq, Eq)]
+pub enum Opaque {
+    /// A directive that the profile lacks.
+    Directive(OpaqueDirective),
+    /// `%m`, which prints the message of `errno` (POSIX syslog).
+    Errno,
 }
 
 /// Returns whether the profile lacks a directive with these parts.

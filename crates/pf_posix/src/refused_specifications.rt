@@ -6,7 +6,7 @@ ghost use Rattle.pf_posix.specs.Refusals.{IsPosixRefusedAt};
 ghost use Rattle.pf_posix.specs.RefusedSpecifications.{BeginsNoSpecification, HasItemsTo, IsAtPart, IsBeforePart, IsRefusedWithin, IsWholeFrom};
 
 use crate::specification_spans::{PartOffsets, offsets_of};
-use crate::specifications::{Numbering, has_byte, specification_at};
+use crate::specifications::{Numbering, has_byte, has_errno, specification_at};
 use pf_text::Refusal;
 
 /// The end of a conversion specification, and where its parts begin.
@@ -71,6 +71,9 @@ fn item_end(text: &[u8], at: usize) -> Option<usize>
     if has_byte(text, at + 1, b'%') {
         return Some(at + 2);
     }
+    if has_errno(text, at) {
+        return Some(at + 2);
+    }
     match specification_at(text, at, Numbering::Undecided) {
         Ok((_, end)) => Some(end),
         Err(_) => None,
@@ -84,6 +87,9 @@ fn whole_from(text: &[u8], begin: usize) -> Option<WholeSpecification>
     ensures { MatchOption result (BeginsNoSpecification (drop begin text.now)) (IsWholeFrom text.now begin) }
 {
     if has_byte(text, begin + 1, b'%') {
+        return None;
+    }
+    if has_errno(text, begin) {
         return None;
     }
     match specification_at(text, begin, Numbering::Undecided) {

@@ -5,6 +5,7 @@ ghost use Rattle.pf_values.specs.declared.refusals.RefusalKind.TheVariants.{Unex
 ghost use Rattle.pf_values.specs.meaning.Text.{Text, percent, point};
 ghost use Rattle.pf_text.specs.Offsets.{HasBytes};
 ghost use Rattle.pf_text.specs.States.{is_digit};
+ghost use Rattle.pf_posix.specs.Items.{errno_letter};
 ghost use Rattle.pf_posix.specs.Letters.{conversion_of};
 ghost use Rattle.pf_posix.specs.OpaqueParts.{amount_at};
 ghost use Rattle.pf_posix.specs.Specifications.{conversion_letter, modifier_letters};
@@ -78,6 +79,7 @@ pub(crate) fn defined_at(
     requires start { start < length text.now }
     requires percent { get_or text.now start 0 ≡ percent }
     requires other { get_or text.now (start + 1) 0 ≢ percent }
+    requires errno { get_or text.now (start + 1) 0 ≢ errno_letter }
     ensures { MatchResult result (IsDefinedAt text.now start numbering) (IsRefusedIn text.now start numbering) }
 {
     match specification_at(text, start, numbering) {
@@ -99,6 +101,7 @@ pub(crate) fn specification_at(
     requires start { start < length text.now }
     requires percent { get_or text.now start 0 ≡ percent }
     requires other { get_or text.now (start + 1) 0 ≢ percent }
+    requires errno { get_or text.now (start + 1) 0 ≢ errno_letter }
     ensures { MatchResult result (IsReadAt text.now start numbering) (IsUnreadIn text.now start numbering) }
 {
     let none = Stars::none(start);
@@ -223,6 +226,7 @@ fn position_at(
 ) -> Result<(Option<u16>, usize), Refusal>
     requires within { start ≤ length text.now }
     requires other { get_or text.now start 0 ≢ percent }
+    requires errno { get_or text.now start 0 ≢ errno_letter }
     ensures bytes { IfOk result (λ read. (bytes : Text) × SpellsPosition bytes read.0 × HasBytes text.now start read.1 bytes) }
     ensures follows { IfOk result (λ read. FollowsBy numbering read.0) }
     ensures first { IfOk result (λ read. read.0 ≡ None → IsFirstWidth text.now start) }
@@ -369,6 +373,16 @@ fn after_point(
         return Err(refusal(RefusalKind::PrecisionTooLarge, stop));
     }
     Ok((OpaqueAmount::Number(number), None, stop))
+}
+
+/// Whether `%m` is at an offset of a text that has a `%`.
+#[inline(always)]
+pub(crate) fn has_errno(text: &[u8], at: usize) -> bool
+    requires { at < length text.now }
+    ensures same { result ≡ (get_or text.now (at + 1) 0 == errno_letter) }
+    ensures within { IsTrue result → at + 1 < length text.now }
+{
+    has_byte(text, at + 1, b'm')
 }
 
 /// Whether an offset of a text has this byte, which isn't zero.

@@ -1,22 +1,22 @@
-//! The stretches of a text of the whole language, and the opaque directives between them.
+//! The stretches of a text of the whole language, and what is between them: opaque directives, and `%m`.
 ghost use Rattle.std.specs.Prelude.{◌≢◌, ◌<◌, ◌≤◌, IfSome, IsSomeAnd, drop, length, slice_index};
 ghost use Rattle.pf_values.specs.meaning.Text.{percent};
 ghost use Rattle.pf_posix.specs.Heads.{IsHead, IsPlaced};
 ghost use Rattle.pf_posix.specs.Stretches.{ReadsWhole, Stretches};
 ghost use Rattle.pf_posix.specs.StretchesInText.{EndsBehind, IsFound};
 
-use crate::opaque_directives::{OpaqueDirective, is_opaque};
-use crate::specifications::{Numbering, has_byte, specification_at};
+use crate::opaque_directives::{Opaque, is_opaque};
+use crate::specifications::{Numbering, has_byte, has_errno, specification_at};
 use pf_text::literal_len;
 
-/// A stretch of a text, and the opaque directive after it.
+/// A stretch of a text, and what the profile lacks after it.
 #[derive(Clone, Copy, Debug, PartialEq, Eq)]
 pub struct Stretch {
     /// The offset at which the stretch ends.
     pub end: usize,
-    /// The opaque directive that begins there. None if the text ends there.
-    pub opaque: Option<OpaqueDirective>,
-    /// The offset at which the directive ends, or the text.
+    /// The opaque directive or `%m` that begins there. None if the text ends there.
+    pub opaque: Option<Opaque>,
+    /// The offset at which that ends, or the text.
     pub after: usize,
 }
 
@@ -25,15 +25,15 @@ pub struct Stretch {
 enum Found {
     /// Items of the profile, which end at this offset.
     Items(usize),
-    /// An opaque directive, which ends at this offset.
-    Opaque(OpaqueDirective, usize),
+    /// What the profile lacks, which ends at this offset.
+    Opaque(Opaque, usize),
 }
 
-/// Returns the first stretch of a text from the offset `from` on, and the opaque directive after it
-/// (C11 7.21.6.1, paragraphs 3 and 4). The text has to be one that `check_unnumbered` accepts, and
-/// `from` is 0 or where one of its opaque directives ends. For other texts the result may be `None`,
-/// and nothing is said of it except that its offsets lie in the text. It reads nothing after the
-/// directive, and allocates nothing.
+/// Returns the first stretch of a text from the offset `from` on, and the opaque directive or `%m` after it
+/// (C11 7.21.6.1, paragraphs 3 and 4; POSIX syslog). The text has to be one that `check_unnumbered` accepts,
+/// and `from` is 0 or an `after` of an earlier result. For other texts the result may be `None`, and nothing
+/// is said of it except that its offsets lie in the text. It reads nothing after that offset, and allocates
+/// nothing.
 pub fn next_stretch(text: &[u8], from: usize) -> Option<Stretch>
     requires { from ≤ length text.now }
     ensures head { (left : Stretches) → ReadsWhole (drop from text.now) left
@@ -44,10 +44,10 @@ pub fn next_stretch(text: &[u8], from: usize) -> Option<Stretch>
     while at < text.len() {
         match found_at(text, at)? {
             Found::Items(stop) => at = stop,
-            Found::Opaque(directive, stop) => {
+            Found::Opaque(opaque, stop) => {
                 return Some(Stretch {
                     end: at,
-                    opaque: Some(directive),
+                    opaque: Some(opaque),
                     after: stop,
                 });
             }
@@ -60,7 +60,7 @@ pub fn next_stretch(text: &[u8], from: usize) -> Option<Stretch>
     })
 }
 
-// Literal bytes, `%%`, or a directive.
+// Literal bytes, `%%`, a directive, or `%m`.
 #[inline(always)]
 fn found_at(text: &[u8], at: usize) -> Option<Found>
     requires { at < length text.now }
@@ -74,11 +74,14 @@ fn found_at(text: &[u8], at: usize) -> Option<Found>
     if has_byte(text, at + 1, b'%') {
         return Some(Found::Items(at + 2));
     }
+    if has_errno(text, at) {
+        return Some(Found::Opaque(Opaque::Errno, at + 2));
+    }
     let Ok((read, stop)) = specification_at(text, at, Numbering::Undecided) else {
         return None;
     };
     if is_opaque(read.parts) {
-        return Some(Found::Opaque(read.parts, stop));
+        return Some(Found::Opaque(Opaque::Directive(read.parts), stop));
     }
     Some(Found::Items(stop))
 }

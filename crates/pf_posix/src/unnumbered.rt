@@ -8,8 +8,8 @@ ghost use Rattle.pf_posix.specs.Unnumbered.{IsWholeRefusedAt};
 ghost use Rattle.pf_posix.specs.Endings.{numbered_instead};
 
 use crate::long_texts::{of_long, too_long};
-use crate::opaque_directives::OpaqueDirective;
-use crate::specifications::{Numbering, defined_at, refusal};
+use crate::opaque_directives::Opaque;
+use crate::specifications::{Numbering, defined_at, has_errno, refusal};
 use pf_text::{Bare, Refusal, Walk, directive_at, within_limit};
 use pf_values::{Model, RefusalKind};
 
@@ -34,15 +34,11 @@ pub fn check_unnumbered(model: Model, text: &[u8]) -> Result<(), Refusal>
     }
 }
 
-/// Returns the opaque directive at an offset of a text, and where it ends: the text up to there is accepted, and
+/// Returns the opaque directive or `%m` at an offset of a text, and where it ends: the text up to there is accepted, and
 /// no item of the profile begins there that ends within the limit. `None` at the end of the text. `Err` if the
 /// text is refused there, as by `check_unnumbered`. Allocates nothing.
 #[inline(always)]
-pub fn opaque_at(
-    model: Model,
-    text: &[u8],
-    at: usize,
-) -> Result<Option<(OpaqueDirective, usize)>, Refusal>
+pub fn opaque_at(model: Model, text: &[u8], at: usize) -> Result<Option<(Opaque, usize)>, Refusal>
     requires within { at ≤ length text.now }
     requires front { IsWholeAccepted (take at text.now) }
     requires none { BeginsNoItem (drop at (take LIMIT text.now)) }
@@ -59,8 +55,11 @@ pub fn opaque_at(
     if front[at] != b'%' {
         return Err(refusal(RefusalKind::NulByte, at));
     }
+    if has_errno(front, at) {
+        return Ok(Some((Opaque::Errno, at + 2)));
+    }
     match defined_at(front, at, Numbering::Unnumbered) {
-        Ok((read, stop)) => Ok(Some((read.parts, stop))),
+        Ok((read, stop)) => Ok(Some((Opaque::Directive(read.parts), stop))),
         Err(refused) => Err(of_long(text, numbered_instead(front, refused.refusal))),
     }
 }

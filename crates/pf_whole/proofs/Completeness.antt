@@ -6,17 +6,15 @@ use Rattle.pf_values.specs.meaning.Items.{Item, Reads}
 use Rattle.pf_values.specs.meaning.Printing.{PrintAlike}
 use Rattle.pf_values.specs.meaning.Text.{Text}
 use Rattle.pf_probes.proofs.Unique.{equivalent_formats_one}
-use Rattle.pf_posix.specs.Specifications.{PosixSpecification}
-use Rattle.pf_posix.specs.Stretches.{Stretches, Last, Before, ReadsWhole, whole_types}
+use Rattle.pf_posix.specs.Opaque.{OpaqueItem}
+use Rattle.pf_posix.specs.Stretches.{Stretches, Last, Before, ReadsWhole}
 use Rattle.pf_posix.proofs.ReadOnce.{read_once}
 use Rattle.pf_whole.specs.Laws.{AlikeHaveOneCanonical}
-use Rattle.pf_whole.specs.meaning.Traces.{Ends, Calls, HasTrace, Trace, TraceAlike}
+use Rattle.pf_whole.specs.meaning.Traces.{TraceAlike}
 use Rattle.pf_whole.specs.meaning.WholeCanonical.{IsCanonicalStretch, IsPutTogether}
-use Rattle.pf_whole.proofs.Apart.{one_spelling, rests_alike, stretches_alike}
+use Rattle.pf_whole.proofs.Apart.{firsts_alike, one_spelling, rests_alike}
 use Rattle.pf_whole.proofs.ProfileTexts.{alike_last}
-use Rattle.pf_whole.proofs.SomeTrace.{some_trace}
 use Rattle.pf_whole.proofs.TraceLemmas.{trace_sym}
-use Rattle.pf_whole.proofs.TwoValues.{whole_neutrals_typed, whole_neutrals}
 
 -- a canonical stretch is the canonical text of each text that is read as its items
 canonical_of : (model : Model) (t c : Text) (items : List Item) → Reads t items → IsCanonicalStretch model items c → IsCanonicalOf model t c
@@ -33,16 +31,8 @@ one_stretch model t u c d a b h g alike x y =
     (canonical_of model t c a h x) (canonical_of model u d b g y)
 
 -- of alike lists of stretches, both make a call or neither does
-pub no_call : (model : Model) (items own : List Item) (p : PosixSpecification) (more : Stretches) → TraceAlike model (Last items) (Before own p more) → ⊥
-no_call model items own p more h =
-    let ts = whole_types model (Last items) in
-    let args = whole_neutrals ts in
-    let typed = whole_neutrals_typed model ts in
-    let trace = some_trace model (Last items) args typed in
-    go args trace.0 trace.1 ((h.same_traces args trace.0 typed).0 trace.1) where
-      go : (args : List _) (trace : Trace) → HasTrace model (Last items) args trace → HasTrace model (Before own p more) args trace → ⊥
-      go args (Ends text) x y = y
-      go args (Calls text call rest) x y = x
+pub no_call : (model : Model) (items own : List Item) (p : OpaqueItem) (more : Stretches) → TraceAlike model (Last items) (Before own p more) → ⊥
+no_call model items own p more h = let none = h.same_calls in cc
 
 complete : (model : Model) (t u c d : Text) (a b : Stretches) → ReadsWhole t a → ReadsWhole u b → TraceAlike model a b → IsPutTogether model a c
     → IsPutTogether model b d → c ≡ d
@@ -51,7 +41,7 @@ complete model t u c d (Last items) (Before own p more) h g alike x y = absurd (
 complete model t u c d (Before items s rest) (Last own) h g alike x y = absurd
     (no_call model own items s rest (trace_sym model (Before items s rest) (Last own) alike))
 complete model t u c d (Before items s rest) (Before own p more) h g alike x y =
-    let first = one_stretch model h.0 g.0 x.0 y.0 items own h.3 g.3 (stretches_alike model h.1 g.1 items own s p rest more h.4 g.4 alike) x.2 y.2 in
+    let first = one_stretch model h.0 g.0 x.0 y.0 items own h.3 g.3 (firsts_alike model h.1 g.1 items own s p rest more h.4 g.4 alike) x.2 y.2 in
     let spelling = one_spelling model h.1 g.1 items own s p rest more h.4 g.4 alike in
     let back = complete model h.2 g.2 x.1 y.1 rest more h.5 g.5 (rests_alike model h.1 g.1 items own s p rest more h.4 g.4 alike) x.3 y.3 in
     x.4 ∙ ap₂ (λ l r. l ++ r) (ap₂ (λ l r. l ++ r) first spelling) back ∙ sym y.4

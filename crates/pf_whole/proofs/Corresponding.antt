@@ -1,26 +1,22 @@
 -- Two texts are alike exactly if their stretches correspond.
-use Rattle.std.proofs.Common.{◌≡◌, ℕ, ◌+◌, ◌∷◌, length, refl, ap, ap₂, ◌∙◌}
+use Rattle.std.proofs.Common.{◌≡◌}
 use Rattle.pf_values.specs.declared.models.Model.{Model}
-use Rattle.pf_values.specs.meaning.Items.{types}
 use Rattle.pf_values.specs.meaning.Text.{Text}
-use Rattle.pf_posix.specs.Stretches.{Stretches, Last, Before, ReadsWhole, types_of_opaque}
+use Rattle.pf_posix.specs.Stretches.{Stretches, Last, Before, ReadsWhole}
 use Rattle.pf_posix.proofs.ReadOnce.{read_once}
-use Rattle.pf_whole.specs.Laws.{AlikeCallTheSame, AlikeIsCorresponding, Correspond, PlacedCall, placed_calls}
+use Rattle.pf_whole.specs.Laws.{AlikeCallTheSame, AlikeIsCorresponding, Correspond}
 use Rattle.pf_whole.specs.meaning.Traces.{AreWholeAlike, TraceAlike}
-use Rattle.pf_whole.proofs.Apart.{one_spelling, rests_alike, spelling_types, stretches_alike}
+use Rattle.pf_whole.proofs.Apart.{firsts_alike, one_spelling, rests_alike, spelling_types}
 use Rattle.pf_whole.proofs.Completeness.{no_call}
 use Rattle.pf_whole.proofs.ProfileTexts.{alike_last, last_alike}
 use Rattle.pf_whole.proofs.TraceLemmas.{before_alike, trace_sym}
-
-abbrev placed_call : ℕ → Text → PlacedCall
-placed_call index spelling = record { index = index; spelling = spelling }
 
 pub corresponding : (model : Model) (t u : Text) (a b : Stretches) → ReadsWhole t a → ReadsWhole u b → TraceAlike model a b → Correspond model a b
 corresponding model t u (Last items) (Last own) h g alike = alike_last model items own alike
 corresponding model t u (Last items) (Before own p more) h g alike = no_call model items own p more alike
 corresponding model t u (Before items s rest) (Last own) h g alike = no_call model own items s rest (trace_sym model (Before items s rest) (Last own) alike)
 corresponding model t u (Before items s rest) (Before own p more) h g alike = (
-  stretches_alike model h.1 g.1 items own s p rest more h.4 g.4 alike,
+  firsts_alike model h.1 g.1 items own s p rest more h.4 g.4 alike,
   one_spelling model h.1 g.1 items own s p rest more h.4 g.4 alike,
   corresponding model h.2 g.2 rest more h.5 g.5 (rests_alike model h.1 g.1 items own s p rest more h.4 g.4 alike),
 )
@@ -44,22 +40,5 @@ alike_is_corresponding model t u a b h g = (
   λ same. record { first = a; second = b; reads_first = h; reads_second = g; alike = alike_if model t u a b h g same },
 )
 
--- corresponding stretches have the same calls
-calls_same : (model : Model) (index : ℕ) (t u : Text) (a b : Stretches) → ReadsWhole t a → ReadsWhole u b → Correspond model a b
-    → placed_calls model index a ≡ placed_calls model index b
-calls_same model index t u (Last items) (Last own) h g same = refl
-calls_same model index t u (Last items) (Before own p more) h g same = absurd same
-calls_same model index t u (Before items s rest) (Last own) h g same = absurd same
-calls_same model index t u (Before items s rest) (Before own p more) h g same =
-    let first = ap length same.0.same_types in
-    let mine = ap length (spelling_types model h.1 g.1 s p h.4 g.4 same.1) in
-    let rests = calls_same model (index + length (types model items) + length (types_of_opaque model s)) h.2 g.2 rest more h.5 g.5 same.2 in
-    let next : index + length (types model items) + length (types_of_opaque model s)
-    ≡ index + length (types model own) + length (types_of_opaque model p) = ap₂ (λ m n. index + m + n) first mine in
-    ap₂ (λ c l. c ∷ l) (placed index _ _ _ _ first same.1) (rests ∙ ap (λ k. placed_calls model k more) next)
-  where
-    placed : (index m n : ℕ) (x y : Text) → m ≡ n → x ≡ y → placed_call (index + m) x ≡ placed_call (index + n) y
-    placed index m n x y e f = ap₂ (λ k z. placed_call (index + k) z) e f
-
 pub alike_call_the_same : (model : Model) → AlikeCallTheSame model
-alike_call_the_same model t u a b h g alike = calls_same model 0 t u a b h g (corresponding model t u a b h g (traces_of model t u a b h g alike))
+alike_call_the_same model t u a b h g alike = (traces_of model t u a b h g alike).same_calls

@@ -11,7 +11,7 @@ use Rattle.pf_canon.proofs.TextLemmas.{items_few}
 use Rattle.pf_posix.specs.declared.types.ArgumentType.{ArgumentType}
 use Rattle.pf_posix.specs.Items.{HasArguments}
 use Rattle.pf_posix.specs.Laws.{HasCount, filled}
-use Rattle.pf_posix.specs.Opaque.{SpellsOpaque}
+use Rattle.pf_posix.specs.Opaque.{OpaqueErrno, OpaqueItem, OpaqueSpecification, SpellsOpaqueItem}
 use Rattle.pf_posix.specs.Specifications.{Amount, Given, Fetched, PosixSpecification, conversion_letter, modifier_letters}
 use Rattle.pf_posix.specs.Spelling.{SpellsPosixPrecision, SpellsPosixWidth}
 use Rattle.pf_posix.specs.Stretches.{Last, Before, ReadsWhole, types_of_opaque}
@@ -25,7 +25,7 @@ use Rattle.pf_whole.proofs.TraceLemmas.{length_map}
 pub stretch_args : (model : Model) (t : Text) (items : List Item) → HasItems t items → HasArguments model t (map widened (types model items))
 stretch_args model t items h = types_are_kept model t (Last items) h.reads h.limit
 
-pub opaque_args : (model : Model) (t : Text) (s : PosixSpecification) → SpellsOpaque t s → length t ≤ MAX_TEXT_LEN
+pub opaque_args : (model : Model) (t : Text) (s : OpaqueItem) → SpellsOpaqueItem t s → length t ≤ MAX_TEXT_LEN
     → HasArguments model t (types_of_opaque model s)
 opaque_args model t s h few =
     let reads : ReadsWhole t (Before [] s (Last [])) = ([], t, [], refl, h, refl, sym (append-nil t)) in
@@ -56,14 +56,15 @@ point_few t (Some (Given n)) h = omega arith
 point_few t (Some (Fetched number)) h = omega (arith, ap length h.2, ap length h.1.whole)
 
 pub opaque_count : (model : Model) (s : PosixSpecification)
-    → length (types_of_opaque model s) ≡ length (star_fetches s.width) + length (star_fetches s.precision) + 1
+    → length (types_of_opaque model (OpaqueSpecification s)) ≡ length (star_fetches s.width) + length (star_fetches s.precision) + 1
 opaque_count model s =
     let last = fetch s.position (conversion_type model s.modifier s.conversion) ∷ [] in
     length_map (λ f. f.wanted) (fetches model s)
     ∙ omega (arith, length-append (star_fetches s.width ++ star_fetches s.precision) last, length-append (star_fetches s.width) (star_fetches s.precision))
 
-pub opaque_args_few : (model : Model) (t : Text) (s : PosixSpecification) → SpellsOpaque t s → length (types_of_opaque model s) ≤ length t
-opaque_args_few model t s h =
+pub opaque_args_few : (model : Model) (t : Text) (other : OpaqueItem) → SpellsOpaqueItem t other → length (types_of_opaque model other) ≤ length t
+opaque_args_few model t OpaqueErrno h = omega arith
+opaque_args_few model t (OpaqueSpecification s) h =
     let parts = parts_of t s h.spelled h.unnumbered in
     let flags = map flag_byte parts.flags in
     let letters = modifier_letters s.modifier ++ conversion_letter s.conversion ∷ [] in
@@ -77,9 +78,6 @@ opaque_args_few model t s h =
       length-append parts.width (parts.precision ++ letters),
       length-append parts.precision letters,
     )
-
-pub opaque_args_some : (model : Model) (s : PosixSpecification) → 0 < length (types_of_opaque model s)
-opaque_args_some model s = omega (arith, opaque_count model s)
 
 -- arguments that may be any are added one by one
 pub none_yet : {X : Type 0} (shown : List (Option X)) (count : ℕ) → shown ≡ shown ++ replicate (count - count) None

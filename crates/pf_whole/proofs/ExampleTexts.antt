@@ -25,7 +25,8 @@ use Rattle.pf_posix.specs.declared.conversions.Modifier.{Modifier}
 use Rattle.pf_posix.specs.Defined.{IsPosixDefined}
 use Rattle.pf_posix.specs.Specifications.{Amount, Given, Fetched, PosixSpecification, conversion_letter, modifier_letters}
 use Rattle.pf_posix.specs.Spelling.{SpellsPosixPrecision, SpellsPosixWidth}
-use Rattle.pf_posix.specs.Opaque.{SpellsOpaque, is_opaque}
+use Rattle.pf_posix.specs.Opaque.{OpaqueErrno, OpaqueItem, OpaqueSpecification, SpellsOpaqueItem, is_opaque}
+use Rattle.pf_posix.specs.Items.{errno}
 use Rattle.pf_posix.specs.Stretches.{Last, Before, ReadsWhole}
 use Rattle.pf_posix.proofs.SpecificationsOnce.{made}
 use Rattle.pf_whole.specs.meaning.NormalSpellings.{normal_spelling}
@@ -77,17 +78,20 @@ abbrev pub spelling : List Flag → WidthText → PrecisionText → Modifier →
 spelling flags width precision modifier conversion =
     ((37 ∷ map flag_byte flags ++ width.text) ++ precision.text) ++ modifier_letters modifier ++ conversion_letter conversion ∷ []
 
--- an opaque directive, and its normal spelling
+abbrev pub opaque_parts : List Flag → WidthText → PrecisionText → Modifier → Conversion → OpaqueItem
+opaque_parts flags width precision modifier conversion = OpaqueSpecification (parts flags width precision modifier conversion)
+
+-- an opaque directive or `%m`, and its normal spelling
 pub record HasNormal (model : Model) (t c : Text) : Type 0 where
-  pub s : PosixSpecification
-  pub spelled : SpellsOpaque t s
+  pub s : OpaqueItem
+  pub spelled : SpellsOpaqueItem t s
   pub normal : normal_spelling model s ≡ c
 
 unfoldable pub opaque : (model : Model) (flags : List Flag) (width : WidthText) (precision : PrecisionText) (modifier : Modifier) (conversion : Conversion)
     → IsPosixDefined (parts flags width precision modifier conversion) → is_opaque (parts flags width precision modifier conversion) ≡ true
-    → HasNormal model (spelling flags width precision modifier conversion) (normal_spelling model (parts flags width precision modifier conversion))
+    → HasNormal model (spelling flags width precision modifier conversion) (normal_spelling model (opaque_parts flags width precision modifier conversion))
 opaque model flags width precision modifier conversion defined is = record {
-  s = parts flags width precision modifier conversion;
+  s = opaque_parts flags width precision modifier conversion;
   spelled = record {
     spelled = record {
       before = (37 ∷ map flag_byte flags ++ width.text) ++ precision.text;
@@ -112,6 +116,9 @@ opaque model flags width precision modifier conversion defined is = record {
   };
   normal = refl;
 }
+
+pub errno_kept : (model : Model) → HasNormal model errno errno
+errno_kept model = record { s = OpaqueErrno; spelled = refl; normal = refl }
 
 -- a stretch of bytes is its own canonical text, where `%` is written `%%`
 abbrev pub written : Text → Text

@@ -17,9 +17,9 @@ use Rattle.pf_posix.specs.declared.conversions.Floating.TheVariants as floats
 use Rattle.pf_posix.specs.declared.conversions.Modifier.TheVariants.{Integer, LongDouble}
 use Rattle.pf_posix.specs.declared.types.ArgumentType.TheVariants.{Double, WideString, PointerToLong}
 use Rattle.pf_posix.specs.Types.{int_type}
+use Rattle.pf_posix.specs.Opaque.{OpaqueErrno}
 use Rattle.pf_posix.specs.Stretches.{Last, Before, whole_types}
-use Rattle.pf_whole.specs.Laws.{placed_calls}
-use Rattle.pf_whole.specs.meaning.Traces.{AreWholeAlike}
+use Rattle.pf_whole.specs.meaning.Traces.{AreWholeAlike, placed_calls}
 use Rattle.pf_whole.specs.meaning.WholeCanonical.{IsCanonicalStretch, IsWholeCanonicalOf}
 use Rattle.pf_whole.proofs.Completeness.{alike_have_one_canonical}
 use Rattle.pf_whole.proofs.OneCanonical.{one_canonical_is_alike}
@@ -30,10 +30,11 @@ use Rattle.pf_whole.proofs.ExampleTexts.{
   no_precision,
   star_precision,
   given_precision,
-  parts,
+  opaque_parts,
   opaque,
   ends,
   then_on,
+  errno_kept,
   silent_defined,
 }
 
@@ -347,7 +348,7 @@ unfolding digits opaque one_kept three_kept
 silent_stays =
     let pointer = opaque Lp64 [] no_width no_precision (Integer lengths.None) Pointer refl refl in
     record {
-      stretches = Before three_items (parts [] no_width no_precision (Integer lengths.None) Pointer) (Last (Directive silent ∷ []));
+      stretches = Before three_items (opaque_parts [] no_width no_precision (Integer lengths.None) Pointer) (Last (Directive silent ∷ []));
       reads = (codes "%.0s%5d%.0s", codes "%p", codes "%.0s", three_kept.canonical.reads, pointer.spelled, one_kept.canonical.reads, refl);
       together = (codes "%.0s%5d%.0s", codes "%.0s", three_kept, one_kept, refl);
     }
@@ -369,13 +370,23 @@ not_alike h =
     omega (arith, ap length same)
 
 -- the types of `%*.*f`, `%ls` and `%zn`, in order
-types_in_order : whole_types Lp64 (Before [] (parts [] star_width star_precision (Integer lengths.None) (Float floats.F))
-    (Before [] (parts [] no_width no_precision (Integer lengths.L) (Profile convs.S))
-    (Before [] (parts [] no_width no_precision (Integer lengths.Z) Count) (Last [])))) ≡ int_type ∷ int_type ∷ Double ∷ WideString ∷ PointerToLong ∷ []
+types_in_order : whole_types Lp64 (Before [] (opaque_parts [] star_width star_precision (Integer lengths.None) (Float floats.F))
+    (Before [] (opaque_parts [] no_width no_precision (Integer lengths.L) (Profile convs.S))
+    (Before [] (opaque_parts [] no_width no_precision (Integer lengths.Z) Count) (Last [])))) ≡ int_type ∷ int_type ∷ Double ∷ WideString ∷ PointerToLong ∷ []
 types_in_order = refl
 
 -- the calls of `%*f%p`: that of `%p` begins with the argument of index 2
-calls_in_order : placed_calls Lp64 0 (Before [] (parts [] star_width no_precision (Integer lengths.None) (Float floats.F))
-    (Before [] (parts [] no_width no_precision (Integer lengths.None) Pointer) (Last [])))
+calls_in_order : placed_calls Lp64 0 (Before [] (opaque_parts [] star_width no_precision (Integer lengths.None) (Float floats.F))
+    (Before [] (opaque_parts [] no_width no_precision (Integer lengths.None) Pointer) (Last [])))
     ≡ record { index = 0; spelling = codes "%*f" } ∷ record { index = 2; spelling = codes "%p" } ∷ []
 calls_in_order = refl
+
+-- `%m` stays where it is, and keeps `%.0s` from going to the end: `%d` for `%i`, a colon and `%m`
+errno_stays : IsWholeCanonicalOf Lp64 (codes "error: %m!") (codes "error: %m!")
+errno_stays = then_on (codes "error: ") refl (errno_kept Lp64) (ends (codes "!") refl)
+
+-- the calls of `%m%p%m`: the last one comes after an argument
+calls_of_errno : placed_calls Lp64 0 (Before [] OpaqueErrno (Before [] (opaque_parts [] no_width no_precision (Integer lengths.None) Pointer)
+    (Before [] OpaqueErrno (Last []))))
+    ≡ record { index = 0; spelling = codes "%m" } ∷ record { index = 0; spelling = codes "%p" } ∷ record { index = 1; spelling = codes "%m" } ∷ []
+calls_of_errno = refl

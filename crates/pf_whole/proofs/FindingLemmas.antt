@@ -14,7 +14,7 @@ use Rattle.pf_values.proofs.Alike.{PrintsAll-unique}
 use Rattle.pf_probes.proofs.Probes.{probe_typed}
 use Rattle.pf_compare.proofs.CandidateLemmas.{contains_at}
 use Rattle.pf_compare.specs.Answers.{IsCandidateAt, IsEarlier, PrintTheSame, probe_at}
-use Rattle.pf_posix.specs.Specifications.{PosixSpecification}
+use Rattle.pf_posix.specs.Opaque.{OpaqueItem}
 use Rattle.pf_posix.specs.Types.{widened}
 use Rattle.pf_whole.specs.Answers.{
   AgreeEverywhere,
@@ -81,7 +81,7 @@ agree_for model a b i k argument h same = record {
   same = same;
 }
 
-any_count : (model : Model) (s : PosixSpecification) → length (shown_any model s) ≡ length (types_of_opaque model s)
+any_count : (model : Model) (s : OpaqueItem) → length (shown_any model s) ≡ length (types_of_opaque model s)
 any_count model s = length_map (λ type. None) (types_of_opaque model s)
 
 neutrals_count : (model : Model) (items : List Item) → length (shown_neutrals model items) ≡ length (types model items)
@@ -162,20 +162,20 @@ telling_agrees model (Before a s rest) (Before b p more) shown (inr h) =
     (alike_neutrally model a b h.2, telling_agrees model rest more h.0 h.3)
 
 -- a probe of the first stretch, or one of what follows
-record IsProbeHere (model : Model) (a : List Item) (s : PosixSpecification) (rest : Stretches) (i k : ℕ) (shown : List (Option Argument)) : Type 0 where
+record IsProbeHere (model : Model) (a : List Item) (s : OpaqueItem) (rest : Stretches) (i k : ℕ) (shown : List (Option Argument)) : Type 0 where
   within : i < length (types model a)
   argument : Argument
   candidate : IsCandidateAt model (types model a) i k argument
   shown_is : shown ≡ map Some (probe_at (types model a) i argument) ++ (shown_any model s ++ neutral_shown model rest)
 
-record IsProbeLater (model : Model) (a : List Item) (s : PosixSpecification) (rest : Stretches) (i k : ℕ) (shown : List (Option Argument)) : Type 0 where
+record IsProbeLater (model : Model) (a : List Item) (s : OpaqueItem) (rest : Stretches) (i k : ℕ) (shown : List (Option Argument)) : Type 0 where
   index : ℕ
   index_is : i ≡ length (types model a) + (length (types_of_opaque model s) + index)
   back : List (Option Argument)
   probe : IsWholeProbe model rest index k back
   shown_is : shown ≡ shown_neutrals model a ++ (shown_any model s ++ back)
 
-probe_here : (model : Model) (a : List Item) (s : PosixSpecification) (rest : Stretches) (i k : ℕ) (shown : List (Option Argument))
+probe_here : (model : Model) (a : List Item) (s : OpaqueItem) (rest : Stretches) (i k : ℕ) (shown : List (Option Argument))
     → IsWholeProbe model (Before a s rest) i k shown → i < length (types model a) → IsProbeHere model a s rest i k shown
 probe_here model a s rest i k shown h few =
     let ts = types model a in
@@ -191,7 +191,7 @@ probe_here model a s rest i k shown h few =
           ∙ ap (λ l. l ++ own) (probe_shown ts i h.argument);
     }
 
-probe_later : (model : Model) (a : List Item) (s : PosixSpecification) (rest : Stretches) (i k m : ℕ) (shown : List (Option Argument))
+probe_later : (model : Model) (a : List Item) (s : OpaqueItem) (rest : Stretches) (i k m : ℕ) (shown : List (Option Argument))
     → IsWholeProbe model (Before a s rest) i k shown → i ≡ length (types model a) + (length (types_of_opaque model s) + m)
     → IsProbeLater model a s rest i k shown
 probe_later model a s rest i k m shown h e =
@@ -223,7 +223,7 @@ probe_later model a s rest i k m shown h e =
     }
 
 -- an argument of an opaque directive is not shown
-not_between : (model : Model) (a : List Item) (s : PosixSpecification) (rest : Stretches) (i k m : ℕ) (shown : List (Option Argument))
+not_between : (model : Model) (a : List Item) (s : OpaqueItem) (rest : Stretches) (i k m : ℕ) (shown : List (Option Argument))
     → IsWholeProbe model (Before a s rest) i k shown → i ≡ length (types model a) + m → m < length (types_of_opaque model s) → ⊥
 not_between model a s rest i k m shown h e few =
     let first = neutrals_count model a in
@@ -233,7 +233,7 @@ not_between model a s rest i k m shown h e few =
     ∙ get_first (shown_any model s) (neutral_shown model rest) m (omega (arith, few, own))) ∙ h.in_stretch
     )
 
-split_probe : (model : Model) (a : List Item) (s : PosixSpecification) (rest : Stretches) (i k : ℕ) (shown : List (Option Argument))
+split_probe : (model : Model) (a : List Item) (s : OpaqueItem) (rest : Stretches) (i k : ℕ) (shown : List (Option Argument))
     → IsWholeProbe model (Before a s rest) i k shown → IsProbeHere model a s rest i k shown ⊎ IsProbeLater model a s rest i k shown
 split_probe model a s rest i k shown h = elim (cases_lt i (length (types model a))) [
   | inl few ↦ inl (probe_here model a s rest i k shown h few)
@@ -280,7 +280,7 @@ told_last model a b shown h =
           rw (g.shown_is, probe_shown ts i g.argument) (agree_for model a b i k g.argument at same);
     }
 
-told_here : (model : Model) (a b : List Item) (s p : PosixSpecification) (rest more : Stretches) (args : List Argument) (shown : List (Option Argument))
+told_here : (model : Model) (a b : List Item) (s p : OpaqueItem) (rest more : Stretches) (args : List Argument) (shown : List (Option Argument))
     → shown ≡ map Some args ++ (shown_any model s ++ neutral_shown model rest) → IsTellingProbe model a b args → NeutralAgrees model rest more
     → IsTold model (Before a s rest) (Before b p more) shown
 told_here model a b s p rest more args shown shown_is telling agrees =
@@ -324,7 +324,7 @@ told_here model a b s p rest more args shown shown_is telling agrees =
     not_later i k j l n (inl less) few = omega (arith, less, few)
     not_later i k j l n (inr same) few = omega (arith, same.0, few)
 
-told_later : (model : Model) (a b : List Item) (s p : PosixSpecification) (rest more : Stretches) (shown back : List (Option Argument))
+told_later : (model : Model) (a b : List Item) (s p : OpaqueItem) (rest more : Stretches) (shown back : List (Option Argument))
     → shown ≡ shown_neutrals model a ++ (shown_any model s ++ back) → PrintAlike model a b → NeutralAgrees model rest more → IsTold model rest more back
     → IsTold model (Before a s rest) (Before b p more) shown
 told_later model a b s p rest more shown back shown_is alike agrees told =

@@ -8,7 +8,7 @@ use Rattle.pf_values.specs.meaning.Arguments.{Argument}
 use Rattle.pf_values.specs.meaning.Items.{Item, types}
 use Rattle.pf_values.specs.meaning.Printing.{PrintAlike}
 use Rattle.pf_compare.specs.Answers.{PrintTheSame}
-use Rattle.pf_posix.specs.Specifications.{PosixSpecification}
+use Rattle.pf_posix.specs.Opaque.{OpaqueItem}
 use Rattle.pf_whole.specs.Answers.{neutral_shown}
 use Rattle.pf_whole.specs.Findings.{IsTellingProbe, NeutralAgrees, NeutralTells, ShowsTelling, shown_any, shown_neutrals}
 use Rattle.pf_whole.specs.Laws.{Correspond}
@@ -34,7 +34,7 @@ join shown first own back =
     sym (append_assoc shown first (own ++ back)) ∙ sym (append_assoc (shown ++ first) own back)
 
 -- a stretch after which neutral arguments are shown
-pub past_same : (model : Model) (a b rest more : Stretches) (xs ys : List Item) (s p : PosixSpecification) (shown : List (Option Argument))
+pub past_same : (model : Model) (a b rest more : Stretches) (xs ys : List Item) (s p : OpaqueItem) (shown : List (Option Argument))
     → IsComparedUpTo model a b (Before xs s rest) (Before ys p more) shown true → PrintTheSame model xs ys (neutrals (types model xs))
     → IsComparedUpTo model a b rest more ((shown ++ shown_neutrals model xs) ++ shown_any model s) true
 past_same model a b rest more xs ys s p shown h same = record {
@@ -44,7 +44,7 @@ past_same model a b rest more xs ys s p shown h same = record {
 }
 
 -- stretches that print alike
-pub past_alike : (model : Model) (a b rest more : Stretches) (xs ys : List Item) (s p : PosixSpecification) (shown : List (Option Argument)) (found : Bool)
+pub past_alike : (model : Model) (a b rest more : Stretches) (xs ys : List Item) (s p : OpaqueItem) (shown : List (Option Argument)) (found : Bool)
     → IsComparedUpTo model a b (Before xs s rest) (Before ys p more) shown found → PrintAlike model xs ys → normal_spelling model s ≡ normal_spelling model p
     → IsComparedUpTo model a b rest more ((shown ++ shown_neutrals model xs) ++ shown_any model s) found
 past_alike model a b rest more xs ys s p shown true h alike spelling =
@@ -59,7 +59,7 @@ past_alike model a b rest more xs ys s p shown false h alike spelling = record {
 }
 
 -- the first stretches that a probe tells apart
-pub past_probe : (model : Model) (a b rest more : Stretches) (xs ys : List Item) (s p : PosixSpecification) (shown : List (Option Argument))
+pub past_probe : (model : Model) (a b rest more : Stretches) (xs ys : List Item) (s p : OpaqueItem) (shown : List (Option Argument))
     (args : List Argument)
     → IsComparedUpTo model a b (Before xs s rest) (Before ys p more) shown false → IsTellingProbe model xs ys args
     → IsComparedUpTo model a b rest more ((shown ++ map Some args) ++ shown_any model s) true

@@ -4,11 +4,11 @@ use Rattle.std.specs.Prelude.{Some, None, IsSome, IsSomeAnd}
 use Rattle.pf_values.specs.declared.limits.TheConstants.{MAX_TEXT_LEN}
 use Rattle.pf_values.specs.meaning.Items.{HasItems, Item, Reads}
 use Rattle.pf_values.specs.meaning.Text.{Text}
-use Rattle.pf_posix.specs.declared.opaque_directives.OpaqueDirective.{OpaqueDirective}
+use Rattle.pf_posix.specs.declared.opaque_directives.Opaque.{Opaque}
 use Rattle.pf_posix.specs.declared.stretches.Stretch.{Stretch}
 use Rattle.pf_posix.specs.Heads.{IsHead, IsPlaced}
-use Rattle.pf_posix.specs.Opaque.{SpellsOpaque}
-use Rattle.pf_posix.specs.OpaqueParts.{parts_of_opaque}
+use Rattle.pf_posix.specs.Opaque.{SpellsOpaqueItem}
+use Rattle.pf_posix.specs.OpaqueParts.{item_of_opaque}
 use Rattle.pf_posix.specs.Stretches.{Stretches, Last, Before, ReadsWhole}
 
 -- the bytes of a text between two offsets
@@ -28,27 +28,27 @@ pub stretch_has : (t : Text) (from : ℕ) (left : Stretches) (stretch : Stretch)
 stretch_has t from (Last items) stretch h limit = record { reads = h.2; limit = between_few t from stretch.end MAX_TEXT_LEN limit }
 stretch_has t from (Before items s rest) stretch h limit = record { reads = h.1; limit = between_few t from stretch.end MAX_TEXT_LEN limit }
 
--- an opaque directive comes after the stretch
-pub record IsBeforeDirective (t : Text) (from : ℕ) (left : Stretches) (stretch : Stretch) (directive : OpaqueDirective) : Type 0 where
+-- an opaque directive or `%m` comes after the stretch
+pub record IsBeforeOpaque (t : Text) (from : ℕ) (left : Stretches) (stretch : Stretch) (opaque : Opaque) : Type 0 where
   pub items : List Item
   pub rest : Stretches
-  pub left_is : left ≡ Before items (parts_of_opaque directive) rest
+  pub left_is : left ≡ Before items (item_of_opaque opaque) rest
   pub reads : Reads (between t from stretch.end) items
-  pub spells : SpellsOpaque (between t stretch.end stretch.after) (parts_of_opaque directive)
+  pub spells : SpellsOpaqueItem (between t stretch.end stretch.after) (item_of_opaque opaque)
   pub later : ReadsWhole (drop stretch.after t) rest
 
-pub before_directive : (t : Text) (from : ℕ) (left : Stretches) (stretch : Stretch) (directive : OpaqueDirective) → IsHead t from left stretch
-    → stretch.opaque ≡ Some directive → IsBeforeDirective t from left stretch directive
-before_directive t from (Last items) stretch directive h e = let no : None ≡ Some directive = sym h.0 ∙ e in cc
-before_directive t from (Before items s rest) stretch directive h e =
-    let parts : IsSomeAnd (Some directive) (λ d. parts_of_opaque d ≡ s) = subst (λ o. IsSomeAnd o (λ d. parts_of_opaque d ≡ s)) e h.0 in
-    let same : parts_of_opaque directive ≡ s = parts in
+pub before_opaque : (t : Text) (from : ℕ) (left : Stretches) (stretch : Stretch) (opaque : Opaque) → IsHead t from left stretch
+    → stretch.opaque ≡ Some opaque → IsBeforeOpaque t from left stretch opaque
+before_opaque t from (Last items) stretch opaque h e = let no : None ≡ Some opaque = sym h.0 ∙ e in cc
+before_opaque t from (Before items s rest) stretch opaque h e =
+    let parts : IsSomeAnd (Some opaque) (λ d. item_of_opaque d ≡ s) = subst (λ o. IsSomeAnd o (λ d. item_of_opaque d ≡ s)) e h.0 in
+    let same : item_of_opaque opaque ≡ s = parts in
     record {
       items = items;
       rest = rest;
       left_is = ap (λ p. Before items p rest) (sym same);
       reads = h.1;
-      spells = subst (SpellsOpaque (between t stretch.end stretch.after)) (sym same) h.2;
+      spells = subst (SpellsOpaqueItem (between t stretch.end stretch.after)) (sym same) h.2;
       later = h.3;
     }
 
@@ -56,19 +56,19 @@ before_directive t from (Before items s rest) stretch directive h e =
 pub at_last : (t : Text) (from : ℕ) (left : Stretches) (stretch : Stretch) → IsHead t from left stretch → stretch.opaque ≡ None
     → (left ≡ Last (first_items left)) × (stretch.end ≡ length t)
 at_last t from (Last items) stretch h e = (refl, h.1)
-at_last t from (Before items s rest) stretch h e = absurd (subst (λ o. IsSomeAnd o (λ d. parts_of_opaque d ≡ s)) e h.0)
+at_last t from (Before items s rest) stretch h e = absurd (subst (λ o. IsSomeAnd o (λ d. item_of_opaque d ≡ s)) e h.0)
 
--- what is left after a directive is shorter
-pub goes_further : (t : Text) (from : ℕ) (stretch : Stretch) (directive : OpaqueDirective) → IsPlaced t from stretch → stretch.opaque ≡ Some directive
+-- what is left after that is shorter
+pub goes_further : (t : Text) (from : ℕ) (stretch : Stretch) (opaque : Opaque) → IsPlaced t from stretch → stretch.opaque ≡ Some opaque
     → from < stretch.after
-goes_further t from stretch directive h e =
+goes_further t from stretch opaque h e =
     let some : IsSome stretch.opaque = rw e refl in
     omega (arith, h.begins, h.further some)
 
-pub less_left : (t : Text) (from : ℕ) (stretch : Stretch) (directive : OpaqueDirective) → IsPlaced t from stretch → stretch.opaque ≡ Some directive
+pub less_left : (t : Text) (from : ℕ) (stretch : Stretch) (opaque : Opaque) → IsPlaced t from stretch → stretch.opaque ≡ Some opaque
     → length t - stretch.after < length t - from
-less_left t from stretch directive h e =
-    let further = goes_further t from stretch directive h e in
+less_left t from stretch opaque h e =
+    let further = goes_further t from stretch opaque h e in
     omega (arith, further, h.within)
 
 -- the number of bytes between two offsets

@@ -14,10 +14,10 @@ use Rattle.pf_text.specs.declared.refusals.TextFault.{TextFault}
 use Rattle.pf_text.specs.declared.refusals.TextFault.TheVariants.{Refused, Memory}
 use Rattle.pf_canon.specs.Languages.{AreSameIn, DecidesIn, FaultIn, HasCanonicalIn, StopsIn}
 use Rattle.pf_posix.specs.Heads.{IsOpaqueAt}
-use Rattle.pf_posix.specs.declared.opaque_directives.OpaqueDirective.{OpaqueDirective}
-use Rattle.pf_posix.specs.OpaqueParts.{parts_of_opaque}
-use Rattle.pf_posix.specs.Opaque.{SpellsOpaque}
-use Rattle.pf_posix.specs.Specifications.{PosixSpecification}
+use Rattle.pf_posix.specs.declared.opaque_directives.Opaque.{Opaque}
+use Rattle.pf_posix.specs.OpaqueParts.{item_of_opaque}
+use Rattle.pf_posix.specs.Opaque.{SpellsOpaqueItem}
+use Rattle.pf_posix.specs.Opaque.{OpaqueItem}
 use Rattle.pf_posix.specs.Stretches.{Last, Before, IsWholeAccepted}
 use Rattle.pf_posix.specs.Unnumbered.{IsWholeRefusedAt}
 use Rattle.pf_whole.specs.Answers.{IsWholeCanonicalFor}
@@ -31,9 +31,9 @@ use Rattle.pf_whole.proofs.Loops.{stretch_of}
 use Rattle.pf_whole.proofs.OneCanonical.{one_canonical_is_alike}
 
 module _ (model : Model) where
-  -- after a front a stretch comes, and an opaque directive
-  past_opaque : (front out last own middle : Text) (items : List Item) (s : PosixSpecification) → IsWholeFront model front out → Reads last items
-      → IsCanonicalOf model last own → SpellsOpaque middle s
+  -- after a front a stretch comes, and what the profile lacks
+  past_opaque : (front out last own middle : Text) (items : List Item) (s : OpaqueItem) → IsWholeFront model front out → Reads last items
+      → IsCanonicalOf model last own → SpellsOpaqueItem middle s
       → IsWholeFront model ((front ++ last) ++ middle) ((out ++ own) ++ normal_spelling model s)
   past_opaque front out last own middle items s h reads is spells = record {
     continues = λ rest left later.
@@ -67,19 +67,19 @@ module _ (model : Model) where
           together = rw h.whole (together h.own (stretch_of model h.last h.own h.ends.items h.ends.accepted.reads h.ends.canonical_is));
         })
 
-    -- an opaque directive comes after a text, and is put in its normal spelling
-    pub opaque_past : (at : ℕ) (c : Text) (found : OpaqueDirective × ℕ) (spelling : Text) → HasCanonicalIn IsWholeFront model (take at t) c → IsOpaqueAt t at found
-        → spelling ≡ normal_spelling model (parts_of_opaque found.0) → IsWholeFront model (take found.1 t) (c ++ spelling)
+    -- what the profile lacks comes after a text, and is put in its normal spelling
+    pub opaque_past : (at : ℕ) (c : Text) (found : Opaque × ℕ) (spelling : Text) → HasCanonicalIn IsWholeFront model (take at t) c → IsOpaqueAt t at found
+        → spelling ≡ normal_spelling model (item_of_opaque found.0) → IsWholeFront model (take found.1 t) (c ++ spelling)
     opaque_past at c found spelling h there is =
         let middle = take (found.1 - at) (drop at t) in
         let place : at + (found.1 - at) ≡ found.1 = omega (arith, there.some) in
         let text : (h.front ++ h.last) ++ middle ≡ take found.1 t =
         ap (λ u. u ++ middle) (sym h.split) ∙ sym (take-add at (found.1 - at) t) ∙ ap (λ n. take n t) place in
-        let put : (h.out ++ h.own) ++ normal_spelling model (parts_of_opaque found.0) ≡ c ++ spelling =
-        ap (λ u. u ++ normal_spelling model (parts_of_opaque found.0)) (sym h.whole) ∙ ap (λ u. c ++ u) (sym is) in
+        let put : (h.out ++ h.own) ++ normal_spelling model (item_of_opaque found.0) ≡ c ++ spelling =
+        ap (λ u. u ++ normal_spelling model (item_of_opaque found.0)) (sym h.whole) ∙ ap (λ u. c ++ u) (sym is) in
         subst (λ u. IsWholeFront model u (c ++ spelling)) text
         (subst (IsWholeFront model ((h.front ++ h.last) ++ middle)) put
-        (past_opaque h.front h.out h.last h.own middle h.ends.items (parts_of_opaque found.0) h.begins h.ends.accepted.reads h.ends.canonical_is there.spelled))
+        (past_opaque h.front h.out h.last h.own middle h.ends.items (item_of_opaque found.0) h.begins h.ends.accepted.reads h.ends.canonical_is there.spelled))
 
 module _ (model : Model) (t : Text) where
   pub fault_of_whole : (fault : TextFault) → FaultIn IsWholeFront IsWholeRefusedAt model t fault → FaultForWholeCanonical model t fault

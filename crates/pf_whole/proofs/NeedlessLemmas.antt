@@ -11,7 +11,7 @@ use Rattle.pf_text.specs.declared.refusals.Refusal.{Refusal}
 use Rattle.pf_text.specs.declared.refusals.Side.{Side}
 use Rattle.pf_text.specs.declared.refusals.Side.TheVariants.{First, Second}
 use Rattle.pf_posix.specs.Defined.{IsPosixDefined, has_any_flag, is_count, takes_alt, takes_group, takes_modifier, takes_precision, takes_zero}
-use Rattle.pf_posix.specs.Opaque.{is_opaque}
+use Rattle.pf_posix.specs.Opaque.{OpaqueSpecification, is_opaque}
 use Rattle.pf_posix.specs.declared.conversions.Conversion.{Conversion}
 use Rattle.pf_posix.specs.declared.conversions.Modifier.{Modifier as ModifierOf}
 use Rattle.pf_posix.specs.declared.conversions.Modifier.TheVariants.{Integer}
@@ -38,7 +38,7 @@ use Rattle.pf_whole.specs.declared.parts.PartSet.{PartSet}
 use Rattle.pf_whole.specs.Faults.{AreWholeSame, FaultForWholeSame}
 use Rattle.pf_whole.specs.Needless.{AreFound, AreNeedless, AreTogether, HaveNoEffect, IsPartQuestion}
 use Rattle.pf_whole.specs.Parts.{given_parts, has_part, left_out, no_parts, only, with_part, without, without_flags}
-use Rattle.pf_whole.specs.meaning.NormalSpellings.{normal_spelling, posix_spelling_of}
+use Rattle.pf_whole.specs.meaning.NormalSpellings.{directive_spelling, posix_spelling_of}
 use Rattle.pf_whole.specs.meaning.Traces.{AreWholeAlike}
 use Rattle.pf_whole.specs.Laws.{Correspond}
 use Rattle.pf_whole.proofs.Corresponding.{alike_is_corresponding}
@@ -149,6 +149,9 @@ defined_without s set h =
       fewer_parts true flags others wide width precise precision e = grind arith
 
 -- of one that the profile lacks
+abbrev alone_opaque : PosixSpecification → Stretches
+alone_opaque s = Before [] (OpaqueSpecification s) (Last [])
+
 module _ (model : Model) (s : PosixSpecification) (unnumbered : s.position ≡ None) (text : Text) (h : SpellsPosixItem text (Specification s)) (set : PartSet)
     (opaque : is_opaque s ≡ true) where
   abbrev rest : PosixSpecification
@@ -158,12 +161,12 @@ module _ (model : Model) (s : PosixSpecification) (unnumbered : s.position ≡ N
   kept = defined_without s set h.1
 
   opaque_read : (t : Text) (p : PosixSpecification) → p.position ≡ None → IsPosixDefined p → is_opaque p ≡ true → SpellsPosix t p
-      → ReadsWhole t (Before [] p (Last []))
+      → ReadsWhole t (alone_opaque p)
   opaque_read t p none defined is spelled =
       ([], t, [], refl, record { spelled = spelled; defined = defined; unnumbered = none; opaque = is }, refl, sym (append-nil t))
 
   -- its normal spelling stays, or it has an effect
-  pub called : is_opaque rest ≡ true → (normal_spelling model s ≡ normal_spelling model rest) ↔ HaveNoEffect model s set
+  pub called : is_opaque rest ≡ true → (directive_spelling model s ≡ directive_spelling model rest) ↔ HaveNoEffect model s set
   called other = (
     λ same t u x y. (corresponds t u x y).1 (print_refl model [], same, print_refl model []),
     λ none.
@@ -172,8 +175,10 @@ module _ (model : Model) (s : PosixSpecification) (unnumbered : s.position ≡ N
         ((corresponds (posix_spelling_of s) (posix_spelling_of rest) w v).0 (none (posix_spelling_of s) (posix_spelling_of rest) w v)).1,
   ) where
     corresponds : (t u : Text) → SpellsPosix t s → SpellsPosix u rest
-        → (AreWholeAlike model t u ↔ Correspond model (Before [] s (Last [])) (Before [] rest (Last [])))
-    corresponds t u x y = alike_is_corresponding model t u (Before [] s (Last [])) (Before [] rest (Last [])) (opaque_read t s unnumbered h.1 opaque x) (opaque_read u rest unnumbered kept other y)
+        → (AreWholeAlike model t u ↔ Correspond model (alone_opaque s) (alone_opaque rest))
+    corresponds t u x y =
+        alike_is_corresponding model t u (alone_opaque s) (alone_opaque rest) (opaque_read t s unnumbered h.1 opaque x)
+        (opaque_read u rest unnumbered kept other y)
 
   -- without it the profile has it
   pub not_called : is_opaque rest ≡ false → ¬ HaveNoEffect model s set
@@ -183,7 +188,7 @@ module _ (model : Model) (s : PosixSpecification) (unnumbered : s.position ≡ N
       let read : ReadsWhole (posix_spelling_of rest) (pushed_or (is_opaque rest) rest (Last [])) = reads_alone (posix_spelling_of rest) rest v kept unnumbered in
       let narrow_read : ReadsWhole (posix_spelling_of rest) (pushed_or false rest (Last [])) =
       subst (λ b. ReadsWhole (posix_spelling_of rest) (pushed_or b rest (Last []))) other read in
-      (alike_is_corresponding model (posix_spelling_of s) (posix_spelling_of rest) (Before [] s (Last [])) (pushed_or false rest (Last []))
+      (alike_is_corresponding model (posix_spelling_of s) (posix_spelling_of rest) (alone_opaque s) (pushed_or false rest (Last []))
       (opaque_read (posix_spelling_of s) s unnumbered h.1 opaque w) narrow_read).0 (none (posix_spelling_of s) (posix_spelling_of rest) w v)
 
 -- a set with one part more
@@ -261,7 +266,7 @@ nothing_left model s text unnumbered h t u x y = alike_self t u x (subst (Spells
         second = a;
         reads_first = reads_alone t s x h.1 unnumbered;
         reads_second = reads_alone u s y h.1 unnumbered;
-        alike = record { same_types = refl; same_traces = λ args trace typed. (λ g. g, λ g. g) };
+        alike = record { same_types = refl; same_calls = refl; same_traces = λ args trace typed. (λ g. g, λ g. g) };
       }
 
 pub none_together : (question : Question) (each : PartSet) → IsPartQuestion question → AreTogether question each no_parts

@@ -1,6 +1,6 @@
 -- The parts of a normal spelling are their own normal parts. If a directive is defined and opaque, so
 -- are its normal parts, and they take arguments of the same types.
-use Rattle.std.proofs.Common.{◌≡◌, ℕ, Bool, true, false, refl, ap, ◌∙◌, arith}
+use Rattle.std.proofs.Common.{sym, ◌≡◌, ℕ, Bool, true, false, refl, ap, ◌∙◌, arith}
 use Rattle.std.specs.Prelude.{Option, Some, is_some, not, ◌&&◌, if◌then◌else◌}
 use Rattle.pf_values.specs.declared.conversions.Kind.{Kind}
 use Rattle.pf_values.specs.declared.flags.FlagSet.{FlagSet}
@@ -17,10 +17,10 @@ use Rattle.pf_posix.specs.declared.conversions.Modifier.{Modifier}
 use Rattle.pf_posix.specs.Defined.{is_count, takes_alt, takes_modifier, takes_precision, takes_zero}
 use Rattle.pf_posix.specs.Specifications.{Amount, Given, PosixSpecification}
 use Rattle.pf_posix.specs.Types.{conversion_type, counted_type, integer_length, kind_type, star_fetches}
-use Rattle.pf_posix.specs.Opaque.{is_opaque, is_outside, is_star}
+use Rattle.pf_posix.specs.Opaque.{OpaqueErrno, OpaqueItem, OpaqueSpecification, is_opaque, is_outside, is_star}
 use Rattle.pf_posix.specs.Stretches.{types_of_opaque}
 use Rattle.pf_posix.proofs.SpecificationsOnce.{same_fields}
-use Rattle.pf_whole.specs.meaning.NormalSpellings.{given_precision, integer_modifier, is_general, is_given, is_integer, keeps_sign, kept_conversion, kept_flags}
+use Rattle.pf_whole.specs.meaning.NormalSpellings.{normal_spelling, posix_spelling_of, given_precision, integer_modifier, is_general, is_given, is_integer, keeps_sign, kept_conversion, kept_flags}
 use Rattle.pf_whole.specs.meaning.NormalSpellings.{kept_modifier, normal_precision, meant_precision, normal_parts}
 
 -- conversions
@@ -128,7 +128,8 @@ normal_again model s =
     same.again
 
 -- the normal spelling keeps the types of the arguments
-pub types_again : (model : Model) (s : PosixSpecification) → types_of_opaque model (normal_parts model s) ≡ types_of_opaque model s
+pub types_again : (model : Model) (s : PosixSpecification)
+    → types_of_opaque model (OpaqueSpecification (normal_parts model s)) ≡ types_of_opaque model (OpaqueSpecification s)
 types_again model s =
     let precision = precision_same s.conversion s.precision in
     let type = type_again model s.conversion s.modifier in
@@ -151,3 +152,16 @@ less z w m i t e = grind arith
 
 pub fewer_some : (p q t : Bool) → (p ≡ false → q ≡ false) → (p && not t) ≡ false → (q && not t) ≡ false
 fewer_some p q t h e = grind arith
+
+-- what the profile lacks, with its normal parts
+abbrev pub normal_item : Model → OpaqueItem → OpaqueItem
+normal_item model (OpaqueSpecification s) = OpaqueSpecification (normal_parts model s)
+normal_item model OpaqueErrno = OpaqueErrno
+
+pub item_types_again : (model : Model) (other : OpaqueItem) → types_of_opaque model (normal_item model other) ≡ types_of_opaque model other
+item_types_again model (OpaqueSpecification s) = types_again model s
+item_types_again model OpaqueErrno = refl
+
+pub spelling_again : (model : Model) (other : OpaqueItem) → normal_spelling model other ≡ normal_spelling model (normal_item model other)
+spelling_again model (OpaqueSpecification s) = ap posix_spelling_of (sym (normal_again model s))
+spelling_again model OpaqueErrno = refl

@@ -7,12 +7,12 @@ use Rattle.pf_values.specs.meaning.Text.{Text}
 use Rattle.pf_posix.specs.Stretches.{Stretches, Last, Before, ReadsWhole}
 use Rattle.pf_posix.proofs.ReadOnce.{read_once}
 use Rattle.pf_whole.specs.Laws.{OneCanonicalIsAlike}
-use Rattle.pf_whole.specs.meaning.NormalSpellings.{normal_parts, normal_spelling, posix_spelling_of}
+use Rattle.pf_whole.specs.meaning.NormalSpellings.{normal_spelling}
 use Rattle.pf_whole.specs.meaning.Traces.{AreWholeAlike, TraceAlike}
 use Rattle.pf_whole.specs.meaning.WholeCanonical.{IsPutTogether, IsWholeCanonicalOf}
-use Rattle.pf_whole.proofs.NormalLemmas.{normal_again, types_again}
+use Rattle.pf_whole.proofs.NormalLemmas.{item_types_again, normal_item, spelling_again}
 use Rattle.pf_whole.proofs.ProfileTexts.{last_alike}
-use Rattle.pf_whole.proofs.SpelledNormally.{opaque_normally}
+use Rattle.pf_whole.proofs.SpelledNormally.{item_normally}
 use Rattle.pf_whole.proofs.TraceLemmas.{before_alike, trace_sym, trace_trans}
 
 -- the stretches that a canonical text is read as
@@ -34,11 +34,11 @@ read_back model t c (Last items) reads h = record {
 }
 read_back model t c (Before items s rest) reads h =
     let back = read_back model reads.2 h.1 rest reads.5 h.3 in
-    let spelling : normal_spelling model s ≡ normal_spelling model (normal_parts model s) = ap posix_spelling_of (sym (normal_again model s)) in
+    let spelling = spelling_again model s in
     record {
-      own = Before h.2.own (normal_parts model s) back.own;
-      reads = (h.0, normal_spelling model s, h.1, h.2.canonical.reads, opaque_normally model reads.1 s reads.4, back.reads, h.4);
-      alike = before_alike model items h.2.own s (normal_parts model s) rest back.own h.2.alike spelling (sym (types_again model s)) back.alike;
+      own = Before h.2.own (normal_item model s) back.own;
+      reads = (h.0, normal_spelling model s, h.1, h.2.canonical.reads, item_normally model reads.1 s reads.4, back.reads, h.4);
+      alike = before_alike model items h.2.own s (normal_item model s) rest back.own h.2.alike spelling (sym (item_types_again model s)) back.alike;
       together = (
         h.0,
         h.1,

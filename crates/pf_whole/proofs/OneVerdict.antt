@@ -1,6 +1,6 @@
 -- A pair of texts has one verdict at most.
 use Rattle.std.proofs.Common.{◌≡◌, ℕ, zero, suc, ◌<◌, List, [], ◌∷◌, ◌++◌, map, refl, sym, ap, ◌∙◌, subst, inl, inr}
-use Rattle.std.specs.Prelude.{Option, Some, None, Contains, ◌↔◌, ◌⊎◌, slice_get, slice_set}
+use Rattle.std.specs.Prelude.{Option, Some, None, ◌↔◌, ◌⊎◌, slice_get, slice_set}
 use Rattle.std.specs.List.{AllZip}
 use Rattle.std.proofs.lemmas.Bool.{cases_order}
 use Rattle.std.proofs.lemmas.List.{map-append}
@@ -11,7 +11,6 @@ use Rattle.pf_values.specs.meaning.Arguments.{Argument, HasType}
 use Rattle.pf_values.specs.Candidates.{candidates, neutral}
 use Rattle.pf_values.specs.meaning.Items.{types}
 use Rattle.pf_values.specs.meaning.Text.{Text}
-use Rattle.pf_values.proofs.Printed.{IsLeastFrom-unique}
 use Rattle.pf_compare.specs.Answers.{IsEarlier}
 use Rattle.pf_compare.proofs.CandidateLemmas.{candidate_has_type}
 use Rattle.pf_posix.specs.declared.types.ArgumentType.{ArgumentType}
@@ -21,7 +20,7 @@ use Rattle.pf_posix.specs.Stretches.{Stretches, Last, Before, types_of_opaque, w
 use Rattle.pf_posix.proofs.ReadOnce.{read_once}
 use Rattle.pf_whole.specs.Answers.{
   Agrees,
-  DifferAtCall,
+  CallsDifferAt,
   IsWholeComparisonOf,
   IsWholeProbe,
   IsWholeVerdict,
@@ -36,8 +35,9 @@ use Rattle.pf_whole.specs.Answers.{
   Different,
   neutral_shown,
 }
-use Rattle.pf_whole.specs.Laws.{PlacedCall, placed_calls}
+use Rattle.pf_whole.specs.meaning.Traces.{PlacedCall, placed_calls}
 use Rattle.pf_whole.specs.meaning.WholeArguments.{WholeArgument, Known, HasNarrowedType, HasWholeTypes, narrowed}
+use Rattle.pf_whole.proofs.CallLemmas.{differ_not, differ_once}
 use Rattle.pf_whole.proofs.SomeTrace.{some_trace}
 use Rattle.pf_whole.proofs.TwoValues.{whole_neutral, whole_neutrals, whole_neutrals_typed}
 use Rattle.pf_whole.proofs.ZipLemmas.{zip_append}
@@ -173,9 +173,8 @@ one_difference l m i j h g = by (cases_order i j)
 no_difference : (l m : List ArgumentType) (i : ℕ) → IsFirstDifference l m (Some i) → l ≡ m → ⊥
 no_difference l m i h same = h.0 (ap (λ ts. slice_get ts i) same)
 
-no_call : (calls others : List PlacedCall) (i : ℕ) → DifferAtCall calls others i → calls ≡ others → ⊥
-no_call calls others i (call, at, inl here) same = here.1 (subst (λ l. Contains l call) same here.0)
-no_call calls others i (call, at, inr there) same = there.1 (subst (λ l. Contains l call) (sym same) there.0)
+no_call : (calls others : List PlacedCall) (i : ℕ) → CallsDifferAt calls others i → calls ≡ others → ⊥
+no_call calls others i h same = differ_not calls i (subst (λ l. CallsDifferAt calls l i) (sym same) h)
 
 settled : (model : Model) (a b : Stretches) (v w : WholeVerdict) → {Alike : Type 0} → ((v ≡ Same) ↔ Alike) → ((w ≡ Same) ↔ Alike)
     → IsWholeVerdict model a b v → IsWholeVerdict model a b w → v ≡ w
@@ -187,13 +186,13 @@ settled model a b (TypesDiffer i) (Different shown) h g x y = absurd (no_differe
 settled model a b (DirectivesDiffer i) Same h g x y = h.1 (g.0 refl)
 settled model a b (DirectivesDiffer i) (TypesDiffer j) h g x y = absurd (no_difference (whole_types model a) (whole_types model b) j y x.0)
 settled model a b (DirectivesDiffer i) (DirectivesDiffer j) h g x y =
-    ap DirectivesDiffer (IsLeastFrom-unique 0 (DifferAtCall (placed_calls model 0 a) (placed_calls model 0 b)) i j x.1 y.1)
+    ap DirectivesDiffer (differ_once (placed_calls model 0 a) (placed_calls model 0 b) i j x.1 y.1)
 settled model a b (DirectivesDiffer i) (Different shown) h g x y =
-    absurd (no_call (placed_calls model 0 a) (placed_calls model 0 b) i x.1.holds y.1)
+    absurd (no_call (placed_calls model 0 a) (placed_calls model 0 b) i x.1 y.1)
 settled model a b (Different shown) Same h g x y = h.1 (g.0 refl)
 settled model a b (Different shown) (TypesDiffer j) h g x y = absurd (no_difference (whole_types model a) (whole_types model b) j y x.0)
 settled model a b (Different shown) (DirectivesDiffer j) h g x y =
-    absurd (no_call (placed_calls model 0 a) (placed_calls model 0 b) j y.1.holds x.1)
+    absurd (no_call (placed_calls model 0 a) (placed_calls model 0 b) j y.1 x.1)
 settled model a b (Different shown) (Different other) h g x y = ap Different (shown_once model a b shown other x.2 y.2)
 
 pub one_verdict : (model : Model) (t u : Text) (v w : WholeVerdict) → IsWholeComparisonOf model t u v → IsWholeComparisonOf model t u w → v ≡ w

@@ -9,7 +9,7 @@ use Rattle.pf_text.proofs.Texts.{Reads-unique}
 use Rattle.pf_posix.specs.Types.{widened}
 use Rattle.pf_posix.specs.Stretches.{Last}
 use Rattle.pf_posix.proofs.ReadOnce.{read_once}
-use Rattle.pf_whole.specs.Laws.{ProfileCoincides}
+use Rattle.pf_whole.specs.Laws.{HaveSameTraces, ProfileCoincides}
 use Rattle.pf_whole.specs.meaning.Traces.{Ends, Calls, HasTrace, PrintsKnown, Trace, TraceAlike}
 use Rattle.pf_whole.specs.meaning.WholeArguments.{WholeArgument, Known, HasWholeTypes}
 use Rattle.pf_whole.specs.meaning.WholeCanonical.{IsPutTogether}
@@ -30,7 +30,7 @@ turned model a b h = record {
 }
 
 pub last_alike : (model : Model) (a b : List Item) → PrintAlike model a b → TraceAlike model (Last a) (Last b)
-last_alike model a b h = record { same_types = ap (map widened) h.same_types; same_traces = go } where
+last_alike model a b h = record { same_types = ap (map widened) h.same_types; same_calls = refl; same_traces = go } where
   go : (args : List WholeArgument) (trace : Trace) → HasWholeTypes model args (map widened (types model a))
       → (HasTrace model (Last a) args trace ↔ HasTrace model (Last b) args trace)
   go args (Ends text) typed = (
@@ -39,8 +39,8 @@ last_alike model a b h = record { same_types = ap (map widened) h.same_types; sa
   )
   go args (Calls text call rest) typed = (λ g. g, λ g. g)
 
-pub alike_last : (model : Model) (a b : List Item) → TraceAlike model (Last a) (Last b) → PrintAlike model a b
-alike_last model a b h = record {
+pub traced_last : (model : Model) (a b : List Item) → HaveSameTraces model (Last a) (Last b) → PrintAlike model a b
+traced_last model a b h = record {
   same_types = widened_once (types model a) (types model b) h.same_types;
   same_bytes = λ args out typed.
       let both = h.same_traces (map Known args) (Ends out) (known_typed model args (types model a) typed) in (
@@ -48,6 +48,9 @@ alike_last model a b h = record {
         λ g. let k = both.1 (args, refl, g) in let same = known_once args k.0 k.1 in rw same k.2,
       );
 }
+
+pub alike_last : (model : Model) (a b : List Item) → TraceAlike model (Last a) (Last b) → PrintAlike model a b
+alike_last model a b h = traced_last model a b (record { same_types = h.same_types; same_traces = h.same_traces })
 
 pub profile_coincides : (model : Model) → ProfileCoincides model
 profile_coincides model t u first second =

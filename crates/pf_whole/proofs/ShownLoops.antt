@@ -39,7 +39,7 @@ use Rattle.pf_compare.specs.Owned.{argument_of_owned, type_of_owned}
 use Rattle.pf_posix.specs.declared.types.ArgumentType.{ArgumentType}
 use Rattle.pf_posix.specs.declared.stretches.Stretch.{Stretch}
 use Rattle.pf_posix.specs.Heads.{IsHead}
-use Rattle.pf_posix.specs.Specifications.{PosixSpecification}
+use Rattle.pf_posix.specs.Opaque.{OpaqueItem}
 use Rattle.pf_posix.specs.Stretches.{Stretches, Last, Before, ReadsWhole, types_of_opaque, whole_types}
 use Rattle.pf_posix.specs.Types.{widened}
 use Rattle.pf_posix.proofs.ReadOnce.{read_once}
@@ -68,7 +68,7 @@ none_each [] (suc count) e = absurd (omega (arith, e))
 none_each (x ∷ xs) zero e = absurd (omega (arith, e))
 none_each (x ∷ xs) (suc count) e = ap (λ l. None ∷ l) (none_each xs count (omega (arith, e)))
 
-pub any_shown : (model : Model) (s : PosixSpecification) (count : ℕ) → count ≡ length (types_of_opaque model s)
+pub any_shown : (model : Model) (s : OpaqueItem) (count : ℕ) → count ≡ length (types_of_opaque model s)
     → shown_as (replicate count None) ≡ shown_any model s
 any_shown model s count e = none_shown count ∙ none_each (types_of_opaque model s) count e
 
@@ -96,7 +96,7 @@ IsTypedUpTo model a left shown = (rest : List (Option OwnedArg)) → AllZip HasS
 pub typed_from : (model : Model) (a : Stretches) → IsTypedUpTo model a a []
 typed_from model a rest h = h
 
-pub typed_past : (model : Model) (a rest : Stretches) (items : List Item) (s : PosixSpecification) (shown : List (Option OwnedArg)) (args : List OwnedArg)
+pub typed_past : (model : Model) (a rest : Stretches) (items : List Item) (s : OpaqueItem) (shown : List (Option OwnedArg)) (args : List OwnedArg)
     (count : ℕ)
     → IsTypedUpTo model a (Before items s rest) shown → map type_of_owned args ≡ types model items → count ≡ length (types_of_opaque model s)
     → IsTypedUpTo model a rest ((shown ++ map Some args) ++ replicate count None)
@@ -122,7 +122,7 @@ neutral_args : (model : Model) (items : List Item) (args : List OwnedArg) → ma
     → shown_as (map Some args) ≡ shown_neutrals model items
 neutral_args model items args e = some_shown args ∙ ap (map Some) e ∙ sym (neutrals_shown (types model items))
 
-pub neutral_past : (model : Model) (a rest : Stretches) (items : List Item) (s : PosixSpecification) (shown : List (Option OwnedArg)) (args : List OwnedArg)
+pub neutral_past : (model : Model) (a rest : Stretches) (items : List Item) (s : OpaqueItem) (shown : List (Option OwnedArg)) (args : List OwnedArg)
     (count : ℕ)
     → IsNeutralUpTo model a (Before items s rest) shown → map argument_of_owned args ≡ neutrals (types model items) → count ≡ length (types_of_opaque model s)
     → IsNeutralUpTo model a rest ((shown ++ map Some args) ++ replicate count None)
@@ -140,7 +140,7 @@ neutral_end model a items shown args h e =
     map-append (option_map argument_of_owned) shown (map Some args) ∙ ap (λ l. shown_as shown ++ l) (neutral_args model items args e) ∙ h
 
 -- two stretches more
-pub compared_past : (model : Model) (a b rest more : Stretches) (xs ys : List Item) (s p : PosixSpecification) (shown : List (Option OwnedArg))
+pub compared_past : (model : Model) (a b rest more : Stretches) (xs ys : List Item) (s p : OpaqueItem) (shown : List (Option OwnedArg))
     (args : List OwnedArg)
     (count : ℕ) (found now : Bool) → IsComparedUpTo model a b (Before xs s rest) (Before ys p more) (shown_as shown) found
     → IsShownNext model xs ys found (map argument_of_owned args) now → normal_spelling model s ≡ normal_spelling model p
@@ -219,9 +219,9 @@ first_tells model (Before xs s rest) (Last ys) h g = absurd h
 first_tells model (Before xs s rest) (Before ys p more) h g = inl g
 
 -- if one goes on, the other one does
-pub record IsOtherBefore (model : Model) (u : Text) (from : ℕ) (more : Stretches) (other : Stretch) (s : PosixSpecification) (rest : Stretches) : Type 0 where
+pub record IsOtherBefore (model : Model) (u : Text) (from : ℕ) (more : Stretches) (other : Stretch) (s : OpaqueItem) (rest : Stretches) : Type 0 where
   pub items : List Item
-  pub parts : PosixSpecification
+  pub parts : OpaqueItem
   pub others : Stretches
   pub more_is : more ≡ Before items parts others
   pub reads : Reads (between u from other.end) items
@@ -229,7 +229,7 @@ pub record IsOtherBefore (model : Model) (u : Text) (from : ℕ) (more : Stretch
   pub spelling : normal_spelling model s ≡ normal_spelling model parts
   pub shape : HaveOneShape model rest others
 
-pub other_before : (model : Model) (u : Text) (from : ℕ) (more : Stretches) (other : Stretch) (xs : List Item) (s : PosixSpecification) (rest : Stretches)
+pub other_before : (model : Model) (u : Text) (from : ℕ) (more : Stretches) (other : Stretch) (xs : List Item) (s : OpaqueItem) (rest : Stretches)
     → HaveOneShape model (Before xs s rest) more → IsHead u from more other → IsOtherBefore model u from more other s rest
 other_before model u from (Last ys) other xs s rest h head = absurd h
 other_before model u from (Before ys p others) other xs s rest h head = record {

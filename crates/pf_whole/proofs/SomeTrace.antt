@@ -9,7 +9,7 @@ use Rattle.pf_values.specs.meaning.Items.{Item, types}
 use Rattle.pf_values.specs.meaning.Text.{Text}
 use Rattle.pf_values.proofs.Alike.{all_printed, all_printed-is}
 use Rattle.pf_posix.specs.declared.types.ArgumentType.{ArgumentType}
-use Rattle.pf_posix.specs.Specifications.{PosixSpecification}
+use Rattle.pf_posix.specs.Opaque.{OpaqueItem}
 use Rattle.pf_posix.specs.Types.{widened}
 use Rattle.pf_posix.specs.Stretches.{Stretches, Last, Before, types_of_opaque, whole_types}
 use Rattle.pf_whole.specs.meaning.NormalSpellings.{normal_spelling}
@@ -58,11 +58,11 @@ known_printed model items args h =
     let known = are_known model args (types model items) h in
     (all_printed model items known.known, (known.known, known.same, all_printed-is model items known.known known.typed))
 
-abbrev pub call_of : Model → PosixSpecification → List WholeArgument → Call
+abbrev pub call_of : Model → OpaqueItem → List WholeArgument → Call
 call_of model s args = record { spelling = normal_spelling model s; args = args }
 
 -- the trace of the rest, after a stretch and a call
-pub trace_before : (model : Model) (items : List Item) (s : PosixSpecification) (rest : Stretches) (first own back : List WholeArgument) (text : Text)
+pub trace_before : (model : Model) (items : List Item) (s : OpaqueItem) (rest : Stretches) (first own back : List WholeArgument) (text : Text)
     (trace : Trace) → PrintsKnown model items first text → HasWholeTypes model own (types_of_opaque model s) → HasTrace model rest back trace
     → HasTrace model (Before items s rest) ((first ++ own) ++ back) (Calls text (call_of model s own) trace)
 trace_before model items s rest first own back text trace printed typed h = (

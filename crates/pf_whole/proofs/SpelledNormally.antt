@@ -13,11 +13,11 @@ use Rattle.pf_posix.specs.declared.conversions.Conversion.{Conversion}
 use Rattle.pf_posix.specs.Defined.{IsPosixDefined, has_any_flag, is_count, takes_precision, takes_zero}
 use Rattle.pf_posix.specs.Specifications.{Amount, Given, Fetched, PosixSpecification}
 use Rattle.pf_posix.specs.Spelling.{SpellsPosition, SpellsPosix, SpellsPosixPrecision, SpellsPosixWidth, SpellsUpToPrecision}
-use Rattle.pf_posix.specs.Opaque.{SpellsOpaque}
+use Rattle.pf_posix.specs.Opaque.{OpaqueErrno, OpaqueItem, OpaqueSpecification, SpellsOpaque, SpellsOpaqueItem}
 use Rattle.pf_posix.proofs.SpecificationsOnce.{is_defined, no_reason, HasParts, no_number, parts_of}
-use Rattle.pf_whole.specs.meaning.NormalSpellings.{is_given, is_integer, kept_conversion, kept_flags, kept_modifier, normal_precision, normal_parts, normal_spelling}
+use Rattle.pf_whole.specs.meaning.NormalSpellings.{directive_spelling, is_given, is_integer, kept_conversion, kept_flags, kept_modifier, normal_precision, normal_parts, normal_spelling}
 use Rattle.pf_whole.specs.meaning.NormalSpellings.{posix_precision_spelled, posix_spelling_of, posix_width_spelled}
-use Rattle.pf_whole.proofs.NormalLemmas.{fewer_some, less, modifier_stands, opaque_again, precision_same, same_conversion}
+use Rattle.pf_whole.proofs.NormalLemmas.{fewer_some, less, modifier_stands, normal_item, opaque_again, precision_same, same_conversion}
 
 none_placed : (number : Option ℕ) → number ≡ None → SpellsPosition [] number
 none_placed None e = refl
@@ -81,7 +81,7 @@ spelled_parts s unnumbered width width_is few =
       whole = refl;
     }
 
-spelled_normally : (model : Model) (t : Text) (s : PosixSpecification) → HasParts t s → SpellsPosix (normal_spelling model s) (normal_parts model s)
+spelled_normally : (model : Model) (t : Text) (s : PosixSpecification) → HasParts t s → SpellsPosix (directive_spelling model s) (normal_parts model s)
 spelled_normally model t s h = spelled_parts (normal_parts model s) h.unnumbered h.width h.width_is
     (few_kept s.conversion s.precision (few_of h.precision s.precision h.precision_is))
 
@@ -107,10 +107,15 @@ defined_normally model s h =
           ∙ counted model s none.count;
     })
 
-pub opaque_normally : (model : Model) (t : Text) (s : PosixSpecification) → SpellsOpaque t s → SpellsOpaque (normal_spelling model s) (normal_parts model s)
+pub opaque_normally : (model : Model) (t : Text) (s : PosixSpecification) → SpellsOpaque t s → SpellsOpaque (directive_spelling model s) (normal_parts model s)
 opaque_normally model t s h = record {
   spelled = spelled_normally model t s (parts_of t s h.spelled h.unnumbered);
   defined = defined_normally model s h.defined;
   unnumbered = h.unnumbered;
   opaque = opaque_again model s h.opaque;
 }
+
+pub item_normally : (model : Model) (t : Text) (other : OpaqueItem) → SpellsOpaqueItem t other
+    → SpellsOpaqueItem (normal_spelling model other) (normal_item model other)
+item_normally model t (OpaqueSpecification s) h = opaque_normally model t s h
+item_normally model t OpaqueErrno h = refl

@@ -1,5 +1,5 @@
 -- Arguments for which one stretch prints other bytes tell the traces of whole texts apart.
-use Rattle.std.proofs.Common.{◌≡◌, ◌≢◌, ℕ, ◌+◌, List, [], ◌∷◌, ◌++◌, map, length, refl, sym, ap, ap₂, ◌∙◌, arith, subst, inl, inr}
+use Rattle.std.proofs.Common.{◌≡◌, ◌≢◌, ℕ, ◌+◌, List, [], ◌∷◌, ◌++◌, map, length, refl, sym, ap, ap₂, ◌∙◌, subst, inl, inr}
 use Rattle.std.specs.Prelude.{Option, Some}
 use Rattle.std.specs.List.{AllZip}
 use Rattle.std.proofs.lemmas.List.{append_assoc}
@@ -12,11 +12,9 @@ use Rattle.pf_values.proofs.Alike.{all_printed, PrintsAll-unique}
 use Rattle.pf_posix.specs.Types.{widened}
 use Rattle.pf_posix.specs.Stretches.{Stretches, Last, Before, ReadsWhole, types_of_opaque, whole_types}
 use Rattle.pf_whole.specs.Answers.{Agrees, CallsGiveShape, HaveOneShape, TellSomewhere, TellStretches, TellingIsApart}
-use Rattle.pf_whole.specs.Laws.{PlacedCall, placed_calls}
-use Rattle.pf_whole.specs.meaning.NormalSpellings.{normal_spelling}
-use Rattle.pf_whole.specs.meaning.Traces.{Ends, Calls, HasTrace, PrintsKnown, Trace}
+use Rattle.pf_whole.specs.meaning.Traces.{Ends, Calls, HasTrace, PrintsKnown, Trace, placed_calls}
 use Rattle.pf_whole.specs.meaning.WholeArguments.{WholeArgument, Known, Other, HasWholeType, HasWholeTypes}
-use Rattle.pf_whole.proofs.Apart.{same_parts, spelling_types}
+use Rattle.pf_whole.proofs.Apart.{first_calls, same_parts, spelling_types}
 use Rattle.pf_whole.proofs.KnownArguments.{known_once, widened_once}
 use Rattle.pf_whole.proofs.TraceLemmas.{known_count, length_map}
 use Rattle.pf_whole.proofs.ZipLemmas.{zip_parts}
@@ -27,25 +25,19 @@ shape model index t u (Last items) (Last own) h g e c = widened_once (types mode
 shape model index t u (Last items) (Before own p more) h g e c = cc
 shape model index t u (Before items s rest) (Last own) h g e c = cc
 shape model index t u (Before items s rest) (Before own p more) h g e c =
-    let x : PlacedCall = record { index = index + length (types model items); spelling = normal_spelling model s } in
-    let y : PlacedCall = record { index = index + length (types model own); spelling = normal_spelling model p } in
-    let call : x ≡ y = cc in
-    let same_index : index + length (types model items) ≡ index + length (types model own) = ap (λ call. call.index) call in
-    let spelling : normal_spelling model s ≡ normal_spelling model p = ap (λ call. call.spelling) call in
-    let mine = spelling_types model h.1 g.1 s p h.4 g.4 spelling in
+    let calls = first_calls model index items own s p rest more c in
+    let mine = spelling_types model h.1 g.1 s p h.4 g.4 calls.spelling in
     let many : length (map widened (types model items)) ≡ length (map widened (types model own)) =
-    length_map widened (types model items) ∙ omega (arith, same_index) ∙ sym (length_map widened (types model own)) in
+    length_map widened (types model items) ∙ calls.many ∙ sym (length_map widened (types model own)) in
     let outer = same_parts (map widened (types model items)) (types_of_opaque model s ++ whole_types model rest) (map widened (types model own))
     (types_of_opaque model p ++ whole_types model more) many e in
     let inner = same_parts (types_of_opaque model s) (whole_types model rest) (types_of_opaque model p) (whole_types model more) (ap length mine) outer.1 in
-    let back : placed_calls model (index + length (types model items) + length (types_of_opaque model s)) rest
-    ≡ placed_calls model (index + length (types model own) + length (types_of_opaque model p)) more = cc in
     let next : index + length (types model items) + length (types_of_opaque model s)
-    ≡ index + length (types model own) + length (types_of_opaque model p) = ap₂ (λ m n. m + n) same_index (ap length mine) in (
+    ≡ index + length (types model own) + length (types_of_opaque model p) = ap₂ (λ m n. index + m + n) calls.many (ap length mine) in (
       widened_once (types model items) (types model own) outer.0,
-      spelling,
+      calls.spelling,
       shape model (index + length (types model items) + length (types_of_opaque model s)) h.2 g.2 rest more h.5 g.5 inner.1
-          (back ∙ ap (λ k. placed_calls model k more) (sym next)),
+          (calls.later ∙ ap (λ k. placed_calls model k more) (sym next)),
     )
 
 pub calls_give_shape : (model : Model) → CallsGiveShape model

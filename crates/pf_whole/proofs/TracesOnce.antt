@@ -6,7 +6,7 @@ use Rattle.pf_values.specs.meaning.Arguments.{HasTypes}
 use Rattle.pf_values.specs.meaning.Items.{Item, types}
 use Rattle.pf_values.specs.meaning.Text.{Text}
 use Rattle.pf_values.proofs.Alike.{PrintsAll-unique}
-use Rattle.pf_posix.specs.Specifications.{PosixSpecification}
+use Rattle.pf_posix.specs.Opaque.{OpaqueItem}
 use Rattle.pf_posix.specs.Types.{widened}
 use Rattle.pf_posix.specs.Stretches.{Stretches, Last, Before, types_of_opaque, whole_types}
 use Rattle.pf_whole.specs.Laws.{TracesOnce}
@@ -26,7 +26,7 @@ known_text model items args x y typed h g =
     let fits : HasTypes model h.0 (types model items) = typed_known model h.0 (types model items) own in
     PrintsAll-unique model items h.0 x fits h.2 ∙ sym (PrintsAll-unique model items h.0 y fits (rw same at g.2))
 
-same_call : (model : Model) (s : PosixSpecification) (args own : List WholeArgument) (c d : Call) → args ≡ own → IsCallOf model s args c
+same_call : (model : Model) (s : OpaqueItem) (args own : List WholeArgument) (c d : Call) → args ≡ own → IsCallOf model s args c
     → IsCallOf model s own d
     → c ≡ d
 same_call model s args own c d e h g =

@@ -1,6 +1,6 @@
 -- Examples of verdicts. Each of them computes.
 use Rattle.std.proofs.Common.{◌≡◌, ℕ, zero, suc, ◌<◌, List, [], ◌∷◌, ◌++◌, codes, length, refl, sym, ap, ◌∙◌, arith, inl, inr, subst}
-use Rattle.std.specs.Prelude.{Option, Some, None, Contains, slice_index, slice_get, pos, negsuc}
+use Rattle.std.specs.Prelude.{Option, Some, None, slice_index, slice_get, pos, negsuc}
 use Rattle.std.specs.Fmt.{digits}
 use Rattle.pf_values.specs.declared.conversions.Conv.{Conv}
 use Rattle.pf_values.specs.declared.conversions.Conv.TheVariants as convs
@@ -25,56 +25,46 @@ use Rattle.pf_posix.specs.declared.conversions.Floating.{Floating}
 use Rattle.pf_posix.specs.declared.conversions.Floating.TheVariants as floats
 use Rattle.pf_posix.specs.declared.conversions.Modifier.TheVariants.{Integer}
 use Rattle.pf_posix.specs.Types.{int_type}
-use Rattle.pf_posix.specs.Specifications.{PosixSpecification}
+use Rattle.pf_posix.specs.Opaque.{OpaqueErrno, OpaqueItem}
 use Rattle.pf_posix.specs.Stretches.{Stretches, Last, Before, ReadsWhole}
 use Rattle.pf_whole.specs.Answers.{Different, DirectivesDiffer, IsWholeProbe, IsWholeVerdict, StretchesAgree, TellStretches, TracesTogether, TypesDiffer}
-use Rattle.pf_whole.specs.Laws.{PlacedCall}
+use Rattle.pf_whole.specs.meaning.Traces.{PlacedCall}
 use Rattle.pf_whole.specs.meaning.WholeArguments.{narrowed}
 use Rattle.pf_whole.proofs.Telling.{telling_is_apart}
 use Rattle.pf_whole.proofs.Together.{agreeing_is_together}
-use Rattle.pf_whole.proofs.ExampleTexts.{no_width, star_width, no_precision, parts, opaque, silent_defined, read_before}
+use Rattle.pf_whole.proofs.ExampleTexts.{no_width, star_width, no_precision, opaque, opaque_parts, silent_defined, read_before}
 
 -- `%*d` and `%d%d` have the same types, and one of them makes a call.
 abbrev bare : Conv → Specification
 bare conv = record { flags = no_flags; width = None; precision = None; length = lengths.None; conv = conv }
 
-abbrev floating : Floating → PosixSpecification
-floating f = parts [] no_width no_precision (Integer lengths.None) (Float f)
+abbrev floating : Floating → OpaqueItem
+floating f = opaque_parts [] no_width no_precision (Integer lengths.None) (Float f)
 
-star_and_two : IsWholeVerdict Lp64 (Before [] (parts [] star_width no_precision (Integer lengths.None) (Profile convs.D)) (Last []))
+star_and_two : IsWholeVerdict Lp64 (Before [] (opaque_parts [] star_width no_precision (Integer lengths.None) (Profile convs.D)) (Last []))
     (Last (Directive (bare convs.D) ∷ Directive (bare convs.D) ∷ [])) (DirectivesDiffer 0)
-star_and_two = (
-  refl,
-  record {
-    from_low = omega arith;
-    holds = (record { index = 0; spelling = codes "%*d" }, refl, inl ((0, omega arith, refl), λ h. omega (arith, h.1)));
-    least = λ m low p. omega arith;
-  },
-)
+star_and_two = (refl, refl)
 
 -- `%d%f` and `%d%e` differ in the call with the argument of index 1
-only_one : (x call : PlacedCall) → Contains (x ∷ []) call → x ≡ call
-only_one x call (zero, few, e) = e
-only_one x call (suc k, few, e) = absurd (omega (arith, few))
-
-letters_apart : (x y : PlacedCall) → slice_index x.spelling 1 < slice_index y.spelling 1 → x ≡ y → ⊥
+letters_apart : (x y : PlacedCall) → slice_index x.spelling 1 < slice_index y.spelling 1 → y ≡ x → ⊥
 letters_apart x y less e = omega (arith, less, ap (λ c. slice_index c.spelling 1) e)
 
 f_and_e : IsWholeVerdict Lp64 (Before (Directive (bare convs.D) ∷ []) (floating floats.F) (Last []))
     (Before (Directive (bare convs.D) ∷ []) (floating floats.E) (Last [])) (DirectivesDiffer 1)
-f_and_e =
-    let f : PlacedCall = record { index = 1; spelling = codes "%f" } in
-    let e : PlacedCall = record { index = 1; spelling = codes "%e" } in (
-      refl,
-      record {
-        from_low = omega arith;
-        holds = (f, refl, inl ((0, omega arith, refl), λ h. letters_apart e f (omega arith) (only_one e f h)));
-        least = λ m low p. elim p.2 [
-          | inl one ↦ omega (arith, ap (λ c. c.index) (only_one f p.0 one.0), p.1)
-          | inr one ↦ omega (arith, ap (λ c. c.index) (only_one e p.0 one.0), p.1)
-        ];
-      },
-    )
+f_and_e = (refl, inr (letters_apart (record { index = 1; spelling = codes "%e" }) (record { index = 1; spelling = codes "%f" }) (omega arith), refl))
+
+-- `%m%m` and `%m` make the same call in other numbers
+twice_and_once : IsWholeVerdict Lp64 (Before [] OpaqueErrno (Before [] OpaqueErrno (Last []))) (Before [] OpaqueErrno (Last [])) (DirectivesDiffer 0)
+twice_and_once = (refl, inl (refl, refl))
+
+-- `%.0s%m` and `%m%.0s` print the same, and `%m` is in another place
+places_apart : (x y : PlacedCall) → x.index < y.index → y ≡ x → ⊥
+places_apart x y less e = omega (arith, less, ap (λ c. c.index) e)
+
+behind_and_before : IsWholeVerdict Lp64 (Before (Directive silent ∷ []) OpaqueErrno (Last [])) (Before [] OpaqueErrno (Last (Directive silent ∷ [])))
+    (DirectivesDiffer 0)
+behind_and_before =
+    (refl, inr (places_apart (record { index = 0; spelling = codes "%m" }) (record { index = 1; spelling = codes "%m" }) (omega arith), refl))
 
 -- `%d` and `%f` take other types
 int_and_double : IsWholeVerdict Lp64 (Last (Directive (bare convs.D) ∷ [])) (Before [] (floating floats.F) (Last [])) (TypesDiffer 0)
@@ -130,7 +120,7 @@ abbrev five_digits : Specification
 five_digits = record { flags = no_flags; width = None; precision = Some 5; length = lengths.None; conv = convs.D }
 
 abbrev between : Specification → Stretches
-between s = Before [] (floating floats.F) (Before (Directive s ∷ []) (parts [] no_width no_precision (Integer lengths.None) Pointer) (Last []))
+between s = Before [] (floating floats.F) (Before (Directive s ∷ []) (opaque_parts [] no_width no_precision (Integer lengths.None) Pointer) (Last []))
 
 abbrev shown_between : Argument → List (Option Argument)
 shown_between argument = None ∷ Some argument ∷ None ∷ []

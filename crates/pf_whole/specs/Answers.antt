@@ -3,22 +3,20 @@
 --
 -- The last part has what four laws say: `one_verdict`, `calls_give_shape`, `telling_is_apart` and
 -- `agreeing_is_together`.
-use Rattle.std.specs.Prelude.{◌≡◌, ◌≢◌, ℕ, List, ◌++◌, map, length, slice_get, slice_set, Contains, Option, Some, None, ◌⊎◌, ◌↔◌, ⊤}
+use Rattle.std.specs.Prelude.{◌≡◌, ◌≢◌, ℕ, List, [], ◌∷◌, ◌++◌, map, min, length, slice_get, slice_set, Option, Some, None, ◌⊎◌, ◌↔◌, ⊤}
 use Rattle.std.specs.List.{AllZip}
 use Rattle.pf_values.specs.declared.models.Model.{Model}
 use Rattle.pf_values.specs.declared.types.ArgType.{ArgType}
 use Rattle.pf_values.specs.Candidates.{candidates, neutral}
 use Rattle.pf_values.specs.meaning.Arguments.{Argument, HasTypes}
-use Rattle.pf_values.specs.meaning.Digits.{IsLeastFrom}
 use Rattle.pf_values.specs.meaning.Items.{Item, types}
 use Rattle.pf_values.specs.meaning.Text.{Text}
 use Rattle.pf_compare.specs.Answers.{IsEarlier, PrintTheSame, PrintUnlike}
 use Rattle.pf_posix.specs.declared.types.ArgumentType.{ArgumentType}
 use Rattle.pf_posix.specs.Laws.{IsFirstDifference}
 use Rattle.pf_posix.specs.Stretches.{Stretches, Last, Before, ReadsWhole, IsWholeAccepted, types_of_opaque, whole_types}
-use Rattle.pf_whole.specs.Laws.{PlacedCall, placed_calls}
 use Rattle.pf_whole.specs.meaning.NormalSpellings.{normal_spelling}
-use Rattle.pf_whole.specs.meaning.Traces.{AreWholeAlike, HasTrace, Trace, TraceAlike}
+use Rattle.pf_whole.specs.meaning.Traces.{AreWholeAlike, HasTrace, PlacedCall, Trace, TraceAlike, placed_calls}
 use Rattle.pf_whole.specs.meaning.WholeArguments.{WholeArgument, Known, Other, HasWholeTypes, narrowed}
 use Rattle.pf_whole.specs.meaning.WholeCanonical.{IsWholeCanonicalOf}
 
@@ -47,7 +45,7 @@ Agrees None argument = ⊤
 Agrees (Some shown) (Known argument) = argument ≡ shown
 Agrees (Some shown) (Other representation) = ⊥
 
--- neutral arguments for the stretches, and any arguments for the opaque directives
+-- neutral arguments for the stretches, and any arguments for the opaque directives between them
 abbrev pub neutral_shown : Model → Stretches → List (Option Argument)
 neutral_shown model (Last items) = map (λ type. Some (neutral type)) (types model items)
 neutral_shown model (Before items s rest) =
@@ -94,25 +92,25 @@ pub record ShowsProbe (model : Model) (a b : Stretches) (shown : List (Option Ar
   pub earlier : (i k : ℕ) (before : List (Option Argument)) → IsWholeProbe model a i k before
       → IsEarlier i k index candidate_index → TracesTogether model a b before
 
--- one list has the call, and the other one doesn't
-abbrev pub IsCallOfOne : List PlacedCall → List PlacedCall → PlacedCall → Type 0
-IsCallOfOne calls others call =
-    (Contains calls call × ¬ Contains others call) ⊎ (Contains others call × ¬ Contains calls call)
-
--- one list has a call whose first argument has this index, and the other one doesn't
-abbrev pub DifferAtCall : List PlacedCall → List PlacedCall → ℕ → Type 0
-DifferAtCall calls others index =
-    (call : PlacedCall) × (call.index ≡ index) × IsCallOfOne calls others call
+-- the index is the smaller place of the calls at the first position at which two lists differ, or the place
+-- of the one call, where a list has ended
+abbrev pub CallsDifferAt : List PlacedCall → List PlacedCall → ℕ → Type 0
+CallsDifferAt [] [] index = ⊥
+CallsDifferAt (call ∷ calls) [] index = index ≡ call.index
+CallsDifferAt [] (other ∷ others) index = index ≡ other.index
+CallsDifferAt (call ∷ calls) (other ∷ others) index =
+    ((call ≡ other) × CallsDifferAt calls others index)
+    ⊎ ((call ≢ other) × (index ≡ min call.index other.index))
 
 -- What a verdict says: the stretches are alike; or this is the first index at which their types differ;
--- or the types are equal, and this is the first index at which their calls differ; or both are equal,
--- and these arguments tell the traces apart.
+-- or the types are equal, and this is the place at which their calls differ first; or both are equal, and
+-- these arguments tell the traces apart.
 abbrev pub IsWholeVerdict : Model → Stretches → Stretches → WholeVerdict → Type 0
 IsWholeVerdict model a b Same = TraceAlike model a b
 IsWholeVerdict model a b (TypesDiffer index) =
     IsFirstDifference (whole_types model a) (whole_types model b) (Some index)
 IsWholeVerdict model a b (DirectivesDiffer index) = (whole_types model a ≡ whole_types model b)
-    × IsLeastFrom 0 (DifferAtCall (placed_calls model 0 a) (placed_calls model 0 b)) index
+    × CallsDifferAt (placed_calls model 0 a) (placed_calls model 0 b) index
 IsWholeVerdict model a b (Different shown) = (whole_types model a ≡ whole_types model b)
     × (placed_calls model 0 a ≡ placed_calls model 0 b)
     × (ShowsNeutral model a b shown ⊎ ShowsProbe model a b shown)
@@ -132,7 +130,7 @@ OneVerdict model = (t u : Text) (verdict other : WholeVerdict) → IsWholeCompar
     → IsWholeComparisonOf model t u other → verdict ≡ other
 
 -- Two lists of stretches have one shape: side by side, the stretches take arguments of the same types,
--- and the opaque directives have the same normal spelling.
+-- and what is between them has the same normal spelling.
 abbrev pub HaveOneShape : Model → Stretches → Stretches → Type 0
 HaveOneShape model (Last a) (Last b) = types model a ≡ types model b
 HaveOneShape model (Last a) (Before b p more) = ⊥

@@ -6,7 +6,7 @@ use Rattle.pf_values.specs.meaning.Arguments.{Argument}
 use Rattle.pf_values.specs.meaning.Items.{Item, types}
 use Rattle.pf_values.specs.meaning.Printing.{PrintAlike}
 use Rattle.pf_compare.specs.Answers.{IsFirstProbe, PrintTheSame, PrintUnlike, probe_at}
-use Rattle.pf_posix.specs.Specifications.{PosixSpecification}
+use Rattle.pf_posix.specs.Opaque.{OpaqueItem}
 use Rattle.pf_whole.specs.Answers.{neutral_shown}
 use Rattle.pf_posix.specs.Stretches.{Stretches, Last, Before, types_of_opaque}
 
@@ -15,7 +15,7 @@ abbrev pub shown_neutrals : Model → List Item → List (Option Argument)
 shown_neutrals model items = map (λ type. Some (neutral type)) (types model items)
 
 -- any arguments of an opaque directive
-abbrev pub shown_any : Model → PosixSpecification → List (Option Argument)
+abbrev pub shown_any : Model → OpaqueItem → List (Option Argument)
 shown_any model s = map (λ type. None) (types_of_opaque model s)
 
 -- for neutral arguments each stretch prints the same as the corresponding one

@@ -5,7 +5,7 @@ use Rattle.pf_values.specs.meaning.Text.{Text}
 use Rattle.pf_posix.specs.Stretches.{Stretches, ReadsWhole}
 use Rattle.pf_whole.specs.meaning.WholeCanonical.{IsPutTogether}
 
--- a front is empty, or ends with an opaque directive: whatever stretches come after it, `out` comes before their
+-- a front is empty, or ends with an opaque directive or `%m`: whatever stretches come after it, `out` comes before their
 -- canonical text in that of the whole
 pub record IsWholeFront (model : Model) (front out : Text) : Type 0 where
   pub continues : (rest : Text) (left : Stretches) → ReadsWhole rest left → (whole : Stretches) × ReadsWhole (front ++ rest) whole

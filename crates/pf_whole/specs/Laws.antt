@@ -1,16 +1,17 @@
 -- What the laws say.
-use Rattle.std.specs.Prelude.{◌≡◌, ℕ, ◌+◌, ◌≤◌, List, [], ◌∷◌, ◌++◌, length, take, None, ◌↔◌}
+use Rattle.std.specs.Prelude.{◌≡◌, ◌≤◌, List, [], ◌++◌, length, take, None, ◌↔◌, ⊤}
 use Rattle.pf_values.specs.declared.models.Model.{Model}
 use Rattle.pf_values.specs.meaning.Canonical.{IsCanonicalOf}
-use Rattle.pf_values.specs.meaning.Items.{IsAccepted, types}
+use Rattle.pf_values.specs.meaning.Items.{IsAccepted}
 use Rattle.pf_values.specs.meaning.Printing.{AreEquivalent, PrintAlike}
 use Rattle.pf_values.specs.meaning.Text.{Text}
 use Rattle.pf_posix.specs.declared.types.ArgumentType.{ArgumentType}
 use Rattle.pf_posix.specs.Items.{HasArguments}
 use Rattle.pf_posix.specs.Laws.{ComparesBeginning}
-use Rattle.pf_posix.specs.Stretches.{Stretches, Last, Before, ReadsWhole, types_of_opaque, whole_types}
+use Rattle.pf_posix.specs.Opaque.{OpaqueErrno, OpaqueSpecification}
+use Rattle.pf_posix.specs.Stretches.{Stretches, Last, Before, ReadsWhole, whole_types}
 use Rattle.pf_whole.specs.meaning.NormalSpellings.{normal_spelling}
-use Rattle.pf_whole.specs.meaning.Traces.{AreWholeAlike, Call, Calls, Ends, HasTrace, Trace}
+use Rattle.pf_whole.specs.meaning.Traces.{AreWholeAlike, Call, Calls, Ends, HasTrace, Trace, placed_calls}
 use Rattle.pf_whole.specs.meaning.WholeArguments.{WholeArgument, HasWholeTypes}
 use Rattle.pf_whole.specs.meaning.WholeCanonical.{IsWholeCanonicalOf}
 
@@ -87,8 +88,8 @@ ServeFewer model = (t u : Text) (types : List ArgumentType) (args : List WholeAr
     → (others : List ArgumentType) × HasArguments model u others × (length others ≤ length args)
     × HasWholeTypes model (take (length others) args) others
 
--- Two lists of stretches correspond: side by side, the stretches print alike, and the opaque directives
--- have the same normal spelling.
+-- Two lists of stretches correspond: side by side, the stretches print alike, and what is between them has
+-- the same normal spelling.
 abbrev pub Correspond : Model → Stretches → Stretches → Type 0
 Correspond model (Last a) (Last b) = PrintAlike model a b
 Correspond model (Last a) (Before b p more) = ⊥
@@ -102,19 +103,29 @@ abbrev pub AlikeIsCorresponding : Model → Type 0
 AlikeIsCorresponding model = (t u : Text) (a b : Stretches) → ReadsWhole t a → ReadsWhole u b
     → (AreWholeAlike model t u ↔ Correspond model a b)
 
--- the normal spelling of a call, with the index of the call's first argument
-pub record PlacedCall : Type 0 where
-  pub index : ℕ
-  pub spelling : Text
-
--- the calls of stretches, in order; the index is that of the first argument of the stretches
-abbrev pub placed_calls : Model → ℕ → Stretches → List PlacedCall
-placed_calls model index (Last items) = []
-placed_calls model index (Before items s rest) =
-    record { index = index + length (types model items); spelling = normal_spelling model s }
-    ∷ placed_calls model (index + length (types model items) + length (types_of_opaque model s)) rest
-
 -- alike texts have the same calls, each with the same first argument
 abbrev pub AlikeCallTheSame : Model → Type 0
 AlikeCallTheSame model = (t u : Text) (a b : Stretches) → ReadsWhole t a → ReadsWhole u b
     → AreWholeAlike model t u → placed_calls model 0 a ≡ placed_calls model 0 b
+
+-- none of what is between the stretches is `%m`
+abbrev pub HasNoErrno : Stretches → Type 0
+HasNoErrno (Last items) = ⊤
+HasNoErrno (Before items (OpaqueSpecification s) rest) = HasNoErrno rest
+HasNoErrno (Before items OpaqueErrno rest) = ⊥
+
+-- stretches take arguments of the same types, and have the same traces for all such arguments
+pub record HaveSameTraces (model : Model) (a b : Stretches) : Type 0 where
+  pub same_types : whole_types model a ≡ whole_types model b
+  pub same_traces : (args : List WholeArgument) (trace : Trace) → HasWholeTypes model args (whole_types model a)
+      → (HasTrace model a args trace ↔ HasTrace model b args trace)
+
+-- without `%m`, that suffices for texts to be alike: their calls are in the same places
+abbrev pub TracesSuffice : Model → Type 0
+TracesSuffice model = (t u : Text) (a b : Stretches) → ReadsWhole t a → ReadsWhole u b → HasNoErrno a → HasNoErrno b
+    → HaveSameTraces model a b → AreWholeAlike model t u
+
+-- of alike texts, both have `%m` or neither; a text and its canonical text are alike
+abbrev pub AlikeShareErrno : Model → Type 0
+AlikeShareErrno model = (t u : Text) (a b : Stretches) → ReadsWhole t a → ReadsWhole u b → AreWholeAlike model t u
+    → (HasNoErrno a ↔ HasNoErrno b)

@@ -1,22 +1,22 @@
-//! The calls that formats make, and the first one that only one of two formats makes.
+//! The calls that formats make, and where those of two formats differ first.
 ghost use Rattle.std.specs.Prelude.{◌≤◌, ◌≡◌, List, drop, length};
 ghost use Rattle.pf_posix.specs.declared.types.ArgumentType.{ArgumentType};
 ghost use Rattle.pf_posix.specs.Items.{HasArguments};
 ghost use Rattle.pf_values.specs.declared.models.Model.{Model as ModelOf};
-ghost use Rattle.pf_posix.specs.OpaqueParts.{amount_of, parts_of_opaque};
+ghost use Rattle.pf_posix.specs.OpaqueParts.{amount_of, item_of_opaque};
 ghost use Rattle.pf_posix.specs.Stretches.{IsWholeAccepted, ReadsWhole, Stretches, types_of_opaque};
 ghost use Rattle.pf_posix.specs.Types.{star_fetches};
 ghost use Rattle.pf_whole.specs.Calls.{CallsDiffer, IsNextCall};
 
 use crate::comparison::make_one_call;
-use pf_posix::{OpaqueAmount, OpaqueDirective, arguments, next_stretch};
+use pf_posix::{Opaque, OpaqueAmount, arguments, next_stretch};
 use pf_values::Model;
 
-/// A directive that the profile lacks, and the index of the first argument of its call.
+/// What the profile lacks, and the place of its call: the index of the first argument.
 #[derive(Clone, Copy)]
-pub(crate) struct PlacedDirective {
+pub(crate) struct PlacedOpaque {
     pub(crate) index: u64,
-    pub(crate) directive: OpaqueDirective,
+    pub(crate) opaque: Opaque,
 }
 
 /// What is left of a format: it begins at this offset, and its first argument has this index.
@@ -26,8 +26,7 @@ pub(crate) struct Rest {
     pub(crate) index: u64,
 }
 
-/// Returns the index of the first argument of the first call that only one of two accepted formats
-/// makes.
+/// Returns the place at which the calls of two accepted formats differ first: the smaller one of two calls.
 pub(crate) fn first_call_difference(model: Model, first: &[u8], second: &[u8]) -> Option<u64>
     requires first { IsWholeAccepted first.now }
     requires second { IsWholeAccepted second.now }
@@ -42,7 +41,7 @@ pub(crate) fn first_call_difference(model: Model, first: &[u8], second: &[u8]) -
         if call.index != other.index {
             return Some(call.index.min(other.index));
         }
-        if !make_one_call(model, call.directive, other.directive) {
+        if !make_one_call(model, call.opaque, other.opaque) {
             return Some(call.index);
         }
         one = after;
@@ -55,7 +54,7 @@ pub(crate) fn first_call_difference(model: Model, first: &[u8], second: &[u8]) -
 }
 
 // Returns the next call of an accepted format, and what is left after it.
-fn next_call(model: Model, text: &[u8], rest: Rest) -> Option<(PlacedDirective, Rest)>
+fn next_call(model: Model, text: &[u8], rest: Rest) -> Option<(PlacedOpaque, Rest)>
     requires few { rest.index ≤ rest.at }
     requires within { rest.at ≤ length text.now }
     requires accepted { IsWholeAccepted text.now }
@@ -66,12 +65,12 @@ fn next_call(model: Model, text: &[u8], rest: Rest) -> Option<(PlacedDirective, 
     let Some(stretch) = next_stretch(text, rest.at) else {
         unreachable!();
     };
-    let Some(directive) = stretch.opaque else {
+    let Some(opaque) = stretch.opaque else {
         return None;
     };
     let index = rest.index + argument_count(model, &text[rest.at..stretch.end]);
-    let own = call_argument_count(directive);
-    let call = PlacedDirective { index, directive };
+    let own = call_argument_count(opaque);
+    let call = PlacedOpaque { index, opaque };
     let after = Rest {
         at: stretch.after,
         index: index + own,
@@ -92,11 +91,16 @@ fn argument_count(model: Model, text: &[u8]) -> u64
 }
 
 /// Returns how many arguments a directive takes that the profile lacks: one for each `*`, and the one that it
-/// converts.
-pub(crate) fn call_argument_count(directive: OpaqueDirective) -> u64
-    ensures { (model : ModelOf) → result ≡ length (types_of_opaque model (parts_of_opaque directive)) }
+/// converts. `%m` takes none.
+pub(crate) fn call_argument_count(opaque: Opaque) -> u64
+    ensures { (model : ModelOf) → result ≡ length (types_of_opaque model (item_of_opaque opaque)) }
 {
-    1 + star_count(directive.width) + star_count(directive.precision)
+    match opaque {
+        Opaque::Directive(directive) => 1
+            + star_count(directive.width)
+            + star_count(directive.precision),
+        Opaque::Errno => 0,
+    }
 }
 
 fn star_count(amount: Option<OpaqueAmount>) -> u64

@@ -8,7 +8,7 @@ use pf_posix::opaque_at;
 use pf_text::Refusal;
 use pf_values::Model;
 
-/// The profile, and the directives that it lacks, each in its normal spelling.
+/// The profile, and what it lacks: directives, each in its normal spelling, and `%m`.
 #[derive(Clone, Copy, Debug)]
 pub struct Whole;
 
@@ -21,11 +21,11 @@ impl Language for Whole {
 
     #[inline(always)]
     fn other_at(model: Model, text: &[u8], at: usize) -> Result<Option<OtherItem>, Refusal> {
-        let Some((directive, stop)) = opaque_at(model, text, at)? else {
+        let Some((opaque, stop)) = opaque_at(model, text, at)? else {
             return Ok(None);
         };
         Ok(Some(OtherItem {
-            spelling: normal_spelling(model, directive),
+            spelling: normal_spelling(model, opaque),
             stop,
         }))
     }

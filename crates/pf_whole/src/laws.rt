@@ -2,9 +2,9 @@
 ghost use Rattle.pf_values.specs.declared.models.Model.{Model};
 ghost use Rattle.pf_whole.specs.Answers.{AgreeingIsTogether, CallsGiveShape, OneVerdict, TellingIsApart};
 ghost use Rattle.pf_whole.specs.meaning.WholeHeadline.{WholeHeadline};
-ghost use Rattle.pf_whole.specs.Laws.{AlikeCallTheSame, AlikeIsCorresponding, CanonicalIsAlike, AlikeHaveOneCanonical, OneCanonicalIsAlike, ProfileCoincides, AlikePrintAlike, ServeFewer, TracesOnce};
+ghost use Rattle.pf_whole.specs.Laws.{AlikeCallTheSame, AlikeIsCorresponding, CanonicalIsAlike, AlikeHaveOneCanonical, OneCanonicalIsAlike, ProfileCoincides, AlikePrintAlike, AlikeShareErrno, ServeFewer, TracesOnce, TracesSuffice};
 
-/// Proves that stretches and opaque directives have exactly one trace for each list of arguments of
+/// Proves that stretches and what is between them have exactly one trace for each list of arguments of
 /// their types.
 pub fn traces_once()
     ensures { (model : Model) → TracesOnce model }
@@ -44,8 +44,8 @@ pub fn headline()
     ensures { (model : Model) → WholeHeadline model }
 {}
 
-/// Proves that two texts are alike exactly if, side by side, their stretches print alike and their
-/// opaque directives have the same normal spelling.
+/// Proves that two texts are alike exactly if, side by side, their stretches print alike and what is
+/// between them has the same normal spelling.
 pub fn alike_is_corresponding()
     ensures { (model : Model) → AlikeIsCorresponding model }
 {}
@@ -53,6 +53,18 @@ pub fn alike_is_corresponding()
 /// Proves that alike texts have the same calls, each with the same first argument.
 pub fn alike_call_the_same()
     ensures { (model : Model) → AlikeCallTheSame model }
+{}
+
+/// Proves that two texts without `%m` are alike if they take arguments of the same types, and have the
+/// same traces: their calls are in the same places then.
+pub fn traces_suffice()
+    ensures { (model : Model) → TracesSuffice model }
+{}
+
+/// Proves that of alike texts, both have `%m` or neither. So the canonical text of a format without `%m` has
+/// none.
+pub fn alike_share_errno()
+    ensures { (model : Model) → AlikeShareErrno model }
 {}
 
 /// Proves that arguments for a text serve one whose types are a beginning of its own: those that it

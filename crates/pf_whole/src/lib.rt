@@ -1,5 +1,5 @@
 //! Formats of the whole language of `printf`: compared by what the directives of the profile print,
-//! and by the calls that all other directives make.
+//! and by the calls that all other directives and `%m` make.
 //!
 //! `languages` says what a format has that the profile lacks, so `canonical_texts` and `same_text` are one line
 //! for each call of `pf_canon`. The other calls go from stretch to stretch of the profile (`next_stretch` of `pf_posix`).

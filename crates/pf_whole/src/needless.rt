@@ -12,7 +12,7 @@ ghost use Rattle.pf_whole.specs.Parts.{has_part, only, with_part, without};
 use crate::comparison::{make_one_call, same_text};
 use crate::parts::{Part, PartSet, given_parts, without};
 use crate::spelling::spell_parts;
-use pf_posix::{OpaqueDirective, is_opaque};
+use pf_posix::{Opaque, OpaqueDirective, is_opaque};
 use pf_values::{Flag, Model};
 
 /// Sets of parts of a conversion specification.
@@ -161,6 +161,10 @@ impl Question<'_> {
         if !is_opaque(shorter) {
             return false;
         }
-        make_one_call(self.model, self.directive, shorter)
+        make_one_call(
+            self.model,
+            Opaque::Directive(self.directive),
+            Opaque::Directive(shorter),
+        )
     }
 }

@@ -1,26 +1,40 @@
-//! How opaque directives are spelled.
+//! How what the profile lacks is spelled.
 ghost use Rattle.std.specs.Prelude.{◌≡◌, ◌≤◌, ◌+◌, ◌++◌, decimal, false};
 ghost use Rattle.arrayvec.specs.ArrayVec.{array_vec_len};
 ghost use Rattle.pf_values.specs.declared.flags.Flag.TheVariants.{Group};
 ghost use Rattle.pf_values.specs.meaning.Flags.{has};
 ghost use Rattle.pf_values.specs.meaning.Spelling.{flags_spelled};
+ghost use Rattle.pf_posix.specs.Items.{errno};
 ghost use Rattle.pf_posix.specs.Specifications.{modifier_letters};
-ghost use Rattle.pf_posix.specs.OpaqueParts.{amount_of, parts_of_opaque};
+ghost use Rattle.pf_posix.specs.OpaqueParts.{amount_of, item_of_opaque, parts_of_opaque};
 ghost use Rattle.pf_whole.specs.meaning.NormalSpellings.{normal_spelling, posix_precision_spelled, posix_spelling_of, posix_width_spelled};
 
 use crate::directives::normal_directive;
 use arrayvec::ArrayVec;
 use itoa::Buffer;
-use pf_posix::{Modifier, OpaqueAmount, OpaqueDirective};
+use pf_posix::{Modifier, Opaque, OpaqueAmount, OpaqueDirective};
 use pf_text::{Spelling, push_flags};
 use pf_values::{FlagSet, Model};
 
-/// Returns the normal spelling of a directive in a data model.
-pub(crate) fn normal_spelling(model: Model, directive: OpaqueDirective) -> Spelling
-    ensures bytes { result.items ≡ normal_spelling model (parts_of_opaque directive) }
+/// Returns the normal spelling of a directive in a data model, or `%m`.
+pub(crate) fn normal_spelling(model: Model, opaque: Opaque) -> Spelling
+    ensures bytes { result.items ≡ normal_spelling model (item_of_opaque opaque) }
     ensures short { array_vec_len result ≤ 20 }
 {
-    spell(normal_directive(model, directive))
+    match opaque {
+        Opaque::Directive(directive) => spell(normal_directive(model, directive)),
+        Opaque::Errno => spell_errno(),
+    }
+}
+
+fn spell_errno() -> Spelling
+    ensures bytes { result.items ≡ errno }
+    ensures short { array_vec_len result ≤ 20 }
+{
+    let mut out = ArrayVec::new();
+    out.push(b'%');
+    out.push(b'm');
+    out
 }
 
 // Returns the one spelling of a directive's parts: each flag once, in the order `-`, `+`, space, `#`, `0`, and

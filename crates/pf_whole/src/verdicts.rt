@@ -23,8 +23,8 @@ pub enum WholeVerdict {
     /// Their argument types differ first at this index, counted from 0. If one list of types begins
     /// the other, it is the length of the shorter.
     Types(u64),
-    /// Their argument types are equal. This is the index of the first argument with which a call
-    /// begins that only one of them makes.
+    /// Their argument types are equal. This is the place at which their calls differ first: the smaller
+    /// index of the first arguments of two calls.
     Directives(u64),
     /// Their argument types and their calls are equal. For these arguments they print different bytes.
     /// `None` is any argument of a directive that the profile lacks.
@@ -154,10 +154,10 @@ fn first_difference(
                 is_found = found;
             }
         }
-        let Some(directive) = stretch.opaque else {
+        let Some(opaque) = stretch.opaque else {
             return Ok(shown);
         };
-        push_any(call_argument_count(directive), &mut shown)?;
+        push_any(call_argument_count(opaque), &mut shown)?;
         at = stretch.after;
         from = other.after;
     }
@@ -276,10 +276,10 @@ fn neutral_arguments(
             neutrals_of(alloc, model, &text[at..stretch.end])?,
             &mut shown,
         )?;
-        let Some(directive) = stretch.opaque else {
+        let Some(opaque) = stretch.opaque else {
             return Ok(shown);
         };
-        push_any(call_argument_count(directive), &mut shown)?;
+        push_any(call_argument_count(opaque), &mut shown)?;
         at = stretch.after;
     }
     unreachable!()

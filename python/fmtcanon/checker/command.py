@@ -3,22 +3,22 @@
 import collections
 from typing import Any, Counter, Hashable, Iterable, Iterator, List, Optional, Sequence, Set, Tuple
 
-from ..command_line import MODELS, USAGE, status_of
 from ..compiling.left import Left
 from ..compiling.libclang import MISSING, cindex
+from ..compiling.retargeting import write_headers
 from ..compiling.sources import Files
-from ..diff.trees import Unreadable
-from ..findings import ERROR, Printer
-from ..interrupting import temporary_folder
-from ..output import complain
-from ..processes import in_order
-from ..replace.writing import replace
-from .checking import Answer, Job, Question, answer, answer_without
+from ..fitting.checking import Answer, Job, Question, answer, answer_without
+from ..fitting.reporting import COMPOSED, RANK, RULES, SIGN, with_source
+from ..fitting.unit import Settings
+from ..frame.command_line import MODELS, USAGE, status_of
+from ..frame.findings import ERROR, Printer, by_place, leveled
+from ..frame.interrupting import temporary_folder
+from ..frame.output import complain
+from ..frame.processes import in_order
+from ..rewriting.writing import replace
+from ..source.files import Unreadable
 from .fixer import Fixer
 from .options import NAME, parsed
-from .reporting import COMPOSED, RANK, RULES, SIGN, with_source
-from .retargeting import write_headers
-from .unit import Settings
 
 
 # How many functions that aren't known the last line names, if they get this many times the formats that were judged.
@@ -75,7 +75,7 @@ def named(others: Counter[str]) -> List[Tuple[str, int]]:
     return sorted(others.items(), key=lambda it: (-it[1], it[0]))[:MOST_NAMED]
 
 
-def check(printer: Printer, answers: Iterable[Answer]) -> int:
+def check(printer: Printer, answers: Iterable[Answer], fail_on: Sequence[str]) -> int:
     """Prints what is found. Returns the exit status."""
     status = 0
     counts: Counter[str] = collections.Counter()
@@ -83,10 +83,10 @@ def check(printer: Printer, answers: Iterable[Answer]) -> int:
     for one in answers:
         counts.update({it: one.counts[it] for it in ("files", "formats", "arguments", "unread")})
         others.update(one.others)
-        for found in one.found.values():
-            printer.add(with_source(found.finding) if printer.has_excerpts else found.finding)
-            counts[found.finding.kind] += 1
-            status = max(status, int(found.finding.level == ERROR))
+        for finding in by_place(leveled(it.finding, fail_on) for it in one.found.values()):
+            printer.add(with_source(finding) if printer.has_excerpts else finding)
+            counts[finding.kind] += 1
+            status = max(status, int(finding.level == ERROR))
         status = max(status, USAGE if one.counts["left"] else 0)
     printer.end()
     printer.say(summary(counts, others))
@@ -95,7 +95,6 @@ def check(printer: Printer, answers: Iterable[Answer]) -> int:
 
 def fix(options: Any, files: Files, answers: Sequence[Answer]) -> int:
     """Writes what is proposed, or prints it as a diff. Returns the exit status."""
-    options.dry_run = False
     fixer = Fixer(options, files, answers)
     status = replace(options, fixer, fixer.names())
     return max(status, USAGE if any(it.counts["left"] for it in answers) else 0)
@@ -113,8 +112,8 @@ def run(options: Any) -> int:
             printer.progress.expect(len(jobs))
             answers = in_order(answer, jobs, options.jobs, instead=answer_without)
             found = each_once(printer.progress.each(answers), set())
-            is_writing = options.fix or options.diff
-            return fix(options, files, list(found)) if is_writing else check(printer, found)
+            is_writing = options.fix or options.diff or options.dry_run
+            return fix(options, files, list(found)) if is_writing else check(printer, found, options.fail_on)
     except BrokenPipeError:
         raise
     except (Unreadable, OSError) as error:

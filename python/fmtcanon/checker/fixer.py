@@ -2,17 +2,16 @@
 
 from typing import Any, Dict, List, Sequence, Union
 
-from ..compiling.parsing import Shape
+from ..compiling.functions import Functions
 from ..compiling.sources import Files, Name
-from ..findings import ERROR, Finding
+from ..fitting.checking import Answer, Found
+from ..fitting.reporting import RULES, as_fixed, as_not_written, shown_file, with_source
+from ..frame.findings import Finding, leveled
 from ..models import Model
-from ..replace.calls import Functions
-from ..replace.files import Change
-from ..replace.places import places_in
-from ..replace.replacer import Report, Rewriter, Scanned, change_to
-from .checking import Answer, Found
+from ..rewriting.files import Change
+from ..rewriting.rewriter import Report, Rewriter, Scanned, change_to
+from ..source.respelling import runs_in
 from .options import NAME
-from .reporting import RULES, as_fixed, as_not_written, shown_file, with_source
 
 
 class Fixer(Rewriter):
@@ -21,9 +20,8 @@ class Fixer(Rewriter):
     name, rules = NAME, RULES
 
     def __init__(self, options: Any, files: Files, answers: Sequence[Answer]) -> None:
-        given: Dict[str, Shape] = dict(options.function)
-        functions = Functions({name: it.format for name, it in given.items()}, options.attribute)
-        super().__init__(files, functions, [Model.LP64], options.diff)
+        super().__init__(files, Functions(dict(options.function), options.attribute), [Model.LP64], options.diff)
+        self.fail_on = options.fail_on
         self.answers = {shown_file(it.file): it for it in answers}
 
     def names(self) -> List[Name]:
@@ -36,18 +34,13 @@ class Fixer(Rewriter):
     def changes_in(self, name: Name, source: bytes) -> List[Change]:
         fixes = self.answers[name.shown].fixes
         changes = []
-        for place in places_in(source):
+        for place in runs_in(source):
             text, why = fixes.get(place.start, (None, ""))
             if text is not None:
                 changes.append(change_to(place, text))
             elif why:
                 changes.append(Change(place, place.source, why))
         return changes
-
-    def report_on(self, scanned: Union[Scanned, Report]) -> Report:
-        """Judges the places of a file. What is left is what is still an error."""
-        report = super().report_on(scanned)
-        return report._replace(is_left=any(it.level == ERROR for it in report.findings))
 
     def findings_of(self, name: str, source: bytes, changes: Sequence[Change]) -> Sequence[Finding]:
         return self.report(name, {it.place.start: it.why_left for it in changes}).findings
@@ -57,8 +50,9 @@ class Fixer(Rewriter):
 
     def report(self, name: str, left: Dict[int, str]) -> Report:
         """Returns the report on a file, by why the places with new texts are left; an empty reason if one isn't."""
-        findings = [with_source(with_fix(it, left)) for it in self.answers[name].found.values()]
-        return Report(name, findings, is_left=any(it.level == ERROR for it in findings))
+        found = [with_fix(it, left) for it in self.answers[name].found.values()]
+        findings = [with_source(leveled(it, self.fail_on)) for it in found]
+        return Report(name, findings)
 
 
 def with_fix(found: Found, left: Dict[int, str]) -> Finding:

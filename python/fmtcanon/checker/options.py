@@ -4,10 +4,10 @@ import argparse
 import re
 from typing import Any, Optional, Sequence, Tuple
 
-from ..command_line import Parser
-from ..compiling.parsing import Shape
-from .platforms import COMPILED
-from .reporting import RULES
+from ..compiling.options import add_compiling, add_fail_on, add_writing
+from ..compiling.platforms import COMPILED
+from ..fitting.reporting import ERRORS, RULES
+from ..frame.command_line import Parser
 
 NAME = "fmtcanon-check"
 USAGE = """\
@@ -30,7 +30,7 @@ Examples:
 
 Functions of the C library's printf family, as its headers declare them, and those with the attribute \
 format(printf, m, n) are known. Integers are compared by size, rank and sign; other arguments must have the type that \
-the directive takes. In JSON, the arguments of a format are counted from 1, as in %1$d.
+the directive takes. Arguments are counted from 1, as in %1$d.
 
 Calls whose formats can't be read are counted in the last line. If other variadic functions get four times as many \
 literals with % as were judged, it names the most frequent of them, with the option --function for each.
@@ -38,11 +38,11 @@ literals with % as were judged, it names the most frequent of them, with the opt
 The kinds of findings are {', '.join(RULES)}.
 
 Exit status:
-  0  nothing is an error
-  1  something is an error
-  2  usage error, a file was left, or an output can't be written
+  0  no finding has a kind that --fail-on names
+  1  a finding has one
+  2  usage error, a file wasn't judged, or an output can't be written
 
-A header that is given is skipped, and not left."""
+A header that is given is judged with the files that include it."""
 # Types of C that --type may name, apart from typedefs of the C library.
 INTEGER = re.compile(r"(?:(?:un)?signed )?(?:char|short|int|long|long long)")
 
@@ -51,14 +51,7 @@ def parser() -> Parser:
     """Returns the definition of the command line."""
     made = Parser(NAME, USAGE, DESCRIPTION, EPILOG)
     made.add_model("that are reported, while a proposal fits all of them")
-    database = "the folder of compile_commands.json; without FILE all its files are read"
-    made.add_argument("-p", metavar="DIR", dest="database", help=database)
-    flag = "without -p, a flag of the compile command, which is cc: --flag=-Iinclude"
-    made.add_argument("--flag", action="append", default=[], metavar="FLAG", help=flag)
-    function = "NAME takes a format as its argument FORMAT, which converts those from FIRST on, counted from 0"
-    made.add_argument(
-        "--function", action="append", default=[], type=function_of, metavar="NAME:FORMAT:FIRST", help=function
-    )
+    add_compiling(made, "; without FILE all its files are read")
     type = "the typedef NAME is TYPE, an integer type or one of the C library, whatever #if chose"
     made.add_argument("--type", action="append", default=[], type=type_of, metavar="NAME=TYPE", help=type)
     for option, text in [
@@ -67,25 +60,13 @@ def parser() -> Parser:
         ("--composed", "also report directives of several literals, once for each file and type"),
     ]:
         made.add_argument(option, action="store_true", help=text)
-    attribute = "with --fix and --diff, also write formats of functions with the attribute format(printf, m, n)"
-    made.add_argument("--attribute", action="store_true", help=attribute)
-    modes = made.add_mutually_exclusive_group()
-    fix = "write what is proposed where only a length modifier changes and the program prints the same"
-    modes.add_argument("--fix", action="store_true", help=fix)
-    modes.add_argument("--diff", action="store_true", help="print what --fix would write as a unified diff")
+    add_fail_on(made, tuple(RULES), ERRORS)
+    add_writing(made, "write what is proposed where only a length modifier changes and the program prints the same")
     made.add_output()
     made.add_color()
     made.add_jobs("files")
     made.add_argument("files", metavar="FILE", nargs="*", help="files or folders")
     return made
-
-
-def function_of(word: str) -> Tuple[str, Shape]:
-    """Returns the name and the indexes that `NAME:FORMAT:FIRST` gives."""
-    found = re.fullmatch(r"([A-Za-z_]\w*):(\d+):(\d+)", word)
-    if not found or int(found[3]) <= int(found[2]):
-        raise argparse.ArgumentTypeError(f"{word!r} isn't NAME:FORMAT:FIRST")
-    return found[1], Shape(int(found[2]), int(found[3]))
 
 
 def type_of(word: str) -> Tuple[str, str]:

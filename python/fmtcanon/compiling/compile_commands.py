@@ -9,11 +9,12 @@ import subprocess
 from dataclasses import dataclass
 from typing import Dict, List, Optional, Sequence, Set, Tuple
 
+from .. import encode_literal
 from . import compile_words
 from .left import Left
 from .libclang import cindex
 from .running import run
-from .stand_ins import StandIn, is_stand_in
+from .stand_ins import is_stand_in
 
 CACHES = ("ccache", "sccache", "distcc")
 SOURCES = re.compile(r".*\.(?:c|cc|cp|cpp|cxx|c\+\+|C|CPP)", re.DOTALL)
@@ -23,6 +24,8 @@ OF_THE_MACHINE = re.compile(
 )
 # So that __DATE__ and __TIME__ stay the same.
 FIXED_TIME = {"SOURCE_DATE_EPOCH": "0"}
+# The line markers of standard input, and of the name that its first line gives it.
+OF_INPUT = re.compile(rb'^# 1 "<stdin>"( 2)?\n# 1 ("(?:[^"\\\n]|\\.)*")\n', re.MULTILINE)
 # A name in a rule of make.
 IN_RULE = re.compile(r"(?:\\[\s#]|[^\s])+")
 
@@ -57,34 +60,31 @@ class CompileCommand:
         """Returns whether a word names the file."""
         return os.path.realpath(os.path.join(self.folder, word)) == self.file
 
-    def run(self, stand_in: Optional[StandIn], *more: str) -> "subprocess.CompletedProcess[bytes]":
-        """Runs the compiler with more words on the file, or on a stand-in next to it, whose name in the output becomes
-        the file's.
+    def run(self, source: Optional[bytes], *more: str) -> "subprocess.CompletedProcess[bytes]":
+        """Runs the compiler with more words on the file or, from standard input, on another source of it, whose name
+        in the output is the file's.
         """
         words, at = self.used()
-        name, own = os.path.basename(words[at]), os.path.dirname(words[at])
-        if stand_in is None:
+        if source is None:
             return run([*words, *more], self.folder, FIXED_TIME)
-        folder, other = os.path.split(stand_in.checked())
-        if not os.path.samefile(os.path.join(self.folder, own or "."), folder):
-            raise Left("its compile command names it by a link in another folder")
-        words[at] = os.path.join(own, other)
-        done = run([*words, *more], self.folder, FIXED_TIME)
-        done.stdout, done.stderr = (
-            it.replace(os.fsencode(other), os.fsencode(name)) for it in (done.stdout, done.stderr)
-        )
+        name, folder = encode_literal(os.fsencode(words[at])), os.path.dirname(words[at])
+        words[at : at + 1] = ["-x", self.language(), "-"]
+        words[1:1] = ["-iquote", folder] if folder else []
+        words += ["-Wno-builtin-macro-redefined", f"-D__BASE_FILE__={os.fsdecode(name)}"]
+        done = run([*words, *more], self.folder, FIXED_TIME, b"#line 1 " + name + b"\n" + source)
+        done.stdout = OF_INPUT.sub(rb"# 1 \2\1\n", done.stdout, 1).replace(b'"<stdin>"', name)
         return done
 
-    def preprocessed(self, stand_in: Optional[StandIn] = None) -> bytes:
-        """Returns what the compiler's preprocessor makes of the file, or of a stand-in."""
-        done = self.run(stand_in, "-E", "-w")
+    def preprocessed(self, source: Optional[bytes] = None) -> bytes:
+        """Returns what the compiler's preprocessor makes of the file, or of another source of it."""
+        done = self.run(source, "-E", "-w")
         if done.returncode:
             raise Left(f"its compiler can't preprocess it: {said(done.stderr)}")
         return bytes(done.stdout)
 
-    def check_compiles(self, stand_in: StandIn) -> None:
-        """Raises Left if the compiler, with all its warnings, rejects a stand-in."""
-        done = self.run(stand_in, "-fsyntax-only")
+    def check_compiles(self, source: bytes) -> None:
+        """Raises Left if the compiler, with all its warnings, rejects a source."""
+        done = self.run(source, "-fsyntax-only")
         if done.returncode:
             raise Left(f"its compiler rejects the result: {said(done.stderr)}")
 

@@ -8,9 +8,9 @@ import os
 import re
 from typing import Any, Callable, Dict, List, NamedTuple, Optional, Sequence
 
+from ..source.known import Known
 from .attributes import printf_indexes
 from .compile_commands import CompileCommand
-from .known import Known
 from .left import Left
 from .libclang import cindex
 
@@ -129,7 +129,9 @@ class Parsed:
         format, first = found
         if format is None or first is None:
             return UNREADABLE
-        return Shape(format - 1, first - 1 if first else None)
+        # Attributes of a member count the object, and its calls don't.
+        before = 2 if declaration.kind.name in ("CXX_METHOD", "CONSTRUCTOR") and not declaration.is_static_method() else 1
+        return Shape(format - before, first - before if first else None)
 
     def is_own_header(self, file: str, header: "re.Pattern[str]") -> bool:
         """Returns whether a file is the C library's header of this name."""

@@ -7,7 +7,7 @@ import threading
 from contextlib import contextmanager
 from typing import Any, Dict, Iterator, Mapping, Optional, Sequence, Set
 
-from ..interrupting import CLEANING
+from ..frame.interrupting import CLEANING
 from .left import Left
 
 # The seconds that a run of a compiler may take.
@@ -22,18 +22,22 @@ WRITING = ("DEPENDENCIES_OUTPUT", "SUNPRO_DEPENDENCIES", "CC_PRINT_", "CC_LOG_",
 
 
 def run(
-    words: Sequence[str], folder: str, names: Mapping[str, Optional[str]], seconds: float = SECONDS
+    words: Sequence[str],
+    folder: str,
+    names: Mapping[str, Optional[str]],
+    given: bytes = b"",
+    seconds: float = SECONDS,
 ) -> "subprocess.CompletedProcess[bytes]":
-    """Runs a compiler in a folder, with other values for these names of its environment, or without them. Raises Left
-    if it can't be run, takes too long, or the command is to end.
+    """Runs a compiler in a folder on an input, with other values for these names of its environment, or without them.
+    Raises Left if it can't be run, takes too long, or the command is to end.
     """
     values: Dict[str, Optional[str]] = {it: os.environ[it] for it in os.environ if not it.startswith(WRITING)}
     values.update(names)
     environment = {name: value for name, value in values.items() if value is not None}
     pipe = subprocess.PIPE
     try:
-        with started(words, folder, environment, stdin=subprocess.DEVNULL, stdout=pipe, stderr=pipe) as process:
-            output, errors = process.communicate(timeout=seconds)
+        with started(words, folder, environment, stdin=pipe, stdout=pipe, stderr=pipe) as process:
+            output, errors = process.communicate(given, timeout=seconds)
     except subprocess.TimeoutExpired as error:
         raise Left(f"its compiler took more than {seconds} seconds") from error
     except (OSError, ValueError) as error:

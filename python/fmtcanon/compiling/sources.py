@@ -3,7 +3,7 @@
 import os
 from typing import Any, Dict, Iterator, List, NamedTuple
 
-from ..diff.trees import Unreadable, files_below
+from ..source.files import Unreadable, files_below, is_excluded
 from .compile_commands import SOURCES, CompileCommand, commands_in, default_command
 from .left import Left
 from .stand_ins import is_stand_in
@@ -29,7 +29,7 @@ class Files:
         """
         seen = set()
         for name in self.named(with_headers):
-            if name.path not in seen and not is_stand_in(name.path):
+            if name.path not in seen and not is_stand_in(name.path) and not is_excluded(name.shown, self.options.exclude):
                 seen.add(name.path)
                 yield name
 

@@ -11,7 +11,7 @@ import tempfile
 from types import TracebackType
 from typing import NamedTuple, Optional, Set, Type
 
-from ..interrupting import CLEANING
+from ..frame.interrupting import CLEANING
 from .left import Left
 from .running import LOCK, check_stopping
 

@@ -1,22 +1,23 @@
 """Says what a change of C source does to its printf formats."""
 
-import argparse
 import collections
 import functools
 import os
-from typing import Any, Callable, Dict, Iterable, Iterator, Optional, Sequence, Tuple
+from typing import Any, Callable, Dict, Iterable, Iterator, Optional, Sequence
 
-from ..checker.fitting import Fitting
-from ..checker.retargeting import write_headers
-from ..command_line import MODELS, USAGE, Parser, status_of
 from ..compiling.libclang import MISSING, cindex
-from ..findings import ERROR, Printer
-from ..interrupting import temporary_folder
-from ..processes import in_order
-from ..verdicts import Kind
-from ..visible import visible
-from .reporting import FAULTS, RULES, Question, Report, report_on, report_without
-from .trees import Change, Git, Unreadable, changes_of
+from ..compiling.options import add_compiling, add_fail_on
+from ..compiling.retargeting import write_headers
+from ..formats.verdicts import PairKind
+from ..frame.command_line import MODELS, USAGE, Parser, status_of
+from ..frame.findings import ERROR, Printer, by_place
+from ..frame.interrupting import temporary_folder
+from ..frame.processes import in_order
+from ..frame.visible import visible
+from ..source.files import Unreadable
+from .compiled import Fitting
+from .reporting import FAULTS, RULES, DiffQuestion, DiffReport, report_on, report_without
+from .trees import FileChange, Git, changes_of
 
 NAME = "fmtcanon-diff"
 DESCRIPTION = """\
@@ -45,15 +46,6 @@ Exit status:
   2  usage error, or a file or git can't be read"""
 
 
-def kinds_of(text: str) -> Tuple[str, ...]:
-    """Returns the kinds that a list names. Raises an error of the command line for others."""
-    found = tuple(filter(None, text.split(",")))
-    for kind in found:
-        if kind not in RULES:
-            raise argparse.ArgumentTypeError(f"{kind!r} is not a kind: use {', '.join(RULES)}")
-    return found
-
-
 def parser() -> Parser:
     """Returns the definition of the command line."""
     usage = "fmtcanon-diff [OPTION]... OLD NEW\n       fmtcanon-diff [OPTION]... --git [REV [REV]] [-- PATH...]"
@@ -62,20 +54,8 @@ def parser() -> Parser:
     made.add_argument(
         "--cached", action="store_true", help="with --git, compare what is staged with a revision or HEAD"
     )
-    made.add_argument(
-        "--exclude",
-        action="append",
-        default=[],
-        metavar="GLOB",
-        help="leave out files and folders whose name or path matches; may be given more than once",
-    )
-    made.add_argument(
-        "-p",
-        metavar="DIR",
-        dest="database",
-        help="the folder of the new tree's compile_commands.json: other types are a note if the new call fits, and "
-        "added formats are judged in their calls",
-    )
+    fits = " of the new tree: other types are a note if the new call fits, and added formats are judged in their calls"
+    add_compiling(made, fits)
     made.add_argument(
         "--not-printf",
         action="append",
@@ -84,13 +64,7 @@ def parser() -> Parser:
         help="a function whose arguments are not formats of printf; may be given more than once",
     )
     made.add_argument("--verbose", action="store_true", help="also report what is the same")
-    made.add_argument(
-        "--fail-on",
-        type=kinds_of,
-        default=FAULTS,
-        metavar="KIND,..",
-        help=f"the kinds of findings for which the status is 1; by default {','.join(FAULTS)}",
-    )
+    add_fail_on(made, tuple(RULES), FAULTS)
     made.add_model("in which the formats are compared")
     made.add_output()
     made.add_color()
@@ -101,7 +75,7 @@ def parser() -> Parser:
     return made
 
 
-def changes_for(options: Any, paths: Sequence[str], expect: Callable[[int], None]) -> Iterator[Change]:
+def changes_for(options: Any, paths: Sequence[str], expect: Callable[[int], None]) -> Iterator[FileChange]:
     """Returns what the operands say is to be compared."""
     if options.git:
         return Git().changes(options.operands or ["HEAD"], paths, options.exclude, options.cached, expect)
@@ -111,47 +85,55 @@ def changes_for(options: Any, paths: Sequence[str], expect: Callable[[int], None
 
 def fitting_in(options: Any, folder: str) -> Optional[Fitting]:
     """Returns what says whether new formats fit their calls, if it is asked for. The folder gets its headers."""
-    if not options.database:
+    if not options.database and not options.flag:
         return None
     if cindex is None:
         raise Unreadable(MISSING)
     try:
-        return Fitting(options.database, write_headers(folder), MODELS[options.model])
+        return Fitting(options, write_headers(folder), MODELS[options.model])
     except OSError as error:
         raise Unreadable(str(error)) from error
 
 
+def functions_of(options: Any) -> Dict[bytes, Optional[int]]:
+    """Returns the index of the format of each function that the options name, or None if it takes none."""
+    given: Dict[bytes, Optional[int]] = {os.fsencode(name): shape.format for name, shape in options.function}
+    return {**given, **dict.fromkeys(map(os.fsencode, options.not_printf))}
+
+
 def summary(counts: Dict[str, int]) -> str:
-    """Returns what is said at the end: how many places were judged, with what verdict, and how many came and went."""
+    """Returns what is said at the end: how many formats were judged, with what verdict, and how many came and went."""
+    fitting = f", {counts['fits']} of them fitting" if counts["fits"] else ""
     judged = ", ".join(
         f"{counts[it.value]} {text}"
         for it, text in [
-            (Kind.SAME, "same"),
-            (Kind.WORDS, "with other words"),
-            (Kind.DIFFERENT, "different"),
-            (Kind.TYPES, "with other types" + (f", {counts['fits']} of them fitting" if counts["fits"] else "")),
-            (Kind.DIRECTIVES, "with other directives"),
-            (Kind.REJECTED, "rejected now"),
-            (Kind.UNJUDGED, "not judged"),
+            (PairKind.SAME, "equivalent"),
+            (PairKind.WORDS, "with other words"),
+            (PairKind.DIFFERENT, "printing differently"),
+            (PairKind.TYPES, f"taking different types{fitting}"),
+            (PairKind.DIRECTIVES, "with other directives"),
+            (PairKind.REJECTED, "rejected now"),
+            (PairKind.UNJUDGED, "not judged"),
         ]
+        if counts[it.value]
     )
-    changed = sum(counts[it.value] for it in Kind)
-    word = "place" if changed == 1 else "places"
+    changed = sum(counts[it.value] for it in PairKind)
+    word = "format" if changed == 1 else "formats"
     came = f"{counts['came']} literals added"
     if counts["formats"]:
         came += f", with {counts['judged']} of {counts['formats']} formats judged in their calls"
-    return f"{changed} {word} changed: {judged}; {came}, {counts['went']} removed"
+    return f"{changed} {word} changed{judged and ': '}{judged}; {came}, {counts['went']} removed"
 
 
-def run(changes: Iterable[Report], printer: Printer, counts: Dict[str, int], is_verbose: bool) -> int:
+def run(changes: Iterable[DiffReport], printer: Printer, counts: Dict[str, int], is_verbose: bool) -> int:
     """Prints the reports, counts what they have, and returns the exit status."""
     status = 0
     for report in changes:
-        for finding in report.findings:
+        for finding in by_place(report.findings):
             # What isn't compared as a whole isn't a place.
             counts[finding.kind] += finding.line > 0
             counts["fits"] += "fits" in finding.details
-            if is_verbose or finding.kind != Kind.SAME.value or finding.level == ERROR:
+            if is_verbose or finding.kind != PairKind.SAME.value or finding.level == ERROR:
                 printer.add(finding)
             if finding.level == ERROR:
                 status = max(status, 1)
@@ -174,8 +156,8 @@ def main(words: Optional[Sequence[str]] = None) -> int:
         made.error("--cached needs --git, and takes at most one revision")
     if not options.git and len(options.operands) != 2:
         made.error("give OLD and NEW, or --git")
-    if options.database and options.git and not is_of_work_tree(options):
-        made.error("-p needs the work tree as the new one")
+    if (options.database or options.flag) and options.git and not is_of_work_tree(options):
+        made.error(f"{'-p' if options.database else '--flag'} needs the work tree as the new one")
     return status_of(NAME, lambda: diff(options, more))
 
 
@@ -190,9 +172,9 @@ def diff(options: Any, paths: Sequence[str]) -> int:
     counts: Dict[str, int] = collections.Counter()
     try:
         with temporary_folder() as folder:
-            others = frozenset(map(os.fsencode, options.not_printf))
             fitting = fitting_in(options, folder)
-            question = Question(MODELS[options.model], options.fail_on, printer.has_excerpts, others, fitting)
+            models, functions = MODELS[options.model], functions_of(options)
+            question = DiffQuestion(models, options.fail_on, printer.has_excerpts, functions, fitting)
             work = functools.partial(report_on, question=question)
             changes = changes_for(options, paths, printer.progress.expect)
             # Only libclang may end a process.

@@ -1,21 +1,16 @@
 """Judges a pair of places, and says in words what it found."""
 
 import re
-from typing import AbstractSet, Any, Dict, Iterable, List, NamedTuple, Optional, Sequence, Tuple
+from typing import Any, Dict, Iterable, List, Mapping, NamedTuple, Optional, Sequence, Tuple
 
 from .. import Refused
-from ..command_line import model_names
-from ..compiling.known import KNOWN
-from ..excerpts import Excerpt
-from ..explaining import Marked, marked_parts
-from ..findings import ERROR, NOTE, WARNING, Finding
-from ..kinds import TYPE_NAMES
-from ..models import Model
-from ..rejections import advice_on, refused_span
-from ..verdicts import (
-    Kind,
+from ..formats.explaining import Marked, marked_parts
+from ..formats.rejections import advice_on, refused_span
+from ..formats.verdicts import (
+    Library,
+    PairKind,
+    PairVerdict,
     Taker,
-    Verdict,
     argument_words,
     both_take,
     cut,
@@ -27,22 +22,27 @@ from ..verdicts import (
     taker_of,
     telling_arguments,
 )
-from .literals import NOT_FORMATS, Place
+from ..frame.command_line import model_names
+from ..frame.excerpts import Excerpt
+from ..frame.findings import ERROR, NOTE, WARNING, Finding
+from ..models import Model
+from ..source.known import KNOWN
+from ..source.places import NOT_FORMATS, Place
 from .pairing import Pair
 
 RULES = {
-    Kind.SAME.value: "The old and the new format take the same arguments and print the same bytes.",
-    Kind.WORDS.value: "Only the text between the specifications of the old and the new format differs.",
-    Kind.DIFFERENT.value: "The old and the new format take the same arguments and print other bytes.",
-    Kind.TYPES.value: "The old and the new format take arguments of different types.",
-    Kind.DIRECTIVES.value: "The old and the new format have different directives, by their normal spelling.",
-    Kind.REJECTED.value: "The old literal is a format, and the new one is not.",
-    Kind.UNJUDGED.value: "The old or the new literal is not a format that can be judged.",
+    PairKind.SAME.value: "The old and the new format take the same arguments and print the same bytes.",
+    PairKind.WORDS.value: "Only the text between the specifications of the old and the new format differs.",
+    PairKind.DIFFERENT.value: "The old and the new format take the same arguments and print other bytes.",
+    PairKind.TYPES.value: "The old and the new format take arguments of different types.",
+    PairKind.DIRECTIVES.value: "The old and the new format have different directives, by their normal spelling.",
+    PairKind.REJECTED.value: "The old literal is a format, and the new one is not.",
+    PairKind.UNJUDGED.value: "The old or the new literal is not a format that can be judged.",
 }
 # The kinds for which the status is 1, unless --fail-on names others.
-FAULTS = (Kind.TYPES.value, Kind.DIFFERENT.value, Kind.DIRECTIVES.value, Kind.REJECTED.value)
+FAULTS = (PairKind.TYPES.value, PairKind.DIFFERENT.value, PairKind.DIRECTIVES.value, PairKind.REJECTED.value)
 # What is a note; of several data models it is reported only if no other has more.
-NOTES = (Kind.SAME, Kind.WORDS)
+NOTES = (PairKind.SAME, PairKind.WORDS)
 # The functions that are known by their names alone: a program may have an own `warn` or `error`.
 OF_STDIO = re.compile(rb"\A(?:__)?v?(?:f|s|sn)?printf(?:_chk)?\Z")
 # A longer format is compared without what it shares with the other.
@@ -51,70 +51,72 @@ LONG = 10_000
 NAMES = ("old", "new")
 
 
-class Judged(NamedTuple):
+class JudgedPair(NamedTuple):
     """The verdict on a pair in a data model, with the two texts, if they are known.
 
     The texts of long formats are without what they share, which takes `before` arguments at the front. `verdict.at`
     counts these, too.
     """
 
-    verdict: Verdict
+    verdict: PairVerdict
     old: Optional[bytes]
     new: Optional[bytes]
     before: int = 0
 
 
-def may_be_format(place: Place, others: AbstractSet[bytes] = frozenset()) -> bool:
-    """Returns whether nothing says that a place isn't a format: it isn't an argument of a function that takes none, or
-    of those that are given, and of printf it is the argument that is one.
+def may_be_format(place: Place, functions: Mapping[bytes, Optional[int]] = {}) -> bool:
+    """Returns whether nothing says that a place isn't a format: of a function that is given, or of printf, it is the
+    argument that is one, and the function isn't one that takes none.
     """
     name = place.call.function
+    if name in functions:
+        return place.call.argument == functions[name]
     known = KNOWN.get(printable(name)) if OF_STDIO.search(name) else None
-    return name not in NOT_FORMATS and name not in others and (known is None or place.call.argument == known.index)
+    return name not in NOT_FORMATS and (known is None or place.call.argument == known.index)
 
 
-def is_judged(old: Place, new: Place, others: AbstractSet[bytes] = frozenset()) -> bool:
+def is_judged(old: Place, new: Place, functions: Mapping[bytes, Optional[int]] = {}) -> bool:
     """Returns whether a pair is worth a verdict: one of the two has a specification, and both may be formats."""
-    is_format = may_be_format(old, others) and may_be_format(new, others)
+    is_format = may_be_format(old, functions) and may_be_format(new, functions)
     return is_format and (old.has_specification() or new.has_specification())
 
 
-def verdict_in(library: Any, old: Place, new: Place, model: Model) -> Judged:
+def verdict_in(library: Library, old: Place, new: Place, model: Model) -> JudgedPair:
     (first, why), (second, why_second) = old.text(model), new.text(model)
     if first is None or second is None:
-        return Judged(Verdict(Kind.UNJUDGED, reason=why or why_second), first, second)
+        return JudgedPair(PairVerdict(PairKind.UNJUDGED, reason=why or why_second), first, second)
     if max(len(first), len(second)) > LONG and b"$" not in first + second:
         judged = long_verdict(library, first, second, model)
     else:
-        judged = Judged(library.verdict(first, second, model), first, second)
+        judged = JudgedPair(library.verdict(first, second, model), first, second)
     kind, texts = judged.verdict.kind, (judged.old or b"", judged.new or b"")
-    if kind is Kind.DIFFERENT and only_words_differ(library, *texts, model):
-        kind = Kind.WORDS
-    if kind is Kind.REJECTED and b"%" not in first and printable(new.call.function) not in KNOWN:
+    if kind is PairKind.DIFFERENT and only_words_differ(library, *texts, model):
+        kind = PairKind.WORDS
+    if kind is PairKind.REJECTED and b"%" not in first and printable(new.call.function) not in KNOWN:
         # Nothing says that it is a format.
-        kind = Kind.UNJUDGED
+        kind = PairKind.UNJUDGED
     return judged._replace(verdict=judged.verdict._replace(kind=kind))
 
 
-def long_verdict(library: Any, old: bytes, new: bytes, model: Model) -> Judged:
+def long_verdict(library: Library, old: bytes, new: bytes, model: Model) -> JudgedPair:
     """Returns the verdict on long formats, by comparing only the parts that they don't share."""
     front, back = narrowed(old, new)
-    texts = [it[front : len(it) - back] for it in (old, new)]
+    first, second = (it[front : len(it) - back] for it in (old, new))
     types: List[bytes] = []
     for text in (old, new):
         try:
             types.append(library.types(text, model))
         except Refused as refusal:
-            kind = Kind.REJECTED if types else Kind.UNJUDGED
-            return Judged(Verdict(kind, reason=f"{refusal} of a long format"), texts[0], texts[1])
+            kind = PairKind.REJECTED if types else PairKind.UNJUDGED
+            return JudgedPair(PairVerdict(kind, reason=f"{refusal} of a long format"), first, second)
     before = len(library.types(old[:front], model))
-    verdict = library.verdict(*texts, model)
-    at = shared_front(*types) if verdict.kind is Kind.TYPES else before + verdict.at
-    return Judged(verdict._replace(at=at), texts[0], texts[1], before)
+    verdict = library.verdict(first, second, model)
+    at = shared_front(*types) if verdict.kind is PairKind.TYPES else before + verdict.at
+    return JudgedPair(verdict._replace(at=at), first, second, before)
 
 
 def judge(
-    library: Any,
+    library: Library,
     file: str,
     pair: Pair,
     models: Sequence[Model],
@@ -126,11 +128,11 @@ def judge(
     """
     old, new = pair
     found = {model: verdict_in(library, old, new, model) for model in models}
-    if not new.call.function and all(it.verdict.kind is Kind.UNJUDGED and it.verdict.refusal for it in found.values()):
+    if not new.call.function and all(it.verdict.kind is PairKind.UNJUDGED and it.verdict.refusal for it in found.values()):
         # A title, as "CPU% " is, that no call takes.
         return None
     kinds = {model: it.verdict.kind for model, it in found.items()}
-    others = [it for it in models if kinds[it] not in NOTES] or [it for it in models if kinds[it] is not Kind.SAME]
+    others = [it for it in models if kinds[it] not in NOTES] or [it for it in models if kinds[it] is not PairKind.SAME]
     model = others[0] if others else models[0]
     kind = kinds[model]
     details = details_of(old, new, model)
@@ -155,19 +157,19 @@ def judge(
     )
 
 
-def level_of(kind: Kind, kinds: Iterable[str], fail_on: Sequence[str]) -> str:
+def level_of(kind: PairKind, kinds: Iterable[str], fail_on: Sequence[str]) -> str:
     """Returns the level of a finding: an error if any data model has a kind that sets the status."""
     if any(it in fail_on for it in kinds):
         return ERROR
     return NOTE if kind in NOTES else WARNING
 
 
-def message_of(wording: "Wording", kinds: Dict[Model, Kind], others: Sequence[Model]) -> str:
+def message_of(wording: "Wording", kinds: Dict[Model, PairKind], others: Sequence[Model]) -> str:
     """Returns what is said of a pair: by the verdict of one data model, and how it differs from the others."""
     kind = wording.judged.verdict.kind
     rest = [it for it in kinds if it not in others]
-    if others and rest and kind not in (Kind.UNJUDGED, Kind.REJECTED):
-        words = ", with other words" if any(kinds[it] is Kind.WORDS for it in rest) else ""
+    if others and rest and kind not in (PairKind.UNJUDGED, PairKind.REJECTED):
+        words = ", with other words" if any(kinds[it] is PairKind.WORDS for it in rest) else ""
         return f"same in {' and '.join(model_names(rest))} only{words}: {wording.both()}"
     return wording.message() + elsewhere(kinds, kind)
 
@@ -175,20 +177,20 @@ def message_of(wording: "Wording", kinds: Dict[Model, Kind], others: Sequence[Mo
 def details_of(old: Place, new: Place, model: Model) -> Dict[str, Any]:
     """Returns the two texts in a data model, and the function that the new one is an argument of, if there is one."""
     is_call = new.call.function != b"" and not new.call.function.startswith(b"#")
-    function = {"function": printable(new.call.function), "argument": new.call.argument} if is_call else {}
+    function = {"function": printable(new.call.function), "argument": new.call.argument + 1} if is_call else {}
     return {"old": text_of(old, model), "new": text_of(new, model), **function}
 
 
-def elsewhere(kinds: Dict[Model, Kind], kind: Kind) -> str:
+def elsewhere(kinds: Dict[Model, PairKind], kind: PairKind) -> str:
     """Returns what is added for data models in which the types differ, where another verdict is reported."""
-    names = model_names([model for model, it in kinds.items() if it is Kind.TYPES])
-    return f"; types differ in {' and '.join(names)}" if names and kind is not Kind.TYPES else ""
+    names = model_names([model for model, it in kinds.items() if it is PairKind.TYPES])
+    return f"; types differ in {' and '.join(names)}" if names and kind is not PairKind.TYPES else ""
 
 
 class Wording:
     """What is said of a pair by its verdict in one data model."""
 
-    def __init__(self, library: Any, pair: Pair, judged: Judged, model: Model) -> None:
+    def __init__(self, library: Library, pair: Pair, judged: JudgedPair, model: Model) -> None:
         self.library, self.judged, self.model = library, judged, model
         self.old, self.new = pair
 
@@ -202,25 +204,25 @@ class Wording:
 
     def message(self) -> str:
         verdict, old, new = self.judged.verdict, self.judged.old, self.judged.new
-        if verdict.kind is Kind.UNJUDGED or old is None or new is None:
+        if verdict.kind is PairKind.UNJUDGED or old is None or new is None:
             return f"not judged: {verdict.reason}"
-        if verdict.kind is Kind.REJECTED:
+        if verdict.kind is PairKind.REJECTED:
             return f"rejected now: {verdict.reason}"
-        if verdict.kind is Kind.SAME:
+        if verdict.kind is PairKind.SAME:
             return f"same: {self.both()}"
-        if verdict.kind is Kind.TYPES:
+        if verdict.kind is PairKind.TYPES:
             taken = both_take(self.takers(old, new))
             return f"types differ at {argument_words(verdict.at)}: {taken}, in {self.both()}"
-        if verdict.kind is Kind.DIRECTIVES:
+        if verdict.kind is PairKind.DIRECTIVES:
             return f"directives differ at {argument_words(verdict.at)}: {self.directives(old, new)}"
-        if verdict.kind is Kind.WORDS:
+        if verdict.kind is PairKind.WORDS:
             return f"the words differ: {self.both()}"
         return f"different: {self.both()}{self.example(old, new)}"
 
     def specification(self) -> Dict[str, Any]:
         """Returns where the specification is that takes the argument at which the types or the directives differ."""
         verdict, text = self.judged.verdict, self.new.text(self.model)[0]
-        if verdict.kind not in (Kind.TYPES, Kind.DIRECTIVES) or text is None or len(text) > LONG:
+        if verdict.kind not in (PairKind.TYPES, PairKind.DIRECTIVES) or text is None or len(text) > LONG:
             return {}
         taker = taker_of(text, verdict.at, self.model)
         offsets = [self.new.offset_of(it) for it in (taker.start, taker.end - 1)] if taker else []
@@ -244,7 +246,7 @@ class Wording:
         is_whole = all(text is not None and place.text(self.model)[0] == text for place, text in sides)
         old, new = (text or b"" for _, text in sides)
         if verdict.refusal is not None and is_whole:
-            side = verdict.refusal.side if verdict.kind is Kind.UNJUDGED else 1
+            side = verdict.refusal.side if verdict.kind is PairKind.UNJUDGED else 1
             text = (old, new)[side]
             span = refused_span(text, verdict.refusal)
             excerpt = place_excerpt(NAMES[side], sides[side][0], span, verdict.refusal.name)

@@ -12,9 +12,9 @@ import itertools
 import re
 from typing import AbstractSet, Callable, Dict, Hashable, Iterator, List, NamedTuple, Optional, Sequence, Tuple
 
+from ..formats.verdicts import shared_back, shared_front
 from ..models import Model
-from ..verdicts import shared_back, shared_front
-from .literals import UNUSUAL, Place, Source, statement_ends
+from ..source.places import UNUSUAL, Place, Source, statement_ends
 
 # A line that has no name but `else`, and no literal, says nothing of where it is from.
 WORDS = re.compile(rb"(?!else\b)\b[A-Za-z_]\w")
@@ -41,7 +41,7 @@ Block = Tuple[int, int, int]
 Range = Tuple[int, int, int, int]
 
 
-class Pairs(NamedTuple):
+class Pairing(NamedTuple):
     """The pairs of places that changed, in the order of the new source, and the places that came and went."""
 
     changed: List[Pair]
@@ -204,7 +204,7 @@ class Rows:
         return [place for at in lines for place in self.places.get(at, ())]
 
 
-def paired(old: Source, new: Source) -> Pairs:
+def paired(old: Source, new: Source) -> Pairing:
     """Pairs the places of two sources."""
     read_changes(old, new)
     first, second = Rows(old), Rows(new)
@@ -234,7 +234,7 @@ def paired(old: Source, new: Source) -> Pairs:
         pairs += [it for a, b in equal for it in zip(first.places.get(a, ()), second.places.get(b, ()))]
     changed = [it for it in pairs if it[0].parts != it[1].parts or (is_redefined and depends(*it))]
     changed.sort(key=lambda it: it[1].start)
-    return Pairs(changed, added, removed)
+    return Pairing(changed, added, removed)
 
 
 def depends(old: Place, new: Place) -> bool:

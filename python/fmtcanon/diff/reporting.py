@@ -1,26 +1,25 @@
 """Reports on a file that changed: the verdicts on its places and, where it is compiled, whether the new calls fit."""
 
 from dataclasses import replace
-from typing import AbstractSet, Iterator, NamedTuple, Optional, Sequence
+from typing import Iterator, Mapping, NamedTuple, Optional, Sequence
 
-from ..checker.fitting import Compiled, Fitting
-from ..checker.reporting import KIND, SIZE, with_source
-from ..checker.reporting import RULES as OF_CALLS
-from ..command_line import model_names
-from ..findings import ERROR, WARNING, Finding
+from ..fitting.reporting import KIND, RULES as OF_CALLS, SIZE, with_source
+from ..formats.verdicts import Library, PairKind
+from ..frame.command_line import model_names
+from ..frame.findings import ERROR, WARNING, Finding, leveled
 from ..models import Model
-from ..verdicts import Kind, Library
+from ..source.places import Place, Source
 from . import judging
+from .compiled import Compiled, Fitting
 from .judging import is_judged, judge, may_be_format
-from .literals import Place, Source
-from .pairing import Pair, Pairs, paired
-from .trees import Change
+from .pairing import Pair, Pairing, paired
+from .trees import FileChange
 
 RULES = {**judging.RULES, **{it: OF_CALLS[it] for it in (SIZE, KIND)}}
 FAULTS = (*judging.FAULTS, SIZE, KIND)
 
 
-class Report(NamedTuple):
+class DiffReport(NamedTuple):
     """What is found in a file; how many places came and went; how many of those that came are formats that a call may
     have, and of how many it was judged; and why the file couldn't be read, if so.
     """
@@ -33,48 +32,48 @@ class Report(NamedTuple):
     error: str = ""
 
 
-class Question(NamedTuple):
+class DiffQuestion(NamedTuple):
     """What is asked of each file: the data models, the kinds of findings that are errors, whether findings are to have
-    excerpts, functions that take no format, and what says whether calls fit.
+    excerpts, the index of the format of functions that the options name, or None if they take none, and what says whether calls fit.
     """
 
     models: Sequence[Model]
     fail_on: Sequence[str] = FAULTS
     is_shown: bool = False
-    others: AbstractSet[bytes] = frozenset()
+    functions: Mapping[bytes, Optional[int]] = {}
     fitting: Optional[Fitting] = None
 
 
-def report_on(change: Change, question: Question) -> Report:
+def report_on(change: FileChange, question: DiffQuestion) -> DiffReport:
     """Judges the places of a file that changed."""
     if change.error:
-        return Report(error=change.error)
+        return DiffReport(error=change.error)
     if change.why_not:
-        return Report([not_compared(change, question)])
+        return DiffReport([not_compared(change, question)])
     old, new = (Source(b"" if it is None else it) for it in (change.old, change.new))
     if change.old is None or change.new is None:
-        pairs = Pairs([], new.read().places, old.read().places)
+        pairs = Pairing([], new.read().places, old.read().places)
     else:
         pairs = paired(old, new)
-    changed = [it for it in pairs.changed if is_judged(*it, question.others)]
-    added = [it for it in pairs.added if it.has_specification() and may_be_format(it, question.others)]
+    changed = [it for it in pairs.changed if is_judged(*it, question.functions)]
+    added = [it for it in pairs.added if it.has_specification() and may_be_format(it, question.functions)]
     found = Judge(change.name, question)
     findings = list(found.of_pairs(changed))
     if not question.fitting or not added:
-        return Report(findings, pairs.came, pairs.went)
+        return DiffReport(findings, pairs.came, pairs.went)
     findings += found.of_added(added)
     judged = sum(bool(found.compiled.uses_in(*it.span())) for it in added)
-    return Report(findings, pairs.came, pairs.went, len(added), judged)
+    return DiffReport(findings, pairs.came, pairs.went, len(added), judged)
 
 
-def report_without(change: Change, how: str) -> Report:
+def report_without(change: FileChange, how: str) -> DiffReport:
     """Reports on a file that ends each process that reads it, as a crash of libclang does."""
-    return Report(error=f"{change.name}: it can't be read: the process that read it {how}")
+    return DiffReport(error=f"{change.name}: it can't be read: the process that read it {how}")
 
 
-def not_compared(change: Change, question: Question) -> Finding:
+def not_compared(change: FileChange, question: DiffQuestion) -> Finding:
     """Returns the finding of something that changed and isn't compared."""
-    kind = Kind.UNJUDGED.value
+    kind = PairKind.UNJUDGED.value
     level = ERROR if kind in question.fail_on else WARNING
     return Finding(change.name, 0, None, kind, level, change.why_not, models=model_names(question.models))
 
@@ -82,7 +81,7 @@ def not_compared(change: Change, question: Question) -> Finding:
 class Judge:
     """Judges the places of a file."""
 
-    def __init__(self, name: str, question: Question) -> None:
+    def __init__(self, name: str, question: DiffQuestion) -> None:
         self.name, self.question, self.library = name, question, Library()
         self.asked: Optional[Compiled] = None
 
@@ -100,7 +99,7 @@ class Judge:
             names = self.defined(pair)
             models = [Model.LP64] if names else self.question.models
             finding = judge(self.library, self.name, pair, models, self.question.fail_on, self.question.is_shown)
-            if finding and self.question.fitting and finding.kind in (Kind.TYPES.value, Kind.UNJUDGED.value):
+            if finding and self.question.fitting and finding.kind in (PairKind.TYPES.value, PairKind.UNJUDGED.value):
                 finding = self.noted(pair, finding)
             if finding and names:
                 listed = b" and ".join(names).decode(errors="backslashreplace")
@@ -125,7 +124,7 @@ class Judge:
     def noted(self, pair: Pair, finding: Finding) -> Optional[Finding]:
         """Returns a finding with what is known of the new call, or None if no call has it as its format."""
         texts = [it.text(Model.LP64)[0] for it in pair]
-        if finding.kind == Kind.UNJUDGED.value:
+        if finding.kind == PairKind.UNJUDGED.value:
             return None if None not in texts and self.compiled.is_not_format(*pair[1].span()) else finding
         types = [self.library.types(it or b"", Model.LP64) for it in texts]
         return self.compiled.noted(finding, types[0], types[1])
@@ -134,6 +133,5 @@ class Judge:
         """Yields the errors that fmtcanon-check finds in places that were added."""
         for place in places:
             for one in self.compiled.errors_in(*place.span()):
-                level = ERROR if one.kind in self.question.fail_on else WARNING
-                found = replace(one, file=self.name, level=level)
+                found = leveled(replace(one, file=self.name), self.question.fail_on)
                 yield with_source(found) if self.question.is_shown else found

@@ -1,18 +1,15 @@
 """The files of two folders, or of two revisions of a git repository, that are to be compared."""
 
-import fnmatch
 import os
-import re
 import select
 import subprocess
 from contextlib import contextmanager
 from typing import Any, Callable, ContextManager, Dict, Iterator, List, NamedTuple, Optional, Sequence, Set, Tuple
 
 from ..compiling.running import started
+from ..source.files import SOURCES, Unreadable, as_text, files_below, is_excluded, read
 from .renames import renamed
 
-# The endings of C and C++, of what they include, and of what is made into them.
-SOURCES = re.compile(r".*\.(?:[chyl]|cc|cpp|cxx|c\+\+|hh|hpp|hxx|h\+\+|inc|inl|ipp|tcc|def|C|H|m|mm|pc|ec)", re.DOTALL)
 # The modes of a file, and that of a submodule.
 FILES = ("100644", "100755")
 SUBMODULE = "160000"
@@ -24,10 +21,6 @@ ENVIRONMENT = {"GIT_OPTIONAL_LOCKS": "0", "GIT_ALLOW_PROTOCOL": "", "GIT_NO_LAZY
 SECONDS = 300
 
 
-class Unreadable(Exception):
-    """Something can't be read, and why."""
-
-
 class Late(Unreadable):
     """git takes too long, so that nothing more is asked of it."""
 
@@ -35,7 +28,7 @@ class Late(Unreadable):
         super().__init__(f"git took more than {SECONDS} seconds")
 
 
-class Change(NamedTuple):
+class FileChange(NamedTuple):
     """A file as it was and as it is; None if it wasn't or isn't there. The name is that of the new file. If it can't be
     read, or isn't compared, this says why.
     """
@@ -45,42 +38,6 @@ class Change(NamedTuple):
     new: Optional[bytes]
     error: str = ""
     why_not: str = ""
-
-
-def read(path: str, name: str = "") -> bytes:
-    """Returns the bytes of a file of text, which may have another name in what is said of it."""
-    name = name or path
-    try:
-        with open(path, "rb") as stream:
-            data = stream.read()
-    except OSError as error:
-        raise Unreadable(f"{name}: {error.strerror or error}") from error
-    return as_text(name, data)
-
-
-def as_text(name: str, data: bytes) -> bytes:
-    if b"\0" in data:
-        raise Unreadable(f"{name}: it is a binary file")
-    return data
-
-
-def files_below(top: str) -> Tuple[Set[str], List[str]]:
-    """Returns the names of the sources below a folder, and what is said of folders that can't be read."""
-    found: Set[str] = set()
-    errors: List[OSError] = []
-    for folder, _, names in os.walk(top, onerror=errors.append):
-        for name in names:
-            path = os.path.join(folder, name)
-            if SOURCES.fullmatch(name) and os.path.isfile(path):
-                found.add(os.path.relpath(path, top))
-    return found, [f"{it.filename}: {it.strerror}" for it in errors]
-
-
-def is_excluded(name: str, globs: Sequence[str]) -> bool:
-    """Returns whether a glob matches the path of a file or of a folder that it is in, or a name in the path."""
-    names = name.split(os.sep)
-    paths = [os.sep.join(names[: at + 1]) for at in range(len(names))]
-    return any(fnmatch.fnmatchcase(it, glob) for glob in globs for it in {*names, *paths})
 
 
 def compared_below(top: str, globs: Sequence[str]) -> Tuple[Set[str], List[str]]:
@@ -122,7 +79,7 @@ def run_git(words: Sequence[Any], given: bytes = b"") -> "subprocess.CompletedPr
 
 def changes_of(
     old: str, new: str, globs: Sequence[str] = (), expect: Callable[[int], None] = lambda _: None
-) -> Iterator[Change]:
+) -> Iterator[FileChange]:
     """Yields what changed between two files or two folders, and tells `expect` how many more it may be, or fewer."""
     kinds = [os.path.isdir(it) for it in (old, new)]
     for path in (old, new):
@@ -134,7 +91,7 @@ def changes_of(
         yield from compared(new, old, new)
         return
     (first_names, first_errors), (second_names, second_errors) = (compared_below(it, globs) for it in (old, new))
-    yield from (Change("", None, None, it) for it in first_errors + second_errors)
+    yield from (FileChange("", None, None, it) for it in first_errors + second_errors)
     expect(len(first_errors + second_errors) + len(first_names | second_names))
     before = renames_in(old, first_names - second_names, new, second_names - first_names)
     expect(-len(before))
@@ -159,15 +116,15 @@ def renames_in(old: str, went: Set[str], new: str, came: Set[str]) -> Dict[str, 
     return renamed(*sides)
 
 
-def compared(name: str, old: Optional[str], new: Optional[str]) -> Iterator[Change]:
+def compared(name: str, old: Optional[str], new: Optional[str]) -> Iterator[FileChange]:
     """Yields the change of one file, if it changed."""
     try:
         texts = [None if it is None else read(it) for it in (old, new)]
     except Unreadable as error:
-        yield Change(name, None, None, str(error))
+        yield FileChange(name, None, None, str(error))
         return
     if texts[0] != texts[1]:
-        yield Change(name, texts[0], texts[1])
+        yield FileChange(name, texts[0], texts[1])
 
 
 class Entry(NamedTuple):
@@ -244,7 +201,7 @@ class Git:
         globs: Sequence[str] = (),
         is_cached: bool = False,
         expect: Callable[[int], None] = lambda _: None,
-    ) -> Iterator[Change]:
+    ) -> Iterator[FileChange]:
         """Yields what changed in the sources among the files of these paths, or of all, and tells `expect` how many more
         it may be, or fewer.
         """
@@ -262,7 +219,7 @@ class Git:
                     expect(-1)
                     continue
                 if is_submodule:
-                    yield Change(name, None, None, why_not="a submodule that changed isn't compared")
+                    yield FileChange(name, None, None, why_not="a submodule that changed isn't compared")
                     continue
                 try:
                     old = self.text(name, entry, 0, blob)
@@ -270,10 +227,10 @@ class Git:
                 except Late:
                     raise
                 except Unreadable as error:
-                    yield Change(name, None, None, str(error))
+                    yield FileChange(name, None, None, str(error))
                     continue
                 if old != new:
-                    yield Change(name, old, new)
+                    yield FileChange(name, old, new)
                 else:
                     expect(-1)
 

@@ -8,16 +8,17 @@ import sys
 from typing import Any, Dict, List, Optional, Sequence, Union
 
 import fmtcanon
-from fmtcanon import BadLiteral, Kind, Model, Refused, Verdict
+from fmtcanon import BadLiteral, Kind, Model, Refused
 
-from ..command_line import USAGE, Parser, status_of
-from ..explaining import Difference, Explanation, Part, Rejection, compare, explain, reject
+from ..formats.explaining import Difference, ExplainedDirective, Explanation, Rejection, compare, explain, reject
+from ..formats.layout import difference_lines, explanation_lines, rejection_lines
+from ..formats.rejections import ADVICE, HELP
+from ..formats.verdicts import PairKind
+from ..frame.command_line import USAGE, Parser, status_of
+from ..frame.output import complain, put
+from ..frame.terminals import Style, style_of, wrapped
 from ..kinds import TYPE_NAMES
 from ..models import model_of
-from ..output import complain, put
-from ..rejections import ADVICE, HELP
-from ..terminals import Style, style_of, wrapped
-from .layout import difference_lines, explanation_lines, rejection_lines
 
 NAME = "fmtcanon-explain"
 USAGE_LINES = """\
@@ -42,7 +43,6 @@ Exit status:
   0  the format is accepted, or the two are the same
   1  the two differ
   2  a format is rejected, or the usage is wrong"""
-NAMES = {Verdict.SAME: "same", Verdict.TYPES: "types", Verdict.DIFFERENT: "different", Verdict.DIRECTIVES: "directives"}
 
 
 def parser() -> Parser:
@@ -113,7 +113,7 @@ def found_of(texts: Sequence[bytes], model: Model) -> Found:
 def status_of_found(found: Found) -> int:
     if isinstance(found, Rejection):
         return USAGE
-    return 1 if isinstance(found, Difference) and found.verdict is not Verdict.SAME else 0
+    return 1 if isinstance(found, Difference) and found.verdict is not PairKind.SAME else 0
 
 
 def lines_of(found: Found, model: Model, style: Style) -> List[str]:
@@ -147,7 +147,7 @@ def text_in_json(text: bytes) -> str:
     return text.decode("utf-8", "surrogateescape")
 
 
-def part_in_json(part: Optional[Part]) -> Optional[Dict[str, Any]]:
+def part_in_json(part: Optional[ExplainedDirective]) -> Optional[Dict[str, Any]]:
     if part is None:
         return None
     types = {model.name.lower(): TYPE_NAMES[kind] for model, kind in part.types.items()}
@@ -194,7 +194,7 @@ def difference_in_json(found: Difference) -> Dict[str, Any]:
     arguments = [text_in_json(it) if isinstance(it, bytes) else it for it in found.arguments]
     return {
         "formats": [text_in_json(it) for it in found.formats],
-        "verdict": NAMES[found.verdict],
+        "verdict": found.verdict.value,
         "argument": None if found.at is None else found.at + 1,
         "arguments": arguments,
         "printed": [text_in_json(it) for it in found.printed],

@@ -7,21 +7,23 @@ from typing import Callable, Dict, Iterator, NamedTuple, Optional, Sequence, Set
 
 import fmtcanon
 
-from ..command_line import model_names
-from ..findings import ERROR, WARNING, Finding
-from ..rejections import advice_on, refused_span
-from ..verdicts import argument_words
+from ..formats.rejections import advice_on, refused_span
+from ..formats.verdicts import argument_words
+from ..frame.command_line import model_names
+from ..frame.findings import ERROR, WARNING, Finding
 from .charsets import charset_named
-from .formats import DEPENDENT, Format, shape_of, shown_kinds, shown_type
+from .formats import DEPENDENT, MessageFormat, shape_of, shown_kinds, shown_type
 from .plurals import PluralRule, fault_of, rule_of
 from .reading import Catalog, Message, read_catalog
 from .sources import CatalogSource, Mark
-from .tokens import Unreadable
+from .tokens import BadCatalog
 
 # The types that an argument has whether it is printed as a number, a short number or a character.
 INTEGERS = {fmtcanon.Type.INT, fmtcanon.Type.UINT}
 # How much of a message a report shows.
 SHOWN = 60
+# In a catalog of more bytes, and in a longer text, the place of a directive isn't looked for.
+LONGEST, LONG = 20_000_000, 10_000
 # The kinds of findings.
 TYPES, NUMBER, FORMAT, NEWLINE, PLURALS, CHARSET, USE, EMPTY, UNJUDGED, UNREADABLE = (
     "types",
@@ -53,7 +55,7 @@ RULES = {
 Right = Set[Tuple[Optional[bytes], Optional[bytes], bool, bool]]
 
 
-class Text(NamedTuple):
+class MessageText(NamedTuple):
     """A text of a message, under the name that a report gives it, and whether it is a translation."""
 
     name: str
@@ -83,7 +85,7 @@ class Reason(NamedTuple):
     refusal: Optional[fmtcanon.Refused] = None
 
 
-def difference(wanted: Format, found: Format, may_be_fewer: bool, model: fmtcanon.Model) -> Optional[Reason]:
+def difference(wanted: MessageFormat, found: MessageFormat, may_be_fewer: bool, model: fmtcanon.Model) -> Optional[Reason]:
     """Says how the types of two formats differ: by their number, or at an argument. None if they don't."""
     is_fit = fmtcanon.fits(wanted.plain, found.plain, model=model, fewer=may_be_fewer)
     macros, others = wanted.macros(model), found.macros(model)
@@ -98,17 +100,17 @@ def difference(wanted: Format, found: Format, may_be_fewer: bool, model: fmtcano
     for at, (one, other) in enumerate(zip(first, second)):
         if macros.get(at) != others.get(at) or (at not in macros and one != other):
             types = shown_type(one, macros.get(at)), shown_type(other, others.get(at))
-            both = " and ".join(f"{taker(it, at, model)} takes {type}" for it, type in zip((wanted, found), types))
-            return Reason(TYPES, f"types of '{{}}' and '{{}}' differ at {argument_words(at)}: {both}", at)
+            both = [f"{type} ({taker(it, at, model)}) in '{{}}'" for it, type in zip((wanted, found), types)]
+            return Reason(TYPES, f"{argument_words(at)} is {both[0]}, and {both[1]}", at)
     return None
 
 
-def taker(format: Format, argument: int, model: fmtcanon.Model) -> str:
+def taker(format: MessageFormat, argument: int, model: fmtcanon.Model) -> str:
     """Returns the specifications that take an argument, as they are spelled."""
     return " and ".join(it.decode() for it in format.takers(argument, model))
 
 
-def changed_kind(wanted: Format, found: Format, model: fmtcanon.Model) -> Optional[Reason]:
+def changed_kind(wanted: MessageFormat, found: MessageFormat, model: fmtcanon.Model) -> Optional[Reason]:
     """Says which int is printed as something else by the second format, whose types are those of the first."""
     codes = [one.codes(model) for one in (wanted, found)]
     kinds = [it.kinds(len(listed), model) for it, listed in zip((wanted, found), codes)]
@@ -116,7 +118,7 @@ def changed_kind(wanted: Format, found: Format, model: fmtcanon.Model) -> Option
     for at, (code, one, other) in enumerate(zip(codes[0], *kinds)):
         if one != other and code in INTEGERS:
             uses = [f"{taker(it, at, model)} as {shown_kinds(kind)}" for it, kind in ((wanted, one), (found, other))]
-            return Reason(USE, f"'{{}}' and '{{}}' use {argument_words(at)}, otherwise: {uses[0]}, and {uses[1]}", at)
+            return Reason(USE, f"'{{}}' and '{{}}' use {argument_words(at)} otherwise: {uses[0]}, and {uses[1]}", at)
     return None
 
 
@@ -129,11 +131,11 @@ def newline_faults(message: Message) -> Iterator[str]:
     given = [message.msgid, *message.forms.values(), *([] if message.plural is None else [message.plural])]
     if len({(it[:1] == b"\n", it[-1:] == b"\n") for it in given}) == 1:
         return
-    texts = [Text(f"msgstr[{form}]", text) for form, text in sorted(message.forms.items())]
+    texts = [MessageText(f"msgstr[{form}]", text) for form, text in sorted(message.forms.items())]
     if message.plural is None:
-        texts = [Text("msgstr", message.forms[0])]
+        texts = [MessageText("msgstr", message.forms[0])]
     else:
-        texts.insert(0, Text("msgid_plural", message.plural))
+        texts.insert(0, MessageText("msgid_plural", message.plural))
     for end, place in [("begin", slice(None, 1)), ("end", slice(-1, None))]:
         for name, text in texts:
             if (text[place] == b"\n") != (message.msgid[place] == b"\n"):
@@ -179,7 +181,7 @@ class Checker:
         file: str,
         message: Message,
         reason: Reason,
-        texts: Sequence[Text] = (),
+        texts: Sequence[MessageText] = (),
         models: Sequence[fmtcanon.Model] = (),
     ) -> None:
         if self.is_certain:
@@ -197,7 +199,7 @@ class Checker:
         message: Message,
         level: str,
         reason: Reason,
-        texts: Sequence[Text] = (),
+        texts: Sequence[MessageText] = (),
         models: Sequence[fmtcanon.Model] = (),
         **more: Sequence[str],
     ) -> None:
@@ -205,17 +207,23 @@ class Checker:
         details = {"msgid": message.msgid.decode(errors="backslashreplace"), "formats": list(formats), **more}
         names = model_names(models or self.models)
         self.reports += 1
-        text = f"{reason.text} [{shown(message.msgid)}]"
+        # A .mo file has no lines: its messages are found by their texts.
+        text = reason.text if self.data else f"{reason.text}, of {shown(message.msgid)}"
         finding = Finding(file, message.line, message.column, reason.kind, level, text, None, formats, names, details)
-        if self.is_shown:
-            finding = self.with_excerpts(finding, message, reason, texts, (models or self.models)[0])
-        self.add(finding)
+        self.add(self.with_source(finding, message, reason, texts, (models or self.models)[0]))
 
-    def with_excerpts(
-        self, finding: Finding, message: Message, reason: Reason, texts: Sequence[Text], model: fmtcanon.Model
+    def with_source(
+        self, finding: Finding, message: Message, reason: Reason, texts: Sequence[MessageText], model: fmtcanon.Model
     ) -> Finding:
-        """Returns a finding with the lines that it is about, and what helps."""
-        marks = marks_of(reason, texts, model)
+        """Returns a finding at the directive that it is about, with the lines if these are shown, and what helps."""
+        is_long = len(self.data) > LONGEST or any(len(it.text) > LONG for it in texts)
+        marks = list(marks_of(reason, texts, model)) if self.is_shown or (self.data and not is_long) else []
+        last = self.source.found(message.line, marks[-1]) if marks else None
+        if last:
+            line = int(last.label)
+            finding = replace(finding, line=line, column=last.start + 1, end=(line, last.end + 1))
+        if not self.is_shown:
+            return finding
         excerpts = tuple(self.source.excerpt(message.line, it) for it in marks)
         refused = texts[-1].text if texts and reason.refusal else b""
         help = advice_on(refused, reason.refusal, model) if reason.refusal else ""
@@ -226,7 +234,7 @@ class Checker:
         file: str,
         message: Message,
         text: str,
-        rejected: Optional[Text] = None,
+        rejected: Optional[MessageText] = None,
         refusal: Optional[fmtcanon.Refused] = None,
     ) -> None:
         """Warns of a text that isn't judged, and says which format is rejected, and where the program has it."""
@@ -250,7 +258,7 @@ class Checker:
         try:
             catalog = read_catalog(data)
             rule = rule_of(catalog.header)
-        except Unreadable as fault:
+        except BadCatalog as fault:
             self.report(file, fault.line, f"it can't be read: {fault}")
         except ValueError as error:
             self.report(file, 0, f"it can't be read: {error}")
@@ -287,7 +295,7 @@ class Checker:
         """Reports bytes that aren't of the charset. Such a message isn't judged further."""
         for line, column, name, byte in message.bad_bytes:
             self.faults += 1
-            text = f"'{name}' has a byte that is not of the charset {charset}: 0x{byte:02x} [{shown(message.msgid)}]"
+            text = f"'{name}' has a byte that is not of the charset {charset}: 0x{byte:02x}"
             self.add(Finding(file, line, column, CHARSET, ERROR, text))
 
     def check_forms(self, file: str, message: Message, rule: Optional[PluralRule]) -> None:
@@ -321,16 +329,16 @@ class Checker:
 
     def check_formats(self, file: str, message: Message, rule: Optional[PluralRule]) -> None:
         if message.plural is None:
-            self.check_pair(file, message, Text("msgid", message.msgid), Text("msgstr", message.forms[0]), False)
+            self.check_pair(file, message, MessageText("msgid", message.msgid), MessageText("msgstr", message.forms[0]), False)
             return
-        plural = Text("msgid_plural", message.plural)
-        if not self.check_pair(file, message, plural, Text("msgid", message.msgid), True):
+        plural = MessageText("msgid_plural", message.plural)
+        if not self.check_pair(file, message, plural, MessageText("msgid", message.msgid), True):
             return
         for form, text in sorted(message.forms.items()):
             may_be_fewer = len(message.forms) > 1 and (rule is None or rule.is_few(form, message.flags))
-            self.check_pair(file, message, plural, Text(f"msgstr[{form}]", text), may_be_fewer)
+            self.check_pair(file, message, plural, MessageText(f"msgstr[{form}]", text), may_be_fewer)
 
-    def check_pair(self, file: str, message: Message, first: Text, second: Text, may_be_fewer: bool) -> bool:
+    def check_pair(self, file: str, message: Message, first: MessageText, second: MessageText, may_be_fewer: bool) -> bool:
         """Checks the second text against the first, and says whether the first is accepted."""
         shapes = shape_of(first.text), shape_of(second.text)
         pair = (*shapes, second.name == "msgid", may_be_fewer)
@@ -342,8 +350,8 @@ class Checker:
             self.right.add(pair)
         return is_accepted
 
-    def check_texts(self, file: str, message: Message, first: Text, second: Text, may_be_fewer: bool) -> bool:
-        wanted, found = Format(first.text), Format(second.text, second.name != "msgid")
+    def check_texts(self, file: str, message: Message, first: MessageText, second: MessageText, may_be_fewer: bool) -> bool:
+        wanted, found = MessageFormat(first.text), MessageFormat(second.text, second.name != "msgid")
         # Without these bytes, all data models have the same types.
         models = self.models if DEPENDENT.search(first.text + second.text) else self.models[:1]
         rejection = rejection_of(wanted, models)
@@ -373,8 +381,8 @@ class Checker:
         self,
         file: str,
         message: Message,
-        texts: Tuple[Text, Text],
-        formats: Tuple[Format, Format],
+        texts: Tuple[MessageText, MessageText],
+        formats: Tuple[MessageFormat, MessageFormat],
         may_be_fewer: bool,
         models: Sequence[fmtcanon.Model],
     ) -> None:
@@ -399,7 +407,7 @@ class Checker:
             self.found(file, message, WARNING, change._replace(text=change.text.format(*names)), texts)
 
 
-class Rejection(NamedTuple):
+class WhyRejected(NamedTuple):
     """Why a text is not a format: in words, and as the refusal of the library, if it is one."""
 
     reason: str
@@ -410,18 +418,18 @@ def is_missing(refusal: Optional[fmtcanon.Refused]) -> bool:
     return refusal is not None and refusal.kind is fmtcanon.Kind.MISSING_ARGUMENT
 
 
-def rejection_of(format: Format, models: Sequence[fmtcanon.Model]) -> Optional[Rejection]:
+def rejection_of(format: MessageFormat, models: Sequence[fmtcanon.Model]) -> Optional[WhyRejected]:
     """Returns why a format is rejected in one of the data models, or None."""
     for model in models:
         try:
             format.codes(model)
         except fmtcanon.Refused as refusal:
-            return Rejection(str(refusal), refusal)
+            return WhyRejected(str(refusal), refusal)
     reason = format.two_types(models[0])
-    return Rejection(reason) if reason else None
+    return WhyRejected(reason) if reason else None
 
 
-def marks_of(reason: Reason, texts: Sequence[Text], model: fmtcanon.Model) -> Iterator[Mark]:
+def marks_of(reason: Reason, texts: Sequence[MessageText], model: fmtcanon.Model) -> Iterator[Mark]:
     """Yields what a reason is about: the byte that is rejected, or the specifications that take an argument."""
     if reason.refusal is not None and texts:
         text = texts[-1]
@@ -431,9 +439,9 @@ def marks_of(reason: Reason, texts: Sequence[Text], model: fmtcanon.Model) -> It
             yield taken_in(text, reason.argument, model)
 
 
-def taken_in(text: Text, argument: int, model: fmtcanon.Model) -> Mark:
+def taken_in(text: MessageText, argument: int, model: fmtcanon.Model) -> Mark:
     """Returns the first specification of a text that takes an argument, with its type; or the text if none does."""
-    format = Format(text.text, text.is_translation)
+    format = MessageFormat(text.text, text.is_translation)
     codes, macros = format.codes(model), format.macros(model)
     use = next((it for it in format.uses(model) if it.argument == argument), None)
     if use is None:

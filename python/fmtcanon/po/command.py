@@ -7,12 +7,11 @@ import os
 import sys
 from typing import Any, Dict, Hashable, Iterator, List, NamedTuple, Optional, Sequence, Set, Tuple, Union
 
-from ..command_line import MODELS, Parser, status_of
-from ..findings import WARNING, Finding, Printer
+from ..frame.command_line import MODELS, Parser, status_of
+from ..frame.findings import Finding, Printer, by_place
+from ..frame.output import Unwritable
+from ..frame.processes import in_order
 from ..models import Model
-from ..output import Unwritable
-from ..processes import in_order
-from ..visible import visible
 from .checking import RULES, UNJUDGED, Checker, Right
 
 NAME = "fmtcanon-po"
@@ -64,12 +63,6 @@ def parser() -> Parser:
     made.add_jobs("catalogs")
     made.add_argument("files", metavar="FILE", nargs="*", help="a catalog, or - for standard input")
     return made
-
-
-def as_msgfmt(finding: Finding) -> str:
-    """Returns a finding as msgfmt prints it, with no column."""
-    level = "warning: " if finding.level == WARNING else ""
-    return visible(f"{finding.file}:{finding.line}: {level}{finding.message}")
 
 
 class Checked(NamedTuple):
@@ -145,7 +138,7 @@ def check(options: Any, files: Sequence[str]) -> int:
     if options.output == "text" and sys.stderr is None:
         raise Unwritable("standard error is closed")
     stream = sys.stderr if options.output == "text" else None
-    printer = Printer(NAME, options.output, RULES, stream, as_msgfmt, options.color)
+    printer = Printer(NAME, options.output, RULES, stream, options.color)
     is_shown = printer.has_excerpts
     work = functools.partial(check_catalog, models=MODELS[options.model], is_all=options.c_format, is_shown=is_shown)
     judged = unjudged = faults = repeated = 0
@@ -153,7 +146,7 @@ def check(options: Any, files: Sequence[str]) -> int:
     seen: Set[Hashable] = set()
     printer.progress.expect(len(files))
     for one in printer.progress.each(in_order(work, catalogs(files), options.jobs, FEW)):
-        for finding in one.findings:
+        for finding in by_place(one.findings):
             message = finding.details.get("msgid") if finding.kind == UNJUDGED else None
             if message is not None and (message, finding.formats) in seen:
                 repeated += 1

@@ -6,7 +6,7 @@ from typing import Dict, Iterator, List, NamedTuple, Optional
 
 import fmtcanon
 
-from ..items import MACRO, Item, errno_parts, is_unexpected, items_of
+from ..formats.items import MACRO, Item, errno_parts, is_unexpected, items_of
 from ..kinds import TYPE_NAMES
 
 # The conversions for which the GNU C library has the flag I, other digits. It is for translations, and changes no type.
@@ -47,7 +47,7 @@ class Edit(NamedTuple):
         return len(self.new) - len(self.item.text)
 
 
-class Use(NamedTuple):
+class ArgumentUse(NamedTuple):
     """A use of an argument: its number from 0, what it is printed as, the macro that gives its type, if any, and its
     specification in the text, with where that begins.
     """
@@ -59,7 +59,7 @@ class Use(NamedTuple):
     start: int
 
 
-class Format:
+class MessageFormat:
     """A format of a message: its bytes, with what the library doesn't know replaced."""
 
     def __init__(self, text: bytes, is_translation: bool = False) -> None:
@@ -87,7 +87,7 @@ class Format:
         is_after = byte >= edit.start + len(edit.new)
         return byte - (edit.start - edit.item.start) - (edit.growth if is_after else 0)
 
-    def uses(self, model: fmtcanon.Model) -> Iterator[Use]:
+    def uses(self, model: fmtcanon.Model) -> Iterator[ArgumentUse]:
         """Yields each use of an argument. The format must be accepted in this data model."""
         # A `%m` with stars has become a directive for each.
         edits = {it.start + at: it for it in self.edits for at, byte in enumerate(it.new) if byte == PERCENT}
@@ -96,10 +96,10 @@ class Format:
             text, start = (edit.item.text, edit.item.start) if edit else (plain, self.place_of(span.start))
             for star in (span.width_argument, span.precision_argument):
                 if star is not None:
-                    yield Use(star, WIDTH, None, text, start)
+                    yield ArgumentUse(star, WIDTH, None, text, start)
             is_star = edit is not None and edit.item.last == b"m"
             kind = WIDTH if is_star else kind_of(plain)
-            yield Use(span.argument, kind, edit.macro if edit else None, text, start)
+            yield ArgumentUse(span.argument, kind, edit.macro if edit else None, text, start)
 
     def codes(self, model: fmtcanon.Model) -> bytes:
         """Returns the number of each argument's type. Raises `Refused` with the offset in the text."""
@@ -113,12 +113,12 @@ class Format:
 
         The library sees no macros.
         """
-        found: Dict[int, Use] = {}
+        found: Dict[int, ArgumentUse] = {}
         for use in self.uses(model) if b"<" in self.text else ():
             other = found.setdefault(use.argument, use)
             if other.macro != use.macro:
                 both = " and ".join(it.specification.decode() for it in (other, use))
-                return f"{both} give argument {use.argument + 1}, counted from 1, different types"
+                return f"{both} give argument {use.argument + 1} different types"
         return None
 
     def macros(self, model: fmtcanon.Model) -> Dict[int, bytes]:

@@ -192,21 +192,21 @@ class PluralRule:
         return self.form_of[number]
 
 
-class Span(NamedTuple):
+class Range(NamedTuple):
     """The flag `range:` of a message."""
 
     first: int
     last: int
 
 
-def range_of(flags: Iterable[str]) -> Optional[Span]:
+def range_of(flags: Iterable[str]) -> Optional[Range]:
     """Returns the range that the flags give, or None. A number has no bound, and counts as the largest int."""
     span = None
     for flag in flags:
         match = RANGE.fullmatch(flag)
         if match:
             first, last = (bounded(number) for number in match.groups())
-            span = Span(first, last) if first <= last else span
+            span = Range(first, last) if first <= last else span
     return span
 
 

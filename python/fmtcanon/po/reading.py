@@ -6,7 +6,7 @@ from typing import Dict, Iterator, List, NamedTuple, Optional, Tuple
 
 from .charsets import Charset, Unknown, charset_named
 from .entries import BOUNDARY, ENTRY, FORM, MARKS, text_of
-from .tokens import Scanner, Token, Unreadable, unquoted
+from .tokens import BadCatalog, Scanner, Token, unquoted
 
 MAGIC = {b"\xde\x12\x04\x95": "<", b"\x95\x04\x12\xde": ">"}
 # Such a file has strings that depend on the machine, with the number of them here.
@@ -160,7 +160,7 @@ class PoReader:
             self.comment(token.text)
         elif token.kind == "string":
             if self.keyword is None:
-                raise Unreadable(token.line, "a string comes after no keyword")
+                raise BadCatalog(token.line, "a string comes after no keyword")
             self.text = bytearray() if self.text is None else self.text
             self.text += unquoted(token.text, self.charset, token.line)
         elif token.kind == "form":
@@ -183,10 +183,10 @@ class PoReader:
 
     def begin_form(self, token: Token) -> None:
         if self.keyword != b"msgstr" or self.form is not None or self.text is not None:
-            raise Unreadable(token.line, "a number in brackets may only come after msgstr")
+            raise BadCatalog(token.line, "a number in brackets may only come after msgstr")
         digits = token.text[1:-1].strip().lstrip(b"0")
         if len(digits) > FORM_DIGITS:
-            raise Unreadable(token.line, "the number of a form is too large")
+            raise BadCatalog(token.line, "the number of a form is too large")
         self.form = int(digits or b"0")
 
     def begin_keyword(self, token: Token) -> Iterator[Message]:
@@ -195,7 +195,7 @@ class PoReader:
         if keyword in (b"domain", b"msgctxt", b"msgid"):
             yield from self.finish_message()
         elif self.message is None:
-            raise Unreadable(line, f"{keyword.decode()} comes before msgid")
+            raise BadCatalog(line, f"{keyword.decode()} comes before msgid")
         if keyword == b"msgid":
             self.message = self.begun(line, self.has_context)
         self.has_context = keyword == b"msgctxt"
@@ -205,7 +205,7 @@ class PoReader:
         if keyword is None:
             return
         if self.text is None:
-            raise Unreadable(self.line, f"{keyword.decode()} has no string")
+            raise BadCatalog(self.line, f"{keyword.decode()} has no string")
         text, self.text = bytes(self.text), None
         bad = None if self.charset is None or text.isascii() else self.charset.bad_byte(text)
         if bad is not None:
@@ -221,7 +221,7 @@ class PoReader:
             message.plural = text
         else:
             if (self.form is None) != (message.plural is None) or (self.form or 0) in message.forms:
-                raise Unreadable(self.line, "msgstr has a number exactly if there is a msgid_plural, each another")
+                raise BadCatalog(self.line, "msgstr has a number exactly if there is a msgid_plural, each another")
             if not message.forms:
                 message.line, message.column = self.line, self.column
             message.forms[self.form or 0] = text
@@ -230,7 +230,7 @@ class PoReader:
         message, self.message = self.message, None
         if message is not None:
             if not message.forms:
-                raise Unreadable(message.line, "the message has no msgstr")
+                raise BadCatalog(message.line, "the message has no msgstr")
             message.bad_bytes, self.bad_bytes = self.bad_bytes, []
             yield message
 
@@ -242,7 +242,7 @@ def charset_of(header: bytes) -> Charset:
     try:
         return charset_named("UTF-8" if not name or text == "CHARSET" else text)
     except Unknown as error:
-        raise Unreadable(0, str(error)) from error
+        raise BadCatalog(0, str(error)) from error
 
 
 def header_of(text: bytes) -> bytes:
@@ -251,7 +251,7 @@ def header_of(text: bytes) -> bytes:
         for message in PoReader(None).read(text):
             if message.is_header:
                 return message.forms[0]
-    except (Unreadable, KeyError):
+    except (BadCatalog, KeyError):
         # What is wrong is found again, and reported, when the catalog is read in its charset.
         pass
     return b""
@@ -269,7 +269,7 @@ def in_utf_8(data: bytes, charset: Charset) -> bytes:
     try:
         return charset.decode(data)
     except UnicodeError as error:
-        raise Unreadable(0, str(error)) from error
+        raise BadCatalog(0, str(error)) from error
 
 
 def mo_strings(data: bytes, order: str, count: int, table: int) -> Iterator[bytes]:
@@ -278,10 +278,10 @@ def mo_strings(data: bytes, order: str, count: int, table: int) -> Iterator[byte
     for at in range(table, table + 8 * count, 8):
         length, start = struct.unpack_from(order + "II", data, at)
         if start + length > len(data):
-            raise Unreadable(0, "a string lies after the end")
+            raise BadCatalog(0, "a string lies after the end")
         room -= length
         if room < 0:
-            raise Unreadable(0, "its strings overlap")
+            raise BadCatalog(0, "its strings overlap")
         yield data[start : start + length]
 
 
@@ -293,7 +293,7 @@ def read_mo(data: bytes, order: str) -> Catalog:
             hidden = struct.unpack_from(order + "I", data, MACHINE_STRINGS)[0]
         pairs = list(zip(mo_strings(data, order, count, ids), mo_strings(data, order, count, texts)))
     except struct.error as error:
-        raise Unreadable(0, f"it ends too early: {error}") from error
+        raise BadCatalog(0, f"it ends too early: {error}") from error
     charset = charset_of(next((text for original, text in pairs if not original), b""))
     messages = [mo_message(number, pair, charset) for number, pair in enumerate(pairs)]
     return Catalog(messages, False, hidden, charset.name)

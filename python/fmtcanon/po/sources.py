@@ -5,8 +5,8 @@ from __future__ import annotations
 import re
 from typing import List, NamedTuple, Optional
 
-from ..excerpts import Excerpt, literal_excerpt
-from .tokens import ESCAPE, Scanner, Token, Unreadable
+from ..frame.excerpts import Excerpt, literal_excerpt
+from .tokens import ESCAPE, BadCatalog, Scanner, Token
 
 # How many lines before a translation its message begins at most, and how many bytes after that are read.
 LINES, BYTES = 1_000, 100_000
@@ -45,13 +45,16 @@ class CatalogSource:
 
     def excerpt(self, line: int, mark: Mark) -> Excerpt:
         """Returns the line with a part of a text of the message whose translation begins in this line, or the text."""
-        try:
-            found = self.found(line, mark)
-        except Unreadable:
-            found = None
-        return found or literal_excerpt(*mark)
+        return self.found(line, mark) or literal_excerpt(*mark)
 
     def found(self, line: int, mark: Mark) -> Optional[Excerpt]:
+        """Returns the line with the part, or None if it can't be found."""
+        try:
+            return self.searched(line, mark)
+        except BadCatalog:
+            return None
+
+    def searched(self, line: int, mark: Mark) -> Optional[Excerpt]:
         begin = self.begin_of(line)
         if begin is None:
             return None

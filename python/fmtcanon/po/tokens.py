@@ -25,7 +25,7 @@ SIMPLE: Dict[bytes, bytes] = {bytes([name]): bytes([value]) for name, value in z
 BYTE = [bytes([number]) for number in range(256)]
 
 
-class Unreadable(Exception):
+class BadCatalog(Exception):
     """A catalog can't be read: the line if it is known, and the reason."""
 
     def __init__(self, line: int, reason: str) -> None:
@@ -71,7 +71,7 @@ class Scanner:
             return None
         match = TOKEN.match(self.text, self.at)
         if match is None:
-            raise Unreadable(self.line, "it is not a keyword, string or comment")
+            raise BadCatalog(self.line, "it is not a keyword, string or comment")
         kind, end = str(match.lastgroup), match.end()
         if kind == "string":
             end = end_of_string(self.text, end, self.line) + 1
@@ -89,7 +89,7 @@ def end_of_string(text: bytes, at: int, line: int) -> int:
             break
         at = match.end()
     if text[at : at + 1] != b'"':
-        raise Unreadable(line, "a string is not closed in its line")
+        raise BadCatalog(line, "a string is not closed in its line")
     return at
 
 
@@ -118,9 +118,9 @@ def value_of(match: "re.Match[bytes]", line: int) -> bytes:
     octal, hexadecimal, simple = match.groups()
     if simple is not None:
         if simple not in SIMPLE:
-            raise Unreadable(line, f"the escape \\{simple.decode('latin-1')} isn't known")
+            raise BadCatalog(line, f"the escape \\{simple.decode('latin-1')} isn't known")
         return SIMPLE[simple]
     number = int(octal, 8) if octal else int(hexadecimal[-3:] if not hexadecimal[:-3].strip(b"0") else b"fff", 16)
     if number > 255:
-        raise Unreadable(line, "an escape by number is not a byte")
+        raise BadCatalog(line, "an escape by number is not a byte")
     return BYTE[number]

@@ -3,21 +3,21 @@
 import sys
 from typing import Any, Iterator, List, Optional, Sequence
 
-from ..command_line import MODELS, USAGE, status_of
 from ..compiling.libclang import MISSING, cindex
 from ..compiling.sources import Files, Name
-from ..diff.trees import Unreadable, read
-from ..explain.layout import rejection_lines
-from ..explaining import reject
-from ..findings import Printer
+from ..formats.explaining import reject
+from ..formats.layout import rejection_lines
+from ..frame.command_line import MODELS, USAGE, status_of
+from ..frame.findings import Printer
+from ..frame.output import complain, put
+from ..frame.terminals import style_of
 from ..models import Model
-from ..output import complain, put
-from ..terminals import style_of
+from ..rewriting.writing import replace
+from ..source.files import Unreadable, read
 from . import listing
 from .options import NAME, parsed
 from .pairs import Wrong
 from .replacer import Replacer
-from .writing import replace
 
 NO_FILES = "give files or folders, or the folder of a compile_commands.json"
 

@@ -1,15 +1,16 @@
 """Lists the formats of sources, grouped by their meaning, and the functions that they are arguments of."""
 
 import collections
-from typing import Any, Dict, Iterable, Iterator, List, NamedTuple, Sequence, Tuple
+from typing import Any, Dict, Iterable, Iterator, List, Mapping, NamedTuple, Sequence, Tuple
 
 from .. import Refused
-from ..command_line import model_names
-from ..compiling.known import GETTEXT, KNOWN
-from ..diff.literals import NOT_FORMATS, Place, Source
-from ..findings import NOTE, WARNING, Finding
+from ..compiling.parsing import Shape
+from ..formats.verdicts import Library, shown
+from ..frame.command_line import model_names
+from ..frame.findings import NOTE, WARNING, Finding
 from ..models import Model
-from ..verdicts import Library, shown
+from ..source.known import GETTEXT, KNOWN
+from ..source.places import NOT_FORMATS, Place, Source
 
 FORMAT, FUNCTION, UNJUDGED = "format", "function", "unjudged"
 RULES = {
@@ -75,7 +76,7 @@ def finding_of(listed: Listed, models: Sequence[Model]) -> Finding:
         "canonical": None if listed.why else listed.meaning[0].decode(errors="backslashreplace"),
     }
     if place.call.function and not place.call.function.startswith(b"#"):
-        details.update(function=place.call.function.decode(errors="backslashreplace"), argument=place.call.argument)
+        details.update(function=place.call.function.decode(errors="backslashreplace"), argument=place.call.argument + 1)
     return Finding(
         listed.file,
         start.line,
@@ -103,26 +104,25 @@ def places_of(count: int) -> str:
     return f"{count} place{'s' if count > 1 else ''}"
 
 
-def functions(listed: Iterable[Listed], given: Dict[str, int]) -> Iterator[Tuple[str, List[Listed]]]:
-    """Yields the functions that places are arguments of, as `NAME:INDEX`, whether each is known, and its places."""
+def functions(listed: Iterable[Listed], given: Mapping[str, Shape]) -> Iterator[Tuple[str, List[Listed]]]:
+    """Yields the functions that places are arguments of, as `NAME:FORMAT`, whether each is known, and its places."""
     found: Dict[Tuple[str, int], List[Listed]] = collections.defaultdict(list)
     for one in listed:
         call = one.place.call
         if call.function and not call.function.startswith(b"#"):
             found[call.function.decode(errors="backslashreplace"), call.argument].append(one)
     for (name, index), places in sorted(found.items(), key=lambda it: (-len(it[1]), it[0])):
-        yield f"{name}:{index}: {how_known(name, index, given)}, {places_of(len(places))}", places
+        yield f"{name}:{index + 1}: {how_known(name, index, given)}, {places_of(len(places))}", places
 
 
-def how_known(name: str, index: int, given: Dict[str, int]) -> str:
-    if given.get(name) == index or (name in KNOWN and KNOWN[name].index == index):
+def how_known(name: str, index: int, given: Mapping[str, Shape]) -> str:
+    if index in {it.format for it in (given.get(name),) if it} | {it.index for it in (KNOWN.get(name),) if it}:
         return "known"
     return "for translators" if GETTEXT.fullmatch(name) else "not known"
 
 
-def known_functions(given: Dict[str, int]) -> Iterator[str]:
-    """Yields the functions whose formats are known, as `NAME:INDEX`."""
-    for name, index in sorted(
-        {**{name: it.index for name, it in KNOWN.items() if not name.startswith("__")}, **given}.items()
-    ):
-        yield f"{name}:{index}: known"
+def known_functions(given: Mapping[str, Shape]) -> Iterator[str]:
+    """Yields the functions whose formats are known, as `NAME:FORMAT`."""
+    indexes = {name: it.index for name, it in KNOWN.items() if not name.startswith("__")}
+    for name, index in sorted({**indexes, **{name: it.format for name, it in given.items()}}.items()):
+        yield f"{name}:{index + 1}: known"

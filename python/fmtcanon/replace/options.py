@@ -1,14 +1,18 @@
 """The command line of fmtcanon-replace."""
 
-import argparse
 import os
-import re
 from typing import Any, List, Optional, Sequence, Tuple
 
-from ..command_line import Parser
+from ..compiling.options import add_compiling, add_fail_on, add_writing
+from ..frame.command_line import Parser
 from .pairs import Wrong, format_of, pairs_in
 
 NAME = "fmtcanon-replace"
+REPLACED, SKIPPED = "replaced", "skipped"
+RULES = {
+    REPLACED: "A format was replaced by another of the same meaning.",
+    SKIPPED: "A format was left as it is, or a file wasn't judged.",
+}
 USAGE = """\
 fmtcanon-replace [OPTION]... OLD NEW [FILE...]
        fmtcanon-replace [OPTION]... --pairs FILE [FILE...]
@@ -27,7 +31,7 @@ differ. Parts that OLD and NEW share keep their spelling.
 
 FILE is a file or a folder, whose C and C++ files are all read; links out of it are not followed. Without one, all \
 files of the compile commands in -p are read. All files are reported before the first is replaced."""
-EPILOG = """\
+EPILOG = f"""\
 Examples:
   fmtcanon-replace --dry-run '%i items' '%d items' src
   fmtcanon-replace -p build --diff '%5.5d' '%.5d'
@@ -37,10 +41,13 @@ It reports each place, and says whether it was replaced and, if not, why. It als
 same as OLD and is spelled in another way, except for one that is already NEW. Arguments are counted from 1, as in \
 %1$d.
 
+The kinds of findings are {', '.join(RULES)}.
+
 Exit status:
-  0  no place was left
-  1  a place was left
-  2  usage error, a rejected format, or a file or output that can't be used"""
+  0  no finding has a kind that --fail-on names
+  1  a finding has one: a place was skipped
+  2  usage error, a rejected format, a file that wasn't judged, or an output
+     that can't be written"""
 # What isn't a pair of formats and files.
 MODES = ("pairs", "list", "list_functions")
 
@@ -48,9 +55,11 @@ MODES = ("pairs", "list", "list_functions")
 def parser() -> Parser:
     """Returns the definition of the command line."""
     made = Parser(NAME, USAGE, DESCRIPTION, EPILOG)
-    add_calls(made)
+    add_compiling(made, "; without FILE all its files are read")
     made.add_model("in which OLD and NEW must mean the same")
     add_modes(made)
+    add_fail_on(made, tuple(RULES), [SKIPPED])
+    add_writing(made, "replace the formats: this is the default")
     made.add_output()
     made.add_color()
     made.add_jobs("files")
@@ -58,24 +67,10 @@ def parser() -> Parser:
     return made
 
 
-def add_calls(made: Parser) -> None:
-    """Adds the options that say how files are compiled, and whose formats are known."""
-    database = "the folder of compile_commands.json; without FILE all its files are read"
-    made.add_argument("-p", metavar="DIR", dest="database", help=database)
-    flag = "without -p, a flag of the compile command, which is cc: --flag=-Iinclude"
-    made.add_argument("--flag", action="append", default=[], metavar="FLAG", help=flag)
-    attribute = "functions with the attribute format(printf, m, n) are known"
-    made.add_argument("--attribute", action="store_true", help=attribute)
-    function = "NAME prints its argument INDEX, counted from 0, as printf does"
-    made.add_argument("--function", action="append", default=[], type=function_of, metavar="NAME:INDEX", help=function)
-
-
 def add_modes(made: Parser) -> None:
     """Adds the options that say what is done."""
     for option, text in [
         ("--posix-locale", "the program prints in the POSIX locale only; otherwise a format with the flag ' is left"),
-        ("--dry-run", "report what would be done, and change no file"),
-        ("--diff", "print a unified diff, and change no file; what is done with each place goes to standard error"),
         ("--list", "print all formats of the files, grouped by their meaning, and change no file"),
         (
             "--list-functions",
@@ -85,14 +80,6 @@ def add_modes(made: Parser) -> None:
         made.add_argument(option, action="store_true", help=text)
     pairs = "replace the formats of a file that has an OLD and a NEW on each line, with a tab between"
     made.add_argument("--pairs", metavar="FILE", help=pairs)
-
-
-def function_of(word: str) -> Tuple[str, int]:
-    """Returns the name and the index that `NAME:INDEX` gives."""
-    found = re.fullmatch(r"([A-Za-z_]\w*):(\d+)", word)
-    if not found:
-        raise argparse.ArgumentTypeError(f"{word!r} isn't NAME:INDEX")
-    return found[1], int(found[2])
 
 
 def parsed(words: Optional[Sequence[str]]) -> Any:

@@ -5,9 +5,18 @@ from typing import Dict, Hashable, List, NamedTuple, Optional, Sequence, Tuple
 
 import fmtcanon
 
-from ..explaining import Marked, marked_parts
-from ..verdicts import Kind, Library, argument_words, both_take, shown, shown_arguments, specifications, taker_of
-from .places import decoded
+from ..formats.explaining import Marked, marked_parts
+from ..formats.verdicts import (
+    Library,
+    PairKind,
+    argument_words,
+    both_take,
+    shown,
+    shown_arguments,
+    specifications,
+    taker_of,
+)
+from ..source.respelling import decoded
 
 LIBRARY = Library()
 OTHERWISE = "it means the same, and is spelled otherwise"
@@ -50,12 +59,12 @@ def pairs_in(file: str) -> List[Tuple[bytes, bytes]]:
 def difference(old: bytes, new: bytes, model: fmtcanon.Model) -> Optional[str]:
     """Returns how two formats differ in a data model, or None. Raises `Refused`."""
     found = LIBRARY.compared(old, new, model)
-    if found.kind is Kind.SAME:
+    if found.kind is PairKind.SAME:
         return None
-    if found.kind is Kind.DIFFERENT:
+    if found.kind is PairKind.DIFFERENT:
         return f"the two print different bytes for {shown_arguments(found.arguments)}"
     takers = [taker_of(it, found.at, model) for it in (old, new)]
-    if found.kind is Kind.DIRECTIVES:
+    if found.kind is PairKind.DIRECTIVES:
         both = " and ".join("nothing" if it is None else it.text.decode() for it in takers)
     else:
         both = both_take(takers)
@@ -66,7 +75,7 @@ def marked_pair(old: bytes, new: bytes, models: Sequence[fmtcanon.Model]) -> Seq
     """Returns the directives in which two formats differ in the first data model in which they do, or nothing."""
     for model in models:
         found = LIBRARY.compared(old, new, model)
-        if found.kind is not Kind.SAME:
+        if found.kind is not PairKind.SAME:
             return marked_parts((old, new), found, model)
     return ()
 

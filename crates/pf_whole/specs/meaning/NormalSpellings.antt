@@ -1,4 +1,4 @@
--- The normal spelling of an opaque directive. It drops or replaces what has no effect, by the standards
+-- The normal spelling of an opaque directive, and of `%m`. It drops or replaces what has no effect, by the standards
 -- or by this project's choice where a comment says so, and keeps everything else.
 use Rattle.std.specs.Prelude.{ℕ, Bool, true, false, not, ◌&&◌, [], ◌∷◌, ◌++◌, Option, Some, None, is_some, ◌==◌, if◌then◌else◌, decimal}
 use Rattle.pf_values.specs.declared.conversions.Conv.TheVariants as convs
@@ -17,6 +17,8 @@ use Rattle.pf_posix.specs.declared.conversions.Floating.{Floating}
 use Rattle.pf_posix.specs.declared.conversions.Floating.TheVariants as floats
 use Rattle.pf_posix.specs.declared.conversions.Modifier.{Modifier}
 use Rattle.pf_posix.specs.declared.conversions.Modifier.TheVariants.{Integer, LongDouble}
+use Rattle.pf_posix.specs.Items.{errno}
+use Rattle.pf_posix.specs.Opaque.{OpaqueErrno, OpaqueItem, OpaqueSpecification}
 use Rattle.pf_posix.specs.Specifications.{Amount, Given, Fetched, PosixSpecification, conversion_letter, modifier_letters}
 
 -- Whether the conversion prints an integer: `d i u o x X b` (C11 7.21.6.1 p8; C23 7.23.6.1 p8).
@@ -163,5 +165,10 @@ posix_spelling_of s =
     ++ conversion_letter s.conversion ∷ []
 
 -- The normal spelling of a specification.
-abbrev pub normal_spelling : Model → PosixSpecification → Text
-normal_spelling model s = posix_spelling_of (normal_parts model s)
+abbrev pub directive_spelling : Model → PosixSpecification → Text
+directive_spelling model s = posix_spelling_of (normal_parts model s)
+
+-- The normal spelling of what the profile lacks. That of `%m` is `%m`.
+abbrev pub normal_spelling : Model → OpaqueItem → Text
+normal_spelling model (OpaqueSpecification s) = directive_spelling model s
+normal_spelling model OpaqueErrno = errno

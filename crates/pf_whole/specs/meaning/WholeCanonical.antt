@@ -16,15 +16,15 @@ pub record IsCanonicalStretch (model : Model) (items : List Item) (c : Text) : T
   pub canonical : ReadsCanonically model c own
   pub alike : PrintAlike model items own
 
--- The canonical texts of the stretches and the normal spellings of the opaque directives, in order.
+-- The canonical texts of the stretches and the normal spellings of what is between them, in order.
 abbrev pub IsPutTogether : Model → Stretches → Text → Type 0
 IsPutTogether model (Last items) c = IsCanonicalStretch model items c
-IsPutTogether model (Before items s rest) c =
+IsPutTogether model (Before items other rest) c =
     (first back : Text) × IsCanonicalStretch model items first × IsPutTogether model rest back
-    × (c ≡ first ++ normal_spelling model s ++ back)
+    × (c ≡ first ++ normal_spelling model other ++ back)
 
 -- `c` is the canonical text of `t`: it replaces each stretch of `t` by its canonical text, and each
--- opaque directive by its normal spelling.
+-- opaque directive by its normal spelling. It keeps `%m`.
 pub record IsWholeCanonicalOf (model : Model) (t c : Text) : Type 0 where
   pub stretches : Stretches
   pub reads : ReadsWhole t stretches

@@ -1,7 +1,7 @@
 //! What no run of the program shows of `pf_posix`: each public call once.
 use pf_posix::laws::{
-    accepted_or_refused, accepts_unnumbered, directives_once, judged_unnumbered, kinds_of_refusals,
-    never_both, profile_types, read_once, refused_for_good, refused_once, refused_unnumbered_once,
+    accepted_or_refused, accepts_unnumbered, directives_once, errno_aside, judged_unnumbered,
+    kinds_of_refusals, never_both, profile_types, read_once, refused_for_good, refused_once, refused_unnumbered_once,
     same_fits, table_has_each_once, types_are_kept, types_once,
 };
 use pf_posix::{ArgumentType, DirectiveSpan, arguments, directives, fits};
@@ -37,6 +37,7 @@ fn types_kinds_and_what_they_say(rt: HostRuntime) {
     refused_unnumbered_once();
     table_has_each_once();
     kinds_of_refusals();
+    errno_aside();
 }
 
 #[test]

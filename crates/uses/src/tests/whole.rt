@@ -7,19 +7,20 @@ use pf_whole::{WholeVerdict, canonical, canonical_len, compare, is_canonical, sa
 use std::alloc::Global;
 
 // A format, and its canonical text in LP64.
-static CANONICAL: [(&[u8], &[u8]); 8] = [
+static CANONICAL: [(&[u8], &[u8]); 9] = [
     (b"%i: %-08.6lf (%5c)", b"%d: %-8f (    %c)"),
     (b"%.0s%5d%.0s%p%.0s", b"%.0s%5d%.0s%p%.0s"),
     (b"%+ .01Lf", b"%+.1Lf"),
     (b"%-0*.*d", b"%-*.*d"),
     (b"%C%S%zn", b"%lc%ls%ln"),
     (b"%.6a%.6e%.0g", b"%.6a%e%.1g"),
+    (b"%.0s%m%.0s%i", b"%.0s%m%.0s%d"),
     (b"100%%", b"100%%"),
     (b"", b""),
 ];
 
 // Two formats, and whether they are alike in LP64.
-static PAIRS: [(&[u8], &[u8], bool); 9] = [
+static PAIRS: [(&[u8], &[u8], bool); 10] = [
     (b"%.6f%%%i", b"%f%%%d", true),
     (b"%f%05d%p", b"%f%.5d%p", false),
     (b"%5.0s%f", b"%.0s%f", false),
@@ -29,6 +30,7 @@ static PAIRS: [(&[u8], &[u8], bool); 9] = [
     (b"%5c%n", b"    %c%n", true),
     (b"%d", b"%i", true),
     (b"%d", b"%5d", false),
+    (b"%.0s%m", b"%m%.0s", false),
 ];
 
 fn has_canonical(alloc: Global, text: &[u8], wanted: &[u8]) -> bool {

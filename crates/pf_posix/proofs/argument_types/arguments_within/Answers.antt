@@ -31,6 +31,13 @@ other_arguments-requires-clause-never c =
     let here = c.find.new.self in
     let front = c.put_specification-front in
     let put = subst (λ u. IsPut c.args.model u here.at c.loop-model.out front.new.out c.loop-model.count front.result) c.text.ensures front.ensures in
+    (none_put c.args.model here.text.now here.at c.loop-model.out front.new.out c.loop-model.count front.result put c.if-front-walk.true).3
+
+pub other_arguments-requires-clause-errno : goal.other_arguments-requires-clause-errno
+other_arguments-requires-clause-errno c =
+    let here = c.find.new.self in
+    let front = c.put_specification-front in
+    let put = subst (λ u. IsPut c.args.model u here.at c.loop-model.out front.new.out c.loop-model.count front.result) c.text.ensures front.ensures in
     (none_put c.args.model here.text.now here.at c.loop-model.out front.new.out c.loop-model.count front.result put c.if-front-walk.true).2
 
 pub returns-then-front-walk-clause-types : goal.returns-then-front-walk-clause-types

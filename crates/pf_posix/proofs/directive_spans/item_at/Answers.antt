@@ -1,6 +1,8 @@
 use Rattle.std.proofs.Common.{refl, sym}
-use Rattle.pf_posix.proofs.DirectiveLemmas.{item_byte, item_percent, item_specification, listed_byte, listed_percent, listed_specification, other_byte}
-use Rattle.pf_posix.proofs.DirectiveLemmas.{some_specification}
+use Rattle.std.proofs.lemmas.Bool.{eqb-false}
+use Rattle.pf_posix.specs.Items.{errno_letter}
+use Rattle.pf_posix.proofs.DirectiveLemmas.{item_byte, item_errno, item_percent, item_specification, listed_byte, listed_errno, listed_percent, listed_specification}
+use Rattle.pf_posix.proofs.DirectiveLemmas.{other_byte, some_specification}
 use Rattle.pf_posix.proofs.directive_spans.item_at.Goals as goal
 
 pub returns-then-text-at-ne37-clause-listed : goal.returns-then-text-at-ne37-clause-listed
@@ -11,10 +13,18 @@ pub returns-then-has_byte-clause-listed : goal.returns-then-has_byte-clause-list
 returns-then-has_byte-clause-listed c model all done next h =
     listed_percent model c.args.text.now all done c.args.at next h c.requires.within c.if-text-at-ne37.false (sym c.if-has_byte.ensures.same)
 
+pub returns-then-has_errno-clause-listed : goal.returns-then-has_errno-clause-listed
+returns-then-has_errno-clause-listed c model all done next h =
+    let second = c.if-has_errno.ensures in
+    listed_errno model c.args.text.now all done c.args.at next h c.requires.within c.if-text-at-ne37.false (sym second.same) (second.within refl)
+
+pub specification_at-requires-clause-errno : goal.specification_at-requires-clause-errno
+specification_at-requires-clause-errno c = eqb-false _ errno_letter (sym c.if-has_errno.ensures.same)
+
 pub unreachable-requires : goal.unreachable-requires
 unreachable-requires c =
     some_specification c.args.text.now c.args.at c.requires.within c.requires.reads.0 c.requires.reads.1 c.if-text-at-ne37.false
-    (sym c.if-has_byte.ensures.same) c.in_default.ensures.refused_is.none
+    (sym c.if-has_byte.ensures.same) (sym c.if-has_errno.ensures.same) c.in_default.ensures.refused_is.none
 
 pub returns-clause-listed : goal.returns-clause-listed
 returns-clause-listed c model all done next h =
@@ -29,6 +39,11 @@ pub returns-then-has_byte-clause-item : goal.returns-then-has_byte-clause-item
 returns-then-has_byte-clause-item c =
     let second = c.if-has_byte.ensures in
     item_percent c.args.text.now c.args.at c.requires.within c.if-text-at-ne37.false (sym second.same) (second.within refl)
+
+pub returns-then-has_errno-clause-item : goal.returns-then-has_errno-clause-item
+returns-then-has_errno-clause-item c =
+    let second = c.if-has_errno.ensures in
+    item_errno c.args.text.now c.args.at c.requires.within c.if-text-at-ne37.false (sym second.same) (second.within refl)
 
 pub returns-clause-item : goal.returns-clause-item
 returns-clause-item c =

@@ -8,7 +8,7 @@ pub returns-in-Numbered-clause-halt : goal.returns-in-Numbered-clause-halt
 returns-in-Numbered-clause-halt c = λ begin h.
     let number = c.number_at-number in
     position_missing c.args.text.now c.args.start begin c.args.numbering h number.result.1 c.stray_at.result (rw c.in_default.is at number.ensures.bytes)
-    (rw c.in_default.is at number.ensures.ended) c.requires.other c.in-Numbered.is c.stray_at.ensures
+    (rw c.in_default.is at number.ensures.ended) c.requires.other c.requires.errno c.in-Numbered.is c.stray_at.ensures
 
 pub returns-in_default-numbering : goal.returns-in_default-numbering
 returns-in_default-numbering c =

@@ -48,7 +48,7 @@ returns-in-Err-conversion_at c =
     unread c.args.text.now c.args.start c.args.numbering c.refused-in-Err-conversion_at.result err.refusal _ c.refused-in-Err-conversion_at.ensures (refused_conversion c.args.text.now c.args.start c.args.numbering number.read.0 number.read.1 number.ensures.follows flags.result.0
     flags.result.1 flags.ensures.flags flags.ensures.ended c.requires.start c.requires.percent number.ensures.bytes width.read.0 width.read.1 width.read.2
     width.ensures.bytes width.ensures.number precision.read.0 precision.read.1 precision.read.2
-    precision.ensures.bytes precision.ensures.number modifier.result.0 modifier.result.1 modifier.ensures.letters c.requires.other
+    precision.ensures.bytes precision.ensures.number modifier.result.0 modifier.result.1 modifier.ensures.letters c.requires.other c.requires.errno
     number.ensures.first width.ensures.ended precision.ensures.ended modifier.ensures.ended err.refusal err.ensures.stray err.ensures.none
     c.refused-in-Err-conversion_at.result (rw stars at c.refused-in-Err-conversion_at.ensures))
     (stray_early c.args.text.now _ Unexpected err.refusal err.ensures.stray refl)

@@ -19,9 +19,9 @@ pub returns-in-Opaque-clause-head : goal.returns-in-Opaque-clause-head
 returns-in-Opaque-clause-head c left h =
     let t = c.args.text.now in
     let i = c.loop-at.invariant in
-    let directive = c.in-Opaque.directive in
+    let opaque = c.in-Opaque.opaque in
     let further = subst (EndsBehind t c.loop-at.at) c.in-Opaque.is c.in_ok-stop.ensures.further in
-    head_before t c.args.from c.loop-at.at c.in-Opaque.stop directive left i.from (omega (arith, further.0)) further.1 (i.found left h)
+    head_before t c.args.from c.loop-at.at c.in-Opaque.stop opaque left i.from (omega (arith, further.0)) further.1 (i.found left h)
     (λ later g. subst (IsFound t c.loop-at.at later) c.in-Opaque.is (c.in_ok-stop.ensures.found later g))
 
 pub returns-clause-head : goal.returns-clause-head

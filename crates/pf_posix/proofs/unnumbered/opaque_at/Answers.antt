@@ -1,10 +1,13 @@
-use Rattle.std.proofs.Common.{◌+◌, ◌∙◌, ap, get_or, length, subst, sym}
+use Rattle.std.proofs.Common.{refl, ◌<◌, ◌+◌, ◌∙◌, ap, get_or, length, subst, sym}
+use Rattle.std.specs.Prelude.{◌==◌}
+use Rattle.std.proofs.lemmas.Bool.{eqb-false}
 use Rattle.pf_text.specs.declared.refusals.Refusal.{Refusal}
 use Rattle.pf_posix.specs.declared.specifications.Numbering.TheVariants.{Unnumbered}
 use Rattle.pf_posix.specs.Endings.{numbered_instead}
+use Rattle.pf_posix.specs.Items.{errno_letter}
 use Rattle.pf_posix.specs.Halts.{IsDefinedAt, IsRefusedIn}
 use Rattle.pf_posix.specs.Unnumbered.{IsWholeRefusedAt}
-use Rattle.pf_posix.proofs.PlainLemmas.{opaque_read}
+use Rattle.pf_posix.proofs.PlainLemmas.{errno_read, opaque_read}
 use Rattle.pf_posix.proofs.UnnumberedVerdicts.{inside_front, no_second, whole_nul, whole_refused, whole_too_long}
 use Rattle.pf_posix.proofs.unnumbered.opaque_at.Goals as goal
 
@@ -27,6 +30,17 @@ returns-then-front-at-ne37 c =
     subst (λ r. IsWholeRefusedAt c.args.model t (Refusal.kind r) (Refusal.at r)) (sym c.refusal.ensures)
     (whole_nul c.args.model t c.args.at q.within q.front (inside_front c.args.model t c.args.at q.within q.front c.within_limit-front.result.now e c.if-at-front.false)
     q.none (λ percent. c.if-front-at-ne37.true (ap (λ u. get_or u c.args.at 0) e ∙ percent)))
+
+pub returns-then-has_errno : goal.returns-then-has_errno
+returns-then-has_errno c =
+    let t = c.args.text.now in
+    let e = c.within_limit-front.ensures in
+    let letter = c.if-has_errno.ensures in
+    errno_read t c.args.at (sym (ap (λ u. get_or u c.args.at 0) e) ∙ c.if-front-at-ne37.false)
+    (ap (λ u. get_or u (c.args.at + 1) 0 == 109) (sym e) ∙ sym letter.same) (subst (λ u. c.args.at + 1 < length u) e (letter.within refl))
+
+pub defined_at-requires-clause-errno : goal.defined_at-requires-clause-errno
+defined_at-requires-clause-errno c = eqb-false _ errno_letter (sym c.if-has_errno.ensures.same)
 
 pub defined_at-requires-clause-other : goal.defined_at-requires-clause-other
 defined_at-requires-clause-other c =

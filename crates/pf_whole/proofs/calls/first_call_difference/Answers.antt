@@ -1,9 +1,6 @@
-use Rattle.std.proofs.Common.{◌≡◌, sym, ap, arith, subst, inl, inr}
-use Rattle.std.specs.Prelude.{Some}
-use Rattle.std.proofs.lemmas.Bool.{cases_lt}
-use Rattle.pf_posix.specs.OpaqueParts.{parts_of_opaque}
-use Rattle.pf_whole.specs.Calls.{CallsDiffer}
-use Rattle.pf_whole.proofs.CallLoops.{both_call, call_at, calls_apart, calls_apart_other, calls_from_start, calls_together, first_goes_on, next_of, placed_same}
+use Rattle.std.proofs.Common.{◌≡◌, sym, ap, arith}
+use Rattle.std.proofs.Math.Nat.{min-eq_left}
+use Rattle.pf_whole.proofs.CallLoops.{both_call, calls_apart, calls_from_start, calls_together, first_goes_on, next_of, placed_same}
 use Rattle.pf_whole.proofs.CallLoops.{second_goes_on}
 use Rattle.pf_whole.proofs.calls.first_call_difference.Goals as goal
 
@@ -58,36 +55,17 @@ returns-in-None c =
 pub returns-then-call-other : goal.returns-then-call-other
 returns-then-call-other c =
     let i = c.loop-call.invariant in
-    let call = c.in-Some.call in
-    let other = c.in-Some-next_call.other in
-    let next = c.in-Some.ensures i.left i.left_reads in
-    let also = c.in-Some-next_call.ensures i.more i.more_reads in
-    let unlike : ¬ (call.index ≡ other.index) = c.if-call-other.true in
-    let apart : ¬ (call_at c.args.model call.index (parts_of_opaque call.directive) ≡ call_at c.args.model other.index (parts_of_opaque other.directive)) =
-    λ e. unlike (ap (λ x. x.index) e) in
-    elim (cases_lt call.index other.index) [
-      | inl less ↦
-          let least : c.min.result ≡ call.index = omega (arith, c.min.ensures, less) in
-          subst (λ n. CallsDiffer c.args.model c.args.first.now c.args.second.now (Some n)) (sym least)
-          (calls_apart c.args.model c.args.first.now c.args.second.now c.loop-call.one c.loop-call.two call other c.in-Some.after
-          c.in-Some-next_call.after_other i next also
-          (omega (arith, less)) apart)
-      | inr order ↦
-          let least : c.min.result ≡ other.index = omega (arith, c.min.ensures, order) in
-          subst (λ n. CallsDiffer c.args.model c.args.first.now c.args.second.now (Some n)) (sym least)
-          (calls_apart_other c.args.model c.args.first.now c.args.second.now c.loop-call.one c.loop-call.two call other c.in-Some.after
-          c.in-Some-next_call.after_other i next also
-          order apart)
-    ]
+    calls_apart c.args.model c.args.first.now c.args.second.now c.loop-call.one c.loop-call.two c.in-Some.call c.in-Some-next_call.other c.in-Some.after
+    c.in-Some-next_call.after_other i (c.in-Some.ensures i.left i.left_reads) (c.in-Some-next_call.ensures i.more i.more_reads) c.min.result c.min.ensures
+    (λ e. c.if-call-other.true (ap (λ x. x.index) e))
 
 pub returns-then-not-make_one_call : goal.returns-then-not-make_one_call
 returns-then-not-make_one_call c =
     let i = c.loop-call.invariant in
-    let call = c.in-Some.call in
-    let other = c.in-Some-next_call.other in
-    let same : call.index ≡ other.index = c.if-call-other.false in
-    calls_apart c.args.model c.args.first.now c.args.second.now c.loop-call.one c.loop-call.two call other c.in-Some.after c.in-Some-next_call.after_other i
-    (c.in-Some.ensures i.left i.left_reads) (c.in-Some-next_call.ensures i.more i.more_reads) (omega (arith, same))
+    let same : c.in-Some.call.index ≡ c.in-Some-next_call.other.index = c.if-call-other.false in
+    calls_apart c.args.model c.args.first.now c.args.second.now c.loop-call.one c.loop-call.two c.in-Some.call c.in-Some-next_call.other c.in-Some.after
+    c.in-Some-next_call.after_other i (c.in-Some.ensures i.left i.left_reads) (c.in-Some-next_call.ensures i.more i.more_reads) c.in-Some.call.index
+    (sym (min-eq_left (omega (arith, same))))
     (λ e. let yes = c.make_one_call.ensures.1 (ap (λ x. x.spelling) e) in cc)
 
 pub loop-call-preserved : goal.loop-call-preserved

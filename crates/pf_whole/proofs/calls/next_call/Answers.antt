@@ -1,13 +1,13 @@
 use Rattle.std.proofs.Common.{◌≡◌, ◌+◌, map, sym, ap, ◌∙◌, arith, subst, refl, length}
 use Rattle.std.specs.Prelude.{Some}
 use Rattle.pf_values.specs.meaning.Items.{types}
-use Rattle.pf_posix.specs.OpaqueParts.{parts_of_opaque}
+use Rattle.pf_posix.specs.OpaqueParts.{item_of_opaque}
 use Rattle.pf_posix.specs.Types.{widened}
-use Rattle.pf_whole.specs.declared.calls.PlacedDirective.{PlacedDirective}
+use Rattle.pf_whole.specs.declared.calls.PlacedOpaque.{PlacedOpaque}
 use Rattle.pf_whole.specs.declared.calls.Rest.{Rest}
 use Rattle.pf_whole.specs.Calls.{IsNextCall}
 use Rattle.pf_whole.proofs.CountLemmas.{counted, opaque_args_few, stretch_args, stretch_args_few}
-use Rattle.pf_whole.proofs.HeadLemmas.{before_directive, between, between_few, between_long, first_items, goes_further, stretch_has}
+use Rattle.pf_whole.proofs.HeadLemmas.{before_opaque, between, between_few, between_long, first_items, goes_further, stretch_has}
 use Rattle.pf_whole.proofs.TraceLemmas.{length_map}
 use Rattle.pf_whole.proofs.calls.next_call.Goals as goal
 
@@ -50,8 +50,8 @@ overflow_add-after c =
     let part = between t c.args.rest.at stretch.end in
     let known = map widened (types c.args.model (first_items r.0)) in
     let count = counted c.args.model part known c.argument_count.result (stretch_args c.args.model part (first_items r.0) has) c.argument_count.ensures in
-    let before = before_directive t c.args.rest.at r.0 stretch c.in-Some-opaque.directive head c.in-Some-opaque.is in
-    let s = parts_of_opaque c.in-Some-opaque.directive in
+    let before = before_opaque t c.args.rest.at r.0 stretch c.in-Some-opaque.opaque head c.in-Some-opaque.is in
+    let s = item_of_opaque c.in-Some-opaque.opaque in
     let own = between t stretch.end stretch.after in
     let few = between_few t stretch.end stretch.after _ c.requires.accepted.limit in
     let more = c.call_argument_count-own.ensures c.args.model in
@@ -73,10 +73,10 @@ returns c = λ left reads.
     let t = c.args.text.now in
     let model = c.args.model in
     let stretch = c.in-Some.stretch in
-    let directive = c.in-Some-opaque.directive in
+    let opaque = c.in-Some-opaque.opaque in
     let placed = c.in-Some.ensures.placed in
-    let before = before_directive t c.args.rest.at left stretch directive (c.in-Some.ensures.head left reads) c.in-Some-opaque.is in
-    let s = parts_of_opaque directive in
+    let before = before_opaque t c.args.rest.at left stretch opaque (c.in-Some.ensures.head left reads) c.in-Some-opaque.is in
+    let s = item_of_opaque opaque in
     let part = between t c.args.rest.at stretch.end in
     let own = between t stretch.end stretch.after in
     let has = stretch_has t c.args.rest.at left stretch (c.in-Some.ensures.head left reads) c.requires.accepted.limit in
@@ -86,14 +86,14 @@ returns c = λ left reads.
     let many : length (map widened (types model (first_items left))) ≡ length (types model before.items) =
     length_map widened (types model (first_items left)) ∙ ap (λ l. length (types model l)) items_are in
     let more = c.call_argument_count-own.ensures model in
-    let call : PlacedDirective = record { index = c.args.rest.index + c.argument_count.result; directive = directive } in
+    let call : PlacedOpaque = record { index = c.args.rest.index + c.argument_count.result; opaque = opaque } in
     let after : Rest = record { at = stretch.after; index = c.args.rest.index + c.argument_count.result + c.call_argument_count-own.result } in
     subst (λ l. IsNextCall model t l c.args.rest (Some (call, after))) (sym before.left_is) (record {
       index_is = omega (arith, count, many);
-      parts_are = refl;
+      item_is = refl;
       reads = before.later;
       after_is = omega (arith, count, many, more);
-      further = goes_further t c.args.rest.at stretch directive placed c.in-Some-opaque.is;
+      further = goes_further t c.args.rest.at stretch opaque placed c.in-Some-opaque.is;
       within = placed.within;
       few = omega (
         arith,

@@ -7,5 +7,5 @@ use Rattle.pf_whole.proofs.spelling.normal_spelling.Goals as goal
 pub spell-requires : goal.spell-requires
 spell-requires c = ap (λ s. has s.flags Group) c.normal_directive.ensures
 
-pub returns-clause-bytes : goal.returns-clause-bytes
-returns-clause-bytes c = c.spell.ensures.bytes ∙ ap posix_spelling_of c.normal_directive.ensures
+pub returns-in-Directive-clause-bytes : goal.returns-in-Directive-clause-bytes
+returns-in-Directive-clause-bytes c = rw c.in-Directive.is (c.spell.ensures.bytes ∙ ap posix_spelling_of c.normal_directive.ensures)

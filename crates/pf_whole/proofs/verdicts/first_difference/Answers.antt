@@ -1,5 +1,5 @@
 use Rattle.std.proofs.Common.{◌++◌, false, None, Some, map, replicate, sym, ap, ◌∙◌, arith, subst, inl, inr}
-use Rattle.pf_posix.specs.OpaqueParts.{parts_of_opaque}
+use Rattle.pf_posix.specs.OpaqueParts.{item_of_opaque}
 use Rattle.pf_posix.specs.Stretches.{Before, Last}
 use Rattle.std.proofs.lemmas.Result.{IfOk-weaker}
 use Rattle.pf_whole.specs.Answers.{HaveOneShape, ShowsNeutral}
@@ -8,7 +8,7 @@ use Rattle.pf_whole.specs.Laws.{Correspond}
 use Rattle.pf_whole.proofs.Corresponding.{alike_is_corresponding}
 use Rattle.pf_whole.proofs.FindingLemmas.{shows_neutral, shows_probe}
 use Rattle.pf_whole.proofs.FindingLoops.{IsComparedUpTo, compared_from}
-use Rattle.pf_whole.proofs.HeadLemmas.{at_last, before_directive, between, between_few, first_items, less_left, stretch_has}
+use Rattle.pf_whole.proofs.HeadLemmas.{at_last, before_opaque, between, between_few, first_items, less_left, stretch_has}
 use Rattle.pf_whole.proofs.ShownLoops.{
   HasShownDifference,
   IsTypedUpTo,
@@ -125,10 +125,10 @@ loop-stretch-preserved c =
     let u = c.args.second.now in
     let model = c.args.model in
     let stretch = c.in-Some.stretch in
-    let directive = c.in-Some-opaque.directive in
-    let s = parts_of_opaque directive in
+    let directive = c.in-Some-opaque.opaque in
+    let s = item_of_opaque directive in
     let head_other = c.in-Some-next_stretch.ensures.head i.3 i.7 in
-    let before = before_directive t c.loop-stretch.at i.2 stretch directive (c.in-Some.ensures.head i.2 i.6) c.in-Some-opaque.is in
+    let before = before_opaque t c.loop-stretch.at i.2 stretch directive (c.in-Some.ensures.head i.2 i.6) c.in-Some-opaque.is in
     let shape = subst (λ a. HaveOneShape model a i.3) before.left_is i.10 in
     let other = other_before model u c.loop-stretch.from i.3 c.in-Some-next_stretch.other before.items s before.rest shape head_other in
     let few = between_few t c.loop-stretch.at stretch.end _ c.requires.accepted_first.limit in

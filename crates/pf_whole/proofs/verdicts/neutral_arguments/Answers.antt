@@ -1,8 +1,8 @@
 use Rattle.std.proofs.Common.{◌++◌, None, replicate, refl, sym, ap, ◌∙◌, arith, subst}
-use Rattle.pf_posix.specs.OpaqueParts.{parts_of_opaque}
+use Rattle.pf_posix.specs.OpaqueParts.{item_of_opaque}
 use Rattle.pf_posix.proofs.ReadOnce.{read_once}
 use Rattle.pf_whole.proofs.CountLemmas.{opaque_args}
-use Rattle.pf_whole.proofs.HeadLemmas.{at_last, before_directive, between, between_few, first_items, less_left, stretch_has}
+use Rattle.pf_whole.proofs.HeadLemmas.{at_last, before_opaque, between, between_few, first_items, less_left, stretch_has}
 use Rattle.pf_whole.proofs.ShownLoops.{AreShownNeutrally, IsNeutralUpTo, IsTypedUpTo, neutral_end, neutral_past, typed_end, typed_from, typed_past}
 use Rattle.pf_whole.proofs.verdicts.neutral_arguments.Goals as goal
 
@@ -54,8 +54,8 @@ loop-stretch-preserved c =
     let t = c.args.text.now in
     let model = c.args.model in
     let stretch = c.in-Some.stretch in
-    let before = before_directive t c.loop-stretch.at i.1 stretch c.in-Some-opaque.directive (c.in-Some.ensures.head i.1 i.3) c.in-Some-opaque.is in
-    let s = parts_of_opaque c.in-Some-opaque.directive in
+    let before = before_opaque t c.loop-stretch.at i.1 stretch c.in-Some-opaque.opaque (c.in-Some.ensures.head i.1 i.3) c.in-Some-opaque.is in
+    let s = item_of_opaque c.in-Some-opaque.opaque in
     let own = opaque_args model (between t stretch.end stretch.after) s before.spells (between_few t stretch.end stretch.after _ c.requires.limit) in
     let count = c.call_argument_count.ensures model in
     let neutral = c.in_ok-neutrals_of.ensures before.items before.reads in

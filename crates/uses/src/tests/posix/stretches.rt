@@ -4,8 +4,8 @@ ghost use Rattle.pf_values.specs.meaning.Items.{Item, Reads};
 ghost use Rattle.pf_posix.specs.Stretches.{IsWholeAccepted};
 
 use pf_posix::{
-    Conversion, Floating, Modifier, OpaqueAmount, OpaqueDirective, Stretch, check_unnumbered,
-    next_stretch,
+    Conversion, Floating, Modifier, Opaque, OpaqueAmount, OpaqueDirective, Stretch,
+    check_unnumbered, next_stretch,
 };
 use pf_text::Refusal;
 use pf_values::{Flag, FlagSet, Length, Model, RefusalKind};
@@ -20,7 +20,7 @@ fn has_stretches(model: Model, format: &[u8]) -> bool
     }
 }
 
-/// Whether a format has no directive that the profile lacks. This is known of each one that is read in
+/// Whether a format has nothing that the profile lacks. This is known of each one that is read in
 /// the profile.
 fn is_one_stretch(format: &[u8]) -> bool
     ensures { (items : List Item) → Reads format.now items → IsTrue result }
@@ -80,7 +80,7 @@ fn stretches_and_directives(rt: HostRuntime) {
             0,
             Stretch {
                 end: 6,
-                opaque: Some(floating),
+                opaque: Some(Opaque::Directive(floating)),
                 after: 14
             }
         ) && is_first_stretch(
@@ -88,7 +88,7 @@ fn stretches_and_directives(rt: HostRuntime) {
             14,
             Stretch {
                 end: 16,
-                opaque: Some(count),
+                opaque: Some(Opaque::Directive(count)),
                 after: 20
             }
         ) && is_first_stretch(
@@ -108,5 +108,30 @@ fn stretches_and_directives(rt: HostRuntime) {
                 after: 21
             }
         )
+    );
+}
+
+#[test]
+fn message_of_errno(rt: HostRuntime) {
+    let format = b"%d: %m%%m";
+    assert!(rt;
+        is_first_stretch(
+            format,
+            0,
+            Stretch {
+                end: 4,
+                opaque: Some(Opaque::Errno),
+                after: 6
+            }
+        ) && is_first_stretch(
+            format,
+            6,
+            Stretch {
+                end: 9,
+                opaque: None,
+                after: 9
+            }
+        ) && is_refused(b"%5m", RefusalKind::Unexpected, 2)
+            && is_refused(b"%m%1$d", RefusalKind::Numbered, 4)
     );
 }

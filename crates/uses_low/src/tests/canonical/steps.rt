@@ -1,4 +1,4 @@
-//! Two texts that are compared as streams. `tests/canonical_rows.py` compares many in memory.
+//! Two texts that are compared as streams. `tests/program/test_canonical_rows.py` compares many in memory.
 use super::devices::{feed_that_fails, whole};
 use pf_canon::{SideFault, StreamFault, same_stream, same_text};
 use pf_text::{Refusal, Side};

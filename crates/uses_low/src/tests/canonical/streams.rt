@@ -1,4 +1,5 @@
-//! Canonical texts of streams, read a few bytes at a time. `tests/short_streams.py` has `stream` write them into each room.
+//! Canonical texts of streams, read a few bytes at a time. `tests/program/test_short_streams.py` has `stream` write them
+//! into each room.
 use super::devices::{feed_that_fails, has_left, whole};
 use pf_canon::laws::whole_run;
 use pf_canon::{CanonBytes, CopyFault, StreamFault, canonical_stream};

@@ -1,5 +1,5 @@
-//! Printing into writers with too little room, which then fail in each way. `tests/short_streams.py` prints the rows of
-//! `tests/rows` into such rooms.
+//! Printing into writers with too little room, which then fail in each way. `tests/program/test_short_streams.py` prints
+//! the rows of `tests/rows` into such rooms.
 use super::directive_of;
 use pf_render::{RenderFault, render, render_one};
 use pf_values::devices::Cut;

@@ -9,6 +9,6 @@ opaque_at-requires-clause-front c =
 
 pub returns-clause-next : goal.returns-clause-next
 returns-clause-next c front h =
-    let there = rw c.in-Some.is at c.in_ok-directive.ensures in
-    opaque_past c.args.model c.args.text.now c.args.at front (c.in-Some.directive, c.in-Some.stop) c.normal_spelling.result.items h there
+    let there = rw c.in-Some.is at c.in_ok-opaque.ensures in
+    opaque_past c.args.model c.args.text.now c.args.at front (c.in-Some.opaque, c.in-Some.stop) c.normal_spelling.result.items h there
     c.normal_spelling.ensures.bytes

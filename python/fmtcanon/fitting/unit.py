@@ -1,0 +1,61 @@
+"""A unit: a file as one of its compile commands compiles it, and its calls on every platform."""
+
+import dataclasses
+from typing import Dict, List, Mapping, NamedTuple, Optional, Sequence
+
+from ..compiling.calls import Call, FormatCalls, Key
+from ..compiling.compile_commands import CompileCommand
+from ..compiling.functions import Functions
+from ..compiling.left import Left
+from ..compiling.parsing import Shape, as_utf8
+from ..compiling.platforms import COMPILED, PLATFORMS, Platform
+from ..compiling.retargeting import retargeted
+from ..compiling.targets import model_in
+from ..models import Model
+
+
+class Settings(NamedTuple):
+    """The words that find the headers of this command; functions that take formats, by the options; and typedefs, each
+    with the one whose type it has.
+    """
+
+    words: Sequence[str]
+    functions: Mapping[str, Shape]
+    types: Mapping[str, str]
+
+
+class Unit:
+    """The calls of a unit on each platform, and why libclang can't parse a part of it, if so."""
+
+    def __init__(self, command: CompileCommand, settings: Settings) -> None:
+        model = model_in(command.macros())
+        if model is not Model.LP64:
+            raise Left(f"it is compiled for {model.name if model else 'another data model'}, and not for LP64")
+        words = (command.words[0], *settings.words, *command.words[1:], "-U_FORTIFY_SOURCE")
+        self.command, self.settings = dataclasses.replace(command, words=words), settings
+        text = self.text()
+        parsed = [self.parsed(text, it) for it in PLATFORMS]
+        errors = parsed[0].errors()
+        self.why_left: Optional[str] = errors[0] if errors else None
+        self.calls: List[Dict[Key, Call]] = [it.found for it in parsed]
+        self.unread, self.others = parsed[0].unread, parsed[0].others
+        self.defined: Optional[bytes] = None
+
+    def text(self, source: Optional[bytes] = None) -> str:
+        """Returns what the compiler's preprocessor makes of the file, or of another source of it."""
+        return as_utf8(self.command.preprocessed(source)).decode()
+
+    def definitions(self) -> bytes:
+        """Returns the text of the unit with the definitions of its macros."""
+        if self.defined is None:
+            self.defined = bytes(self.command.run(None, "-E", "-dD", "-w").stdout)
+        return self.defined
+
+    def parsed(self, text: str, platform: Platform) -> FormatCalls:
+        own = {name: platform.types.get(type, type) for name, type in self.settings.types.items()}
+        functions = Functions(self.settings.functions)
+        return FormatCalls(self.command, retargeted(text, platform, own).encode(), platform, functions)
+
+    def marked(self, text: str) -> Dict[Key, Call]:
+        """Returns the calls in the text of another source of the file, as it is compiled."""
+        return self.parsed(text, COMPILED).found

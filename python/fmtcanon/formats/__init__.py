@@ -1,0 +1,1 @@
+"""What is said of a format: in words, of its rejection, and how it compares with another."""

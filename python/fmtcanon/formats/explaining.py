@@ -1,0 +1,236 @@
+"""Explains formats: what each directive prints, and how two formats differ.
+
+Every fact comes from a call of the library. A part of a directive has no effect if the library says that the directive
+without it is the same.
+"""
+
+from __future__ import annotations
+
+from typing import Dict, List, NamedTuple, Optional, Sequence, Tuple, Union
+
+import fmtcanon
+from fmtcanon import DirectiveSpan, Kind, Model, Refused, Type
+
+from ..kinds import TYPE_NAMES
+from ..specification import SpelledSpecification, specification_of
+from .rejections import instead_of, sentence
+from .verdicts import Argument, Library, PairKind, PairVerdict, taker_of, telling_arguments
+from .wording import Stars, meaning, meaning_of_number, note
+
+LIBRARY = Library()
+
+
+class ExplainedDirective(NamedTuple):
+    """A directive of a format: where it is, its text, its argument from 1, its type by data model, and in words what it
+    prints and which of its parts have no effect.
+    """
+
+    start: int
+    end: int
+    text: bytes
+    argument: int
+    types: Dict[Model, Type]
+    meaning: str
+    notes: Tuple[str, ...]
+
+
+class Marked(NamedTuple):
+    """A part of a format, by its offsets, and what is said of it."""
+
+    start: int
+    end: int
+    words: str
+
+
+class Explanation(NamedTuple):
+    """What a format does. `canonical` is empty if its arguments are numbered, and `bounds` None outside the profile."""
+
+    format: bytes
+    parts: Tuple[ExplainedDirective, ...]
+    canonical: Dict[Model, bytes]
+    bounds: Optional[fmtcanon.Bounds]
+
+
+class Difference(NamedTuple):
+    """How two formats compare.
+
+    `arguments` are some that they print differently, and `printed` is what each prints for them, if it can be had.
+    `at` is the index from 0 of the first argument at which their types or directives differ. `parts` are the
+    directives there: of each format one, or None.
+    """
+
+    formats: Tuple[bytes, bytes]
+    verdict: PairKind
+    canonical: Optional[bytes] = None
+    arguments: Tuple[Argument, ...] = ()
+    printed: Tuple[bytes, ...] = ()
+    at: Optional[int] = None
+    parts: Tuple[Optional[ExplainedDirective], ...] = ()
+
+
+class Rejection(NamedTuple):
+    """Why a format is rejected: the refusal, what it means, and what to write instead of the specification.
+
+    `side` is the index of the format, if two are compared. `types` is how their types compare, if numbered arguments are
+    all that is rejected. `at` is the offset of the byte as the program prints it: in string literals, if the format was
+    given as these.
+    """
+
+    format: bytes
+    refusal: Refused
+    help: str
+    instead: Optional[bytes]
+    side: Optional[int] = None
+    types: Optional[Difference] = None
+    at: Optional[int] = None
+
+    def __str__(self) -> str:
+        at = self.refusal.byte if self.at is None else self.at
+        return str(Refused(self.refusal.kind, self.refusal.name, at))
+
+
+def explain(text: bytes, model: Model) -> Explanation:
+    """Explains a format of the whole language. Raises `Refused`."""
+    spans = fmtcanon.directives(text, model=model)
+    types = {other: types_in(text, other) for other in Model}
+    by_model = [{it: found[at] for it, found in types.items() if found} for at in range(len(spans))]
+    parts = tuple(part_of(text, span, types_of) for span, types_of in zip(spans, by_model))
+    return Explanation(text, parts, canonical_by_model(text), bounds_of(text, model))
+
+
+def types_in(text: bytes, model: Model) -> List[Type]:
+    """Returns the type of each directive's argument, or none if the format is rejected in this data model."""
+    try:
+        return [it.type for it in fmtcanon.directives(text, model=model)]
+    except Refused:
+        return []
+
+
+def canonical_by_model(text: bytes) -> Dict[Model, bytes]:
+    """Returns the canonical text in each data model; none if arguments are numbered."""
+    try:
+        return {model: fmtcanon.canonical(text, model=model, whole=True) for model in Model}
+    except Refused:
+        return {}
+
+
+def bounds_of(text: bytes, model: Model) -> Optional[fmtcanon.Bounds]:
+    """Returns how many bytes a format of the profile prints."""
+    try:
+        return fmtcanon.bounds(text, model=model)
+    except Refused:
+        return None
+
+
+def part_of(text: bytes, span: DirectiveSpan, types: Dict[Model, Type]) -> ExplainedDirective:
+    """Returns a directive, whose types are these, with what it prints."""
+    spelling = text[span.start : span.end]
+    effective, notes = effects(specification_of(spelling))
+    stars = Stars(*(None if it is None else it + 1 for it in (span.width_argument, span.precision_argument)))
+    return ExplainedDirective(span.start, span.end, spelling, span.argument + 1, types, meaning(effective, stars), notes)
+
+
+def effects(found: SpelledSpecification) -> Tuple[SpelledSpecification, Tuple[str, ...]]:
+    """Returns the parts of a specification that have an effect, and a note on each other one."""
+    notes: List[str] = []
+    effective = found.without_numbers()
+    for name, spelling, shorter in found.without_numbers().shorter():
+        if is_same(found.without_numbers(), shorter):
+            notes.append(note(name, spelling, found))
+            without = [it for other, part, it in effective.shorter() if (other, part) == (name, spelling)]
+            effective = without[0] if is_same(effective, without[0]) else effective
+    notes += [f"`{flag}` is there more than once" for flag in dict.fromkeys(found.flags) if found.flags.count(flag) > 1]
+    return effective, tuple(notes)
+
+
+def is_same(first: SpelledSpecification, second: SpelledSpecification) -> bool:
+    """Returns whether two specifications are interchangeable in all data models."""
+    try:
+        return len(fmtcanon.same_in(str(first), str(second), whole=True)) == len(Model)
+    except Refused:
+        return False
+
+
+def reject(text: bytes, refusal: Refused, model: Model, side: Optional[int] = None) -> Rejection:
+    """Returns what a refusal of a format means."""
+    return Rejection(text, refusal, sentence(text, refusal), instead_of(text, refusal, model), side)
+
+
+def compare(first: bytes, second: bytes, model: Model) -> Union[Difference, Rejection]:
+    """Compares two formats."""
+    formats = (first, second)
+    try:
+        found = LIBRARY.compared(first, second, model)
+    except Refused as refusal:
+        rejection = reject(formats[refusal.side], refusal, model, refusal.side)
+        return rejection._replace(types=by_types(formats, model, refusal)) if refusal.kind is Kind.NUMBERED else rejection
+    if found.kind is PairKind.SAME:
+        return Difference(formats, found.kind, canonical=LIBRARY.canonical(first, model))
+    if found.kind is PairKind.DIFFERENT:
+        return printed_unlike(formats, found.arguments, model)
+    return Difference(formats, found.kind, at=found.at, parts=parts_at(formats, found.at, model))
+
+
+def by_types(formats: Tuple[bytes, bytes], model: Model, refusal: Refused) -> Optional[Difference]:
+    """Compares the types of two formats if one has numbered arguments; returns None if one is rejected."""
+    found = LIBRARY.by_types(*formats, model, refusal)
+    if found.kind is PairKind.TYPES:
+        return Difference(formats, found.kind, at=found.at, parts=parts_at(formats, found.at, model))
+    are_same = found.kind is PairKind.SAME or found.refusal is refusal
+    return Difference(formats, PairKind.SAME) if are_same else None
+
+
+def parts_at(formats: Sequence[bytes], index: int, model: Model) -> Tuple[Optional[ExplainedDirective], ...]:
+    """Returns the directive of each format that takes the argument of this index."""
+    return tuple(part_at(it, index, model) for it in formats)
+
+
+def part_at(text: bytes, index: int, model: Model) -> Optional[ExplainedDirective]:
+    """Returns the directive that takes the argument of this index, converted or as a `*`."""
+    taker = taker_of(text, index, model)
+    return next((it for it in explain(text, model).parts if taker and it.start == taker.start), None)
+
+
+def printed_unlike(formats: Tuple[bytes, bytes], arguments: Tuple[Argument, ...], model: Model) -> Difference:
+    """Returns what two formats print for arguments that show a difference, and the first directives that do."""
+    arguments = telling_arguments(LIBRARY, *formats, arguments, model)
+    printed = tuple(it for it in (printed_by(it, arguments, model) for it in formats) if it is not None)
+    first, second = (explain(it, model).parts for it in formats)
+    unlike = ((one, two) for one, two in zip(first, second) if not is_alike(one, two, arguments, model))
+    parts = tuple(about_argument(it, arguments) for it in next(unlike, ()))
+    return Difference(formats, PairKind.DIFFERENT, arguments=arguments, printed=printed, parts=parts)
+
+
+def about_argument(part: ExplainedDirective, arguments: Sequence[Argument]) -> ExplainedDirective:
+    """Returns a directive. If its argument is a number with a sign, its meaning is that for this number."""
+    argument = arguments[part.argument - 1]
+    said = meaning_of_number(specification_of(part.text), argument) if isinstance(argument, int) else None
+    return part._replace(meaning=said or part.meaning)
+
+
+def marked_parts(formats: Tuple[bytes, bytes], verdict: PairVerdict, model: Model) -> Sequence[Optional[Marked]]:
+    """Returns the directive of each of two formats that a verdict is about, with its type or what it prints; nothing if
+    the verdict is about none.
+    """
+    if verdict.kind is PairKind.TYPES:
+        takers = [taker_of(it, verdict.at, model) for it in formats]
+        return [it and Marked(it.start, it.end, TYPE_NAMES[it.type]) for it in takers]
+    parts: Sequence[Optional[ExplainedDirective]] = ()
+    if verdict.kind is PairKind.DIRECTIVES:
+        parts = parts_at(formats, verdict.at, model)
+    elif verdict.kind is PairKind.DIFFERENT:
+        parts = printed_unlike(formats, verdict.arguments, model).parts
+    return [it and Marked(it.start, it.end, it.meaning) for it in parts]
+
+
+def is_alike(first: ExplainedDirective, second: ExplainedDirective, arguments: Sequence[Argument], model: Model) -> bool:
+    """Returns whether two directives print the same for their arguments."""
+    if arguments[first.argument - 1] is None:
+        return True
+    one, two = (printed_by(it.text, [arguments[it.argument - 1]], model) for it in (first, second))
+    return one == two
+
+
+def printed_by(text: bytes, arguments: Sequence[Argument], model: Model) -> Optional[bytes]:
+    """Returns what a format prints, or None if it can't be had."""
+    return LIBRARY.printed(text, arguments, model)

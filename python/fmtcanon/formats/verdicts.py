@@ -1,0 +1,283 @@
+"""Asks how two formats compare in a data model, and where a format takes an argument.
+
+All that is asked of the library about a pair is asked here: its comparison in the whole language, and `fits` for the
+types of formats with numbered arguments, which the comparison rejects.
+"""
+
+import enum
+import re
+from typing import AnyStr, Iterator, List, NamedTuple, Optional, Sequence, Tuple, Union
+
+import fmtcanon
+from fmtcanon import Model
+
+from ..frame.visible import visible
+from ..kinds import TYPE_NAMES
+
+# What a specification has before its last byte. So after every other byte a piece of a format ends.
+INNER = b"%0123456789$-+ #'*.hljztL"
+# A number of a format. One with more digits is rejected as a width or a precision.
+NUMBER = re.compile(rb"(?<!\d)0*(\d{1,6})(?!\d)")
+# How much of a text is shown, and how much of that comes before the first difference.
+SHOWN, BEFORE = 60, 20
+# Strings up to the first length are not shortened, and up to the second they are shown; how many arguments are shown.
+SHORT, LONGEST, ARGUMENTS = 8, 20, 8
+
+
+class PairKind(enum.Enum):
+    """How two formats compare."""
+
+    SAME = "same"
+    WORDS = "words"
+    DIFFERENT = "different"
+    TYPES = "types"
+    DIRECTIVES = "directives"
+    REJECTED = "rejected"
+    UNJUDGED = "unjudged"
+
+
+# An argument: a number, a string, or None for one that may be anything.
+Argument = Union[int, bytes, None]
+
+
+class PairVerdict(NamedTuple):
+    """How two formats compare.
+
+    `at` is the index of the first argument at which the types or the directives differ. The two print `arguments`
+    differently. `reason` says why there is no verdict, or why the second format is rejected and the first isn't, and
+    `refusal` is the one that it is about, if there is one.
+    """
+
+    kind: PairKind
+    at: int = 0
+    arguments: Tuple[Argument, ...] = ()
+    reason: str = ""
+    refusal: Optional[fmtcanon.Refused] = None
+
+
+class Span(NamedTuple):
+    """Where a specification is in a format: the offsets of its `%` and of what follows it."""
+
+    start: int
+    end: int
+
+
+class Taker(NamedTuple):
+    """The specification that takes an argument: where it is, how it is spelled, and the argument's type."""
+
+    start: int
+    end: int
+    text: bytes
+    type: fmtcanon.Type
+
+    def __str__(self) -> str:
+        return f"{self.text.decode()} takes {TYPE_NAMES[self.type]}"
+
+
+def shared_front(first: AnyStr, second: AnyStr) -> int:
+    """Returns how long the front is that two texts share."""
+    low, high = 0, min(len(first), len(second))
+    while low < high:
+        middle = (low + high + 1) // 2
+        low, high = (middle, high) if first[low:middle] == second[low:middle] else (low, middle - 1)
+    return low
+
+
+def shared_back(first: bytes, second: bytes, front: int) -> int:
+    """Returns how long the back is that two texts share after a front of this length."""
+    low, high = 0, min(len(first), len(second)) - front
+    while low < high:
+        middle = (low + high + 1) // 2
+        is_equal = first[len(first) - middle : len(first) - low] == second[len(second) - middle : len(second) - low]
+        low, high = (middle, high) if is_equal else (low, middle - 1)
+    return low
+
+
+def narrowed(old: bytes, new: bytes) -> Tuple[int, int]:
+    """Returns the lengths of a front and of a back that two accepted formats share.
+
+    Neither ends within a specification. Without them the formats are the same exactly if they are with them.
+    """
+    front = len(old[: shared_front(old, new)].rstrip(INNER))
+    back = old[len(old) - shared_back(old, new, front) :].lstrip(INNER)
+    return front, max(len(back) - 1, 0)
+
+
+class Library:
+    """The questions to the library, each with the answer for bytes in a data model."""
+
+    def canonical(self, text: bytes, model: Model) -> bytes:
+        """Returns the canonical text of a format. Raises `Refused`."""
+        return fmtcanon.canonical(text, model=model, whole=True)
+
+    def verdict(self, old: bytes, new: bytes, model: Model) -> PairVerdict:
+        try:
+            return self.compared(old, new, model)
+        except fmtcanon.Refused as refusal:
+            return self.by_types(old, new, model, refusal)
+
+    def compared(self, old: bytes, new: bytes, model: Model) -> PairVerdict:
+        """Returns the verdict. Raises `Refused` for a format that the comparison rejects."""
+        found = fmtcanon.compare(old, new, model=model, whole=True)
+        at = (found.types_differ_at, found.directives_differ_at)
+        index = next((it for it in at if it is not None), 0)
+        return PairVerdict(PairKind[found.verdict.name], at=index, arguments=found.arguments or ())
+
+    def by_types(self, old: bytes, new: bytes, model: Model, refusal: fmtcanon.Refused) -> PairVerdict:
+        """Returns the verdict on formats if the comparison rejects one of them: only their types can be judged."""
+        if old == new:
+            return PairVerdict(PairKind.SAME)
+        unjudged = PairVerdict(PairKind.UNJUDGED, reason=f"{refusal} of {shown([old, new][refusal.side])}", refusal=refusal)
+        try:
+            if fmtcanon.fits(old, new, model=model):
+                return unjudged
+        except fmtcanon.Refused as other:
+            kind = PairKind.REJECTED if other.side else PairKind.UNJUDGED
+            return PairVerdict(kind, reason=f"{other} of {shown([old, new][other.side])}", refusal=other)
+        return PairVerdict(PairKind.TYPES, at=shared_front(self.types(old, model), self.types(new, model)))
+
+    def types(self, text: bytes, model: Model) -> bytes:
+        """Returns the types of the arguments of a format that is accepted, as the number of each."""
+        return fmtcanon._argument_codes(text, model)
+
+    def printed(self, text: bytes, arguments: Sequence[Argument], model: Model) -> Optional[bytes]:
+        """Returns what a format prints, with placeholders, or None if it can't be had."""
+        try:
+            return fmtcanon.printed(text, arguments, model=model)
+        except (ValueError, MemoryError):
+            return None
+
+
+def taker_of(text: bytes, argument: int, model: Model) -> Optional[Taker]:
+    """Returns the specification that takes the argument of this index, converted or as a `*`; None if none does."""
+    for one in fmtcanon.directives(text, model=model):
+        if argument == one.argument:
+            return Taker(one.start, one.end, text[one.start : one.end], one.type)
+        if argument in (one.width_argument, one.precision_argument):
+            return Taker(one.start, one.end, text[one.start : one.end], fmtcanon.Type.INT)
+    return None
+
+
+def argument_words(index: int) -> str:
+    """Returns how an argument is named: by its number from 1, as in `%1$d`."""
+    return f"argument {index + 1}"
+
+
+def both_take(takers: Sequence[Optional[Taker]]) -> str:
+    """Returns what the specifications of two formats take as one argument."""
+    return " and ".join("no argument" if it is None else str(it) for it in takers)
+
+
+def directives_in(text: bytes) -> Iterator[Span]:
+    """Yields where a text has specifications, also if it is not a format: then those before and after what is rejected."""
+    done = 0
+    # Most texts have none.
+    while text.find(b"%", done) >= 0:
+        try:
+            found = fmtcanon.directives(text[done:])
+        except fmtcanon.Refused as refusal:
+            at = done + refusal.byte
+            end = at if refusal.kind is fmtcanon.Kind.NUL_BYTE else text.rfind(b"%", done, at)
+            if end > done:
+                yield from (Span(it.start + done, it.end + done) for it in directives_in(text[done:end]))
+            done = max(at, done + 1)
+        else:
+            yield from (Span(it.start + done, it.end + done) for it in found)
+            return
+
+
+def specifications(text: bytes) -> bytes:
+    """Returns the specifications of a text without the words between them."""
+    return b"".join(text[it.start : it.end] for it in directives_in(text))
+
+
+def without_specifications(text: bytes) -> bytes:
+    """Returns the words of a text, with each specification as `%`."""
+    parts, done = [], 0
+    for one in directives_in(text):
+        parts.append(text[done : one.start])
+        done = one.end
+    return b"%".join([*parts, text[done:]])
+
+
+def only_words_differ(library: Library, old: bytes, new: bytes, model: Model) -> bool:
+    """Returns whether two formats that differ have the same directives."""
+    found = library.verdict(specifications(old), specifications(new), model)
+    return found.kind is PairKind.SAME
+
+
+def telling_arguments(
+    library: Library, old: bytes, new: bytes, arguments: Tuple[Argument, ...], model: Model
+) -> Tuple[Argument, ...]:
+    """Returns short arguments that two formats print differently.
+
+    If the words differ, too, they are arguments that the specifications print differently, if there are such.
+    """
+    if without_specifications(old) != without_specifications(new):
+        inner = specifications(old), specifications(new)
+        verdict = library.verdict(*inner, model)
+        if verdict.kind is PairKind.DIFFERENT:
+            found = shortened(library, *inner, verdict.arguments, model)
+            if is_told_apart(library, old, new, found, model):
+                return found
+    return shortened(library, old, new, arguments, model)
+
+
+def is_told_apart(library: Library, old: bytes, new: bytes, arguments: Sequence[Argument], model: Model) -> bool:
+    """Returns whether it is known that two formats print these arguments differently."""
+    first, second = (library.printed(it, arguments, model) for it in (old, new))
+    return first is not None and second is not None and first != second
+
+
+def shortened(
+    library: Library, old: bytes, new: bytes, arguments: Tuple[Argument, ...], model: Model
+) -> Tuple[Argument, ...]:
+    """Returns arguments whose long strings are as short as can be, so that the formats still print differently.
+
+    A width or a precision makes a difference at its own number or at the next.
+    """
+    numbers = sorted(
+        {int(it) + more for it in NUMBER.findall(specifications(old) + specifications(new)) for more in (0, 1)} | {0, 1}
+    )
+    found = list(arguments)
+    for at, argument in enumerate(arguments):
+        if not isinstance(argument, bytes) or len(argument) <= SHORT:
+            continue
+        for length in numbers:
+            if length >= len(argument):
+                break
+            tried = [*found[:at], argument[:length], *found[at + 1 :]]
+            if is_told_apart(library, old, new, tried, model):
+                found = tried
+                break
+    return tuple(found)
+
+
+def shown_argument(argument: Argument) -> str:
+    if argument is None:
+        return "any"
+    if isinstance(argument, int):
+        return str(argument)
+    return shown(argument) if len(argument) <= LONGEST else f'{shown(argument[:4])[:-1]}.." of {len(argument)} bytes'
+
+
+def shown_arguments(arguments: Sequence[Argument]) -> str:
+    """Returns a list of arguments, cut after `ARGUMENTS` of them."""
+    listed = [shown_argument(it) for it in arguments[:ARGUMENTS]]
+    return ", ".join([*listed, ".."] if len(arguments) > ARGUMENTS else listed)
+
+
+def shown(text: bytes) -> str:
+    """Returns a text as a string literal. What can't be seen, as a space that doesn't break, is an escape."""
+    return visible(fmtcanon.encode_literal(text).decode(errors="backslashreplace"))
+
+
+def cut(first: str, second: str) -> List[str]:
+    """Returns two texts cut short, so that each shows where they begin to differ."""
+    at = shared_front(first, second)
+    found = []
+    for text in (first, second):
+        start = max(at - BEFORE, 0) if max(len(first), len(second)) > SHOWN else 0
+        piece = text[start : start + SHOWN]
+        found.append((".." if start else "") + piece + (".." if start + SHOWN < len(text) else ""))
+    return found

@@ -1,0 +1,1 @@
+"""What all commands share: their command lines, findings, terminals, progress and processes."""

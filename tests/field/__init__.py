@@ -1,0 +1,1 @@
+"""Makes the figures of real catalogs and sources."""

@@ -1,0 +1,7 @@
+"""`python3 -m tests.mutants` tries mutants."""
+
+import sys
+
+from tests.mutants.mutants import main
+
+sys.exit(main())

@@ -1,0 +1,138 @@
+"""Tries the mutants of a crate, over a proof of the crate as it stands."""
+
+import re
+import shutil
+import threading
+from contextlib import contextmanager
+
+from tests.mutants.mutant_files import applied, batches
+from tests.mutants.reports import Report, Verdict, verdict_of
+from tests.mutants.schedule import Task
+from tests.mutants.work import run_rt, say
+
+ANSWER = re.compile(r"^(?:abbrev )?pub ([\w-]+) :", re.MULTILINE)
+# How many mutants share a check at least, if there are that many, and at most.
+LEAST, MOST = 30, 60
+
+
+class Trial:
+    """The trial of some mutants of one crate, and what became of each: a verdict, and the reason for it.
+
+    `refused` is called with the name of each mutant that is refused, and with the goal that refused it.
+    """
+
+    def __init__(self, name, mutants, work, refused=lambda mutant, goal: None):
+        self.name, self.mutants, self.work, self.refused = name, mutants, work, refused
+        self.crate, self.outcomes = work.crates.folder(name), {}
+        self.lock, self.free_copies = threading.Lock(), []
+        for mutant in mutants:
+            if mutant.is_broken():
+                self.settle(mutant, Verdict.BROKEN, mutant.why_broken)
+
+    def settle(self, mutant, verdict, why):
+        """Notes what became of a mutant, and prints it."""
+        with self.lock:
+            self.outcomes[mutant.name] = verdict, why
+            say(f"{self.name}/{mutant.name}: {verdict.value}: {why}")
+            if verdict is Verdict.REFUSED:
+                self.refused(mutant, why)
+
+    def left(self):
+        """Returns the mutants that are not settled."""
+        return [it for it in self.mutants if it.name not in self.outcomes]
+
+    def tasks(self, jobs):
+        """Returns the tasks that try what is left, once the crate is proved. What takes longest goes first: the mutants
+        of a high crate, and those of no function, each tried alone.
+        """
+        after, height = frozenset([("proof", self.name)]), -len(self.work.crates.below(self.name))
+        groups = [[it] for it in self.left() if not it.functions]
+        many = [it for it in self.left() if it.functions]
+        most = min(max(LEAST, -(-len(many) // jobs)), MOST)
+        groups += [group for group, _ in batches(many, self.crate, most)]
+        for number, group in enumerate(groups):
+            call = lambda group=group: (True, self.judge(group))  # noqa: E731
+            yield Task((self.name, number), call, after, (1, height, number))
+
+    def judge(self, mutants, has_answers=True):
+        """Tries mutants in one check, and returns the tasks that try those again that it doesn't show refused.
+
+        A failing answer hides the other goals of its function. So these are tried once more without the answers, all in
+        one check and then each alone, since another mutant may be the reason. If a check doesn't come to its end, its
+        mutants are tried in two parts.
+        """
+        report, half = self.checked(mutants, has_answers), len(mutants) // 2
+        if not report.is_whole() and half:
+            return [self.again(part, has_answers) for part in [mutants[:half], mutants[half:]]]
+        verdicts = [(it, *verdict_of(report, it)) for it in mutants]
+        left = [it for it, verdict, _ in verdicts if verdict is Verdict.LET_THROUGH]
+        if has_answers and any(answers_of(self.crate, it) for it in left):
+            more = [self.again(left, False)]
+        elif half:
+            more = [self.again([it], False) for it in left]
+        else:
+            more = []
+        for it, verdict, why in verdicts:
+            if not more or it not in left:
+                self.settle(it, verdict, why)
+        return more
+
+    def again(self, mutants, has_answers):
+        """Returns the task that tries these mutants once more."""
+        call = lambda: (True, self.judge(mutants, has_answers))  # noqa: E731
+        return Task((self.name, mutants[0].name, has_answers), call, rank=(1, 0, 0))
+
+    def checked(self, mutants, has_answers):
+        """Returns the report of a check of the functions that these mutants change, or of all if they change none."""
+        texts = {}
+        for it in mutants:
+            texts = applied(it.pairs, self.crate, texts)
+        answers = {} if has_answers else {file: goals for it in mutants for file, goals in answers_of(self.crate, it)}
+        paths = sorted({path for it in mutants for path in it.functions})
+        words = [word for path in paths for word in ("--only", f"{self.name}::{path}")]
+        with self.changed({**texts, **dict.fromkeys(answers, "")}) as folder:
+            said = run_rt(folder, "check", "--jobs", "1", "--allow-holes", *words)[0]
+        return Report(said, self.name, answers)
+
+    @contextmanager
+    def changed(self, texts):
+        """Gives a copy of the crate with these texts, in which nothing else is checked meanwhile."""
+        with self.lock:
+            copy = self.free_copies.pop() if self.free_copies else None
+        copy = copy or self.work.copy(self.name)
+        folder = copy / "crates" / self.name
+        for file, text in texts.items():
+            (folder / file).write_text(text, encoding="utf-8")
+        yield folder
+        for file in texts:
+            shutil.copyfile(self.work.crate(self.name) / file, folder / file)
+        with self.lock:
+            self.free_copies.append(copy)
+
+    def end(self):
+        """Settles what was not judged, and returns how many mutants were refused and how many not."""
+        for mutant in self.left():
+            self.settle(mutant, Verdict.NOT_JUDGED, "the crate, or one below it, is not proved without it")
+        refused = sum(verdict is Verdict.REFUSED for verdict, _ in self.outcomes.values())
+        return refused, len(self.mutants) - refused
+
+    def name_what_is_not_refused(self):
+        """Prints once more, for the end of a long log, which mutants were not refused."""
+        for name, (verdict, why) in self.outcomes.items():
+            if verdict is not Verdict.REFUSED:
+                say(f"not refused: {self.name}/{name}: {verdict.value}: {why}")
+
+
+def answers_of(crate, mutant):
+    """Returns the proof files with answers to goals of the functions that a mutant changes, and of their closures, each
+    with the goals that it answers.
+    """
+    found = []
+    for path in sorted(mutant.functions):
+        module, _, name = path.rpartition("::")
+        outer, _, block = module.rpartition("::")
+        folders = [path, *(f"{m}::fn::{f}" for m, f in [(module, name), (outer, f"{block}::{name}")])]
+        for folder in folders:
+            for file in sorted((crate / "proofs" / folder.strip(":").replace("::", "/")).rglob("Answers.antt")):
+                found.append((str(file.relative_to(crate)), frozenset(ANSWER.findall(file.read_text(encoding="utf-8")))))
+    return found

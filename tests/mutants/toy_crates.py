@@ -1,0 +1,153 @@
+"""Three small crates, each above the one before, and mutants of the lowest with the verdict that each must get."""
+
+from tests.mutants.reports import Verdict
+
+FILES = {
+    "crates.txt": "low:\nmiddle: low\nfmtcanon_c: low middle\n",
+    "HANDLES": "Handles allowed: none.\n",
+    "Makefile": "library:\n\t@echo built over $(notdir $(C_CRATE))\n",
+    "crates/low/specs/Lib.antt": "pub mod Doubles\npub mod Signs\n",
+    "crates/low/specs/Doubles.antt": """-- Twice a number.
+use Rattle.std.specs.Prelude.{ℕ, ◌+◌}
+
+unfoldable pub doubled : ℕ → ℕ
+doubled n = n + n
+
+abbrev pub tripled : ℕ → ℕ
+tripled n = n + n + n
+""",
+    "crates/low/specs/Signs.antt": """-- A sign between two numbers.
+use Rattle.std.specs.Prelude.{ℕ, ◌+◌}
+
+infixl 20 ◌⊕◌
+
+abbrev pub ◌⊕◌ : ℕ → ℕ → ℕ
+n ⊕ m = n + m
+""",
+    "crates/low/src/lib.rt": """//! Functions whose mutants are tried.
+#![tactic(auto)]
+
+ghost use Rattle.std.specs.Prelude.{◌≡◌, ◌%◌};
+ghost use Rattle.low.specs.Doubles.{doubled};
+
+const LIMIT: u32 = 100;
+
+/// Returns twice the number.
+pub fn twice(n: u8) -> u32
+    ensures { result ≡ doubled n }
+{
+    let wide = u32::from(n);
+    wide + wide
+}
+
+/// Returns the same number.
+pub fn same(n: u32) -> u32
+    ensures { result ≡ n }
+{
+    let kept = n;
+    kept
+}
+
+/// Returns the low bits, which has an answer that no other wording fits.
+pub fn low_bits(n: u32) -> u32
+    ensures { result ≡ n % 65536 }
+{
+    n % 65536
+}
+
+/// Returns twice the number, which is even; one of the two clauses has an answer.
+pub fn even(n: u8) -> u32
+    ensures twice { result ≡ doubled n }
+    ensures even { result % 2 ≡ 0 }
+{
+    let wide = u32::from(n);
+    wide + wide
+}
+
+/// Returns the limit.
+pub fn limit() -> u32
+    ensures { result ≡ 100 }
+{
+    LIMIT
+}
+""",
+    # It names the step `wide`.
+    "crates/low/proofs/twice/Answers.antt": """use Rattle.std.proofs.Common.{ap, ◌+◌}
+use Rattle.low.specs.Doubles.{doubled}
+use Rattle.low.proofs.twice.Goals as goal
+
+pub returns : goal.returns
+unfolding doubled
+returns c = ap (λ n. n + n) c.from-wide.ensures
+""",
+    "crates/low/proofs/even/Answers.antt": """use Rattle.std.proofs.Common.{ap, ◌+◌}
+use Rattle.low.specs.Doubles.{doubled}
+use Rattle.low.proofs.even.Goals as goal
+
+pub returns-clause-twice : goal.returns-clause-twice
+unfolding doubled
+returns-clause-twice c = ap (λ n. n + n) c.from-wide.ensures
+""",
+    "crates/low/proofs/low_bits/Answers.antt": """use Rattle.std.proofs.Common.{refl}
+use Rattle.low.proofs.low_bits.Goals as goal
+
+pub returns : goal.returns
+returns c = refl
+""",
+    "crates/middle/src/lib.rt": """//! A crate above it.
+#![tactic(auto)]
+
+ghost use Rattle.std.specs.Prelude.{◌≡◌};
+ghost use Rattle.low.specs.Doubles.{doubled};
+
+use low::twice;
+
+/// Returns twice the number.
+pub fn by_two(n: u8) -> u32
+    ensures { result ≡ doubled n }
+{
+    twice(n)
+}
+""",
+    "crates/fmtcanon_c/src/lib.rt": """//! A crate above both.
+#![tactic(auto)]
+
+use low::same;
+use middle::by_two;
+
+/// Returns twice the number.
+pub fn again(n: u8) -> u32 {
+    same(by_two(n))
+}
+""",
+}
+WIDE = "file: src/lib.rt\nafter: pub fn twice\nold: let wide = u32::from(n);\nnew: "
+EVEN = "file: src/lib.rt\nafter: pub fn even\nold: wide + wide\nnew: "
+# Mutants of low, and what becomes of each.
+MUTANTS = {
+    "no-search": ("file: src/lib.rt\nold: let kept = n;\nnew: let kept = 1;", Verdict.REFUSED),
+    "another-goal": (f"{WIDE}let wide = u32::from(n); if n == 7 {{ return 3; }}", Verdict.REFUSED),
+    "constant": ("file: src/lib.rt\nold: u32 = 100\nnew: u32 = 101", Verdict.REFUSED),
+    # Its answer fails, too, and hides the other clause until it is set aside.
+    "beside-an-answer": (f"{EVEN}wide + wide + 1", Verdict.REFUSED),
+    # Wrong, but only an answer fails; and then three that mean the same.
+    "answer-alone": ("file: src/lib.rt\nafter: pub fn twice\nold: wide + wide\nnew: wide + 1", Verdict.LET_THROUGH),
+    "harmless": ("file: src/lib.rt\nold:     n % 65536\nnew:     n % 65536 % 65536", Verdict.LET_THROUGH),
+    "renamed": (f"{WIDE}let broad = u32::from(n); let wide = broad;", Verdict.LET_THROUGH),
+    "same-meaning": ("file: src/lib.rt\nold: let kept = n;\nnew: let kept = (n);", Verdict.LET_THROUGH),
+    "not-there": ("file: src/lib.rt\nold: let lost = n;\nnew: let kept = n;", Verdict.BROKEN),
+    "contract": ("file: src/lib.rt\nold: result ≡ 100\nnew: 100 ≡ 100", Verdict.BROKEN),
+    "another-type": ("file: src/lib.rt\nold: let kept = n;\nnew: let kept = true;", Verdict.BROKEN),
+}
+
+
+def mutants_text(names):
+    """Returns the text of a `mutants.txt` with these mutants."""
+    return "".join(f"mutant: {name}\n{MUTANTS[name][0]}\n\n" for name in names)
+
+
+def write(folder, files):
+    """Writes files, by their path below the folder."""
+    for path, text in files.items():
+        (folder / path).parent.mkdir(parents=True, exist_ok=True)
+        (folder / path).write_text(text, encoding="utf-8")
