@@ -1,6 +1,7 @@
 -- Where the specification begins in which a text is refused: after items, where no more begins.
 use Rattle.std.proofs.Common.{◌≡◌, ◌≢◌, ℕ, ◌+◌, ◌-◌, ◌<◌, ◌≤◌, Bool, true, false, List, [], ◌∷◌, ◌++◌, length, length-append, get_or, drop, drop-drop, take, inl, inr, refl, sym, ap, ◌∙◌, arith, subst}
 use Rattle.std.specs.Prelude.{◌⊎◌, ◌==◌, if◌then◌else◌}
+use Rattle.std.proofs.lemmas.Bool.{eqb-true}
 use Rattle.std.proofs.lemmas.List.{append_assoc, drop-append-le, drop_more, length-drop}
 use Rattle.std.proofs.Math.Seq.{drop-append_seam}
 use Rattle.pf_values.specs.meaning.Text.{Text}
