@@ -31,7 +31,7 @@ OTHERS = {
     "n": "nothing: the number of bytes printed so far is stored",
 }
 ERRNO = "the message of errno, as strerror returns it"
-ERRNO_NOTE = "POSIX has it in syslog alone, and the C libraries of GNU, musl and uClibc in all functions of printf"
+ERRNO_NOTE = "POSIX has it in syslog; the C libraries of GNU, musl and uClibc in printf, too"
 PREFIXES = {
     "o": "a leading `0`",
     "x": "`0x` before a number other than 0",
