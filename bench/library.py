@@ -23,7 +23,7 @@ BENCH = Path(__file__).resolve().parent
 HEADERS = BENCH.parent / "include"
 ONE = ["check", "types", "bounds", "arguments", "is_canonical", "canonical", "canonical_length"]
 TWO = ["fits, itself", "fits_fewer, itself", "fits_fewer, the last directive left out", "same, itself", "same, first byte changed", "same, a byte appended", "same, last byte changed"]
-WHOLE = ["arguments", "directives", "whole_canonical", "whole_canonical_length"]
+WHOLE = ["arguments", "directives", "specifications", "whole_canonical", "whole_canonical_length"]
 WHOLE_TWO = ["fits, itself", "whole_same, itself", "whole_same, a byte appended"]
 # The formats of printing.c, in its order.
 PRINTED = ["%d %s", r"Total: %5d of %-8s.\n", "%300d %s"]

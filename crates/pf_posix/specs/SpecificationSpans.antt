@@ -3,7 +3,7 @@ use Rattle.std.specs.Prelude.{◌≡◌, ◌≢◌, ℕ, ◌+◌, ◌-◌, List,
 use Rattle.std.specs.List.{AllByRecursion}
 use Rattle.pf_values.specs.declared.flags.Flag.{Flag}
 use Rattle.pf_values.specs.declared.models.Model.{Model}
-use Rattle.pf_values.specs.meaning.Flags.{flag_byte, flag_set}
+use Rattle.pf_values.specs.meaning.Flags.{flag_byte, flag_set, no_flags}
 use Rattle.pf_values.specs.meaning.Text.{Text, percent}
 use Rattle.pf_text.specs.Offsets.{HasBytes}
 use Rattle.pf_text.specs.declared.refusals.TextFault.{TextFault}
@@ -40,6 +40,10 @@ without_number (Some (Fetched number)) = Some (Fetched None)
 -- the specification alone, as a text of its own has it: without the numbers of its arguments
 abbrev pub alone : PosixSpecification → PosixSpecification
 alone s = record s { position = None; width = without_number s.width; precision = without_number s.precision }
+
+-- what a buffer holds before specifications are listed: one without parts
+abbrev pub IsBlank : SpecificationSpan → Type 0
+IsBlank span = (span.parts.flags ≡ no_flags) × (span.parts.width ≡ None) × (span.parts.precision ≡ None)
 
 -- a specification is defined, and its offsets and parts are those of the bytes that it is
 pub record HasItsParts (t : Text) (span : SpecificationSpan) : Type 0 where

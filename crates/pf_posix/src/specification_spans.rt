@@ -6,7 +6,7 @@ ghost use Rattle.pf_posix.specs.Halts.{offsets_read};
 ghost use Rattle.pf_posix.specs.Items.{IsPosixAccepted};
 ghost use Rattle.pf_posix.specs.PartsInText.{specification_read};
 ghost use Rattle.pf_posix.specs.Refusals.{IsPosixRefusedAt};
-ghost use Rattle.pf_posix.specs.SpecificationSpans.{FaultForSpecifications, HasSpecificationCount, HasSpecifications};
+ghost use Rattle.pf_posix.specs.SpecificationSpans.{FaultForSpecifications, HasSpecificationCount, HasSpecifications, IsBlank};
 
 use crate::argument_types::{arguments, put, room_for};
 use crate::conversions::{Conversion, Modifier};
@@ -44,6 +44,8 @@ pub struct SpecificationSpan {
 
 // What a buffer holds before specifications are listed.
 impl Default for SpecificationSpan {
+    ghost is_default = { IsBlank };
+
     fn default() -> SpecificationSpan {
         SpecificationSpan {
             directive: DirectiveSpan::default(),

@@ -251,6 +251,17 @@ together_more question each some part h has none = record {
   none = none;
 }
 
+-- all but the precision
+pub together_less : (question : Question) (each : PartSet)
+    → HaveNoEffect question.model (parts_of_opaque question.directive) (record each { precision = false })
+    → AreTogether question each (record each { precision = false })
+together_less question each none = record { among = λ part. kept_of each part; none = none } where
+  kept_of : (each : PartSet) (part : Part) → has_part (record each { precision = false }) part ≡ true → has_part each part ≡ true
+  kept_of each (Flag flag) e = e
+  kept_of each Width e = e
+  kept_of each Precision e = cc
+  kept_of each Modifier e = e
+
 -- no parts have no effect
 pub nothing_left : (model : Model) (s : PosixSpecification) (text : Text) → s.position ≡ None → SpellsPosixItem text (Specification s)
     → HaveNoEffect model s no_parts

@@ -1,5 +1,5 @@
 //! Which parts of a conversion specification have no effect.
-ghost use Rattle.std.specs.Prelude.{◌≡◌, ◌↔◌, IsTrue, true};
+ghost use Rattle.std.specs.Prelude.{◌≡◌, ◌↔◌, IsTrue, false, true};
 ghost use Rattle.pf_values.specs.meaning.Text.{Text};
 ghost use Rattle.pf_posix.specs.Items.{Specification, SpellsPosixItem};
 ghost use Rattle.pf_posix.specs.Opaque.{is_opaque};
@@ -97,7 +97,7 @@ impl Question<'_> {
         each.with(part)
     }
 
-    // Some of these parts, which have no effect together: all of them, if that holds.
+    // Some of these parts, which have no effect together: all of them, if that holds, or all but the precision.
     fn together(&self, each: PartSet) -> PartSet
         requires { IsPartQuestion self.now }
         ensures { AreTogether self.now each result }
@@ -107,6 +107,10 @@ impl Question<'_> {
         }
         if self.have_no_effect(each) {
             return each;
+        }
+        let less = without_precision(each);
+        if self.have_no_effect(less) {
+            return less;
         }
         let some = self.gather(PartSet::empty(), each, Part::Flag(Flag::Minus));
         let some = self.gather(some, each, Part::Flag(Flag::Plus));
@@ -166,5 +170,16 @@ impl Question<'_> {
             Opaque::Directive(self.directive),
             Opaque::Directive(shorter),
         )
+    }
+}
+
+fn without_precision(set: PartSet) -> PartSet
+    ensures { result ≡ record set { precision = false } }
+{
+    PartSet {
+        flags: set.flags,
+        width: set.width,
+        precision: false,
+        modifier: set.modifier,
     }
 }

@@ -30,6 +30,8 @@ OTHERS = {
     "p": "the pointer, as the C library writes it",
     "n": "nothing: the number of bytes printed so far is stored",
 }
+ERRNO = "the message of errno, as strerror returns it"
+ERRNO_NOTE = "POSIX has it in syslog alone, and the C libraries of GNU, musl and uClibc in all functions of printf"
 PREFIXES = {
     "o": "a leading `0`",
     "x": "`0x` before a number other than 0",
