@@ -65,7 +65,7 @@ LIMITS = {
     "docs/TRANSLATIONS.md": 1100,
     "docs/EXPLAINING.md": 420,
     # With the figures of real sources and of compilers.
-    "docs/PORTING.md": 1400,
+    "docs/PORTING.md": 1420,
     "docs/REFACTORING.md": 1450,
     # With a part for each kind, the table of flags, and the grammar.
     "docs/REFUSALS.md": 2050,
