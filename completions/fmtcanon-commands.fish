@@ -20,7 +20,7 @@ for command in fmtcanon-check fmtcanon-replace
     complete -c $command -l diff -d 'print what --fix would do as a unified diff'
 end
 complete -c fmtcanon-check -l fix -d 'write what is proposed where only a length modifier changes'
-complete -c fmtcanon-check -l fail-on -x -a 'size kind rank sign composed lost unjudged skipped fixed' -d 'the kinds of findings for which the status is 1'
+complete -c fmtcanon-check -l fail-on -x -a 'size kind rank sign composed lost errno unjudged skipped fixed' -d 'the kinds of findings for which the status is 1'
 complete -c fmtcanon-replace -l fix -d 'replace the formats, which is the default'
 complete -c fmtcanon-replace -l fail-on -x -a 'replaced skipped' -d 'the kinds of findings for which the status is 1'
 complete -c fmtcanon-check -l type -x -d 'a typedef and the type that it is'

@@ -188,8 +188,8 @@ class Comparison(NamedTuple):
 
     For `Verdict.TYPES`, `types_differ_at` is the index of the first argument whose types differ. For
     `Verdict.DIFFERENT`, `arguments` are arguments that the two print differently, numbers and bytes; None among
-    them is an argument that may be any. For `Verdict.DIRECTIVES`, `directives_differ_at` is the index of the
-    first argument of a call that only one of the two makes. Otherwise they are None.
+    them is an argument that may be any. For `Verdict.DIRECTIVES`, `directives_differ_at` is the smaller index of
+    the first argument of the directives at the first place at which they differ. Otherwise they are None.
     """
 
     verdict: Verdict

@@ -23,7 +23,7 @@ from fmtcanon.compiling.retargeting import retargeted, write_headers
 from fmtcanon.compiling.stand_ins import Original
 from fmtcanon.diff import compiled
 from fmtcanon.fitting import composing, fixing, proposals, reporting
-from fmtcanon.fitting.judging import Fit, fit_of, judged, without_errno
+from fmtcanon.fitting.judging import Fit, fit_of, judged
 from fmtcanon.fitting.locating import Located, Piece, with_markers
 from fmtcanon.frame.findings import Finding
 from fmtcanon.source.respelling import runs_in
@@ -298,10 +298,22 @@ class Judging(unittest.TestCase):
         self.assertEqual([it.is_star for it in (first, second)], [True, True])
 
     def test_errno(self):
-        for text in [b"%m", b"a %5m of %d", b"%%m", b"%%%m", b"%-10.3m|"]:
-            self.assertEqual(len(without_errno(text)), len(text))
-        self.assertEqual(without_errno(b"%%m %m %d"), b"%%m %% %d")
+        """`%m` takes no argument, and it is reported where it is missing, unless the function is syslog."""
         self.assertEqual([it.directive for it in faults_of("%m: %lu %lu", "size_t", count=2)], ["%lu", "%lu"])
+        for format, function, at in [
+            ("%d: %m", "printf", [4]),
+            ("%d: %m %m", "error", [4]),
+            ("%d %%m", "printf", []),
+            ("%d: %m", "syslog", []),
+            ("%d: %m", "vsyslog", []),
+        ]:
+            calls = [it._replace(function=function) for it in calls_of(format, "int")]
+            found = judged([{(1, function, 0): it} for it in calls])
+            self.assertEqual(([it.at for it in found.errnos], found.faults, found.refused), (at, [], []), format)
+            for one in found.errnos:
+                shown = reporting.errno_finding(one)
+                self.assertEqual((shown.kind, shown.level, shown.models), ("errno", "warning", ("llp64",)))
+                self.assertIn(f"a format of {function}: missing on 64-bit Windows", shown.message)
 
     def test_lost_and_refused(self):
         calls = calls_of("%lu", "size_t")

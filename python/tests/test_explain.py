@@ -15,6 +15,7 @@ from fmtcanon import Kind, Model
 from fmtcanon.explain.command import main
 from fmtcanon.formats.explaining import explain
 from fmtcanon.formats.rejections import ADVICE, HELP
+from fmtcanon.formats.wording import ERRNO_NOTE
 from fmtcanon.specification import specification_of
 
 TOP = Path(__file__).resolve().parents[2]
@@ -96,6 +97,31 @@ class Directives(unittest.TestCase):
         [part] = found["directives"]
         self.assertEqual((status, part["argument"], part["meaning"].split(", ")[1]), (0, 2, part_of_width()))
         self.assertIsNone(found["canonical"])
+
+    def test_errno(self):
+        """`%m` has a caret line and no argument, and where directives differ it is shown if the other format lacks it."""
+        _, found = asked("%d: %m")
+        number, errno = found["directives"]
+        self.assertEqual((number["argument"], errno["argument"], errno["types"]), (1, None, {}))
+        self.assertEqual((errno["start"], errno["end"], errno["text"]), (4, 6, "%m"))
+        _, lines = run("%d: %m")
+        words = "    ^^   no argument: the message of errno, as strerror returns it"
+        self.assertEqual([lines[2], lines[3].strip()], [words, ERRNO_NOTE])
+        for first, second, argument, texts in [
+            ("%m%d", "%d%m", 1, ["%m", "%d"]),
+            ("%m%f", "%m%e", 1, ["%f", "%e"]),
+            ("%m%m", "%m", 1, ["%m", None]),
+            ("%d%m%f", "%d%f", 2, ["%m", "%f"]),
+        ]:
+            status, found = asked(first, second)
+            shown = [it and it["text"] for it in found["directives"]]
+            self.assertEqual((status, found["verdict"], found["argument"], shown), (1, "directives", argument, texts))
+        _, found = asked("%m%s", "%d")
+        self.assertEqual([it["text"] for it in found["directives"]], ["%s", "%d"])
+
+    def test_instead_of_errno(self):
+        """Only if something stands between: `% m` may be a forgotten percent sign."""
+        self.assertEqual([asked(it)[1]["refusal"].get("write") for it in ("%5m", "%-m", "5% more")], ["%m", "%m", None])
 
     def test_numbers_of_bytes(self):
         for text, least, greatest in [("%d", 1, 11), ("%.3s %c%%", 3, 6), ("id=%s", 3, None), ("", 0, 0)]:

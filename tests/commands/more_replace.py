@@ -516,6 +516,9 @@ def test_trees(tool, trials):
         [(*(one[it] for it in ["file", "line", "column", "kind", "level", "old"]), one.get("new")) for one in found],
         wanted,
     )
+    start = TREE["tree/a.c"].index('"%i')
+    fix = {"start": start, "end": start + 6, "text": '"%d\\n"', "cast": None, "include": None, "verified": True}
+    trials.expect("fixes as JSON", [found[0]["fix"], found[2]["fix"]], [fix, None])
     after = (tool.work / "tree/a.c").read_text()
     trials.expect("a file after pairs", after, TREE["tree/a.c"].replace("%i", "%d").replace("%5c", "    %c"))
     tool.put("tree/a.c", TREE["tree/a.c"])

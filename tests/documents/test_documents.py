@@ -139,6 +139,8 @@ def tested_counts():
         opaque.PAIRS,
         opaque.UNLIKE,
     ]
+    given = data_rows("errno.jsonl")
+    yield r"`%m` \| rows, (\d+) of them of a model \| (\d+) \|", [len(given) - HAND_ERRNO, len(given)]
     yield r"a regular expression \| (\d+) formats", [whole_types.RANDOM]
     numbers = [sum(1 for _ in bounds_peers.directives()), bounds_peers.WHOLE, sum(1 for _ in bounds_peers.asked())]
     yield r"(\d+) directives, (\d+) formats, and (\d+) directives", numbers
@@ -188,6 +190,7 @@ HAND_RECORDS = 11
 HAND_LITERALS = 27
 HAND_WHOLE = 44
 HAND_OPAQUE = 11
+HAND_ERRNO = 18
 # Numbers of that table that these scripts don't have.
 PLAIN_NUMBERS = [
     r"16 shapes",

@@ -63,7 +63,7 @@ def try_streams(program, trials, name):
 
 
 def test_streams(program, trials):
-    for name in ["records", "literals", "whole", "opaque", "bounds"]:
+    for name in ["records", "literals", "whole", "opaque", "errno", "bounds"]:
         try_streams(program, trials, f"{name}.jsonl")
 
 

@@ -21,7 +21,7 @@ on all of them.
 Each file is preprocessed by its own compiler, for 64-bit Unix. In that text, the types of the C library get those of \
 each platform, and libclang (the package python3-clang) parses it for that platform, whose headers are not needed.
 
-FILE is a file or a folder, whose C files are all read. Without one, all files of the compile commands in -p are read."""
+FILE is a file or a folder, whose C and C++ files are all read. Without one, all files of the compile commands in -p are read."""
 EPILOG = f"""\
 Examples:
   fmtcanon-check src/*.c

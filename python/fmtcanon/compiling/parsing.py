@@ -37,6 +37,7 @@ LINE_MARKER = re.compile(r"(?m)^# \d+ .*")
 # The kinds of cursors and the answers of a visitor, as the C interface of libclang numbers them.
 FUNCTION_DECL, TYPEDEF_DECL, CALL_EXPR, VISIT_NEXT, VISIT_INSIDE = 8, 20, 103, 1, 2
 ERROR = 3
+MEMBERS = ("CXX_METHOD", "CONSTRUCTOR")
 # Where a declaration is that isn't at file scope.
 SCOPES = ("NAMESPACE", "CLASS_DECL", "STRUCT_DECL", "CLASS_TEMPLATE", "UNION_DECL")
 
@@ -130,7 +131,8 @@ class Parsed:
         if format is None or first is None:
             return UNREADABLE
         # Attributes of a member count the object, and its calls don't.
-        before = 2 if declaration.kind.name in ("CXX_METHOD", "CONSTRUCTOR") and not declaration.is_static_method() else 1
+        is_member = declaration.kind.name in MEMBERS and not declaration.is_static_method()
+        before = 2 if is_member else 1
         return Shape(format - before, first - before if first else None)
 
     def is_own_header(self, file: str, header: "re.Pattern[str]") -> bool:

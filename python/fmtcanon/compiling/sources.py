@@ -29,7 +29,8 @@ class Files:
         """
         seen = set()
         for name in self.named(with_headers):
-            if name.path not in seen and not is_stand_in(name.path) and not is_excluded(name.shown, self.options.exclude):
+            is_read = not is_stand_in(name.path) and not is_excluded(name.shown, self.options.exclude)
+            if name.path not in seen and is_read:
                 seen.add(name.path)
                 yield name
 

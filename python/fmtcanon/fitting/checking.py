@@ -5,6 +5,7 @@ from typing import Any, Callable, Counter, Dict, Hashable, List, NamedTuple, Opt
 
 from ..compiling.compile_commands import CompileCommand
 from ..compiling.left import Left, own_trouble
+from ..compiling.platforms import LLP64
 from ..frame.findings import NOTE, WARNING, Finding
 from ..models import Model
 from . import reporting
@@ -148,6 +149,9 @@ def add(answer: Answer, question: Question, unit: Unit, result: Judged, where: O
     for call, names in result.lost:
         message = f"the call of {call.function} isn't there{reporting.listed(names)}"
         found[call.file, call.line, message] = Found(reporting.finding_of_call(call, LOST, message, models))
+    for errno in result.errnos if LLP64.model in models else ():
+        finding = reporting.errno_finding(errno)
+        found[errno.call.file, errno.call.line, finding.message] = Found(finding)
     for refused in result.refused:
         finding = reporting.refused_finding(refused, models)
         found[refused.call.file, refused.call.line, finding.message] = Found(finding)

@@ -9,7 +9,7 @@ from ..compiling.calls import Key
 from ..compiling.platforms import PLATFORMS
 from ..models import Model
 from ..source.respelling import LiteralRun
-from .judging import Fault, Fit, PlatformText, faults_of, without_errno
+from .judging import Fault, Fit, PlatformText, faults_of
 from .locating import Located, Use
 from .proposals import proposal
 from .unit import Unit
@@ -86,8 +86,7 @@ def converted(fault: Fault) -> Converted:
 
 def faults_with(unit: Unit, text: bytes, uses: Iterable[Use]) -> Iterable[Fault]:
     """Yields the faults, worse than a sign, that the calls with a place have with another text of it."""
-    plain = without_errno(text)
-    texts = [PlatformText(plain, directives(plain, model=it.model)) for it in PLATFORMS]
+    texts = [PlatformText(text, directives(text, model=it.model)) for it in PLATFORMS]
     for use in uses:
         calls = [it[use.key] for it in unit.calls if use.key in it]
         if len(calls) == len(PLATFORMS):

@@ -9,7 +9,7 @@ from .. import BadLiteral, DirectiveSpan, Refused, decode_literal, directives
 from ..compiling.calls import Argument, Call, Key
 from ..compiling.formats import Format, Literal
 from ..compiling.platforms import PLATFORMS, Platform
-from ..formats.items import errno_parts, items_of
+from ..formats.items import errnos_of
 from ..kinds import Type
 from ..models import Model
 
@@ -50,6 +50,8 @@ class Fit(enum.Enum):
 
 
 ORDER = list(Fit)
+# The functions for which POSIX has `%m`.
+WITH_ERRNO = ("syslog", "vsyslog")
 MISSING = Argument(None, "", "missing")
 
 
@@ -119,14 +121,23 @@ class RefusedFormat(NamedTuple):
     why: Union[Refused, BadLiteral]
 
 
+class ErrnoFormat(NamedTuple):
+    """A format with `%m` of a function whose `%m` some platform's C library lacks: its call, its text, and where that is."""
+
+    call: Call
+    text: bytes
+    at: int
+
+
 class Judged(NamedTuple):
     """What is found in a unit: its faults, the formats that fit their calls except in a sign, the calls that a platform
-    lacks, the formats that aren't accepted, and how many formats and arguments were judged.
+    lacks, the formats with `%m`, those that aren't accepted, and how many formats and arguments were judged.
     """
 
     faults: List[Fault]
     fitting: Set[Tuple[Key, int]]
     lost: List[Tuple[Call, List[str]]]
+    errnos: List[ErrnoFormat]
     refused: List[RefusedFormat]
     formats: int
     arguments: int
@@ -152,18 +163,6 @@ def fit_of(wanted: Type, given: Argument, model: Model) -> Fit:
     return Fit.RANK if bits_of(wanted, model) == bits_of(given.type, model) else Fit.SIZE
 
 
-def without_errno(text: bytes) -> bytes:
-    """Returns a format of the same length in which `%%` and more bytes replace each `%m` of glibc and syslog, which
-    takes no argument, and which the library rejects.
-    """
-    parts, done = [], 0
-    for item in items_of(text) if b"m" in text else ():
-        if b"*" not in item.inner and errno_parts(item):
-            parts += [text[done : item.start], b"%%", b"_" * (len(item.text) - 2)]
-            done = item.start + len(item.text)
-    return b"".join([*parts, text[done:]])
-
-
 class PlatformText(NamedTuple):
     """A format on a platform: its text, and its directives."""
 
@@ -178,9 +177,8 @@ def text_of(format: Format, platform: Platform) -> PlatformText:
 
 
 def bytes_of(format: Format) -> bytes:
-    """Returns the text of a format, without `%m`. Raises `BadLiteral`."""
-    text = decode_literal(format.source.encode("utf-8", "surrogateescape"))
-    return without_errno(text[format.skipped :])
+    """Returns the text of a format. Raises `BadLiteral`."""
+    return decode_literal(format.source.encode("utf-8", "surrogateescape"))[format.skipped :]
 
 
 def arguments_of(spans: Sequence[DirectiveSpan]) -> Iterator[Tuple[int, int, Type]]:
@@ -212,7 +210,7 @@ def faults_of(key: Key, calls: Sequence[Call], number: int, texts: Sequence[Plat
 
 def judged(units: Sequence[Mapping[Key, Call]]) -> Judged:
     """Judges the calls of a unit, which are those of each platform."""
-    result = Judged([], set(), [], [], 0, 0)
+    result = Judged([], set(), [], [], [], 0, 0)
     formats = arguments = 0
     for key, call in units[0].items():
         calls = [it[key] for it in units if key in it and len(it[key].formats) == len(call.formats)]
@@ -229,6 +227,8 @@ def judged(units: Sequence[Mapping[Key, Call]]) -> Judged:
             except BadLiteral as why:
                 result.refused.append(RefusedFormat(call, b"", why))
                 continue
+            if call.function not in WITH_ERRNO:
+                result.errnos.extend(ErrnoFormat(call, texts[0].text, at) for at in errnos_of(texts[0].text)[:1])
             formats += 1
             arguments += sum(1 for _ in arguments_of(texts[0].spans))
             faults = list(faults_of(key, calls, number, texts))

@@ -12,7 +12,7 @@ from ..compiling.parsing import OTHER_BYTES
 from ..compiling.stand_ins import Original, original
 from ..source.respelling import LiteralRun, runs_in
 from ..source.tokens import plain_literals
-from .judging import Fault, without_errno
+from .judging import Fault
 from .unit import Unit
 
 
@@ -60,7 +60,7 @@ class Located(NamedTuple):
         found: Dict[int, List[Use]] = {}
         for (key, number), (text, pieces) in self.formats.items():
             for piece in pieces:
-                is_whole = len(pieces) == 1 and in_ascii(without_errno(piece.place.text)) == in_ascii(text)
+                is_whole = len(pieces) == 1 and in_ascii(piece.place.text) == in_ascii(text)
                 found.setdefault(piece.place.start, []).append(Use(key, number, is_whole))
         return found
 
@@ -108,7 +108,7 @@ def unmarked(
         parts.append(text[done : found.start()])
         done = found.end()
         pieces.append(Piece(places[int(found[1])], sum(map(len, parts)) - format.skipped))
-    return without_errno(b"".join([*parts, text[done:]])[format.skipped :]), pieces
+    return b"".join([*parts, text[done:]])[format.skipped :], pieces
 
 
 def in_ascii(text: bytes) -> bytes:

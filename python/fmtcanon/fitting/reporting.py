@@ -8,7 +8,7 @@ from typing import Any, Callable, Dict, List, NamedTuple, Optional, Sequence, Tu
 
 from .. import Refused
 from ..compiling.calls import Call
-from ..compiling.platforms import PLATFORMS
+from ..compiling.platforms import LLP64, PLATFORMS
 from ..formats.rejections import advice_on, refused_span
 from ..frame.command_line import model_names
 from ..frame.excerpts import Excerpt, literal_excerpt
@@ -16,12 +16,12 @@ from ..frame.findings import ERROR, NOTE, WARNING, Finding
 from ..kinds import TYPE_NAMES, Type
 from ..models import Model
 from ..source.places import column_of
-from .judging import MISSING, ORDER, SIGNED, Fault, Fit, RefusedFormat
+from .judging import MISSING, ORDER, SIGNED, ErrnoFormat, Fault, Fit, RefusedFormat
 from .locating import Located
 from .proposals import fitting, proposal
 
 SIZE, KIND, RANK, SIGN, COMPOSED = "size", "kind", "rank", "sign", "composed"
-LOST, UNJUDGED, SKIPPED, FIXED = "lost", "unjudged", "skipped", "fixed"
+LOST, ERRNO, UNJUDGED, SKIPPED, FIXED = "lost", "errno", "unjudged", "skipped", "fixed"
 RULES = {
     SIZE: "An argument has another size than its directive takes on some platform.",
     KIND: "An argument is missing, or of another kind than its directive takes, as a double for %d.",
@@ -29,6 +29,7 @@ RULES = {
     SIGN: "An argument is signed and its directive takes an unsigned one, or the other way round.",
     COMPOSED: "An argument doesn't fit a directive whose length modifier may have been chosen by #if.",
     LOST: "A call is only there on some platforms.",
+    ERRNO: "A format has %m, which the C library of 64-bit Windows lacks; in syslog it is POSIX's.",
     UNJUDGED: "What may be the format of a call isn't accepted.",
     SKIPPED: "A file, or a part of it, wasn't judged; or not by itself, as a header.",
     FIXED: "A directive was replaced by one that fits on every platform.",
@@ -37,8 +38,8 @@ RULES = {
 ERRORS = (SIZE, KIND)
 FITS = {Fit.SIZE: "wrong size", Fit.RANK: "wrong type", Fit.SIGN: "wrong sign"}
 # What the platforms are called.
-TITLES = dict(zip([it.name for it in PLATFORMS], ["64-bit Unix", "32-bit systems", "32-bit systems with a 64-bit time_t"]))
-TITLES[PLATFORMS[-1].name] = "64-bit Windows"
+NAMES_OF_SYSTEMS = ["64-bit Unix", "32-bit systems", "32-bit systems with a 64-bit time_t", "64-bit Windows"]
+TITLES = dict(zip([it.name for it in PLATFORMS], NAMES_OF_SYSTEMS))
 VOWELS = re.compile(r"[aeio]|un[^_]")
 # The signed and the unsigned type whose length modifier or end of a PRI macro this is.
 NAMES = {"z": ("ssize_t", "size_t"), "t": ("ptrdiff_t", "size_t"), "64": ("int64_t", "uint64_t")}
@@ -224,6 +225,14 @@ def refused_finding(refused: RefusedFormat, models: Sequence[Model]) -> Finding:
         return finding
     excerpt = literal_excerpt("format", text, *refused_span(text, why), why.name)
     return replace(finding, excerpts=(excerpt,), help=advice_on(text, why, models[0]))
+
+
+def errno_finding(found: ErrnoFormat) -> Finding:
+    """Returns the finding of a format with `%m`, on the platform whose C library lacks it."""
+    call, text, at = found
+    message = f"%m in a format of {call.function}: missing on {TITLES[LLP64.name]}; use %s and strerror(errno)"
+    excerpt = literal_excerpt("format", text, at, at + 2, "")
+    return replace(finding_of_call(call, ERRNO, message, [LLP64.model]), excerpts=(excerpt,))
 
 
 def finding_of_call(call: Call, kind: str, message: str, models: Sequence[Model]) -> Finding:

@@ -13,22 +13,23 @@ from fmtcanon import DirectiveSpan, Kind, Model, Refused, Type
 
 from ..kinds import TYPE_NAMES
 from ..specification import SpelledSpecification, specification_of
+from .items import errnos_of
 from .rejections import instead_of, sentence
 from .verdicts import Argument, Library, PairKind, PairVerdict, taker_of, telling_arguments
-from .wording import Stars, meaning, meaning_of_number, note
+from .wording import ERRNO, ERRNO_NOTE, Stars, meaning, meaning_of_number, note
 
 LIBRARY = Library()
 
 
 class ExplainedDirective(NamedTuple):
     """A directive of a format: where it is, its text, its argument from 1, its type by data model, and in words what it
-    prints and which of its parts have no effect.
+    prints and which of its parts have no effect. `%m` has no argument, and no types.
     """
 
     start: int
     end: int
     text: bytes
-    argument: int
+    argument: Optional[int]
     types: Dict[Model, Type]
     meaning: str
     notes: Tuple[str, ...]
@@ -94,8 +95,10 @@ def explain(text: bytes, model: Model) -> Explanation:
     spans = fmtcanon.directives(text, model=model)
     types = {other: types_in(text, other) for other in Model}
     by_model = [{it: found[at] for it, found in types.items() if found} for at in range(len(spans))]
-    parts = tuple(part_of(text, span, types_of) for span, types_of in zip(spans, by_model))
-    return Explanation(text, parts, canonical_by_model(text), bounds_of(text, model))
+    parts = [part_of(text, span, types_of) for span, types_of in zip(spans, by_model)]
+    parts += [ExplainedDirective(at, at + 2, b"%m", None, {}, ERRNO, (ERRNO_NOTE,)) for at in errnos_of(text)]
+    parts.sort(key=lambda it: it.start)
+    return Explanation(text, tuple(parts), canonical_by_model(text), bounds_of(text, model))
 
 
 def types_in(text: bytes, model: Model) -> List[Type]:
@@ -163,12 +166,14 @@ def compare(first: bytes, second: bytes, model: Model) -> Union[Difference, Reje
         found = LIBRARY.compared(first, second, model)
     except Refused as refusal:
         rejection = reject(formats[refusal.side], refusal, model, refusal.side)
-        return rejection._replace(types=by_types(formats, model, refusal)) if refusal.kind is Kind.NUMBERED else rejection
+        is_numbered = refusal.kind is Kind.NUMBERED
+        return rejection._replace(types=by_types(formats, model, refusal)) if is_numbered else rejection
     if found.kind is PairKind.SAME:
         return Difference(formats, found.kind, canonical=LIBRARY.canonical(first, model))
     if found.kind is PairKind.DIFFERENT:
         return printed_unlike(formats, found.arguments, model)
-    return Difference(formats, found.kind, at=found.at, parts=parts_at(formats, found.at, model))
+    parts = (unlike_at if found.kind is PairKind.DIRECTIVES else parts_at)(formats, found.at, model)
+    return Difference(formats, found.kind, at=found.at, parts=parts)
 
 
 def by_types(formats: Tuple[bytes, bytes], model: Model, refusal: Refused) -> Optional[Difference]:
@@ -185,6 +190,27 @@ def parts_at(formats: Sequence[bytes], index: int, model: Model) -> Tuple[Option
     return tuple(part_at(it, index, model) for it in formats)
 
 
+def unlike_at(formats: Sequence[bytes], index: int, model: Model) -> Tuple[Optional[ExplainedDirective], ...]:
+    """Returns the directive of each format that takes the argument of this index, or a `%m` in front of it that the other
+    format lacks.
+    """
+    errnos = [errnos_at(it, index, model) for it in formats]
+    shared = min(map(len, errnos))
+    return tuple(own[shared] if own[shared:] else part_at(it, index, model) for own, it in zip(errnos, formats))
+
+
+def errnos_at(text: bytes, index: int, model: Model) -> List[ExplainedDirective]:
+    """Returns each `%m` that comes after this number of arguments."""
+    found: List[ExplainedDirective] = []
+    taken = 0
+    for part in explain(text, model).parts:
+        if part.argument is not None:
+            taken = part.argument
+        elif taken == index:
+            found.append(part)
+    return found
+
+
 def part_at(text: bytes, index: int, model: Model) -> Optional[ExplainedDirective]:
     """Returns the directive that takes the argument of this index, converted or as a `*`."""
     taker = taker_of(text, index, model)
@@ -195,7 +221,7 @@ def printed_unlike(formats: Tuple[bytes, bytes], arguments: Tuple[Argument, ...]
     """Returns what two formats print for arguments that show a difference, and the first directives that do."""
     arguments = telling_arguments(LIBRARY, *formats, arguments, model)
     printed = tuple(it for it in (printed_by(it, arguments, model) for it in formats) if it is not None)
-    first, second = (explain(it, model).parts for it in formats)
+    first, second = ([part for part in explain(it, model).parts if part.argument] for it in formats)
     unlike = ((one, two) for one, two in zip(first, second) if not is_alike(one, two, arguments, model))
     parts = tuple(about_argument(it, arguments) for it in next(unlike, ()))
     return Difference(formats, PairKind.DIFFERENT, arguments=arguments, printed=printed, parts=parts)
@@ -203,7 +229,7 @@ def printed_unlike(formats: Tuple[bytes, bytes], arguments: Tuple[Argument, ...]
 
 def about_argument(part: ExplainedDirective, arguments: Sequence[Argument]) -> ExplainedDirective:
     """Returns a directive. If its argument is a number with a sign, its meaning is that for this number."""
-    argument = arguments[part.argument - 1]
+    argument = argument_of(part, arguments)
     said = meaning_of_number(specification_of(part.text), argument) if isinstance(argument, int) else None
     return part._replace(meaning=said or part.meaning)
 
@@ -217,17 +243,22 @@ def marked_parts(formats: Tuple[bytes, bytes], verdict: PairVerdict, model: Mode
         return [it and Marked(it.start, it.end, TYPE_NAMES[it.type]) for it in takers]
     parts: Sequence[Optional[ExplainedDirective]] = ()
     if verdict.kind is PairKind.DIRECTIVES:
-        parts = parts_at(formats, verdict.at, model)
+        parts = unlike_at(formats, verdict.at, model)
     elif verdict.kind is PairKind.DIFFERENT:
         parts = printed_unlike(formats, verdict.arguments, model).parts
     return [it and Marked(it.start, it.end, it.meaning) for it in parts]
 
 
+def argument_of(part: ExplainedDirective, arguments: Sequence[Argument]) -> Argument:
+    """Returns the argument of a directive, which isn't `%m`."""
+    return arguments[(part.argument or 1) - 1]
+
+
 def is_alike(first: ExplainedDirective, second: ExplainedDirective, arguments: Sequence[Argument], model: Model) -> bool:
     """Returns whether two directives print the same for their arguments."""
-    if arguments[first.argument - 1] is None:
+    if argument_of(first, arguments) is None:
         return True
-    one, two = (printed_by(it.text, [arguments[it.argument - 1]], model) for it in (first, second))
+    one, two = (printed_by(it.text, [argument_of(it, arguments)], model) for it in (first, second))
     return one == two
 
 

@@ -1,14 +1,12 @@
-"""What begins with a percent sign in a text that the library doesn't accept as it is: macros of <inttypes.h> and `%m`.
+"""What begins with a percent sign in a text, which the library may not accept as it is: macros of <inttypes.h>.
 
 The library says what is a specification. Here it is only known where one may end.
 """
 
 import re
-from typing import Iterator, NamedTuple, Optional
+from typing import Iterator, List, NamedTuple
 
 import fmtcanon
-
-from ..specification import SpelledSpecification, specification_of
 
 # A macro of <inttypes.h> comes in angle brackets, as xgettext writes it. Its name has its conversion (C11 7.8.1). d and
 # i take one type, and so do o, u, x and X.
@@ -43,6 +41,11 @@ def items_of(text: bytes) -> Iterator[Item]:
         yield Item(found.start(), found[1], found[2])
 
 
+def errnos_of(text: bytes) -> List[int]:
+    """Returns where `%m` is, which prints the message of errno and takes no argument."""
+    return [it.start for it in items_of(text) if it.text == b"%m"] if b"m" in text else []
+
+
 def is_specification(text: bytes) -> bool:
     """Returns whether a text is one specification, whatever arguments come before its own."""
     try:
@@ -58,16 +61,3 @@ def is_unexpected(text: bytes) -> bool:
     except fmtcanon.Refused as refusal:
         return refusal.kind is fmtcanon.Kind.UNEXPECTED
     return False
-
-
-def errno_parts(item: Item) -> Optional[SpelledSpecification]:
-    """Returns the parts of a `%m`, the text of errno in the GNU C library, with another conversion; None if it isn't one.
-
-    It has any flags, a width and a precision. The flag I, for other digits, does nothing.
-    """
-    if item.last != b"m" or item.has_length:
-        return None
-    # `f` has all flags, and needs no length modifier. Its number is only there for that of a `*`.
-    inner = item.inner.replace(b"I", b"-") + b"f"
-    texts = [b"%" + inner, b"%1$" + inner]
-    return next((specification_of(it) for it in texts if is_specification(it)), None)

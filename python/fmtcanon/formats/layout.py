@@ -32,7 +32,9 @@ def column_of(text: bytes, offset: int) -> int:
 
 
 def type_names(part: ExplainedDirective, model: Model) -> List[str]:
-    """Returns the type of an argument, and the types that it has in other data models, each with these."""
+    """Returns the type of an argument, and the types that it has in other data models, each with these; none of `%m`."""
+    if part.argument is None:
+        return ["the message of errno"]
     others: Dict[Type, List[str]] = {}
     for other, kind in part.types.items():
         if kind is not part.types[model]:
@@ -48,7 +50,8 @@ def type_words(part: ExplainedDirective, model: Model) -> str:
 
 
 def part_words(part: ExplainedDirective, model: Model) -> List[str]:
-    words = [f"argument {part.argument}, {type_words(part, model)}: {part.meaning}"]
+    taken = "no argument" if part.argument is None else f"argument {part.argument}, {type_words(part, model)}"
+    words = [f"{taken}: {part.meaning}"]
     return [*words, "; ".join(part.notes)] if part.notes else words
 
 

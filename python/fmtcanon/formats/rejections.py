@@ -111,6 +111,8 @@ def candidates(kind: Kind, specification: bytes) -> Iterator[bytes]:
         yield b"%%"
     elif kind is Kind.BAD_PERCENT:
         yield b"%%"
+    elif kind is Kind.UNEXPECTED and specification[-1:] == b"m" and specification[1:-1].strip():
+        yield b"%m"
 
 
 def instead_of(text: bytes, refusal: Refused, model: Model) -> Optional[bytes]:

@@ -127,7 +127,8 @@ class Library:
         """Returns the verdict on formats if the comparison rejects one of them: only their types can be judged."""
         if old == new:
             return PairVerdict(PairKind.SAME)
-        unjudged = PairVerdict(PairKind.UNJUDGED, reason=f"{refusal} of {shown([old, new][refusal.side])}", refusal=refusal)
+        reason = f"{refusal} of {shown([old, new][refusal.side])}"
+        unjudged = PairVerdict(PairKind.UNJUDGED, reason=reason, refusal=refusal)
         try:
             if fmtcanon.fits(old, new, model=model):
                 return unjudged

@@ -30,6 +30,8 @@ OTHERS = {
     "p": "the pointer, as the C library writes it",
     "n": "nothing: the number of bytes printed so far is stored",
 }
+ERRNO = "the message of errno, as strerror returns it"
+ERRNO_NOTE = "POSIX has it in syslog; the C libraries of GNU, musl and uClibc in printf, too"
 PREFIXES = {
     "o": "a leading `0`",
     "x": "`0x` before a number other than 0",

@@ -85,7 +85,9 @@ class Reason(NamedTuple):
     refusal: Optional[fmtcanon.Refused] = None
 
 
-def difference(wanted: MessageFormat, found: MessageFormat, may_be_fewer: bool, model: fmtcanon.Model) -> Optional[Reason]:
+def difference(
+    wanted: MessageFormat, found: MessageFormat, may_be_fewer: bool, model: fmtcanon.Model
+) -> Optional[Reason]:
     """Says how the types of two formats differ: by their number, or at an argument. None if they don't."""
     is_fit = fmtcanon.fits(wanted.plain, found.plain, model=model, fewer=may_be_fewer)
     macros, others = wanted.macros(model), found.macros(model)
@@ -329,7 +331,8 @@ class Checker:
 
     def check_formats(self, file: str, message: Message, rule: Optional[PluralRule]) -> None:
         if message.plural is None:
-            self.check_pair(file, message, MessageText("msgid", message.msgid), MessageText("msgstr", message.forms[0]), False)
+            texts = MessageText("msgid", message.msgid), MessageText("msgstr", message.forms[0])
+            self.check_pair(file, message, *texts, False)
             return
         plural = MessageText("msgid_plural", message.plural)
         if not self.check_pair(file, message, plural, MessageText("msgid", message.msgid), True):
@@ -338,7 +341,9 @@ class Checker:
             may_be_fewer = len(message.forms) > 1 and (rule is None or rule.is_few(form, message.flags))
             self.check_pair(file, message, plural, MessageText(f"msgstr[{form}]", text), may_be_fewer)
 
-    def check_pair(self, file: str, message: Message, first: MessageText, second: MessageText, may_be_fewer: bool) -> bool:
+    def check_pair(
+        self, file: str, message: Message, first: MessageText, second: MessageText, may_be_fewer: bool
+    ) -> bool:
         """Checks the second text against the first, and says whether the first is accepted."""
         shapes = shape_of(first.text), shape_of(second.text)
         pair = (*shapes, second.name == "msgid", may_be_fewer)
@@ -350,7 +355,9 @@ class Checker:
             self.right.add(pair)
         return is_accepted
 
-    def check_texts(self, file: str, message: Message, first: MessageText, second: MessageText, may_be_fewer: bool) -> bool:
+    def check_texts(
+        self, file: str, message: Message, first: MessageText, second: MessageText, may_be_fewer: bool
+    ) -> bool:
         wanted, found = MessageFormat(first.text), MessageFormat(second.text, second.name != "msgid")
         # Without these bytes, all data models have the same types.
         models = self.models if DEPENDENT.search(first.text + second.text) else self.models[:1]

@@ -1,4 +1,4 @@
-"""The types of the arguments of a message, in the whole language of printf with macros and `%m`."""
+"""The types of the arguments of a message, in the whole language of printf with macros of <inttypes.h>."""
 
 import bisect
 import re
@@ -6,8 +6,9 @@ from typing import Dict, Iterator, List, NamedTuple, Optional
 
 import fmtcanon
 
-from ..formats.items import MACRO, Item, errno_parts, is_unexpected, items_of
+from ..formats.items import MACRO, Item, is_specification, is_unexpected, items_of
 from ..kinds import TYPE_NAMES
+from ..specification import specification_of
 
 # The conversions for which the GNU C library has the flag I, other digits. It is for translations, and changes no type.
 WITH_OTHER_DIGITS = b"diufFeEgG"
@@ -155,7 +156,7 @@ def replacement(item: Item, is_translation: bool) -> Optional[bytes]:
     """Returns what the library is given for an item, or None for the item itself."""
     inner, last = item.inner, item.last
     if last == b"m":
-        return only_stars(item)
+        return only_stars(item) if inner else None
     macro = MACRO.fullmatch(last)
     if macro and not item.has_length:
         last = macro[1]
@@ -168,11 +169,18 @@ def replacement(item: Item, is_translation: bool) -> Optional[bytes]:
 
 
 def only_stars(item: Item) -> Optional[bytes]:
-    """Returns what replaces a `%m`: it takes an int for each `*`, and no other argument. None if it isn't one."""
-    found = errno_parts(item)
+    """Returns what replaces a `%m` with flags, a width or a precision, which the GNU C library has: it takes an int for
+    each `*`, and no other argument. None if it isn't one.
+    """
+    if item.has_length:
+        return None
+    # `f` has all flags, and needs no length modifier; the flag I does nothing. A number is only there for that of a `*`.
+    inner = item.inner.replace(b"I", b"-") + b"f"
+    found = next(filter(is_specification, [b"%" + inner, b"%1$" + inner]), None)
     if found is None:
         return None
-    stars = [it.partition("*") for it in (found.width, found.precision)]
+    specification = specification_of(found)
+    stars = [it.partition("*") for it in (specification.width, specification.precision)]
     return "".join(f"%{number}d" for _, star, number in stars if star).encode() or b"%%"
 
 

@@ -1,6 +1,6 @@
 """Which places of a source get another format, and how each is reported."""
 
-from typing import Any, List, Optional, Sequence, Tuple
+from typing import Any, Dict, List, Optional, Sequence, Tuple
 
 from ..compiling.functions import Functions
 from ..compiling.sources import Files, Name
@@ -64,7 +64,7 @@ class Replacer(Rewriter):
             end,
             tuple(formats),
             model_names(self.models),
-            dict(zip(("old", "new"), formats)),
+            {**dict(zip(("old", "new"), formats)), "fix": None if change.why_left else fix_of(change)},
             excerpts,
         )
 
@@ -77,6 +77,13 @@ class Replacer(Rewriter):
         if rule and new:
             found.append(literal_excerpt("NEW", rule.new, *new))
         return tuple(found)
+
+
+def fix_of(change: Change) -> Dict[str, Any]:
+    """Returns what is written instead of the bytes of the source from `start` to `end`, for JSON."""
+    text = change.source.decode(errors="backslashreplace")
+    span = {"start": change.place.start, "end": change.place.end}
+    return {**span, "text": text, "cast": None, "include": None, "verified": True}
 
 
 def line_excerpt(source: bytes, place: LiteralRun, span: Tuple[int, int], words: str) -> Excerpt:

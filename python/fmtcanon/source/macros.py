@@ -14,15 +14,8 @@ FAST = {Model.LP64: b"l", Model.ILP32: b"", Model.LLP64: b""}
 # A part of a macro's text. A name ends where no more of it follows, so that each text matches in one way only.
 PART = rb"(?:" + STRING + rb"|" + NAME + rb"(?![\w$\x80-\xff]))"
 DEFINITION = re.compile(
-    rb"#[ \t]*define[ \t]+("
-    + NAME
-    + rb")[ \t]+(\(?"
-    + PART
-    + rb"(?:[ \t]*"
-    + PART
-    + rb")*\)?)[ \t\r]*(?=\n|\Z|"
-    + COMMENT
-    + rb")"
+    rb"#[ \t]*define[ \t]+(" + NAME + rb")[ \t]+(\(?" + PART + rb"(?:[ \t]*" + PART + rb")*\)?)[ \t\r]*(?=\n|\Z|"
+    + COMMENT + rb")"
 )
 PARTS = re.compile(rb"(?P<string>" + STRING + rb")|(?P<name>" + NAME + rb")")
 

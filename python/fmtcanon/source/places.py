@@ -41,16 +41,8 @@ FEW_TOKENS, ALL_TOKENS = (
 GAP = rb"(?:[ \t\n\v\f\r]|" + COMMENT + rb")*"
 SPACE = re.compile(GAP)
 NEXT = re.compile(
-    GAP
-    + rb"(?:(?P<raw>"
-    + RAW_START
-    + rb")|(?P<wide>[uUL]"
-    + STRING
-    + rb")|(?P<string>(?:u8)?"
-    + STRING
-    + rb")|(?P<name>"
-    + NAME
-    + rb"))"
+    GAP + rb"(?:(?P<raw>" + RAW_START + rb")|(?P<wide>[uUL]" + STRING + rb")|(?P<string>(?:u8)?" + STRING + rb")"
+    rb"|(?P<name>" + NAME + rb"))"
 )
 KEYWORDS = frozenset(
     b"if else while for do switch case default return sizeof typeof _Alignof defined extern".split()
@@ -95,7 +87,9 @@ class Place:
 
     __slots__ = ("source", "start", "end", "quote", "parts", "call", "_texts")
 
-    def __init__(self, source: "Source", start: int, end: int, quote: int, parts: Tuple[PlacePart, ...], call: EnclosingCall) -> None:
+    def __init__(
+        self, source: "Source", start: int, end: int, quote: int, parts: Tuple[PlacePart, ...], call: EnclosingCall
+    ) -> None:
         self.source, self.start, self.end, self.quote, self.parts, self.call = source, start, end, quote, parts, call
         self._texts: Optional[Dict[Model, Tuple[Optional[bytes], str]]] = None
 
@@ -222,16 +216,8 @@ def end_of_raw(text: bytes, start: int) -> int:
 
 # A statement, or the front of a long one: its parts have no bound, and a match keeps a state for each.
 STATEMENT = re.compile(
-    rb"(?:[^\"'/#;{}]+|"
-    + STRING
-    + rb"|"
-    + CHARACTER
-    + rb"|"
-    + ANY_COMMENT
-    + rb"|/(?![/*])|#[ \t]*"
-    + OTHER_DIRECTIVE
-    + rb"|#){1,100}(?P<end>[;{}])?"
-    rb"|(?P<mark>[;{}])|[\s\S]"
+    rb"(?:[^\"'/#;{}]+|" + rb"|".join([STRING, CHARACTER, ANY_COMMENT]) + rb"|/(?![/*])|#[ \t]*" + OTHER_DIRECTIVE
+    + rb"|#){1,100}(?P<end>[;{}])?|(?P<mark>[;{}])|[\s\S]"
 )
 IS_DIRECTIVE = re.compile(rb"[ \t]*#")
 # What the pattern of statements doesn't know: raw strings and separators within numbers.

@@ -16,24 +16,12 @@ COMMENT = rb"/\*[^*]*\*+(?:[^/*][^*]*\*+)*/|//(?:[^\\\n]|\\[\s\S])*(?=\n|\Z)"
 GAP = rb"(?:[ \t\n\v\f\r]|\\\r?\n|" + COMMENT + rb")*"
 SPLICE = re.compile(rb"\\\r?\n")
 LINE_MARKER = rb"^# \d+ \"[^\n]*"
+REST = rb"|".join([CHARACTER, NUMBER, NAME, rb"[^\s]"])
 PREPROCESSED = re.compile(
-    rb"(?P<marker>"
-    + LINE_MARKER
-    + rb")|(?P<string>"
-    + RAW
-    + rb"|(?:u8|[uUL])?"
-    + STRING
-    + rb")|"
-    + CHARACTER
-    + rb"|"
-    + NUMBER
-    + rb"|"
-    + NAME
-    + rb"|[^\s]",
-    re.MULTILINE,
+    rb"(?P<marker>" + LINE_MARKER + rb")|(?P<string>" + RAW + rb"|(?:u8|[uUL])?" + STRING + rb")|" + REST, re.MULTILINE
 )
 # The same in one line, without raw strings.
-IN_LINE = re.compile(rb"(?:u8|[uUL])?" + STRING + rb"|" + CHARACTER + rb"|" + NUMBER + rb"|" + NAME + rb"|[^\s]")
+IN_LINE = re.compile(rb"(?:u8|[uUL])?" + STRING + rb"|" + REST)
 
 
 def common_front(first: bytes, second: bytes) -> int:
@@ -119,9 +107,7 @@ def plain_literals(source: bytes) -> Tuple[bytes, Sequence[int]]:
     if re.fullmatch(STRING, source) and not SPLICE.search(source):
         return source, range(len(source) + 1)
     plain, offsets = bytearray(), []
-    for found in re.finditer(
-        rb"(?P<string>" + STRING + rb")|" + rb"(?:[ \t\n\v\f\r]|\\\r?\n|" + COMMENT + rb")+", source
-    ):
+    for found in re.finditer(rb"(?P<string>" + STRING + rb")|(?:[ \t\n\v\f\r]|\\\r?\n|" + COMMENT + rb")+", source):
         if found["string"] is None:
             plain += b" "
             offsets.append(found.start())
