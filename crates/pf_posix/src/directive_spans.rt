@@ -138,6 +138,7 @@ pub(crate) fn item_at(text: &[u8], at: usize) -> (Option<Specification>, usize)
 }
 
 /// The specification between two offsets, after `next` arguments were fetched.
+#[inline(always)]
 pub(crate) fn span_between(
     model: Model,
     begin: usize,
