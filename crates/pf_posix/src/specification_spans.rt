@@ -131,6 +131,7 @@ fn put_specifications(model: Model, text: &[u8], out: &mut [SpecificationSpan]) 
 }
 
 /// The specification between two offsets, after `next` arguments were fetched.
+#[inline(always)]
 pub(crate) fn span_of(
     model: Model,
     begin: usize,
@@ -151,6 +152,7 @@ pub(crate) fn span_of(
 }
 
 /// Where the parts of a specification begin that was read.
+#[inline(always)]
 pub(crate) fn offsets_of(read: &Specification) -> PartOffsets
     ensures { result ≡ offsets_read read.now }
 {
