@@ -1,17 +1,8 @@
-"""Tests of what compile commands say of a changed place, and of what a check writes: python3 -m unittest, in the folder
-above.
-"""
+"""Tests of what compile commands say of a changed place: python3 -m unittest, in the folder above."""
 
-import json
-import os
-import subprocess
-import sys
-import tempfile
 import unittest
-from pathlib import Path
 
 from fmtcanon import Model, Type
-from fmtcanon.compiling.libclang import cindex
 from fmtcanon.diff.compiled import NO_COMMAND, Compiled, JudgedUse
 from fmtcanon.fitting.checking import Question
 from fmtcanon.fitting.unit import Settings
@@ -80,18 +71,3 @@ class Notes(unittest.TestCase):
 
 if __name__ == "__main__":
     unittest.main()
-
-
-@unittest.skipIf(cindex is None, "it needs libclang")
-class Written(unittest.TestCase):
-    def test_nothing(self):
-        """Columns are known, and no file is made in the folder, which would change its time."""
-        with tempfile.TemporaryDirectory() as work:
-            source = Path(work) / "a.c"
-            source.write_text('#include <stdio.h>\nvoid f(unsigned long *p) { printf("%p %s: %lu\\n", p, "x", sizeof p); }\n')
-            before = os.stat(work).st_mtime_ns
-            words = [sys.executable, "-m", "fmtcanon.checker", "--output=json", str(source)]
-            done = subprocess.run(words, stdout=subprocess.PIPE, check=False)
-            [found] = map(json.loads, done.stdout.splitlines())
-            self.assertEqual((found["line"], found["column"], found["end_column"]), (2, 43, 46))
-            self.assertEqual((os.listdir(work), os.stat(work).st_mtime_ns), (["a.c"], before))

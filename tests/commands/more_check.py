@@ -476,6 +476,16 @@ def test_types(tool, trials):
     try_typed_headers(tool, compilers, trials, jobs)
 
 
+def test_nothing_is_written(tool, trials):
+    """Columns are known, and no file is made beside a source, which would change the time of its folder."""
+    source = '#include <stdio.h>\nvoid f(unsigned long *p) { printf("%p %s: %lu\\n", p, "x", sizeof p); }\n'
+    folder = tool.put("beside/a.c", source).parent
+    before = os.stat(folder).st_mtime_ns
+    [found] = map(json.loads, tool.run("--output=json", "beside/a.c")[1].splitlines())
+    trials.expect("its columns", (found["line"], found["column"], found["end_column"]), (2, 43, 46))
+    trials.expect("the folder", (os.listdir(folder), os.stat(folder).st_mtime_ns), (["a.c"], before))
+
+
 def test_examples(tool, trials):
     """The examples of the page and of the manual page print what these show."""
     script = f"fmtcanon-check() {{ '{tool.python}' -m fmtcanon.checker \"$@\"; }}\n"
