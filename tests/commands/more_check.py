@@ -477,11 +477,11 @@ def test_types(tool, trials):
 
 
 def test_nothing_is_written(tool, trials):
-    """Columns are known, and no file is made beside a source, which would change the time of its folder."""
+    """Columns are known, and no file is made in the folder of a source, which would change its time."""
     source = '#include <stdio.h>\nvoid f(unsigned long *p) { printf("%p %s: %lu\\n", p, "x", sizeof p); }\n'
-    folder = tool.put("beside/a.c", source).parent
+    folder = tool.put("own/a.c", source).parent
     before = os.stat(folder).st_mtime_ns
-    [found] = map(json.loads, tool.run("--output=json", "beside/a.c")[1].splitlines())
+    [found] = map(json.loads, tool.run("--output=json", "own/a.c")[1].splitlines())
     trials.expect("its columns", (found["line"], found["column"], found["end_column"]), (2, 43, 46))
     trials.expect("the folder", (os.listdir(folder), os.stat(folder).st_mtime_ns), (["a.c"], before))
 
