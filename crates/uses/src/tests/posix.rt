@@ -1,8 +1,8 @@
 //! What no run of the program shows of `pf_posix`: each public call once.
 use pf_posix::laws::{
     accepted_or_refused, accepts_unnumbered, directives_once, errno_aside, judged_unnumbered,
-    kinds_of_refusals, never_both, profile_types, read_once, refused_for_good, refused_once, refused_unnumbered_once,
-    same_fits, table_has_each_once, types_are_kept, types_once,
+    kinds_of_refusals, never_both, profile_types, read_once, refused_for_good, refused_once,
+    refused_unnumbered_once, same_fits, table_has_each_once, types_are_kept, types_once,
 };
 use pf_posix::{ArgumentType, DirectiveSpan, arguments, directives, fits};
 use pf_values::{ArgType, Model, RefusalKind};
