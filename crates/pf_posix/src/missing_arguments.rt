@@ -14,7 +14,7 @@ use crate::numbered::ROOM;
 use crate::specification_spans::{SpecificationSpan, span_of};
 use pf_values::Model;
 
-/// An argument that no specification of a format takes, where one takes a later one.
+/// An argument that no specification of a format takes, although one takes a later argument.
 #[derive(Clone, Copy, Debug, PartialEq, Eq)]
 pub struct MissingArgument {
     /// The first argument that none takes, counted from 0.
@@ -23,7 +23,7 @@ pub struct MissingArgument {
     pub specification: SpecificationSpan,
 }
 
-// Where a walk over the specifications of a format is, and how many arguments were fetched by then.
+// The offset of a walk over the specifications of a format, and the number of arguments fetched so far.
 #[derive(Clone, Copy)]
 struct Place {
     at: usize,

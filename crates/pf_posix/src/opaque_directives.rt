@@ -1,4 +1,4 @@
-//! What the profile lacks: directives, and `%m`.
+//! The directives that the profile lacks, and `%m`.
 ghost use Rattle.std.specs.Prelude.{◌≡◌};
 ghost use Rattle.pf_values.specs.meaning.Lengths.{is_long};
 ghost use Rattle.pf_posix.specs.Opaque.{is_opaque, is_outside, is_star};
@@ -33,7 +33,7 @@ pub struct OpaqueDirective {
     pub conversion: Conversion,
 }
 
-/// What a text has between two stretches of the profile.
+/// An item between two stretches of the profile.
 #[derive(Clone, Copy, Debug, PartialEq, Eq)]
 pub enum Opaque {
     /// A directive that the profile lacks.

@@ -9,16 +9,16 @@ use crate::specification_spans::{PartOffsets, offsets_of};
 use crate::specifications::{Numbering, has_byte, has_errno, specification_at};
 use pf_text::Refusal;
 
-/// The end of a conversion specification, and where its parts begin.
+/// The end of a conversion specification, and the offsets of its parts.
 #[derive(Clone, Copy, Debug, PartialEq, Eq)]
 pub struct WholeSpecification {
     /// The offset after its conversion.
     pub end: u64,
-    /// Where its parts begin.
+    /// The offsets of its parts.
     pub offsets: PartOffsets,
 }
 
-/// What is known of a conversion specification in which a format is rejected.
+/// A conversion specification in which a format is rejected, as far as it can be read.
 #[derive(Clone, Copy, Debug, PartialEq, Eq)]
 pub struct RefusedSpecification {
     /// The offset of its `%`.
@@ -44,7 +44,7 @@ pub fn refused_specification(text: &[u8], refusal: Refusal) -> Option<RefusedSpe
     })
 }
 
-// Where the beginning of a specification begins that a text ends in; the end of a text of items.
+// The offset of the unfinished specification that ends a text; the length of a text of whole items.
 fn part_begin(text: &[u8]) -> usize
     requires { IsBeforePart text.now 0 }
     ensures { IsAtPart text.now result }
@@ -59,7 +59,7 @@ fn part_begin(text: &[u8]) -> usize
     at
 }
 
-// Where the item at an offset ends, which need not be defined; None if none begins there.
+// The end of the item at an offset, which may be undefined; None if no item begins there.
 fn item_end(text: &[u8], at: usize) -> Option<usize>
     requires within { at < length text.now }
     requires before { IsBeforePart text.now at }

@@ -1,4 +1,4 @@
-//! The conversion specifications of a format with their parts: where each part is, and what it says.
+//! The conversion specifications of a format, with the offset and the value of each part.
 ghost use Rattle.std.specs.Prelude.{◌≡◌, ◌≤◌, ◌*◌, length, MatchResult};
 ghost use Rattle.pf_values.specs.declared.limits.TheConstants.{MAX_TEXT_LEN as LIMIT};
 ghost use Rattle.pf_posix.specs.Directives.{directive_between};
@@ -17,8 +17,8 @@ use pf_text::{Percents, Refusal, TextFault, Walk};
 use pf_values::{FlagSet, Length, Model};
 use std::alloc::{AllocError, Global};
 
-/// Where the parts of a conversion specification begin (C11 7.21.6.1, paragraph 4). Each is the bytes up to the next
-/// offset; there are none if the specification doesn't have it. The conversion is the last byte.
+/// The offsets of the parts of a conversion specification (C11 7.21.6.1, paragraph 4). Each part ends at the next
+/// offset, and is empty if the specification doesn't have it. The conversion is the last byte.
 #[derive(Clone, Copy, Debug, Default, PartialEq, Eq)]
 pub struct PartOffsets {
     /// The offset of its flags: after `%`, or after the `$` of its argument's number.
@@ -38,11 +38,11 @@ pub struct SpecificationSpan {
     pub directive: DirectiveSpan,
     /// Its parts, without the numbers of its arguments.
     pub parts: OpaqueDirective,
-    /// Where they begin.
+    /// The offsets of these parts.
     pub offsets: PartOffsets,
 }
 
-// What a buffer holds before specifications are listed.
+// The record that fills a buffer before specifications are listed.
 impl Default for SpecificationSpan {
     ghost is_default = { IsBlank };
 
@@ -82,8 +82,8 @@ pub fn specification_list(
 }
 
 /// Lists the conversion specifications of a format with their parts, as `specification_list` does. It
-/// allocates once, for exactly their number, and nothing if there are none. `Err` if the format or memory
-/// is refused.
+/// allocates once, for exactly their number. If there are no specifications, it allocates nothing. `Err` if
+/// the format or memory is refused.
 pub fn specification_list_vec(
     alloc: Global,
     model: Model,
@@ -151,7 +151,7 @@ pub(crate) fn span_of(
     }
 }
 
-/// Where the parts of a specification begin that was read.
+/// The offsets of the parts of a specification that was read.
 #[inline(always)]
 pub(crate) fn offsets_of(read: &Specification) -> PartOffsets
     ensures { result ≡ offsets_read read.now }
