@@ -1,24 +1,21 @@
 //! The conversion specifications of a format: which bytes they are, and which arguments they take.
-ghost use Rattle.std.specs.Prelude.{◌≡◌, ◌<◌, ◌≤◌, ◌*◌, ℕ, IfSome, List, Option, length, drop, MatchResult};
+ghost use Rattle.std.specs.Prelude.{◌≡◌, ◌≤◌, ◌*◌, ℕ, Option, length, MatchResult};
 ghost use Rattle.pf_values.specs.declared.limits.TheConstants.{MAX_TEXT_LEN as LIMIT};
 ghost use Rattle.pf_values.specs.declared.models.Model.{Model as ModelOf};
-ghost use Rattle.pf_posix.specs.declared.directive_spans.DirectiveSpan.{DirectiveSpan as DirectiveSpanOf};
 ghost use Rattle.pf_posix.specs.Directives.{FaultForDirectives, HasDirectiveCount, HasDirectives, argument_index, directive_between, star_index};
-ghost use Rattle.pf_posix.specs.DirectivesInText.{IsBehindItem, IsListedBehind, IsListedTo};
-ghost use Rattle.pf_posix.specs.Halts.{offsets_read};
-ghost use Rattle.pf_posix.specs.Items.{IsPosixAccepted, PosixItem, ReadsPosix};
+ghost use Rattle.pf_posix.specs.Items.{IsPosixAccepted};
 ghost use Rattle.pf_posix.specs.OpaqueParts.{amount_at};
 ghost use Rattle.pf_posix.specs.PartsInText.{specification_read};
 ghost use Rattle.pf_posix.specs.Refusals.{IsPosixRefusedAt};
-ghost use Rattle.pf_posix.specs.SpecificationSpans.{ArePosixPartsAt};
 ghost use Rattle.pf_posix.specs.Types.{fetches, star_fetches};
 
 use crate::argument_types::{arguments, put, room_for};
 use crate::fetches::conversion_type;
 use crate::opaque_directives::{OpaqueAmount, is_star};
-use crate::specifications::{Numbering, Specification, has_byte, has_errno, specification_at};
+use crate::specification_walk::SpecificationWalk;
+use crate::specifications::Specification;
 use crate::types::ArgumentType;
-use pf_text::{Percents, Refusal, TextFault, Walk};
+use pf_text::{Refusal, TextFault};
 use pf_values::Model;
 use std::alloc::{AllocError, Global};
 
@@ -86,55 +83,13 @@ fn put_directives(model: Model, text: &[u8], out: &mut [DirectiveSpan]) -> u64
     ensures directives { HasDirectiveCount model text.now out.old out.new result }
     ensures length { length out.new ≡ length out.old }
 {
-    let mut walk = Walk::new(text);
+    let mut walk = SpecificationWalk::of(model, text);
     let mut count: usize = 0;
-    let mut fetched: u64 = 0;
-    while walk.at < text.len() {
-        match item_at(text, walk.at) {
-            (None, end) => {
-                walk.at = end;
-                walk.find::<Percents>();
-            }
-            (Some(read), end) => {
-                put(
-                    out,
-                    count,
-                    span_between(model, walk.at, end, fetched, &read),
-                );
-                walk.at = end;
-                count += 1;
-                fetched += fetch_count(&read);
-            }
-        }
+    while let Some(span) = walk.next() {
+        put(out, count, span.directive);
+        count += 1;
     }
     count as u64
-}
-
-/// The item at an offset of an accepted format, if it is a specification; and where it ends.
-#[inline(always)]
-pub(crate) fn item_at(text: &[u8], at: usize) -> (Option<Specification>, usize)
-    requires within { at < length text.now }
-    requires reads { (items : List PosixItem) × ReadsPosix (drop at text.now) items }
-    ensures further { at < result.1 }
-    ensures item { (items : List PosixItem) → ReadsPosix (drop at text.now) items
-        → IsBehindItem text.now items result.0 result.1 }
-    ensures listed { (model : ModelOf) (all done : List DirectiveSpanOf) (next : ℕ) → IsListedTo model text.now all at next done
-        → IsListedBehind model text.now all at next done result.0 result.1 }
-    ensures parts { IfSome result.0 (λ read. ArePosixPartsAt text.now at result.1 (offsets_read read) (specification_read read)) }
-{
-    if text[at] != b'%' {
-        return (None, at + 1);
-    }
-    if has_byte(text, at + 1, b'%') {
-        return (None, at + 2);
-    }
-    if has_errno(text, at) {
-        return (None, at + 2);
-    }
-    let Ok((read, end)) = specification_at(text, at, Numbering::Undecided) else {
-        unreachable!();
-    };
-    (Some(read), end)
 }
 
 /// The specification between two offsets, after `next` arguments were fetched.

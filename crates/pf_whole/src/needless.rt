@@ -1,4 +1,4 @@
-//! Which parts of a conversion specification have no effect.
+//! The parts of a conversion specification that have no effect.
 ghost use Rattle.std.specs.Prelude.{◌≡◌, ◌↔◌, IsTrue, false, true};
 ghost use Rattle.pf_values.specs.meaning.Text.{Text};
 ghost use Rattle.pf_posix.specs.Items.{Specification, SpellsPosixItem};
@@ -18,11 +18,11 @@ use pf_values::{Flag, Model};
 /// Sets of parts of a conversion specification.
 #[derive(Clone, Copy, Debug, PartialEq, Eq)]
 pub struct NeedlessParts {
-    /// The parts that it has.
+    /// The parts that the specification has.
     pub given: PartSet,
-    /// Those that have no effect, each by itself.
+    /// The parts that have no effect, each by itself.
     pub each: PartSet,
-    /// Some of these, which have none together.
+    /// Some needless parts that have no effect together, either.
     pub together: PartSet,
 }
 
@@ -35,9 +35,9 @@ struct Question<'a> {
     whole: &'a [u8],
 }
 
-/// Returns which parts of a directive have no effect in a data model: those without which `same_text` says that it is
-/// alike, each by itself; and a set of these without which it is alike, too. Of `%02.2u` both the width and the
-/// precision have no effect, but without both it prints less.
+/// Returns the parts of a directive that have no effect in a data model: without any one of them, `same_text` finds
+/// the directive alike. Also returns some of them without all of which it is alike. In `%02.2u`, neither the width
+/// nor the precision has an effect, but without both the directive prints less.
 pub fn needless_parts(model: Model, directive: OpaqueDirective) -> NeedlessParts
     requires { (t : Text) × SpellsPosixItem t (Specification (parts_of_opaque directive)) }
     ensures { AreNeedless model (parts_of_opaque directive) result }
@@ -83,7 +83,7 @@ impl Question<'_> {
         self.ask(each, Part::Modifier)
     }
 
-    // Asks of one part more.
+    // Asks about one more part.
     fn ask(&self, each: PartSet, part: Part) -> PartSet
         requires { IsPartQuestion self.now }
         ensures { (asked : PartSetOf) → AreFound self.now asked each → AreFound self.now (with_part asked part) result }
@@ -97,7 +97,7 @@ impl Question<'_> {
         each.with(part)
     }
 
-    // Some of these parts, which have no effect together: all of them, if that holds, or all but the precision.
+    // Some of these parts that have no effect together: all if possible, otherwise all except the precision if possible.
     fn together(&self, each: PartSet) -> PartSet
         requires { IsPartQuestion self.now }
         ensures { AreTogether self.now each result }
