@@ -34,6 +34,7 @@ pub use argument_types::{arguments, arguments_vec};
 pub use comparison::{fits, fits_fewer};
 pub use conversions::{Conversion, Floating, Modifier};
 pub use directive_spans::{DirectiveSpan, directives, directives_vec};
+pub use fetches::integer_length;
 pub use missing_arguments::{MissingArgument, missing_argument};
 pub use opaque_directives::{Opaque, OpaqueAmount, OpaqueDirective, is_opaque};
 pub use refused_specifications::{RefusedSpecification, WholeSpecification, refused_specification};
