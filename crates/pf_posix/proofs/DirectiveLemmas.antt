@@ -1,25 +1,33 @@
 -- The specifications of an accepted text, one item after another.
-use Rattle.std.proofs.Common.{inl, inr, ◌≡◌, ◌≢◌, ℕ, ◌+◌, ◌-◌, ◌<◌, ◌≤◌, true, false, List, [], ◌∷◌, ◌++◌, length, length-append, get_or, drop, take, refl, sym}
+use Rattle.std.proofs.Common.{inl, inr, ◌≡◌, ◌≢◌, ℕ, ◌+◌, ◌-◌, ◌*◌, ◌<◌, ◌≤◌, true, false, List, [], ◌∷◌, ◌++◌, length, length-append, get_or, drop, take, refl, sym}
 use Rattle.std.proofs.Common.{ap, ◌∙◌, arith, subst}
 use Rattle.std.specs.Prelude.{Some, None, ◌==◌}
+use Rattle.std.specs.List.{AllByRecursion}
 use Rattle.std.proofs.lemmas.Bool.Decides.{nat_tests}
 use Rattle.std.proofs.lemmas.Bool.{cases_lt, eqb-true}
-use Rattle.std.proofs.lemmas.List.{append_assoc, drop_more, get_or_past, length-drop}
+use Rattle.std.proofs.lemmas.List.{append_assoc, append-nil, drop_all, drop_more, get_or_past, length-drop, length_push}
 use Rattle.pf_values.specs.declared.models.Model.{Model}
 use Rattle.pf_values.specs.meaning.Text.{Text}
 use Rattle.pf_posix.specs.declared.directive_spans.DirectiveSpan.{DirectiveSpan}
 use Rattle.pf_posix.specs.declared.specifications.Specification.{Specification as Read}
-use Rattle.pf_posix.specs.Directives.{directive_between, directives_from}
-use Rattle.pf_posix.specs.DirectivesInText.{IsBehindItem, IsListedTo}
-use Rattle.pf_posix.specs.Items.{Byte, Errno, PosixItem, ReadsPosix, Specification, errno}
+use Rattle.pf_posix.specs.declared.types.ArgumentType.{ArgumentType}
+use Rattle.pf_text.specs.Walks.{HasPassed, IsPercent, IsWalkOver}
+use Rattle.pf_text.specs.declared.walk.Walk.{Walk}
+use Rattle.pf_text.proofs.ReadingLemmas.{moved_over}
+use Rattle.pf_posix.specs.Directives.{HasDirectiveCount, HasDirectives, TakesFrom, directive_between, directives_from}
+use Rattle.pf_posix.specs.DirectivesInText.{IsBehindItem, IsListedBehind, IsListedTo}
+use Rattle.pf_posix.specs.Items.{Byte, Errno, HasArguments, PosixItem, ReadsPosix, Specification, errno}
+use Rattle.pf_posix.specs.Laws.{filled}
 use Rattle.pf_posix.specs.PartsInText.{IsSpecificationAt, specification_read}
 use Rattle.pf_posix.specs.Halts.{BeginsNoneAfter}
 use Rattle.pf_posix.specs.declared.specifications.Numbering.TheVariants.{Undecided}
 use Rattle.pf_posix.specs.Types.{fetches}
-use Rattle.pf_posix.proofs.ItemsOnce.{BeginsWith, HasText, first_item, item_once, percent_twice, text_there}
+use Rattle.pf_posix.proofs.ItemsOnce.{BeginsWith, HasText, first_item, item_once, items_once, percent_twice, text_there}
 use Rattle.pf_posix.proofs.PartLemmas.{bool_no, head_at}
 use Rattle.pf_posix.proofs.SpecificationsOnce.{parted}
-use Rattle.pf_posix.proofs.ListLemmas.{same_from}
+use Rattle.pf_posix.proofs.ListLemmas.{same_from, filled_none}
+use Rattle.pf_posix.proofs.Bounds.{all_typed}
+use Rattle.pf_posix.proofs.PassedLemmas.{walked}
 
 -- `%` and another byte
 two_split : (t : Text) (at byte : ℕ) → get_or t at 0 ≡ 37 → (get_or t (at + 1) 0 == byte) ≡ true → at + 1 < length t → drop at t ≡ 37 ∷ byte ∷ drop (at + 2) t
@@ -158,3 +166,102 @@ module _ (model : Model) (t : Text) (all done : List DirectiveSpan) (at next : �
 
 pub other_byte : (byte : ℕ) → byte ≢ 37 → (byte == 37) ≡ false
 other_byte byte h = grind (arith, nat_tests)
+
+-- all that are listed are the specifications of the text
+pub has_listed : (model : Model) (t : Text) (types : List ArgumentType) (given : HasArguments model t types) (done : List DirectiveSpan)
+    → done ≡ directives_from model 0 0 t given.items given.reads → HasDirectives model t done
+has_listed model t types given done are = record {
+  types = types;
+  accepted = given;
+  directives_are = are;
+  typed = subst (AllByRecursion (TakesFrom types)) (sym are) (all_typed model types t given.items given.reads given.types_are);
+}
+
+-- a walk through an accepted text, whose specifications by then are at the front of a slice
+pub record IsListing (model : Model) (t : Text) (walk : Walk) (fetched count : ℕ) (old new : List DirectiveSpan) : Type 0 where
+  pub types : List ArgumentType
+  pub given : HasArguments model t types
+  pub done : List DirectiveSpan
+  pub listed : IsListedTo model t (directives_from model 0 0 t given.items given.reads) walk.at fetched done
+  pub over : IsWalkOver t walk
+  pub count_is : count ≡ length done
+  pub front : new ≡ filled old done
+  pub few : count ≤ walk.at
+  pub few_fetched : fetched ≤ 3 * walk.at
+
+module _ (model : Model) (t : Text) where
+  -- before the first item
+  unfoldable pub listing_starts : (types : List ArgumentType) → HasArguments model t types → (walk : Walk) → IsWalkOver t walk → walk.at ≡ 0 → (old : List DirectiveSpan)
+      → IsListing model t walk 0 0 old old
+  listing_starts types given walk over start old =
+      let all = directives_from model 0 0 t given.items given.reads in
+      record {
+        types = types;
+        given = given;
+        done = [];
+        listed = subst (λ k. IsListedTo model t all k 0 []) (sym start)
+            (record { items = given.items; reads = given.reads; within = omega arith; all_are = refl });
+        over = over;
+        count_is = refl;
+        front = sym (filled_none old);
+        few = omega arith;
+        few_fetched = omega arith;
+      }
+
+  module _ (walk : Walk) (fetched count : ℕ) (old new : List DirectiveSpan) (h : IsListing model t walk fetched count old new) where
+    abbrev all : List DirectiveSpan
+    all = directives_from model 0 0 t h.given.items h.given.reads
+
+    module _ (end : ℕ) (low : walk.at < end) where
+      -- an item that is a byte, and what a walk passes after it
+      unfoldable pub listing_passed : (after : Walk) → HasPassed IsPercent (record walk { at = end }) after → IsListedTo model t all end fetched h.done
+          → IsListing model t after fetched count old new
+      listing_passed after passed listed =
+          let now = walked t (λ k. IsListedTo model t all k fetched h.done)
+          (λ k b less is other some now. listed_byte model t all h.done k fetched now less (ap (λ x. x == 37) is ∙ other_byte b other))
+          (λ k less first second now. listed_percent model t all h.done k fetched now (omega (arith, less)) first (ap (λ x. x == 37) second))
+          h.given.limit (record walk { at = end }) after (moved_over t walk end h.over) listed.within passed listed in
+          record {
+            types = h.types;
+            given = h.given;
+            done = h.done;
+            listed = now.2;
+            over = now.0;
+            count_is = h.count_is;
+            front = h.front;
+            few = omega (arith, h.few, low, passed.from);
+            few_fetched = omega (arith, h.few_fetched, low, passed.from);
+          }
+
+      -- a specification
+      unfoldable pub listing_found : (read : Read) → IsListedBehind model t all walk.at fetched h.done (Some read) end
+          → (span : DirectiveSpan) → span ≡ directive_between model walk.at end fetched (specification_read read)
+          → (more : ℕ) → more ≡ length (fetches model (specification_read read)) → more ≤ 3
+          → (put : List DirectiveSpan)
+          → ((start before : List DirectiveSpan) → new ≡ filled start before → count ≡ length before → put ≡ filled start (before ++ span ∷ []))
+          → IsListing model t (record walk { at = end }) (fetched + more) (count + 1) old put
+      listing_found read listed span spanned more counted many put puts =
+          let own = length (fetches model (specification_read read)) in
+          let spanned_there = subst (λ d. IsListedTo model t all end (fetched + own) (h.done ++ d ∷ [])) (sym spanned) listed in
+          record {
+            types = h.types;
+            given = h.given;
+            done = h.done ++ span ∷ [];
+            listed = subst (λ n. IsListedTo model t all end (fetched + n) (h.done ++ span ∷ [])) (sym counted) spanned_there;
+            over = moved_over t walk end h.over;
+            count_is = omega (arith, h.count_is, length_push h.done span);
+            front = puts old h.done h.front h.count_is;
+            few = omega (arith, h.few, low);
+            few_fetched = omega (arith, h.few_fetched, low, many);
+          }
+
+    -- after the last item, all are listed
+    pub all_listed : length t ≤ walk.at → h.done ≡ all
+    all_listed over = go h.listed.items h.listed.reads h.listed.all_are where
+      go : (items : List PosixItem) (reads : ReadsPosix (drop walk.at t) items)
+          → all ≡ h.done ++ directives_from model walk.at fetched (drop walk.at t) items reads → h.done ≡ all
+      go (item ∷ later) reads e = let no : item ∷ later ≡ [] = items_once _ (item ∷ later) [] reads (drop_all walk.at t over) in cc
+      go [] reads e = sym (append-nil h.done) ∙ sym e
+
+    pub listing_ends : length t ≤ walk.at → HasDirectiveCount model t old new count
+    listing_ends over = record { directives = h.done; listed = has_listed model t h.types h.given h.done (all_listed over); count_is = h.count_is; front = h.front }

@@ -13,12 +13,10 @@ use Rattle.pf_posix.specs.declared.directive_spans.DirectiveSpan.{DirectiveSpan}
 use Rattle.pf_posix.specs.declared.specification_spans.SpecificationSpan.{SpecificationSpan}
 use Rattle.pf_posix.specs.declared.specification_walk.SpecificationWalk.{SpecificationWalk}
 use Rattle.pf_posix.specs.declared.specifications.Specification.{Specification as Read}
-use Rattle.pf_posix.specs.declared.types.ArgumentType.{ArgumentType}
-use Rattle.pf_posix.specs.Directives.{HasDirectives, TakesFrom, directive_between, directives_from}
+use Rattle.pf_posix.specs.Directives.{directive_between, directives_from}
 use Rattle.pf_posix.specs.DirectivesInText.{IsBehindItem, IsListedBehind, IsListedTo}
 use Rattle.pf_posix.specs.Halts.{offsets_read}
-use Rattle.pf_posix.specs.Items.{Byte, Errno, HasArguments, PosixItem, ReadsPosix, Specification}
-use Rattle.pf_posix.specs.Laws.{filled}
+use Rattle.pf_posix.specs.Items.{Byte, Errno, PosixItem, ReadsPosix, Specification}
 use Rattle.pf_posix.specs.PartsInText.{specification_read}
 use Rattle.pf_posix.specs.SpecificationSpans.{ArePosixPartsAt, HasItsParts, HasSpecifications}
 use Rattle.pf_posix.specs.SpecificationWalks.{AreTheRest, IsAhead, IsBefore}
@@ -26,8 +24,7 @@ use Rattle.pf_posix.specs.Specifications.{PosixSpecification, conversion_letter,
 use Rattle.pf_posix.specs.Spelling.{SpellsPosix}
 use Rattle.pf_posix.specs.Types.{fetches}
 use Rattle.pf_posix.proofs.Agreeing.{all_push}
-use Rattle.pf_posix.proofs.Bounds.{all_typed}
-use Rattle.pf_posix.proofs.DirectiveLemmas.{listed_byte, listed_percent, other_byte}
+use Rattle.pf_posix.proofs.DirectiveLemmas.{has_listed, listed_byte, listed_percent, other_byte}
 use Rattle.pf_posix.proofs.ItemsOnce.{items_once}
 use Rattle.pf_posix.proofs.PassedLemmas.{walked}
 use Rattle.pf_posix.proofs.SpecificationSpanLemmas.{its_parts}
@@ -195,25 +192,6 @@ behind_few t walk all spans h =
       omega (arith, long, ap length h.ahead.listed.all_are, length-append (map directive_of spans) rest),
       omega (arith, long, h.ahead.apart, h.ahead.listed.within),
     )
-
--- an accepted text, of whose specifications those behind a walk are at the front of a slice
-pub record IsListing (model : Model) (t : Text) (walk : SpecificationWalk) (count : ℕ) (old new : List DirectiveSpan) : Type 0 where
-  pub types : List ArgumentType
-  pub given : HasArguments model t types
-  pub done : List DirectiveSpan
-  pub ahead : IsAhead t walk (directives_from model 0 0 t given.items given.reads) done
-  pub count_is : count ≡ length done
-  pub front : new ≡ filled old done
-
--- if none is ahead, these are the specifications of the text
-pub has_listed : (model : Model) (t : Text) (types : List ArgumentType) (given : HasArguments model t types) (done : List DirectiveSpan)
-    → done ≡ directives_from model 0 0 t given.items given.reads → HasDirectives model t done
-has_listed model t types given done are = record {
-  types = types;
-  accepted = given;
-  directives_are = are;
-  typed = subst (AllByRecursion (TakesFrom types)) (sym are) (all_typed model types t given.items given.reads given.types_are);
-}
 
 -- so it is if all specifications are behind a walk that was before them
 pub has_specifications : (model : Model) (t : Text) (walk : SpecificationWalk) (before : IsBefore model t walk) (spans : List SpecificationSpan)

