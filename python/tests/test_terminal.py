@@ -81,7 +81,7 @@ new.c:2:9: error: types differ at argument 2: %d takes int and %s takes string,
 new.c:3:9: error: different: "%05d\\n" and "%.5d\\n" print "-0001\\n" and
     "-00001\\n" for -1 [different]
  old 3 |     printf("%05d\\n", n);
-       |             ^^^^ the sign is one of the 5 columns
+       |             ^^^^ the sign is one of the 5 bytes
  new 3 |     printf("%.5d\\n", n);
        |             ^^^^ 5 digits, and the sign before them
 new.c:4:9: error: directives differ at argument 2: "%f" and "%e" [directives]
@@ -227,7 +227,7 @@ class Screens(InFolder):
         lines = text.splitlines()
         self.assertLessEqual(max(map(len, lines)), 79)
         self.assertEqual(lines[0], "%5zu and %-05d")
-        self.assertIn("`0` has no effect next to `-`", text)
+        self.assertIn("`-` overrides `0`", text)
 
 
 class Lines(unittest.TestCase):

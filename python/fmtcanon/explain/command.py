@@ -12,7 +12,7 @@ from fmtcanon import BadLiteral, Kind, Model, Refused
 
 from ..formats.explaining import Difference, ExplainedDirective, Explanation, Rejection, compare, explain, reject
 from ..formats.layout import difference_lines, explanation_lines, rejection_lines
-from ..formats.rejections import ADVICE, HELP
+from ..formats.rejections import REFUSALS, help_on
 from ..formats.verdicts import PairKind
 from ..frame.command_line import USAGE, Parser, status_of
 from ..frame.output import complain, put
@@ -132,11 +132,11 @@ def explain_kind(word: str, style: Style, is_json: bool) -> int:
     if kind is None:
         complain(f"{NAME}: {word} is not a kind: give a number from 1 to {len(Kind)}, or a name such as Star")
         return USAGE
+    name, help, advice = fmtcanon._name(kind), help_on(kind), REFUSALS[kind].get("advice", "")
     if is_json:
-        found = {"kind": int(kind), "name": fmtcanon._name(kind), "help": HELP[kind], "advice": ADVICE.get(kind)}
-        put(sys.stdout, json.dumps(found))
+        put(sys.stdout, json.dumps({"kind": int(kind), "name": name, "help": help, "advice": advice or None}))
         return 0
-    for text in [f"{int(kind)} {fmtcanon._name(kind)}: {HELP[kind]}", ADVICE.get(kind, "")]:
+    for text in [f"{int(kind)} {name}: {help}", advice]:
         for line in wrapped(text, style.width) if style.is_terminal else filter(None, [text]):
             put(sys.stdout, line)
     return 0
@@ -153,7 +153,8 @@ def part_in_json(part: Optional[ExplainedDirective]) -> Optional[Dict[str, Any]]
     types = {model.name.lower(): TYPE_NAMES[kind] for model, kind in part.types.items()}
     text = text_in_json(part.text)
     place = {"start": part.start, "end": part.end, "text": text, "argument": part.argument}
-    return {**place, "types": types, "meaning": part.meaning, "notes": list(part.notes)}
+    words = {"meaning": part.meaning, "notes": list(part.notes), "type_name": part.type_name or None}
+    return {**place, "types": types, **words}
 
 
 def as_json(found: Found) -> Dict[str, Any]:

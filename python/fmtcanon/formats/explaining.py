@@ -1,29 +1,30 @@
 """Explains formats: what each directive prints, and how two formats differ.
 
-Every fact comes from a call of the library. A part of a directive has no effect if the library says that the directive
-without it is the same.
+Every fact comes from a call of the library, also which parts of a directive have no effect.
 """
 
 from __future__ import annotations
 
-from typing import Dict, List, NamedTuple, Optional, Sequence, Tuple, Union
+from typing import Dict, List, Mapping, NamedTuple, Optional, Sequence, Tuple, Union
 
 import fmtcanon
-from fmtcanon import DirectiveSpan, Kind, Model, Refused, Type
+from fmtcanon import Kind, Model, Refused, Specification, Type
 
 from ..kinds import TYPE_NAMES
-from ..specification import SpelledSpecification, specification_of
+from ..specification import SpelledSpecification
+from ..words import WORDS
 from .items import errnos_of
 from .rejections import instead_of, sentence
 from .verdicts import Argument, Library, PairKind, PairVerdict, taker_of, telling_arguments
-from .wording import ERRNO, ERRNO_NOTE, Stars, meaning, meaning_of_number, note
+from .wording import meaning, meaning_of_number, notes, type_name
 
 LIBRARY = Library()
 
 
 class ExplainedDirective(NamedTuple):
     """A directive of a format: where it is, its text, its argument from 1, its type by data model, and in words what it
-    prints and which of its parts have no effect. `%m` has no argument, and no types.
+    prints, which of its parts have no effect, and the name of its type in C if it has one in all data models; and the
+    specification. `%m` has no argument, no types and no specification.
     """
 
     start: int
@@ -33,6 +34,8 @@ class ExplainedDirective(NamedTuple):
     types: Dict[Model, Type]
     meaning: str
     notes: Tuple[str, ...]
+    type_name: str = ""
+    specification: Optional[SpelledSpecification] = None
 
 
 class Marked(NamedTuple):
@@ -62,7 +65,7 @@ class Difference(NamedTuple):
 
     formats: Tuple[bytes, bytes]
     verdict: PairKind
-    canonical: Optional[bytes] = None
+    canonical: Dict[Model, bytes] = {}
     arguments: Tuple[Argument, ...] = ()
     printed: Tuple[bytes, ...] = ()
     at: Optional[int] = None
@@ -92,21 +95,37 @@ class Rejection(NamedTuple):
 
 def explain(text: bytes, model: Model) -> Explanation:
     """Explains a format of the whole language. Raises `Refused`."""
-    spans = fmtcanon.directives(text, model=model)
-    types = {other: types_in(text, other) for other in Model}
-    by_model = [{it: found[at] for it, found in types.items() if found} for at in range(len(spans))]
-    parts = [part_of(text, span, types_of) for span, types_of in zip(spans, by_model)]
-    parts += [ExplainedDirective(at, at + 2, b"%m", None, {}, ERRNO, (ERRNO_NOTE,)) for at in errnos_of(text)]
+    found = fmtcanon.specifications(text, model=model)
+    listed = {it: found if it is model else specifications_in(text, it) for it in Model}
+    effects = listed[Model.LP64] or effects_of(found, text)
+    parts = [
+        part_of(it._replace(needless=other.needless, together=other.together), text, types_at(at, listed))
+        for at, (it, other) in enumerate(zip(found, effects))
+    ]
+    parts += [errno_part(at) for at in errnos_of(text)]
     parts.sort(key=lambda it: it.start)
     return Explanation(text, tuple(parts), canonical_by_model(text), bounds_of(text, model))
 
 
-def types_in(text: bytes, model: Model) -> List[Type]:
-    """Returns the type of each directive's argument, or none if the format is rejected in this data model."""
+def specifications_in(text: bytes, model: Model) -> List[Specification]:
+    """Returns the specifications of a format in a data model, or none if it is rejected there."""
     try:
-        return [it.type for it in fmtcanon.directives(text, model=model)]
+        return fmtcanon.specifications(text, model=model)
     except Refused:
         return []
+
+
+def effects_of(found: Sequence[Specification], text: bytes) -> List[Specification]:
+    """Returns the specifications in LP64, each alone. LP64 has no shorter types, so a part without an effect there has
+    none in any data model.
+    """
+    return fmtcanon.specifications(b"".join(SpelledSpecification(it, text).alone() for it in found))
+
+
+def types_at(index: int, listed: Mapping[Model, Sequence[Specification]]) -> Dict[Model, Type]:
+    """Returns the type of the argument of the specification of this index in each data model that has it."""
+    found = {model: specifications[index].type for model, specifications in listed.items() if specifications}
+    return {model: type for model, type in found.items() if type is not None}
 
 
 def canonical_by_model(text: bytes) -> Dict[Model, bytes]:
@@ -125,33 +144,19 @@ def bounds_of(text: bytes, model: Model) -> Optional[fmtcanon.Bounds]:
         return None
 
 
-def part_of(text: bytes, span: DirectiveSpan, types: Dict[Model, Type]) -> ExplainedDirective:
+def part_of(found: Specification, text: bytes, types: Dict[Model, Type]) -> ExplainedDirective:
     """Returns a directive, whose types are these, with what it prints."""
-    spelling = text[span.start : span.end]
-    effective, notes = effects(specification_of(spelling))
-    stars = Stars(*(None if it is None else it + 1 for it in (span.width_argument, span.precision_argument)))
-    return ExplainedDirective(span.start, span.end, spelling, span.argument + 1, types, meaning(effective, stars), notes)
+    one = SpelledSpecification(found, text)
+    argument = None if found.argument is None else found.argument + 1
+    said = meaning(one), notes(one), type_name(one)
+    return ExplainedDirective(found.start, found.end, one.text, argument, types, *said, one)
 
 
-def effects(found: SpelledSpecification) -> Tuple[SpelledSpecification, Tuple[str, ...]]:
-    """Returns the parts of a specification that have an effect, and a note on each other one."""
-    notes: List[str] = []
-    effective = found.without_numbers()
-    for name, spelling, shorter in found.without_numbers().shorter():
-        if is_same(found.without_numbers(), shorter):
-            notes.append(note(name, spelling, found))
-            without = [it for other, part, it in effective.shorter() if (other, part) == (name, spelling)]
-            effective = without[0] if is_same(effective, without[0]) else effective
-    notes += [f"`{flag}` is there more than once" for flag in dict.fromkeys(found.flags) if found.flags.count(flag) > 1]
-    return effective, tuple(notes)
-
-
-def is_same(first: SpelledSpecification, second: SpelledSpecification) -> bool:
-    """Returns whether two specifications are interchangeable in all data models."""
-    try:
-        return len(fmtcanon.same_in(str(first), str(second), whole=True)) == len(Model)
-    except Refused:
-        return False
+def errno_part(at: int) -> ExplainedDirective:
+    """Returns the `%m` at an offset."""
+    words = WORDS["errno"]
+    text = words["write"].encode()
+    return ExplainedDirective(at, at + len(text), text, None, {}, words["meaning"], (words["note"],))
 
 
 def reject(text: bytes, refusal: Refused, model: Model, side: Optional[int] = None) -> Rejection:
@@ -169,7 +174,7 @@ def compare(first: bytes, second: bytes, model: Model) -> Union[Difference, Reje
         is_numbered = refusal.kind is Kind.NUMBERED
         return rejection._replace(types=by_types(formats, model, refusal)) if is_numbered else rejection
     if found.kind is PairKind.SAME:
-        return Difference(formats, found.kind, canonical=LIBRARY.canonical(first, model))
+        return Difference(formats, found.kind, canonical=canonical_by_model(first))
     if found.kind is PairKind.DIFFERENT:
         return printed_unlike(formats, found.arguments, model)
     parts = (unlike_at if found.kind is PairKind.DIRECTIVES else parts_at)(formats, found.at, model)
@@ -230,7 +235,8 @@ def printed_unlike(formats: Tuple[bytes, bytes], arguments: Tuple[Argument, ...]
 def about_argument(part: ExplainedDirective, arguments: Sequence[Argument]) -> ExplainedDirective:
     """Returns a directive. If its argument is a number with a sign, its meaning is that for this number."""
     argument = argument_of(part, arguments)
-    said = meaning_of_number(specification_of(part.text), argument) if isinstance(argument, int) else None
+    one = part.specification
+    said = meaning_of_number(one, argument) if one and isinstance(argument, int) else None
     return part._replace(meaning=said or part.meaning)
 
 
