@@ -2,13 +2,13 @@
 
 from __future__ import annotations
 
-from typing import Callable, List, NamedTuple, Optional
+from typing import Callable, Dict, List, NamedTuple, Optional
 
 from .kinds import Part, Type
 from .words import WORDS
 
-# How flags are spelled, and how the words name other parts.
-NAMES = dict(zip(Part, WORDS["parts"]))
+# How flags are spelled, and how the words name other parts, by the bits of Part.
+NAMES: Dict[int, str] = {1 << bit: name for bit, name in enumerate(WORDS["parts"])}
 FLAGS = {name: part for part, name in NAMES.items() if part < Part.WIDTH}
 NO_PART = Part(0)
 
@@ -80,16 +80,14 @@ class SpelledSpecification(NamedTuple):
     def flags(self) -> str:
         return self.format[self.found.flags_at : self.found.width_at].decode()
 
-    def piece(self, part: Part) -> bytes:
+    def piece(self, part: int) -> bytes:
         """Returns the bytes of its width, its precision or its length modifier."""
         found = self.found
-        ends = {
-            Part.WIDTH: (found.width_at, found.precision_at),
-            Part.PRECISION: (found.precision_at, found.modifier_at),
-            Part.MODIFIER: (found.modifier_at, found.end - 1),
-        }
-        start, end = ends[part]
-        return self.format[start:end]
+        if part == Part.WIDTH:
+            return self.format[found.width_at : found.precision_at]
+        if part == Part.PRECISION:
+            return self.format[found.precision_at : found.modifier_at]
+        return self.format[found.modifier_at : found.end - 1]
 
     def without(self, parts: Part) -> bytes:
         """Returns its bytes without these parts."""

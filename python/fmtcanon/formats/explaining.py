@@ -93,10 +93,10 @@ class Rejection(NamedTuple):
         return str(Refused(self.refusal.kind, self.refusal.name, at))
 
 
-def explain(text: bytes, model: Model) -> Explanation:
-    """Explains a format of the whole language. Raises `Refused`."""
-    found = fmtcanon.specifications(text, model=model)
-    listed = {it: found if it is model else specifications_in(text, it) for it in Model}
+def explain(text: bytes, model: Model, texts: Optional[Mapping[Model, bytes]] = None) -> Explanation:
+    """Explains a format of the whole language, which may be another text in other data models. Raises `Refused`."""
+    found, texts = fmtcanon.specifications(text, model=model), texts or dict.fromkeys(Model, text)
+    listed = {it: found if it is model else specifications_in(other, it) for it, other in texts.items()}
     effects = listed[Model.LP64] or effects_of(found, text)
     parts = [
         part_of(it._replace(needless=other.needless, together=other.together), text, types_at(at, listed))
@@ -104,7 +104,7 @@ def explain(text: bytes, model: Model) -> Explanation:
     ]
     parts += [errno_part(at) for at in errnos_of(text)]
     parts.sort(key=lambda it: it.start)
-    return Explanation(text, tuple(parts), canonical_by_model(text), bounds_of(text, model))
+    return Explanation(text, tuple(parts), canonical_by_model(texts), bounds_of(text, model))
 
 
 def specifications_in(text: bytes, model: Model) -> List[Specification]:
@@ -128,10 +128,10 @@ def types_at(index: int, listed: Mapping[Model, Sequence[Specification]]) -> Dic
     return {model: type for model, type in found.items() if type is not None}
 
 
-def canonical_by_model(text: bytes) -> Dict[Model, bytes]:
+def canonical_by_model(texts: Mapping[Model, bytes]) -> Dict[Model, bytes]:
     """Returns the canonical text in each data model; none if arguments are numbered."""
     try:
-        return {model: fmtcanon.canonical(text, model=model, whole=True) for model in Model}
+        return {model: LIBRARY.canonical(text, model) for model, text in texts.items()}
     except Refused:
         return {}
 
@@ -164,8 +164,10 @@ def reject(text: bytes, refusal: Refused, model: Model, side: Optional[int] = No
     return Rejection(text, refusal, sentence(text, refusal), instead_of(text, refusal, model), side)
 
 
-def compare(first: bytes, second: bytes, model: Model) -> Union[Difference, Rejection]:
-    """Compares two formats."""
+def compare(
+    first: bytes, second: bytes, model: Model, texts: Optional[Mapping[Model, bytes]] = None
+) -> Union[Difference, Rejection]:
+    """Compares two formats. The first may be another text in other data models."""
     formats = (first, second)
     try:
         found = LIBRARY.compared(first, second, model)
@@ -174,7 +176,7 @@ def compare(first: bytes, second: bytes, model: Model) -> Union[Difference, Reje
         is_numbered = refusal.kind is Kind.NUMBERED
         return rejection._replace(types=by_types(formats, model, refusal)) if is_numbered else rejection
     if found.kind is PairKind.SAME:
-        return Difference(formats, found.kind, canonical=canonical_by_model(first))
+        return Difference(formats, found.kind, canonical=canonical_by_model(texts or dict.fromkeys(Model, first)))
     if found.kind is PairKind.DIFFERENT:
         return printed_unlike(formats, found.arguments, model)
     parts = (unlike_at if found.kind is PairKind.DIRECTIVES else parts_at)(formats, found.at, model)

@@ -6,13 +6,14 @@ from itertools import zip_longest
 from typing import Dict, Iterator, List, Optional
 
 import fmtcanon
-from fmtcanon import Model, Type
+from fmtcanon import Kind, Model, Type
 
 from ..frame.terminals import Style, beside, columns
 from ..frame.visible import visible
 from ..kinds import TYPE_NAMES
 from ..words import WORDS, phrase
 from .explaining import Difference, ExplainedDirective, Explanation, Rejection
+from .rejections import refused_span
 from .verdicts import PairKind, argument_words, cut, shared_front, shown_argument, shown_arguments
 
 # Formats up to this many columns have the words next to the carets; the words of others are on lines of their own.
@@ -101,16 +102,22 @@ def bounds_words(bounds: fmtcanon.Bounds) -> str:
 
 
 def rejection_lines(found: Rejection, model: Model, style: Style) -> Iterator[str]:
-    """Yields the error line, the format with a caret under the byte that is rejected, and what to write."""
+    """Yields the error line, the format with a caret under the byte that is rejected, or carets under the specification
+    that takes an argument after a missing one, and what to write.
+    """
     yield f"{'' if found.side is None else SIDES[found.side]}{found}"
     yield as_source(found.format)
-    begin = column_of(found.format, found.refusal.byte)
+    start, end = found.refusal.byte, found.refusal.byte + 1
+    if found.refusal.kind is Kind.MISSING_ARGUMENT:
+        start, end = refused_span(found.format, found.refusal)
+    begin = column_of(found.format, start)
+    count = max(column_of(found.format, end) - begin, 1)
     more = [f"Write {as_source(found.instead)}."] if found.instead else []
     words = " ".join([found.help, *more])
     if begin <= BESIDE:
-        yield from beside(" " * begin + style.carets(1), begin + 1, begin + 2, [words], style.width)
+        yield from beside(" " * begin + style.carets(count), begin + count, begin + count + 1, [words], style.width)
     else:
-        yield " " * begin + style.carets(1)
+        yield " " * begin + style.carets(count)
         yield from beside("", 0, INDENT, [words], style.width)
     if found.types is not None:
         yield from types_lines(found.types, model, style)
