@@ -39,7 +39,7 @@ PLANTED = [
 
 
 class Sentences:
-    """What is said of directives, beside what the GNU C library prints."""
+    """What is said of directives, and what the GNU C library prints."""
 
     def __init__(self, module):
         self.module, self.printf = module, ctypes.CDLL(None).snprintf
