@@ -6,6 +6,7 @@ import os
 import re
 import subprocess
 import sys
+import time
 import unittest
 from contextlib import redirect_stderr, redirect_stdout
 from pathlib import Path
@@ -131,6 +132,13 @@ class Directives(unittest.TestCase):
         canonical = {"lp64": "%-8f of %5lu%%", "ilp32": "%-8f of %5u%%", "llp64": "%-8f of %5llu%%"}
         self.assertEqual((found["canonical"], found["bounds"]), (canonical, None))
 
+    def test_facts(self):
+        """What is said in words is there by itself, too."""
+        part = asked("%1$-05.*3$lf %2$d")[1]["directives"][0]
+        facts = {"flags": "-0", "width": 5, "width_argument": None, "precision": None, "precision_argument": 3}
+        facts.update(modifier="l", conversion="f", needless=["0", "modifier"], together=["0", "modifier"])
+        self.assertEqual({it: part[it] for it in facts}, facts)
+
     def test_numbered_arguments(self):
         status, found = asked("%2$*1$d")
         [part] = found["directives"]
@@ -199,7 +207,12 @@ class Lines(unittest.TestCase):
 
     def test_what_follows(self):
         self.assertEqual(run("%i")[1][-2:], ["key: %d", "it prints 1 to 11 bytes"])
-        self.assertEqual(run("%s")[1][-1], "it prints at least 0 bytes")
+        key = ["key (LP64): %lu", "it is not a rewrite: in ILP32 and LLP64 it names other types"]
+        self.assertEqual(run("%zu")[1][-3:], [*key, "it prints 1 to 20 bytes"])
+        self.assertEqual(run("--model", "ilp32", "%jd")[1][-3], "key (ILP32): %lld")
+        rows = [("%s", "at least 0 bytes"), (" %s", "at least 1 byte"), ("%c", "1 byte"), ("%2c", "2 bytes")]
+        for text, said in rows:
+            self.assertEqual(run(text)[1][-1], f"it prints {said}")
 
     def test_colour(self):
         for words, has in [(["--color", "always"], True), (["--color", "never"], False), ([], False)]:
@@ -208,6 +221,18 @@ class Lines(unittest.TestCase):
     def test_literals(self):
         self.assertEqual(run("--literal", r'"\x25i\n"')[1][0], r"%i\n")
         self.assertEqual(run("--literal", "%d")[0], 2)
+
+    def test_macros_in_literals(self):
+        """Macros of <inttypes.h> have the text of each data model (C11 7.8.1)."""
+        found = asked("--literal", r'"%5" PRIu64 "\n"')[1]
+        [part] = found["directives"]
+        wanted = {"lp64": "unsigned long", "ilp32": "unsigned long long", "llp64": "unsigned long long"}
+        self.assertEqual((found["format"], part["text"], part["types"]), ("%5lu\n", "%5lu", wanted))
+        self.assertEqual(found["canonical"], {"lp64": "%5lu\n", "ilp32": "%5llu\n", "llp64": "%5llu\n"})
+        self.assertEqual(asked("--literal", "--model", "llp64", 'PRIdPTR "%d"')[1]["format"], "lld%d")
+        self.assertEqual(run("--literal", '"%#" PRId64')[1][2], "   ^ `#` has no meaning with `d`. Write %ld.")
+        for text in ['"%d" FOO', "PRId64", '"%d", "%d"', 'L"%d"', 'f("%" PRId64)', '"%" PRId64;']:
+            self.assertEqual(run("--literal", text), (2, []), text)
 
     def test_rejected_literals(self):
         """The offset is that of the literals, as the program prints it, and the caret is under the byte."""
@@ -228,6 +253,16 @@ class LongFormats(unittest.TestCase):
         self.assertEqual(long[0], "%5d" * 2000)
         at = long.index("%5d at byte 5997")
         self.assertEqual(long[at + 1], "    argument 2000, int: decimal, right-justified in at least 5 bytes")
+
+    def test_time(self):
+        """Four times the format takes about four times the time, also if it is rejected or its arguments are numbered."""
+        for part, end in [("%5zu ", ""), ("%m%-d", ""), ("%1$d", ""), ("%d ", "%#d")]:
+            times = []
+            for count in (2_000, 8_000):
+                start = time.process_time()
+                run(part * count + end)
+                times.append(time.process_time() - start)
+            self.assertLess(times[1], 8 * times[0], part)
 
     def test_shortest(self):
         """Carets are below all formats of up to 500 columns."""
@@ -253,10 +288,25 @@ class Rejections(unittest.TestCase):
         """What is to be written is accepted; rows by hand."""
         rows = [("%#d", "%d"), ("%05s", "%5s"), ("%'x", "%x"), ("%.3c", "%c"), ("%hs", "%s"), ("100%", "%%")]
         rows += [("%5%", "%%"), ("%%%#d", "%d"), ("%d%-n", "%n"), ("%#lc", "%lc")]
+        # One part alone is left out, and with others only those that have no meaning.
+        rows += [("%010s", "%10s"), ("%.3ln", "%ln"), ("%*n", "%n"), ("%-+5hhn", "%hhn"), ("%2$#-5d%1$s", "%2$-5d")]
+        # Names of length modifiers that other systems have.
+        rows += [("%Zd", "%zd"), ("%-5qu", "%-5llu"), ("%I64d", "%lld"), ("x%08I64X", "%08llX"), ("%I32u", "%u")]
+        rows += [("%Lu", "%llu"), ("%2$Zd", "%2$zd"), ("%Id", None), ("%Zs", None), ("%Ls", "%s"), ("%-.3n", None)]
         for text, instead in rows:
             status, found = asked("--", text)
             self.assertEqual((status, found["accepted"], found["refusal"].get("write")), (2, False, instead), text)
         self.assertNotIn("write", asked("%y")[1]["refusal"])
+
+    def test_missing_argument(self):
+        """The specification that takes a later one is named, and has the carets."""
+        said = "^^^^ Nothing takes argument 2, so its type can't be known, and `%3$s` takes a later one."
+        self.assertEqual(run("%3$s of %1$d")[1], ["refused 21 MissingArgument at byte 12", "%3$s of %1$d", said])
+
+    def test_names_of_other_systems(self):
+        said = asked("%Zd")[1]["refusal"]["help"]
+        self.assertEqual(said, "`Z` is an old name of `z` in the GNU C library.")
+        self.assertTrue(asked("%Zs")[1]["refusal"]["help"].startswith("The byte can't continue the specification."))
 
     def test_each_kind(self):
         for kind in Kind:

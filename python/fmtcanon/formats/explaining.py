@@ -5,6 +5,7 @@ Every fact comes from a call of the library, also which parts of a directive hav
 
 from __future__ import annotations
 
+import itertools
 from typing import Dict, List, Mapping, NamedTuple, Optional, Sequence, Tuple, Union
 
 import fmtcanon
@@ -96,36 +97,32 @@ class Rejection(NamedTuple):
 def explain(text: bytes, model: Model, texts: Optional[Mapping[Model, bytes]] = None) -> Explanation:
     """Explains a format of the whole language, which may be another text in other data models. Raises `Refused`."""
     found, texts = fmtcanon.specifications(text, model=model), texts or dict.fromkeys(Model, text)
-    listed = {it: found if it is model else specifications_in(other, it) for it, other in texts.items()}
-    effects = listed[Model.LP64] or effects_of(found, text)
-    parts = [
-        part_of(it._replace(needless=other.needless, together=other.together), text, types_at(at, listed))
-        for at, (it, other) in enumerate(zip(found, effects))
-    ]
+    types = {it: types_in(other, it) for it, other in texts.items()}
+    by_model = [{it: known[at] for it, known in types.items() if known} for at in range(len(found))]
+    effects = found if model is Model.LP64 else effects_of(found, text, texts[Model.LP64])
+    parts = [part_of(*it) for it in zip(found, effects, itertools.repeat(text), by_model)]
     parts += [errno_part(at) for at in errnos_of(text)]
     parts.sort(key=lambda it: it.start)
     return Explanation(text, tuple(parts), canonical_by_model(texts), bounds_of(text, model))
 
 
-def specifications_in(text: bytes, model: Model) -> List[Specification]:
-    """Returns the specifications of a format in a data model, or none if it is rejected there."""
+def types_in(text: bytes, model: Model) -> List[Type]:
+    """Returns the type of each directive's argument, or none if the format is rejected in this data model."""
     try:
-        return fmtcanon.specifications(text, model=model)
+        return [it.type for it in fmtcanon.directives(text, model=model)]
     except Refused:
         return []
 
 
-def effects_of(found: Sequence[Specification], text: bytes) -> List[Specification]:
-    """Returns the specifications in LP64, each alone. LP64 has no shorter types, so a part without an effect there has
-    none in any data model.
+def effects_of(found: Sequence[Specification], text: bytes, other: bytes) -> List[Specification]:
+    """Returns the specifications of a format in LP64, where it is another text, each alone if it is rejected there.
+
+    No type is shorter in LP64 than elsewhere. So a part without an effect there has none in any data model.
     """
-    return fmtcanon.specifications(b"".join(SpelledSpecification(it, text).alone() for it in found))
-
-
-def types_at(index: int, listed: Mapping[Model, Sequence[Specification]]) -> Dict[Model, Type]:
-    """Returns the type of the argument of the specification of this index in each data model that has it."""
-    found = {model: specifications[index].type for model, specifications in listed.items() if specifications}
-    return {model: type for model, type in found.items() if type is not None}
+    try:
+        return fmtcanon.specifications(other)
+    except Refused:
+        return fmtcanon.specifications(b"".join(SpelledSpecification(it, text).alone() for it in found))
 
 
 def canonical_by_model(texts: Mapping[Model, bytes]) -> Dict[Model, bytes]:
@@ -144,9 +141,11 @@ def bounds_of(text: bytes, model: Model) -> Optional[fmtcanon.Bounds]:
         return None
 
 
-def part_of(found: Specification, text: bytes, types: Dict[Model, Type]) -> ExplainedDirective:
-    """Returns a directive, whose types are these, with what it prints."""
-    one = SpelledSpecification(found, text)
+def part_of(
+    found: Specification, effects: Specification, text: bytes, types: Dict[Model, Type]
+) -> ExplainedDirective:
+    """Returns a directive, whose types are these, with what it prints; what has no effect has none in any data model."""
+    one = SpelledSpecification(found._replace(needless=effects.needless, together=effects.together), text)
     argument = None if found.argument is None else found.argument + 1
     said = meaning(one), notes(one), type_name(one)
     return ExplainedDirective(found.start, found.end, one.text, argument, types, *said, one)
