@@ -256,11 +256,12 @@ class LongFormats(unittest.TestCase):
 
     def test_time(self):
         """Four times the format takes about four times the time, also if it is rejected or its arguments are numbered."""
-        for part, end in [("%5zu ", ""), ("%m%-d", ""), ("%1$d", ""), ("%d ", "%#d")]:
+        rows = [("%5zu ", [""]), ("%m%-d", [""]), ("%1$d", [""]), ("%d ", ["%#d"]), ("%s %d ", ["%f", "%e"]), ("%d ", "xy")]
+        for part, ends in rows:
             times = []
-            for count in (2_000, 8_000):
+            for count in (1_000, 4_000):
                 start = time.process_time()
-                run(part * count + end)
+                run(*(part * count + it for it in ends))
                 times.append(time.process_time() - start)
             self.assertLess(times[1], 8 * times[0], part)
 
@@ -367,7 +368,7 @@ class Pairs(unittest.TestCase):
     def test_side_by_side(self):
         """The two directives are side by side with their types, or below each other where a line has no room."""
         lines = ["  a %zu                         %d", "    ^^^                         ^^"]
-        lines += ["  unsigned long                 int", "  unsigned int in ILP32", "  unsigned long long in LLP64"]
+        lines += ["  size_t: unsigned long         int", "  unsigned int in ILP32", "  unsigned long long in LLP64"]
         self.assertEqual(run("a %zu", "%d")[1][1:], lines)
         front = "x" * 100
         self.assertEqual(run(f"{front}%d", "%s")[1][4:], ["  %s", "  ^^", "  string"])

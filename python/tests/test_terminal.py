@@ -86,10 +86,10 @@ new.c:3:9: error: different: "%05d\\n" and "%.5d\\n" print "-0001\\n" and
        |             ^^^^ 5 digits, and the sign before them
 new.c:4:9: error: directives differ at argument 2: "%f" and "%e" [directives]
  old 4 |     printf("%d %f\\n", n, d);
-       |                ^^ digits with 6 places after the point
+       |                ^^ 6 digits after the decimal point
  new 4 |     printf("%d %e\\n", n, d);
-       |                ^^ one digit, the point, 6 places, and an exponent
-       |                   after `e`
+       |                ^^ one digit, 6 digits after the decimal point, and an
+       |                   exponent after `e`
 new.c:5:9: error: rejected now: refused 3 Unexpected at byte 1 of "%y ok\\n"
     [rejected]
  new 5 |     printf("%y ok\\n", n);

@@ -91,12 +91,15 @@ def shared_back(first: bytes, second: bytes, front: int) -> int:
 
 
 def narrowed(old: bytes, new: bytes) -> Tuple[int, int]:
-    """Returns the lengths of a front that ends with a specification, and of a back that begins with one, which two formats
-    share; 0 if there are none. Without them the formats are the same exactly if they are with them. Raises `Refused`.
+    """Returns the lengths of a front that two formats share, up to a percent sign or to where they differ, and of a back
+    that begins with a specification. Without them the formats are the same exactly if they are with them. Raises
+    `Refused`.
     """
     first, second = (fmtcanon.directives(it) for it in (old, new))
     shared = shared_front(old, new)
-    front = max((it.end for it in first if it.end <= shared), default=0)
+    done = max((it.end for it in first if it.end <= shared), default=0)
+    sign = old.find(b"%", done, shared)
+    front = shared if sign < 0 else sign
     most = shared_back(old, new, front)
     backs = {len(old) - it.start for it in first} & {len(new) - it.start for it in second}
     return front, max((it for it in backs if it <= most), default=0)
