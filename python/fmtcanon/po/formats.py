@@ -16,8 +16,8 @@ from ..words import WORDS, phrase
 WITH_OTHER_DIGITS = b"diufFeEgG"
 PERCENT = ord("%")
 
-# How an argument of the types int and unsigned int is used, as bits.
-KINDS = {words: 1 << bit for bit, (_, _, words) in enumerate(WORDS["uses"])}
+# How an argument of the types int and unsigned int is used, as bits. The last row of the table has what is usual.
+KINDS = {words: 1 << bit for bit, (_, _, words) in enumerate(reversed(WORDS["uses"]))}
 NUMBER, WIDTH = (KINDS[phrase(WORDS["uses"], conversion, set())] for conversion in "d*")
 # What of a specification has another type in another data model (C11 7.21.6.1p7).
 DEPENDENT = re.compile(rb"[jzt]")
