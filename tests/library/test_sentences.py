@@ -154,13 +154,16 @@ def test_printed(module, trials):
 
 
 def test_effects(module, trials):
-    """What has no effect has none in any data model: each part by itself, and those that are left out of the sentence."""
+    """What has no effect has none in any data model: each part by itself, and those that are left out of the sentence; and
+    there are words on each.
+    """
     found, count = [], 0
     for part, _ in itertools.islice(Sentences(module).parts(drawn(4)), 1_500):
         one = part.specification
         for parts in [*(it for it in module.Part if it & one.found.needless), one.found.together]:
             count += 1
-            if len(module.same_in(one.alone(), one.alone(parts), whole=True)) < len(module.Model):
+            is_same = len(module.same_in(one.alone(), one.alone(parts), whole=True)) == len(module.Model)
+            if not is_same or "" in part.notes:
                 found.append((part.text, parts))
     trials.expect("what has an effect in some data model", found, [])
     trials.expect("many parts have no effect", count > 1_500, True)
