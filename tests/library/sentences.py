@@ -38,6 +38,8 @@ PHRASES = [
     r"(?P<hex>hexadecimal) with `[aA]` to `[fF]` and an exponent after `(?P<power>[pP])`",
     r"(?P<string>the (?:wide )?string)",
     r"(?P<character>the (?:wide character|character with this number))",
+    r"(?P<pointer>the pointer, as the C library writes it)(?:, with the flag (?P<flag>`\+`|space))?",
+    r"(?P<nothing>nothing): the number of bytes printed so far is stored",
     r"at least (?P<digits>\d+) digits?",
     r"(?P<empty>no digit for 0|for 0 the leading `0` alone)",
     r"(?P<after>\d+|no) digits? after the point",
@@ -49,6 +51,19 @@ PHRASES = [
     r"(?P<side>right-justified|left-justified) in at least (?P<width>\d+) bytes?",
     r"padded with zeros to at least (?P<zeros>\d+) bytes?(?: \((?P<but>infinity and NaN with spaces)\))?",
 ]
+# What may be said of one that is printed as the first of each of these, besides its field.
+MORE = {
+    "base": "converted digits empty leading prefix sign",
+    "point": "always capitals sign",
+    "whole": "always capitals sign",
+    "exponent": "places always sign",
+    "style": "upto significant always sign",
+    "power": "hex after always sign",
+    "string": "bytes none",
+    "character": "",
+    "pointer": "flag",
+    "nothing": "",
+}
 SENTENCE = re.compile("".join(f"(?:(?:^|, )(?:{it}))?" for it in PHRASES) + "$")
 
 
@@ -88,13 +103,20 @@ def with_numbers(sentence, arguments):
 def read(sentence, arguments):
     """The phrases of a sentence for these arguments of width and precision, by number."""
     found = SENTENCE.match(with_numbers(sentence, arguments))
-    if not found or not found[0]:
+    known = {name for name, it in found.groupdict().items() if it is not None} if found else set()
+    kinds = known & MORE.keys()
+    more = known - kinds - {"side", "width", "zeros", "but"}
+    if len(kinds) != 1 or not more <= set(MORE[min(kinds)].split()):
         raise Unread(sentence)
     return found
 
 
 def printed_by(found, type, value):
-    """What is printed for a value of a type by the phrases of a sentence."""
+    """What is printed for a value of a type by the phrases of a sentence; a pointer's is its text, by the phrase on flags."""
+    if found["nothing"]:
+        return b""
+    if found["pointer"]:
+        return in_field(found, "", value[found["flag"]]).encode()
     if found["string"] or found["character"]:
         text = value if found["string"] else chr(value)
         text = "" if found["none"] else text if found["bytes"] is None else text[: int(found["bytes"])]

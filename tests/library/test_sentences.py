@@ -18,6 +18,8 @@ INFINITE = (float("inf"), float("-inf"), float("nan"))
 FLOATS = (0.0, -0.0, 1.5, -2.25, 1234567.0, 1e-5, *INFINITE)
 WHOLE, HALVES = (0.0, -0.0, 1.0, -2.0, 0.5, *INFINITE), (1.5, -2.25)
 TEXTS, CHARACTERS = ("", "a", "seven c"), (65, 97)
+# A pointer, and how the library writes one with the flags that the words name.
+ADDRESS, POINTERS = 0x1234, {None: b"%p", "`+`": b"%+p", "space": b"% p"}
 # Values of the arguments of `*`: of one, and of a width and a precision.
 ONE = [(it,) for it in (0, 1, 5, 15, -1, -9)]
 TWO = list(itertools.product((0, 5, 15, -9), (0, 1, 5, -3)))
@@ -52,6 +54,8 @@ class Sentences:
         type = module.Type
         self.passed = {
             **of_types,
+            **{it: lambda _: ctypes.byref(ctypes.c_longlong()) for it in list(type)[12:]},
+            type.POINTER_TO_VOID: lambda _: ctypes.c_void_p(ADDRESS),
             type.DOUBLE: ctypes.c_double,
             type.LONG_DOUBLE: ctypes.c_longdouble,
             type.STRING: lambda text: ctypes.c_char_p(text.encode()),
@@ -71,16 +75,19 @@ class Sentences:
         return self.room.raw[:size]
 
     def values_of(self, one):
-        """Values for a directive; none where the words leave open what is printed, or the reader does."""
+        """Values for a directive; none if the reader can't print them."""
         type = self.module.Type
         if one.found.type in (type.STRING, type.WIDE_STRING):
             return TEXTS
+        if one.conversion in "pn":
+            address = self.passed[one.found.type](None)
+            return [{flag: self.printed(it, [address]).decode() for flag, it in POINTERS.items()}]
         if one.conversion in "aA":
             is_whole = one.found.precision == 0 or one.found.precision_argument is not None
             return () if one.found.type is type.LONG_DOUBLE else WHOLE if is_whole else WHOLE + HALVES
         if one.found.type in (type.DOUBLE, type.LONG_DOUBLE):
             return FLOATS
-        return () if one.found.type not in self.passed else CHARACTERS if one.conversion in "cC" else INTEGERS
+        return CHARACTERS if one.conversion in "cC" else INTEGERS
 
     def untrue(self, part):
         """Yields what the library prints for a directive, if that is not by its sentence, or not without a needless part."""
