@@ -1,8 +1,8 @@
 """Checks the words of what people read: phrases that this project doesn't use, and the length of each page.
 
 It reads the documents, the manual pages, the header, the help of the program, the comments of the crates' sources,
-definitions and proofs, the comments, docstrings and texts of the Python module, and the comments and docstrings of the
-tests.
+definitions and proofs, the comments, docstrings, texts and words of the Python module, and the comments and docstrings of
+the tests.
 """
 
 import ast
@@ -157,6 +157,7 @@ def texts():
         (files("include/*"), comments_of_c),
         (files("crates/*/src/**/*.rt", "crates/*/specs/**/*.antt", "crates/*/proofs/**/*.antt"), comments_of_rattle),
         (files("python/fmtcanon/**/*.py"), words_of_python),
+        (files("python/fmtcanon/**/*.json"), str),
         (files("tests/**/*.py"), comments_of_python),
     ]:
         for path in paths:
