@@ -98,7 +98,7 @@ def bounds_words(bounds: fmtcanon.Bounds) -> str:
     """Returns how many bytes a format prints."""
     tokens = {f"least{bounds.least}", "unbounded" if bounds.greatest is None else "bounded"}
     tokens |= {"exact"} if bounds.greatest == bounds.least else set()
-    return phrase(WORDS["bytes"], "", tokens).format(least=bounds.least, greatest=bounds.greatest)
+    return phrase(WORDS["bytes"], "", tokens).format(least=bounds.least, most=bounds.greatest)
 
 
 def rejection_lines(found: Rejection, model: Model, style: Style) -> Iterator[str]:
