@@ -15,7 +15,7 @@ import fmtcanon
 from fmtcanon import Kind, Model
 from fmtcanon.explain.command import main
 from fmtcanon.formats.explaining import explain
-from fmtcanon.formats.rejections import help_on
+from fmtcanon.formats.rejections import help_on, refused_span
 from fmtcanon.words import WORDS
 
 TOP = Path(__file__).resolve().parents[2]
@@ -298,6 +298,15 @@ class Rejections(unittest.TestCase):
             status, found = asked("--", text)
             self.assertEqual((status, found["accepted"], found["refusal"].get("write")), (2, False, instead), text)
         self.assertNotIn("write", asked("%y")[1]["refusal"])
+
+    def test_where_it_is(self):
+        """From the percent sign to the byte that is rejected, or the whole specification that takes a later argument."""
+        rows = [("a%%%-5y", 3, 7), ("%d %#d", 3, 6), ("%d\n%", 3, 5), ("5%5%", 1, 4), ("%1$d%3$5s %4$d", 4, 9), ("%2$d %d", 5, 7)]
+        for text, start, end in rows:
+            refusal = asked(text)[1]["refusal"]
+            self.assertEqual((refusal["start"], refusal["end"]), (start, end), text)
+        refused = fmtcanon.Refused(Kind.NUL_BYTE, "NulByte", 2)
+        self.assertEqual(refused_span(b"%d\0", refused), (2, 3))
 
     def test_missing_argument(self):
         """The specification that takes a later one is named, and has the carets."""

@@ -12,7 +12,7 @@ from fmtcanon import BadLiteral, Kind, Model, Refused
 
 from ..formats.explaining import Difference, ExplainedDirective, Explanation, Rejection, compare, explain, reject
 from ..formats.layout import difference_lines, explanation_lines, rejection_lines
-from ..formats.rejections import REFUSALS, help_on
+from ..formats.rejections import REFUSALS, help_on, refused_span
 from ..formats.verdicts import PairKind
 from ..frame.command_line import USAGE, Parser, status_of
 from ..frame.output import complain, put
@@ -199,6 +199,7 @@ def rejection_in_json(found: Rejection) -> Dict[str, Any]:
     refusal: Dict[str, Any] = {"kind": int(found.refusal.kind), "name": found.refusal.name, "at": found.refusal.byte}
     if found.at is not None:
         refusal["at"] = found.at
+    refusal["start"], refusal["end"] = refused_span(found.format, found.refusal)
     refusal["help"] = found.help
     if found.side is not None:
         refusal["side"] = found.side
