@@ -416,6 +416,20 @@ def specifications(format: Format, *, model: DataModel = Model.LP64) -> List[Spe
         raise
 
 
+def _refused_specification(text: bytes) -> Optional[Specification]:
+    """Returns what is known of the specification in which a format is rejected; None if it isn't, or outside of one.
+
+    The others aren't listed, which may be many.
+    """
+    error, rejected = CError(), CSpecification()
+    result = _library().fmtcanon_specifications(Model.LP64, text, len(text), None, 0, rejected, error)
+    try:
+        _answer(result, error)
+    except Refused:
+        return None if rejected.begin == _NONE else _specification(rejected)
+    return None
+
+
 def _specification(record: CSpecification) -> Specification:
     return Specification(
         record.begin,

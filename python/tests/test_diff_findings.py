@@ -263,17 +263,20 @@ class Judging(unittest.TestCase):
         self.assertIn(" of 4095 bytes", found)
 
     def test_narrowed(self):
-        """What two formats share is cut off up to a percent sign in front, and before a specification in the back."""
+        """What two formats share is cut off, in the back from a percent sign on, where no specification is cut."""
         for old, new, wanted in [
             (b"x%05d|", b"x%.5d|", (1, 0)),
             (b"%5d", b"%5d", (3, 0)),
             (b"%d%d%u", b"%d%i%u", (2, 2)),
             (b"a%lld", b"a%ld", (1, 0)),
-            (b"%d %%%d.", b"%d %%%%d.", (3, 0)),
+            (b"%d %%%d.", b"%d %%%%d.", (5, 0)),
             (b"5%d", b"%d", (0, 2)),
-            (b"%s%%: %d of %d\n", b"%s%%: %x of %d\n", (2, 3)),
-            (b"%m%m%d", b"%m%d", (0, 2)),
+            (b"%s%%: %d of %d\n", b"%s%%: %x of %d\n", (6, 3)),
+            (b"%m%m%d", b"%m%d", (2, 2)),
             (b"some words", b"some other", (5, 0)),
+            (b"a%d%%%d", b"b%%d%%%d", (0, 4)),
+            (b"a" + b"%" * 40, b"%%b" + b"%" * 40, (0, 40)),
+            (b"a%%" + b"%" * 40 + b"d", b"%" * 40 + b"%d", (0, 0)),
         ]:
             self.assertEqual(narrowed(old, new), wanted, (old, new))
 

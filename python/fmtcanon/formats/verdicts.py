@@ -13,6 +13,8 @@ from fmtcanon import Model
 from ..frame.visible import visible
 from ..kinds import TYPE_NAMES
 
+# How many percent signs are tried as the beginning of the back that two long formats share.
+MOST_SIGNS = 8
 # How much of a text is shown, and how much of that comes before the first difference.
 SHOWN, BEFORE = 60, 20
 # Strings up to the first length are not shortened, and up to the second they are shown; how many arguments are shown.
@@ -91,18 +93,20 @@ def shared_back(first: bytes, second: bytes, front: int) -> int:
 
 
 def narrowed(old: bytes, new: bytes) -> Tuple[int, int]:
-    """Returns the lengths of a front that two formats share, up to a percent sign or to where they differ, and of a back
-    that begins with a specification. Without them the formats are the same exactly if they are with them. Raises
-    `Refused`.
+    """Returns the lengths of a front and of a back that two accepted formats share. Neither ends within a specification.
+    Without them the formats are the same exactly if they are with them.
     """
-    first, second = (fmtcanon.directives(it) for it in (old, new))
     shared = shared_front(old, new)
-    done = max((it.end for it in first if it.end <= shared), default=0)
-    sign = old.find(b"%", done, shared)
-    front = shared if sign < 0 else sign
-    most = shared_back(old, new, front)
-    backs = {len(old) - it.start for it in first} & {len(new) - it.start for it in second}
-    return front, max((it for it in backs if it <= most), default=0)
+    cut = fmtcanon._refused_specification(old[:shared])
+    front = cut.start if cut else shared
+    back = shared_back(old, new, front)
+    for _ in range(MOST_SIGNS):
+        sign = old.find(b"%", len(old) - back)
+        back = len(old) - sign if sign >= 0 else 0
+        if not back or not any(fmtcanon._refused_specification(it[: len(it) - back]) for it in (old, new)):
+            return front, back
+        back -= 1
+    return front, 0
 
 
 class Library:
