@@ -53,6 +53,7 @@ install: places built
 	chmod 644 $(DESTDIR)$(LIBDIR)/pkgconfig/fmtcanon.pc
 	for part in $(MODULES); do install -m 644 python/$$part/*.py $(DESTDIR)$(PYTHONDIR)/$$part || exit 1; done
 	install -m 644 python/fmtcanon/py.typed $(DESTDIR)$(PYTHONDIR)/fmtcanon
+	install -m 644 python/fmtcanon/formats/words.json $(DESTDIR)$(PYTHONDIR)/fmtcanon/formats
 	ln -sfr $(DESTDIR)$(LIBDIR)/$(SONAME) $(DESTDIR)$(PYTHONDIR)/fmtcanon/$(SONAME)
 	for name in $(COMMANDS); do printf '%s\n' $(COMMAND) > $(DESTDIR)$(BINDIR)/fmtcanon-$$name && \
 	    chmod 755 $(DESTDIR)$(BINDIR)/fmtcanon-$$name || exit 1; done

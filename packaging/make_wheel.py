@@ -63,7 +63,7 @@ def entry_points(texts, has_program):
 def files_of(binaries, information, tag, texts, lists):
     """The files of the wheel, except their record: names and bytes."""
     for path in sorted((TOP / "python/fmtcanon").rglob("*")):
-        if path.suffix == ".py" or path.name == "py.typed":
+        if path.suffix in (".py", ".json") or path.name == "py.typed":
             yield str(path.relative_to(TOP / "python")), path.read_bytes()
     yield from ((name, file.read_bytes()) for name, file in binaries.items())
     yield f"{information}/METADATA", metadata(texts, lists).encode()

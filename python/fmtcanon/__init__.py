@@ -81,6 +81,7 @@ from .passing import passed
 from .pieces import Directive, Percent, Shown, Text, directive_of, words_of
 from .prototypes import CALLS, CBounds, CComparison, CDirective, CError, CSpecification
 from .sessions import Reply, Session
+from .specification import Specification, SpelledSpecification
 
 __all__ = [
     "BadLiteral",
@@ -222,39 +223,6 @@ class DirectiveSpan(NamedTuple):
     argument: int
     width_argument: Optional[int]
     precision_argument: Optional[int]
-
-
-class Specification(NamedTuple):
-    """A conversion specification of a format with its parts.
-
-    Its bytes are those from `start` to `end`. Its flags begin at `flags_at`, its width at `width_at`, its
-    precision at `precision_at` and its length modifier at `modifier_at`: each is the bytes up to the next offset,
-    none if it isn't there, and the conversion is the last byte. `width` and `precision` are numbers, None if there
-    is none or a `*`. The arguments and the type are those of a `DirectiveSpan`.
-
-    `parts` are the parts that it has. Of these, `needless` are those that have no effect: `same` with `whole` is
-    True for the specification alone, and it without this one part. `together` are some of these: it is True
-    without all of them, too.
-
-    Of one in which a format is rejected, the offsets are known, as far as it can be read to its end; otherwise they
-    are where it is rejected. `argument` is the one that the format leaves out, if it does. The rest is None or 0.
-    """
-
-    start: int
-    end: int
-    flags_at: int
-    width_at: int
-    precision_at: int
-    modifier_at: int
-    type: Optional[Type]
-    argument: Optional[int]
-    width_argument: Optional[int]
-    precision_argument: Optional[int]
-    width: Optional[int]
-    precision: Optional[int]
-    parts: Part
-    needless: Part
-    together: Part
 
 
 def _library_name() -> str:
@@ -448,6 +416,20 @@ def specifications(format: Format, *, model: DataModel = Model.LP64) -> List[Spe
         raise
 
 
+def _refused_specification(text: bytes) -> Optional[Specification]:
+    """Returns what is known of the specification in which a format is rejected; None if it isn't, or outside of one.
+
+    The others aren't listed, which may be many.
+    """
+    error, rejected = CError(), CSpecification()
+    result = _library().fmtcanon_specifications(Model.LP64, text, len(text), None, 0, rejected, error)
+    try:
+        _answer(result, error)
+    except Refused:
+        return None if rejected.begin == _NONE else _specification(rejected)
+    return None
+
+
 def _specification(record: CSpecification) -> Specification:
     return Specification(
         record.begin,
@@ -624,11 +606,12 @@ def show(format: Format, *, model: DataModel = Model.LP64) -> List[Shown]:
     check(text)
     shown: List[Shown] = []
     done = 0
-    for one in directives(text, model=number):
-        spelling = text[one.start : one.end]
-        reduced = canonical(spelling, model=number).decode()
-        shown += [*words_of(text[done : one.start]), directive_of(spelling, one.type, reduced)]
-        done = one.end
+    for found in specifications(text, model=number):
+        one = SpelledSpecification(found, text)
+        reduced = canonical(one.text, model=number)
+        [core] = specifications(reduced, model=number)
+        shown += [*words_of(text[done : found.start]), directive_of(one, SpelledSpecification(core, reduced))]
+        done = found.end
     return [*shown, *words_of(text[done:])]
 
 

@@ -2,6 +2,8 @@
 
 import enum
 
+from .words import WORDS
+
 
 class Kind(enum.IntEnum):
     """Why a format is rejected."""
@@ -90,22 +92,4 @@ class Part(enum.IntFlag):
 
 
 # The names of types that all commands use.
-TYPE_NAMES = {
-    Type.INT: "int",
-    Type.UINT: "unsigned int",
-    Type.LONG: "long",
-    Type.ULONG: "unsigned long",
-    Type.LONG_LONG: "long long",
-    Type.ULONG_LONG: "unsigned long long",
-    Type.STRING: "string",
-    Type.DOUBLE: "double",
-    Type.LONG_DOUBLE: "long double",
-    Type.WIDE_CHAR: "wide character",
-    Type.WIDE_STRING: "wide string",
-    Type.POINTER_TO_VOID: "pointer",
-    Type.POINTER_TO_SCHAR: "pointer to signed char",
-    Type.POINTER_TO_SHORT: "pointer to short",
-    Type.POINTER_TO_INT: "pointer to int",
-    Type.POINTER_TO_LONG: "pointer to long",
-    Type.POINTER_TO_LONG_LONG: "pointer to long long",
-}
+TYPE_NAMES = {Type(int(number)): str(name) for number, name in WORDS["types"].items()}

@@ -6,7 +6,7 @@ import re
 from typing import Iterator, NamedTuple, Union
 
 from .kinds import TYPE_NAMES, Type
-from .specification import FLAGS, specification_of
+from .specification import FLAGS, SpelledSpecification
 
 
 class Text(NamedTuple):
@@ -38,8 +38,6 @@ class Directive(NamedTuple):
 
 Shown = Union[Text, Percent, Directive]
 _WORDS = re.compile(rb"%%|[^%]+")
-# The canonical text of a single directive. The core ends with a letter.
-_PARTS = re.compile(r"( *)(0*)(%.*\w)( *)", re.ASCII)
 
 
 def words_of(text: bytes) -> Iterator[Union[Text, Percent]]:
@@ -48,17 +46,15 @@ def words_of(text: bytes) -> Iterator[Union[Text, Percent]]:
         yield Percent() if run == b"%%" else Text(len(run))
 
 
-def directive_of(text: bytes, type: Type, canonical: str) -> Directive:
-    """Returns a directive of the profile, by the type of its argument and its canonical text."""
-    found = _PARTS.fullmatch(canonical)
-    assert found is not None
-    spaces, zeros, core, trail = found.groups()
-    return Directive(_spelling(text), TYPE_NAMES[type], len(spaces), len(zeros), core, len(trail))
+def directive_of(one: SpelledSpecification, core: SpelledSpecification) -> Directive:
+    """Returns a directive of the profile, by the one in its canonical text."""
+    type, front, trail = one.found.type, core.format[: core.found.start], len(core.format) - core.found.end
+    assert type is not None
+    return Directive(_spelling(one), TYPE_NAMES[type], front.count(b" "), front.count(b"0"), core.text.decode(), trail)
 
 
-def _spelling(text: bytes) -> str:
+def _spelling(one: SpelledSpecification) -> str:
     """Returns how the program spells a directive: each flag once, and the precision without zeros in front."""
-    parts = specification_of(text)
-    flags = "".join(flag for flag in FLAGS if flag in parts.flags)
-    precision = parts.precision and f".{int(parts.precision[1:] or 0)}"
-    return str(parts._replace(flags=flags, precision=precision))
+    flags = "".join(flag for flag, part in FLAGS.items() if part & one.found.parts)
+    precision = "" if one.found.precision is None else f".{one.found.precision}"
+    return f"%{flags}{one.found.width or ''}{precision}{one.modifier}{one.conversion}"

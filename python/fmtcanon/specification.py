@@ -1,56 +1,106 @@
-"""The parts of a conversion specification that the library accepts. Nothing is judged here: the order of the parts of an
-accepted one is known (C11 7.21.6.1 p4).
-"""
+"""A conversion specification of a format, and its bytes, by the offsets that the library gives."""
 
 from __future__ import annotations
 
-from typing import Iterator, NamedTuple, Tuple
+from typing import Callable, Dict, List, NamedTuple, Optional
 
-FLAGS, LENGTHS = "-+ #0'", "hlLjzt"
-# The parts that can be left out.
-OPTIONAL = ("width", "precision", "modifier")
+from .kinds import Part, Type
+from .words import WORDS
+
+# How flags are spelled, and how the words name other parts, by the bits of Part.
+NAMES: Dict[int, str] = {1 << bit: name for bit, name in enumerate(WORDS["parts"])}
+FLAGS = {name: part for part, name in NAMES.items() if part < Part.WIDTH}
+NO_PART = Part(0)
+
+
+class Specification(NamedTuple):
+    """A conversion specification of a format with its parts.
+
+    Its bytes are those from `start` to `end`. Its flags begin at `flags_at`, its width at `width_at`, its
+    precision at `precision_at` and its length modifier at `modifier_at`: each is the bytes up to the next offset,
+    none if it isn't there, and the conversion is the last byte. `width` and `precision` are numbers, None if there
+    is none or a `*`. The arguments and the type are those of a `DirectiveSpan`.
+
+    `parts` are the parts that it has. Of these, `needless` are those that have no effect: `same` with `whole` is
+    True for the specification alone, and it without this one part. `together` are some of these: it is True
+    without all of them, too.
+
+    Of one in which a format is rejected, the offsets are known, as far as it can be read to its end; otherwise they
+    are where it is rejected. `argument` is the one that the format leaves out, if it does. The rest is None or 0.
+    """
+
+    start: int
+    end: int
+    flags_at: int
+    width_at: int
+    precision_at: int
+    modifier_at: int
+    type: Optional[Type]
+    argument: Optional[int]
+    width_argument: Optional[int]
+    precision_argument: Optional[int]
+    width: Optional[int]
+    precision: Optional[int]
+    parts: Part
+    needless: Part
+    together: Part
+
+
+def moved(found: Specification, place_of: Callable[[int], int]) -> Specification:
+    """Returns a specification with the offsets in another text."""
+    return found._replace(
+        start=place_of(found.start),
+        end=place_of(found.end),
+        flags_at=place_of(found.flags_at),
+        width_at=place_of(found.width_at),
+        precision_at=place_of(found.precision_at),
+        modifier_at=place_of(found.modifier_at),
+    )
 
 
 class SpelledSpecification(NamedTuple):
-    """The parts of a conversion specification, as they are spelled (C11 7.21.6.1 p4; POSIX `fprintf`).
+    """A conversion specification, and the format in which it is."""
 
-    `position` is `2$` of `%2$d`, and `precision` has its point.
-    """
+    found: Specification
+    format: bytes
 
-    position: str
-    flags: str
-    width: str
-    precision: str
-    modifier: str
-    conversion: str
+    @property
+    def text(self) -> bytes:
+        return self.format[self.found.start : self.found.end]
 
-    def __str__(self) -> str:
-        return "%" + "".join(self)
+    @property
+    def conversion(self) -> str:
+        return self.format[self.found.end - 1 : self.found.end].decode("latin-1")
 
-    def without_numbers(self) -> SpelledSpecification:
-        """Returns the specification that takes its arguments in order."""
-        width, precision = (it[: it.index("*") + 1] if "*" in it else it for it in (self.width, self.precision))
-        return self._replace(position="", width=width, precision=precision)
+    @property
+    def modifier(self) -> str:
+        return self.piece(Part.MODIFIER).decode()
 
-    def shorter(self) -> Iterator[Tuple[str, str, SpelledSpecification]]:
-        """Yields each part that can be left out: its name, its spelling, and the specification without it."""
-        for flag in dict.fromkeys(self.flags):
-            yield "flag", flag, self._replace(flags=self.flags.replace(flag, ""))
-        for name in OPTIONAL:
-            spelling = getattr(self, name)
-            if spelling:
-                yield name, spelling, self._replace(**{name: ""})
+    @property
+    def flags(self) -> str:
+        return self.format[self.found.flags_at : self.found.width_at].decode()
 
+    def piece(self, part: int) -> bytes:
+        """Returns the bytes of its width, its precision or its length modifier."""
+        found = self.found
+        if part == Part.WIDTH:
+            return self.format[found.width_at : found.precision_at]
+        if part == Part.PRECISION:
+            return self.format[found.precision_at : found.modifier_at]
+        return self.format[found.modifier_at : found.end - 1]
 
-def specification_of(text: bytes) -> SpelledSpecification:
-    """Returns the parts of a specification that is accepted."""
-    inner, conversion = text[1:-1].decode(), text[-1:].decode()
-    front = inner.rstrip(LENGTHS)
-    before, point, digits = front.partition(".")
-    # The `$` of a width comes after its `*`.
-    number, dollar, rest = before.partition("$")
-    position = "" if "*" in number or not dollar else number + dollar
-    fields = before if not position else rest
-    width = fields.lstrip(FLAGS)
-    flags = fields[: len(fields) - len(width)]
-    return SpelledSpecification(position, flags, width, point + digits, inner[len(front) :], conversion)
+    def without(self, parts: Part) -> bytes:
+        """Returns its bytes without these parts."""
+        return self.format[self.found.start : self.found.flags_at] + b"".join(self.pieces(parts))
+
+    def alone(self, without: Part = NO_PART) -> bytes:
+        """Returns a format of its own, without the numbers of arguments, and without these parts."""
+        flags, *numbers, modifier, conversion = self.pieces(without)
+        width, precision = (b"".join(it.partition(b"*")[:2]) for it in numbers)
+        return b"%" + flags + width + precision + modifier + conversion
+
+    def pieces(self, without: Part) -> List[bytes]:
+        """Returns the bytes of its flags, its width, its precision, its length modifier and its conversion."""
+        flags = "".join(it for it in self.flags if not FLAGS[it] & without).encode()
+        others = (Part.WIDTH, Part.PRECISION, Part.MODIFIER)
+        return [flags, *(b"" if it & without else self.piece(it) for it in others), self.conversion.encode("latin-1")]

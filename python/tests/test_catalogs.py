@@ -16,6 +16,7 @@ from unittest import mock
 
 import fmtcanon
 from fmtcanon import Model
+from fmtcanon.formats.rejections import instead_of, refused_span
 from fmtcanon.po.charsets import charset_named
 from fmtcanon.po.formats import DEPENDENT, MessageFormat, shape_of
 from fmtcanon.po.reading import PoReader
@@ -175,6 +176,21 @@ class Shapes(unittest.TestCase):
             with self.assertRaises(fmtcanon.Refused) as caught:
                 MessageFormat(text, is_translation).codes(Model.LP64)
             self.assertEqual((int(caught.exception.kind), caught.exception.byte), wanted, text)
+
+    def test_rejected_specifications(self):
+        """After macros, `%m` and the flag I, where the rejected specification is in the text, and what to write: by hand."""
+        for text, span, instead in [
+            (b"%<PRId64> and %-#5d", (14, 19), b"%-5d"),
+            (b"%5m%Id %010s|", (7, 12), b"%10s"),
+            (b"%<PRIu64>%Zd", (9, 11), b"%zd"),
+            (b"%2$<PRId64> %4$d", (0, 11), None),
+            (b"%#<PRIx64> %#<PRId64>", (11, 14), None),
+        ]:
+            with self.assertRaises(fmtcanon.Refused) as caught:
+                MessageFormat(text, True).codes(Model.LP64)
+            refusal = caught.exception
+            found = refused_span(text, refusal), instead_of(text, refusal, Model.LP64)
+            self.assertEqual(found, (span, instead), text)
 
     def test_uses(self):
         """The arguments that specifications take, with where these are in the text: by hand."""

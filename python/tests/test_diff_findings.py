@@ -263,15 +263,20 @@ class Judging(unittest.TestCase):
         self.assertIn(" of 4095 bytes", found)
 
     def test_narrowed(self):
-        """What two formats share is cut off at the ends of specifications."""
+        """What two formats share is cut off, in the back from a percent sign on, where no specification is cut."""
         for old, new, wanted in [
-            (b"x%05d|", b"x%.5d|", (1, 1)),
+            (b"x%05d|", b"x%.5d|", (1, 0)),
             (b"%5d", b"%5d", (3, 0)),
-            (b"%d%d%u", b"%d%i%u", (2, 0)),
+            (b"%d%d%u", b"%d%i%u", (2, 2)),
             (b"a%lld", b"a%ld", (1, 0)),
-            (b"%%%d.", b"%%%%d.", (0, 1)),
-            (b"5%d", b"%d", (0, 0)),
-            (b"%s: %d of %d\n", b"%s: %x of %d\n", (3, 5)),
+            (b"%d %%%d.", b"%d %%%%d.", (5, 0)),
+            (b"5%d", b"%d", (0, 2)),
+            (b"%s%%: %d of %d\n", b"%s%%: %x of %d\n", (6, 3)),
+            (b"%m%m%d", b"%m%d", (2, 2)),
+            (b"some words", b"some other", (5, 0)),
+            (b"a%d%%%d", b"b%%d%%%d", (0, 4)),
+            (b"a" + b"%" * 40, b"%%b" + b"%" * 40, (0, 40)),
+            (b"a%%" + b"%" * 40 + b"d", b"%" * 40 + b"%d", (0, 0)),
         ]:
             self.assertEqual(narrowed(old, new), wanted, (old, new))
 
@@ -346,6 +351,8 @@ class Judging(unittest.TestCase):
             (b"%m: %5d", [b"%5d"]),
             (b"%d\0%s", [b"%d", b"%s"]),
             (b"%5%%d %x", [b"%x"]),
+            (b"%2$d%", [b"%2$d"]),
+            (b"%3$s %5y%2$*4$s", [b"%3$s", b"%2$*4$s"]),
             (b"none", []),
         ]:
             found = [text[it.start : it.end] for it in directives_in(text)]

@@ -6,6 +6,7 @@ import os
 import re
 import subprocess
 import sys
+import time
 import unittest
 from contextlib import redirect_stderr, redirect_stdout
 from pathlib import Path
@@ -14,9 +15,8 @@ import fmtcanon
 from fmtcanon import Kind, Model
 from fmtcanon.explain.command import main
 from fmtcanon.formats.explaining import explain
-from fmtcanon.formats.rejections import ADVICE, HELP
-from fmtcanon.formats.wording import ERRNO_NOTE
-from fmtcanon.specification import specification_of
+from fmtcanon.formats.rejections import help_on, refused_span
+from fmtcanon.words import WORDS
 
 TOP = Path(__file__).resolve().parents[2]
 
@@ -42,34 +42,74 @@ def asked(*words):
 # What the parts of directives do, by C11 7.21.6.1: a directive, what is said of it, and what has no effect.
 DIRECTIVES = [
     ("%d", "decimal", []),
-    ("%5d", "decimal, on the right of 5 columns", []),
-    ("%-5d", "decimal, on the left of 5 columns", []),
-    ("%05d", "decimal, with zeros up to 5 columns", []),
-    ("%+.3i", "decimal, at least 3 digits, with a sign always", []),
+    ("%hhi", "the value as a signed char, in decimal", []),
+    ("%hd", "the value as a short, in decimal", []),
+    ("%hhu", "the value as an unsigned char, in decimal", []),
+    ("%hx", "the value as an unsigned short, in hexadecimal with `a` to `f`", []),
+    ("%5d", "decimal, right-justified in at least 5 bytes", []),
+    ("%-5d", "decimal, left-justified in at least 5 bytes", []),
+    ("%05d", "decimal, padded with zeros to at least 5 bytes", []),
+    ("%+.3i", "decimal, at least 3 digits, always with a sign", []),
+    ("% d", "decimal, with a space where there is no sign", []),
     ("%.0x", "hexadecimal with `a` to `f`, no digit for 0", []),
-    ("%#x", "hexadecimal with `a` to `f`, `0x` before a number other than 0", []),
-    ("%#o", "octal, a leading `0`", []),
+    ("%#x", "hexadecimal with `a` to `f`, with `0x` before a number other than 0", []),
+    ("%#o", "octal, with a leading `0`", []),
     ("%b", "binary", []),
-    ("%.3s", "the string, 3 bytes of it at most", []),
-    ("%-20s", "the string, on the left of 20 columns", []),
+    ("%.3s", "the string, at most 3 bytes of it", []),
+    ("%.1s", "the string, at most 1 byte of it", []),
+    ("%-20s", "the string, left-justified in at least 20 bytes", []),
+    ("%1s", "the string, right-justified in at least 1 byte", []),
     ("%c", "the character with this number", []),
-    ("%f", "digits with 6 places after the point", []),
-    ("%.1f", "digits with 1 place after the point", []),
-    ("%.3g", "up to 3 significant digits in the style of `f` or `e`", []),
+    ("%f", "6 digits after the decimal point", []),
+    ("%.1f", "1 digit after the decimal point", []),
+    ("%.0f", "a whole number, rounded", []),
+    ("%F", "6 digits after the decimal point, `INF` and `NAN` in capitals", []),
+    ("%010f", "6 digits after the decimal point, padded with zeros to at least 10 bytes (infinity and NaN with spaces)", []),
+    ("%.0e", "one digit and an exponent after `e`", []),
+    ("%g", "up to 6 significant digits, in the style of `f` or `e`", []),
+    ("%#g", "6 significant digits, in the style of `f` or `e`, always with a decimal point", []),
+    ("%.3g", "up to 3 significant digits, in the style of `f` or `e`", []),
+    ("%.0g", "1 significant digit, in the style of `f` or `e`", []),
+    ("%.0A", "hexadecimal with `A` to `F` and an exponent after `P`, no digit after the point", []),
     ("%p", "the pointer, as the C library writes it", []),
+    ("%+p", "the pointer, as the C library writes it, with the flag `+`", []),
     ("%n", "nothing: the number of bytes printed so far is stored", []),
     ("%ls", "the wide string", []),
-    ("%*d", "decimal, on the right of as many columns as argument 1 says, on the left if it is negative", []),
-    ("%.*f", "digits with as many places as argument 1 says after the point", []),
-    ("%-05d", "decimal, on the left of 5 columns", ["`0` has no effect next to `-`"]),
-    ("%05.3d", "decimal, at least 3 digits, on the right of 5 columns", ["`0` has no effect with a precision"]),
+    ("%*d", "decimal, right-justified in at least as many bytes as argument 1 says (left-justified if it is negative)", []),
+    ("%-*d", "decimal, left-justified in at least as many bytes as argument 1 says (without its sign)", []),
+    (
+        "%0*d",
+        "decimal, padded with zeros to at least as many bytes as argument 1 says, or left-justified with spaces if it is "
+        "negative",
+        [],
+    ),
+    (
+        "%05.*d",
+        "decimal, at least as many digits as argument 1 says (1 if it is negative), right-justified in at least 5 bytes "
+        "(padded with zeros if argument 1 is negative)",
+        [],
+    ),
+    ("%.*f", "as many digits after the decimal point as argument 1 says (6 if it is negative)", []),
+    ("%.*s", "the string, at most as many bytes of it as argument 1 says (all if it is negative)", []),
+    ("%-05d", "decimal, left-justified in at least 5 bytes", ["`-` overrides `0`"]),
+    ("%05.3d", "decimal, at least 3 digits, right-justified in at least 5 bytes", ["a precision overrides `0`"]),
     ("%+u", "decimal", ["`+` has no effect on `u`"]),
     ("%'d", "decimal", ["`'` has no effect in the POSIX locale"]),
-    ("% +d", "decimal, with a sign always", ["` ` has no effect next to `+`"]),
-    ("%lf", "digits with 6 places after the point", ["`l` has no effect on `f`"]),
-    ("%.6e", "one digit, the point, 6 places, and an exponent after `e`", ["`.6` is the default"]),
+    ("% +d", "decimal, always with a sign", ["`+` overrides the space"]),
+    ("%lf", "6 digits after the decimal point", ["`l` has no effect on `f`"]),
+    ("%.6e", "one digit, 6 digits after the decimal point, and an exponent after `e`", ["`.6` is the default"]),
     ("%1d", "decimal", ["`1` has no effect: what is printed is never shorter"]),
-    ("%--5d", "decimal, on the left of 5 columns", ["`-` is there more than once"]),
+    ("%-d", "decimal", ["`-` has no effect without a width"]),
+    (
+        "%02.2X",
+        "hexadecimal with `A` to `F`, at least 2 digits",
+        [
+            "a precision overrides `0`",
+            "`2` has no effect: what is printed is never shorter",
+            "or leave `.2` out instead",
+        ],
+    ),
+    ("%--5d", "decimal, left-justified in at least 5 bytes", ["`-` is there more than once"]),
 ]
 
 
@@ -92,10 +132,18 @@ class Directives(unittest.TestCase):
         canonical = {"lp64": "%-8f of %5lu%%", "ilp32": "%-8f of %5u%%", "llp64": "%-8f of %5llu%%"}
         self.assertEqual((found["canonical"], found["bounds"]), (canonical, None))
 
+    def test_facts(self):
+        """What is said in words is there by itself, too."""
+        part = asked("%1$-05.*3$lf %2$d")[1]["directives"][0]
+        facts = {"flags": "-0", "width": 5, "width_argument": None, "precision": None, "precision_argument": 3}
+        facts.update(modifier="l", conversion="f", needless=["0", "modifier"], together=["0", "modifier"])
+        self.assertEqual({it: part[it] for it in facts}, facts)
+
     def test_numbered_arguments(self):
         status, found = asked("%2$*1$d")
         [part] = found["directives"]
-        self.assertEqual((status, part["argument"], part["meaning"].split(", ")[1]), (0, 2, part_of_width()))
+        said = "decimal, right-justified in at least as many bytes as argument 1 says (left-justified if it is negative)"
+        self.assertEqual((status, part["argument"], part["meaning"]), (0, 2, said))
         self.assertIsNone(found["canonical"])
 
     def test_errno(self):
@@ -106,7 +154,7 @@ class Directives(unittest.TestCase):
         self.assertEqual((errno["start"], errno["end"], errno["text"]), (4, 6, "%m"))
         _, lines = run("%d: %m")
         words = "    ^^   no argument: the message of errno, as strerror returns it"
-        self.assertEqual([lines[2], lines[3].strip()], [words, ERRNO_NOTE])
+        self.assertEqual([lines[2], lines[3].strip()], [words, WORDS["errno"]["note"]])
         for first, second, argument, texts in [
             ("%m%d", "%d%m", 1, ["%m", "%d"]),
             ("%m%f", "%m%e", 1, ["%f", "%e"]),
@@ -128,17 +176,12 @@ class Directives(unittest.TestCase):
             self.assertEqual(asked(text)[1]["bounds"], {"least": least, "greatest": greatest}, text)
         self.assertEqual(asked("--model", "ilp32", "%ld")[1]["bounds"], {"least": 1, "greatest": 11})
 
-    def test_each_part_is_read(self):
-        rows = [
-            ("%2$-+ #0'*1$.*3$lld", ("2$", "-+ #0'", "*1$", ".*3$", "ll", "d")),
-            ("%.s", ("", "", "", ".", "", "s")),
-        ]
-        for text, parts in rows:
-            self.assertEqual(tuple(specification_of(text.encode())), parts)
-
-
-def part_of_width():
-    return "on the right of as many columns as argument 1 says"
+    def test_names_of_types(self):
+        """The name that a length modifier has in C comes before the type that it is (C11 7.21.6.1 p7)."""
+        for text, name in [("%zu", "size_t"), ("%zd", "ssize_t"), ("%ti", "ptrdiff_t"), ("%jx", "uintmax_t"), ("%lu", None)]:
+            [part] = asked(text)[1]["directives"]
+            self.assertEqual(part["type_name"], name, text)
+        self.assertIn("argument 1, size_t: unsigned long (unsigned int in ILP32, ", run("%zu")[1][1])
 
 
 class Lines(unittest.TestCase):
@@ -163,8 +206,13 @@ class Lines(unittest.TestCase):
         self.assertEqual(lines[1:3], [" " * 50 + "^^", "    argument 1, int: decimal"])
 
     def test_what_follows(self):
-        self.assertEqual(run("%i")[1][-2:], ["canonical text: %d", "it prints 1 to 11 bytes"])
-        self.assertEqual(run("%s")[1][-1], "it prints at least 0 bytes")
+        self.assertEqual(run("%i")[1][-2:], ["key: %d", "it prints 1 to 11 bytes"])
+        key = ["key (LP64): %lu", "it is not a rewrite: in ILP32 and LLP64 it names other types"]
+        self.assertEqual(run("%zu")[1][-3:], [*key, "it prints 1 to 20 bytes"])
+        self.assertEqual(run("--model", "ilp32", "%jd")[1][-3], "key (ILP32): %lld")
+        rows = [("%s", "at least 0 bytes"), (" %s", "at least 1 byte"), ("%c", "1 byte"), ("%2c", "2 bytes")]
+        for text, said in rows:
+            self.assertEqual(run(text)[1][-1], f"it prints {said}")
 
     def test_colour(self):
         for words, has in [(["--color", "always"], True), (["--color", "never"], False), ([], False)]:
@@ -173,6 +221,18 @@ class Lines(unittest.TestCase):
     def test_literals(self):
         self.assertEqual(run("--literal", r'"\x25i\n"')[1][0], r"%i\n")
         self.assertEqual(run("--literal", "%d")[0], 2)
+
+    def test_macros_in_literals(self):
+        """Macros of <inttypes.h> have the text of each data model (C11 7.8.1)."""
+        found = asked("--literal", r'"%5" PRIu64 "\n"')[1]
+        [part] = found["directives"]
+        wanted = {"lp64": "unsigned long", "ilp32": "unsigned long long", "llp64": "unsigned long long"}
+        self.assertEqual((found["format"], part["text"], part["types"]), ("%5lu\n", "%5lu", wanted))
+        self.assertEqual(found["canonical"], {"lp64": "%5lu\n", "ilp32": "%5llu\n", "llp64": "%5llu\n"})
+        self.assertEqual(asked("--literal", "--model", "llp64", 'PRIdPTR "%d"')[1]["format"], "lld%d")
+        self.assertEqual(run("--literal", '"%#" PRId64')[1][2], "   ^ `#` has no meaning with `d`. Write %ld.")
+        for text in ['"%d" FOO', "PRId64", '"%d", "%d"', 'L"%d"', 'f("%" PRId64)', '"%" PRId64;']:
+            self.assertEqual(run("--literal", text), (2, []), text)
 
     def test_rejected_literals(self):
         """The offset is that of the literals, as the program prints it, and the caret is under the byte."""
@@ -192,13 +252,31 @@ class LongFormats(unittest.TestCase):
         self.assertLess(max(map(len, long[1:-2])), 100)
         self.assertEqual(long[0], "%5d" * 2000)
         at = long.index("%5d at byte 5997")
-        self.assertEqual(long[at + 1], "    argument 2000, int: decimal, on the right of 5 columns")
+        self.assertEqual(long[at + 1], "    argument 2000, int: decimal, right-justified in at least 5 bytes")
+
+    def test_time(self):
+        """Four times the format takes about four times the time, also if it is rejected or its arguments are numbered."""
+        rows = [("%5zu ", [""]), ("%m%-d", [""]), ("%1$d", [""]), ("%d ", ["%#d"]), ("%s %d ", ["%f", "%e"]), ("%d ", "xy")]
+        for part, ends in rows:
+            times = []
+            for count in (1_000, 4_000):
+                start = time.process_time()
+                run(*(part * count + it for it in ends))
+                times.append(time.process_time() - start)
+            self.assertLess(times[1], 8 * times[0], part)
 
     def test_shortest(self):
         """Carets are below all formats of up to 500 columns."""
         for count, is_marked in [(124, True), (125, True), (126, False)]:
             lines = run("%5d " * count)[1]
             self.assertEqual(any(set(it) == {" ", "^"} for it in lines), is_marked, count)
+
+
+# What is said of examples of docs/REFUSALS.md, and not of the kind.
+OF_THEIR_OWN = {
+    "%2$d": "Nothing takes argument 1, so its type can't be known, and `%2$d` takes a later one.",
+    "%Ld": "`L` is for `long double` alone; for `long long` there is `ll`.",
+}
 
 
 class Rejections(unittest.TestCase):
@@ -211,19 +289,44 @@ class Rejections(unittest.TestCase):
         """What is to be written is accepted; rows by hand."""
         rows = [("%#d", "%d"), ("%05s", "%5s"), ("%'x", "%x"), ("%.3c", "%c"), ("%hs", "%s"), ("100%", "%%")]
         rows += [("%5%", "%%"), ("%%%#d", "%d"), ("%d%-n", "%n"), ("%#lc", "%lc")]
+        # One part alone is left out, and with others only those that have no meaning.
+        rows += [("%010s", "%10s"), ("%.3ln", "%ln"), ("%*n", "%n"), ("%-+5hhn", "%hhn"), ("%2$#-5d%1$s", "%2$-5d")]
+        # Names of length modifiers that other systems have.
+        rows += [("%Zd", "%zd"), ("%-5qu", "%-5llu"), ("%I64d", "%lld"), ("x%08I64X", "%08llX"), ("%I32u", "%u")]
+        rows += [("%Lu", "%llu"), ("%2$Zd", "%2$zd"), ("%Id", None), ("%Zs", None), ("%Ls", "%s"), ("%-.3n", None)]
         for text, instead in rows:
             status, found = asked("--", text)
             self.assertEqual((status, found["accepted"], found["refusal"].get("write")), (2, False, instead), text)
         self.assertNotIn("write", asked("%y")[1]["refusal"])
 
+    def test_where_it_is(self):
+        """From the percent sign to the byte that is rejected, or the whole specification that takes a later argument."""
+        rows = [("a%%%-5y", 3, 7), ("%d %#d", 3, 6), ("%d\n%", 3, 5), ("5%5%", 1, 4), ("%1$d%3$5s %4$d", 4, 9), ("%2$d %d", 5, 7)]
+        for text, start, end in rows:
+            refusal = asked(text)[1]["refusal"]
+            self.assertEqual((refusal["start"], refusal["end"]), (start, end), text)
+        refused = fmtcanon.Refused(Kind.NUL_BYTE, "NulByte", 2)
+        self.assertEqual(refused_span(b"%d\0", refused), (2, 3))
+
+    def test_missing_argument(self):
+        """The specification that takes a later one is named, and has the carets."""
+        said = "^^^^ Nothing takes argument 2, so its type can't be known, and `%3$s` takes a later one."
+        self.assertEqual(run("%3$s of %1$d")[1], ["refused 21 MissingArgument at byte 12", "%3$s of %1$d", said])
+
+    def test_names_of_other_systems(self):
+        said = asked("%Zd")[1]["refusal"]["help"]
+        self.assertEqual(said, "`Z` is an old name of `z` in the GNU C library.")
+        self.assertTrue(asked("%Zs")[1]["refusal"]["help"].startswith("The byte can't continue the specification."))
+
     def test_each_kind(self):
-        names = {kind: fmtcanon._name(kind) for kind in Kind}
-        for kind, name in names.items():
+        for kind in Kind:
+            name, advice = fmtcanon._name(kind), WORDS["refusals"][str(int(kind))].get("advice")
             for word in [str(int(kind)), name, name.lower()]:
-                lines = [f"{int(kind)} {name}: {HELP[kind]}", *([ADVICE[kind]] if kind in ADVICE else [])]
+                lines = [f"{int(kind)} {name}: {help_on(kind)}", *([advice] if advice else [])]
                 self.assertEqual(run("--kind", word), (0, lines))
-        found = {"kind": 5, "name": "Star", "help": HELP[Kind.STAR], "advice": ADVICE[Kind.STAR]}
-        self.assertEqual(asked("--kind", "5"), (0, found))
+        help = "A width or a precision is an argument (`*`), which the profile leaves out."
+        advice = "Use --whole, or write the number: `%8d` instead of `%*d`."
+        self.assertEqual(asked("--kind", "5"), (0, {"kind": 5, "name": "Star", "help": help, "advice": advice}))
         for word in ["0", "23", "x", ""]:
             self.assertEqual(run("--kind", word)[0], 2, word)
 
@@ -236,8 +339,8 @@ class Rejections(unittest.TestCase):
             status, found = asked("--", format)
             refusal = found["refusal"]
             self.assertEqual((status, refusal["kind"], refusal["at"]), (2, int(kind), int(at)), format)
-            conversion = f"`{format[int(at) : int(at) + 1]}`"
-            self.assertIn(refusal["help"], [HELP[Kind(int(kind))].replace("this conversion", conversion)])
+            said = OF_THEIR_OWN.get(format) or help_on(Kind(int(kind)), f"`{format[int(at) : int(at) + 1]}`")
+            self.assertEqual(refusal["help"], said, format)
 
     def test_second_of_two(self):
         status, lines = run("%d", "%y")
@@ -256,7 +359,7 @@ class Pairs(unittest.TestCase):
         self.assertEqual([it["text"] for it in found["directives"]], ["%05d", "%.5d"])
 
     def test_same(self):
-        self.assertEqual(run("%5c", "    %c"), (0, ["same", "  %5c", "      %c", "canonical text:     %c"]))
+        self.assertEqual(run("%5c", "    %c"), (0, ["same", "  %5c", "      %c", "key:     %c"]))
         self.assertEqual(asked("%.6f", "%f")[1]["verdict"], "same")
 
     def test_types(self):
@@ -274,7 +377,7 @@ class Pairs(unittest.TestCase):
     def test_side_by_side(self):
         """The two directives are side by side with their types, or below each other where a line has no room."""
         lines = ["  a %zu                         %d", "    ^^^                         ^^"]
-        lines += ["  unsigned long                 int", "  unsigned int in ILP32", "  unsigned long long in LLP64"]
+        lines += ["  size_t: unsigned long         int", "  unsigned int in ILP32", "  unsigned long long in LLP64"]
         self.assertEqual(run("a %zu", "%d")[1][1:], lines)
         front = "x" * 100
         self.assertEqual(run(f"{front}%d", "%s")[1][4:], ["  %s", "  ^^", "  string"])
@@ -292,7 +395,7 @@ class Pairs(unittest.TestCase):
     def test_short_arguments(self):
         """Strings are as short as they can be, and of long lines what surrounds the difference is shown."""
         lines = ['different: for "AAAA" they print', "  AAAA    %s: the string"]
-        lines += ["  AAA     %.3s: the string, 3 bytes of it at most", "     ^"]
+        lines += ["  AAA     %.3s: the string, at most 3 bytes of it", "     ^"]
         self.assertEqual(run("%s", "%.3s"), (1, lines))
         _, (_, first, second, mark) = run("%1000d|", "%1001d|")
         self.assertLessEqual(max(map(len, [first, second])), 104)
@@ -302,9 +405,9 @@ class Pairs(unittest.TestCase):
         self.assertEqual(run("%y", "%d")[1][0], "first: refused 3 Unexpected at byte 1")
 
     def test_signs(self):
-        """Of a number with a sign it is said which columns or digits the sign is among, by C11 7.21.6.1 p6."""
+        """Of a number with a sign it is said which bytes or digits the sign is among, by C11 7.21.6.1 p6."""
         rows = [
-            ("%+05d", "%+d", "the sign is one of the 5 columns"),
+            ("%+05d", "%+d", "the sign is one of the 5 bytes"),
             ("%.3d", "%03d", "3 digits, and the sign before them"),
         ]
         for first, second, said in rows:
@@ -312,25 +415,27 @@ class Pairs(unittest.TestCase):
             self.assertEqual(one["meaning"], said, first)
 
 
-# What the specification of the command shows, byte for byte.
+# What the command shows, byte for byte.
 WORKED = [
     (
         ["%-08.6lf of %5zu%%"],
         0,
         """\
 %-08.6lf of %5zu%%
-^^^^^^^^             argument 1, double: digits with 6 places after the point, on the left of 8 columns
-                     `0` has no effect next to `-`; `.6` is the default; `l` has no effect on `f`
-            ^^^^     argument 2, unsigned long (unsigned int in ILP32, unsigned long long in LLP64):
-                     decimal, on the right of 5 columns
-canonical text: %-8f of %5lu%%""",
+^^^^^^^^             argument 1, double: 6 digits after the decimal point, left-justified in at least 8
+                     bytes
+                     `-` overrides `0`; `.6` is the default; `l` has no effect on `f`
+            ^^^^     argument 2, size_t: unsigned long (unsigned int in ILP32, unsigned long long in
+                     LLP64): decimal, right-justified in at least 5 bytes
+key (LP64): %-8f of %5lu%%
+it is not a rewrite: in ILP32 and LLP64 it names other types""",
     ),
     (
         ["%d: %05d", "%d: %.5d"],
         1,
         """\
 different: for 0 and -1 they print
-  0: -0001     %05d: the sign is one of the 5 columns
+  0: -0001     %05d: the sign is one of the 5 bytes
   0: -00001    %.5d: 5 digits, and the sign before them
          ^""",
     ),

@@ -81,15 +81,15 @@ new.c:2:9: error: types differ at argument 2: %d takes int and %s takes string,
 new.c:3:9: error: different: "%05d\\n" and "%.5d\\n" print "-0001\\n" and
     "-00001\\n" for -1 [different]
  old 3 |     printf("%05d\\n", n);
-       |             ^^^^ the sign is one of the 5 columns
+       |             ^^^^ the sign is one of the 5 bytes
  new 3 |     printf("%.5d\\n", n);
        |             ^^^^ 5 digits, and the sign before them
 new.c:4:9: error: directives differ at argument 2: "%f" and "%e" [directives]
  old 4 |     printf("%d %f\\n", n, d);
-       |                ^^ digits with 6 places after the point
+       |                ^^ 6 digits after the decimal point
  new 4 |     printf("%d %e\\n", n, d);
-       |                ^^ one digit, the point, 6 places, and an exponent
-       |                   after `e`
+       |                ^^ one digit, 6 digits after the decimal point, and an
+       |                   exponent after `e`
 new.c:5:9: error: rejected now: refused 3 Unexpected at byte 1 of "%y ok\\n"
     [rejected]
  new 5 |     printf("%y ok\\n", n);
@@ -227,7 +227,7 @@ class Screens(InFolder):
         lines = text.splitlines()
         self.assertLessEqual(max(map(len, lines)), 79)
         self.assertEqual(lines[0], "%5zu and %-05d")
-        self.assertIn("`0` has no effect next to `-`", text)
+        self.assertIn("`-` overrides `0`", text)
 
 
 class Lines(unittest.TestCase):

@@ -24,13 +24,13 @@ REPLACE_SHOWN = """\
 a.c:3:9: warning: not replaced: the two print different bytes for 0, -1
     [skipped]
    3 |     printf("%d: %05d\\n", n, n);
-     |                 ^^^^ the sign is one of the 5 columns
+     |                 ^^^^ the sign is one of the 5 bytes
  NEW | "%d: %.5d\\n"
      |      ^^^^ 5 digits, and the sign before them
 a.c:4:8: warning: not replaced: the two print different bytes for 0, -1
     [skipped]
    4 |     fputs("%d: %05d\\n", stderr);
-     |                ^^^^ the sign is one of the 5 columns
+     |                ^^^^ the sign is one of the 5 bytes
  NEW | "%d: %.5d\\n"
      |      ^^^^ 5 digits, and the sign before them
 """

@@ -116,7 +116,7 @@ def try_module(python, folder, trials, work):
     answers = lines_of([python, "-c", script], env=environment, cwd=work)
     trials.expect("the module of the wheel", answers, (0, "%d b'00007' %.0o\n"))
     explained = lines_of([python, "-m", "fmtcanon.explain", "%5d"], env=environment, cwd=work)
-    wanted = "%5d\n^^^   argument 1, int: decimal, on the right of 5 columns\ncanonical text: %5d\nit prints 5 to 11 bytes\n"
+    wanted = "%5d\n^^^   argument 1, int: decimal, right-justified in at least 5 bytes\nkey: %5d\nit prints 5 to 11 bytes\n"
     trials.expect("fmtcanon-explain of the wheel", explained, (0, wanted))
     for words in [["-c", "import fmtcanon; fmtcanon.Session('canon')"], ["-m", "fmtcanon", "canon", "%i"]]:
         status, output = lines_of([python, *words], env=environment, cwd=work)

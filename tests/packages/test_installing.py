@@ -34,6 +34,7 @@ INSTALLED = {
     "lib/pkgconfig/fmtcanon.pc",
     f"{MODULE}/{SONAME}",
     f"{MODULE}/program",
+    f"{MODULE}/formats/words.json",
     f"{MODULE}/py.typed",
     "share/bash-completion/completions/fmtcanon",
     *(f"share/bash-completion/completions/fmtcanon-{name}" for name in COMMANDS),

@@ -100,15 +100,15 @@ def verdict_in(library: Library, old: Place, new: Place, model: Model) -> Judged
 
 def long_verdict(library: Library, old: bytes, new: bytes, model: Model) -> JudgedPair:
     """Returns the verdict on long formats, by comparing only the parts that they don't share."""
-    front, back = narrowed(old, new)
-    first, second = (it[front : len(it) - back] for it in (old, new))
     types: List[bytes] = []
-    for text in (old, new):
-        try:
+    try:
+        for text in (old, new):
             types.append(library.types(text, model))
-        except Refused as refusal:
-            kind = PairKind.REJECTED if types else PairKind.UNJUDGED
-            return JudgedPair(PairVerdict(kind, reason=f"{refusal} of a long format"), first, second)
+        front, back = narrowed(old, new)
+    except Refused as refusal:
+        kind = PairKind.REJECTED if types else PairKind.UNJUDGED
+        return JudgedPair(PairVerdict(kind, reason=f"{refusal} of a long format"), old, new)
+    first, second = (it[front : len(it) - back] for it in (old, new))
     before = len(library.types(old[:front], model))
     verdict = library.verdict(first, second, model)
     at = shared_front(*types) if verdict.kind is PairKind.TYPES else before + verdict.at

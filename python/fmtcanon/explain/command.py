@@ -5,20 +5,22 @@ from __future__ import annotations
 import json
 import os
 import sys
-from typing import Any, Dict, List, Optional, Sequence, Union
+from typing import Any, Dict, List, Mapping, Optional, Sequence, Union
 
 import fmtcanon
 from fmtcanon import BadLiteral, Kind, Model, Refused
 
 from ..formats.explaining import Difference, ExplainedDirective, Explanation, Rejection, compare, explain, reject
 from ..formats.layout import difference_lines, explanation_lines, rejection_lines
-from ..formats.rejections import ADVICE, HELP
+from ..formats.rejections import REFUSALS, help_on, refused_span
 from ..formats.verdicts import PairKind
 from ..frame.command_line import USAGE, Parser, status_of
 from ..frame.output import complain, put
 from ..frame.terminals import Style, style_of, wrapped
 from ..kinds import TYPE_NAMES
 from ..models import model_of
+from ..source.places import lone_place
+from ..specification import NAMES, SpelledSpecification
 
 NAME = "fmtcanon-explain"
 USAGE_LINES = """\
@@ -49,7 +51,7 @@ def parser() -> Parser:
     """Returns the definition of the command line."""
     made = Parser(NAME, USAGE_LINES, DESCRIPTION, EPILOG)
     made.add_model("whose types are named first", default="lp64", choices=[it.name.lower() for it in Model])
-    made.add_argument("--literal", action="store_true", help="formats are string literals of C, with their quotes")
+    made.add_argument("--literal", action="store_true", help="formats are literals of C, as '\"%%\" PRIu64'")
     made.add_argument("--kind", metavar="KIND", help="explain a kind of rejection, by its number or name")
     made.add_color()
     made.add_argument(
@@ -75,7 +77,7 @@ def run(options: Any, formats: Sequence[str]) -> int:
     if options.kind is not None:
         return explain_kind(options.kind, style_of(options.color, sys.stdout), options.output == "json")
     try:
-        texts = [text_of(it, options.literal) for it in formats]
+        texts = [texts_of(it, options.literal) for it in formats]
     except BadLiteral as fault:
         complain(str(fault))
         return USAGE
@@ -91,23 +93,34 @@ def run(options: Any, formats: Sequence[str]) -> int:
     return status_of_found(found)
 
 
-def text_of(word: str, is_literal: bool) -> bytes:
-    """Returns the bytes of a format that is given as an argument. Raises `BadLiteral`."""
+def texts_of(word: str, is_literal: bool) -> Dict[Model, bytes]:
+    """Returns the bytes of a format that is given as an argument, in each data model: in literals there may be macros of
+    <inttypes.h>. Raises `BadLiteral`.
+    """
     given = os.fsencode(word)
-    return fmtcanon.decode_literal(given) if is_literal else given
+    if not is_literal:
+        return dict.fromkeys(Model, given)
+    try:
+        return dict.fromkeys(Model, fmtcanon.decode_literal(given))
+    except BadLiteral:
+        place = lone_place(given)
+        texts = {it: text for it in Model for text in [place.text(it)[0] if place else None] if text is not None}
+        if len(texts) < len(Model):
+            raise
+        return texts
 
 
 Found = Union[Explanation, Difference, Rejection]
 
 
-def found_of(texts: Sequence[bytes], model: Model) -> Found:
+def found_of(texts: Sequence[Mapping[Model, bytes]], model: Model) -> Found:
     """Explains one format, or compares two; or says why one is rejected."""
     if len(texts) > 1:
-        return compare(texts[0], texts[1], model)
+        return compare(texts[0][model], texts[1][model], model, texts[0])
     try:
-        return explain(texts[0], model)
+        return explain(texts[0][model], model, texts[0])
     except Refused as refusal:
-        return reject(texts[0], refusal, model)
+        return reject(texts[0][model], refusal, model)
 
 
 def status_of_found(found: Found) -> int:
@@ -132,11 +145,11 @@ def explain_kind(word: str, style: Style, is_json: bool) -> int:
     if kind is None:
         complain(f"{NAME}: {word} is not a kind: give a number from 1 to {len(Kind)}, or a name such as Star")
         return USAGE
+    name, help, advice = fmtcanon._name(kind), help_on(kind), REFUSALS[kind].get("advice", "")
     if is_json:
-        found = {"kind": int(kind), "name": fmtcanon._name(kind), "help": HELP[kind], "advice": ADVICE.get(kind)}
-        put(sys.stdout, json.dumps(found))
+        put(sys.stdout, json.dumps({"kind": int(kind), "name": name, "help": help, "advice": advice or None}))
         return 0
-    for text in [f"{int(kind)} {fmtcanon._name(kind)}: {HELP[kind]}", ADVICE.get(kind, "")]:
+    for text in [f"{int(kind)} {name}: {help}", advice]:
         for line in wrapped(text, style.width) if style.is_terminal else filter(None, [text]):
             put(sys.stdout, line)
     return 0
@@ -153,7 +166,24 @@ def part_in_json(part: Optional[ExplainedDirective]) -> Optional[Dict[str, Any]]
     types = {model.name.lower(): TYPE_NAMES[kind] for model, kind in part.types.items()}
     text = text_in_json(part.text)
     place = {"start": part.start, "end": part.end, "text": text, "argument": part.argument}
-    return {**place, "types": types, "meaning": part.meaning, "notes": list(part.notes)}
+    words = {"meaning": part.meaning, "notes": list(part.notes), "type_name": part.type_name or None}
+    return {**place, "types": types, **words, **(facts_in_json(part.specification) if part.specification else {})}
+
+
+def facts_in_json(one: SpelledSpecification) -> Dict[str, Any]:
+    """Returns the parts of a specification, and those that have no effect."""
+    found = one.found
+    stars = {"width_argument": found.width_argument, "precision_argument": found.precision_argument}
+    sets = {"needless": found.needless, "together": found.together}
+    return {
+        "flags": one.flags,
+        "width": found.width,
+        "precision": found.precision,
+        **{name: None if it is None else it + 1 for name, it in stars.items()},
+        "modifier": one.modifier,
+        "conversion": one.conversion,
+        **{key: [name for bit, name in NAMES.items() if bit & it] for key, it in sets.items()},
+    }
 
 
 def as_json(found: Found) -> Dict[str, Any]:
@@ -169,6 +199,7 @@ def rejection_in_json(found: Rejection) -> Dict[str, Any]:
     refusal: Dict[str, Any] = {"kind": int(found.refusal.kind), "name": found.refusal.name, "at": found.refusal.byte}
     if found.at is not None:
         refusal["at"] = found.at
+    refusal["start"], refusal["end"] = refused_span(found.format, found.refusal)
     refusal["help"] = found.help
     if found.side is not None:
         refusal["side"] = found.side

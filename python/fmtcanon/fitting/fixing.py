@@ -4,9 +4,10 @@ directives fit their arguments on every platform.
 
 from typing import Callable, Dict, Iterable, List, Optional, Sequence, Tuple
 
-from .. import Refused, directives, same
+from .. import Refused, same, specifications
 from ..compiling.calls import Key
 from ..compiling.platforms import PLATFORMS
+from ..formats.items import specification_alone
 from ..models import Model
 from ..source.respelling import LiteralRun
 from .judging import Fault, Fit, PlatformText, faults_of
@@ -69,7 +70,8 @@ def fix_of(
 
 def names_type(directive: str) -> bool:
     """Returns whether a directive has one of the length modifiers z, j and t."""
-    return directive[-2:-1] in ("z", "j", "t")
+    one = specification_alone(directive.encode())
+    return one is not None and one.modifier in ("z", "j", "t")
 
 
 def is_same(old: bytes, new: bytes) -> bool:
@@ -86,7 +88,7 @@ def converted(fault: Fault) -> Converted:
 
 def faults_with(unit: Unit, text: bytes, uses: Iterable[Use]) -> Iterable[Fault]:
     """Yields the faults, worse than a sign, that the calls with a place have with another text of it."""
-    texts = [PlatformText(text, directives(text, model=it.model)) for it in PLATFORMS]
+    texts = [PlatformText(text, specifications(text, model=it.model)) for it in PLATFORMS]
     for use in uses:
         calls = [it[use.key] for it in unit.calls if use.key in it]
         if len(calls) == len(PLATFORMS):

@@ -5,13 +5,14 @@ import functools
 import re
 from typing import Iterator, List, Mapping, NamedTuple, Sequence, Set, Tuple, Union
 
-from .. import BadLiteral, DirectiveSpan, Refused, decode_literal, directives
+from .. import BadLiteral, Refused, Specification, decode_literal, specifications
 from ..compiling.calls import Argument, Call, Key
 from ..compiling.formats import Format, Literal
-from ..compiling.platforms import PLATFORMS, Platform
+from ..compiling.platforms import PLATFORMS
 from ..formats.items import errnos_of
 from ..kinds import Type
 from ..models import Model
+from ..specification import SpelledSpecification
 
 SIGNED = {Type.UINT: Type.INT, Type.ULONG: Type.LONG, Type.ULONG_LONG: Type.LONG_LONG}
 INTEGERS = (*SIGNED.values(), *SIGNED)
@@ -66,7 +67,7 @@ class Fault(NamedTuple):
     call: Call
     format: int
     text: bytes
-    span: DirectiveSpan
+    span: Specification
     number: int
     fits: Tuple[Fit, ...]
     wanted: Tuple[Type, ...]
@@ -86,13 +87,17 @@ class Fault(NamedTuple):
         """Where what takes the argument is in the text: the directive, or a `*` of it."""
         if not self.is_star:
             return self.span.start, self.span.end
-        find = self.text.index if self.number == self.span.width_argument else self.text.rindex
-        at = find(b"*", self.span.start, self.span.end)
+        # The `*` of a precision comes after its point.
+        at = self.span.width_at if self.number == self.span.width_argument else self.span.precision_at + 1
         return at, at + 1
 
     @property
+    def specification(self) -> SpelledSpecification:
+        return SpelledSpecification(self.span, self.text)
+
+    @property
     def directive(self) -> str:
-        return self.text[self.span.start : self.span.end].decode(errors="backslashreplace")
+        return self.specification.text.decode(errors="backslashreplace")
 
     @property
     def tokens(self) -> List[Tuple[Literal, int, int]]:
@@ -167,13 +172,7 @@ class PlatformText(NamedTuple):
     """A format on a platform: its text, and its directives."""
 
     text: bytes
-    spans: Sequence[DirectiveSpan]
-
-
-def text_of(format: Format, platform: Platform) -> PlatformText:
-    """Returns the text of a format. Raises `Refused` or `BadLiteral`."""
-    text = bytes_of(format)
-    return PlatformText(text, directives(text, model=platform.model))
+    spans: Sequence[Specification]
 
 
 def bytes_of(format: Format) -> bytes:
@@ -181,13 +180,14 @@ def bytes_of(format: Format) -> bytes:
     return decode_literal(format.source.encode("utf-8", "surrogateescape"))[format.skipped :]
 
 
-def arguments_of(spans: Sequence[DirectiveSpan]) -> Iterator[Tuple[int, int, Type]]:
+def arguments_of(spans: Sequence[Specification]) -> Iterator[Tuple[int, int, Type]]:
     """Yields the arguments that directives take: the index of the directive, that of the argument, and its type."""
     for index, span in enumerate(spans):
         for star in (span.width_argument, span.precision_argument):
             if star is not None:
                 yield index, star, Type.INT
-        yield index, span.argument, span.type
+        if span.argument is not None and span.type is not None:
+            yield index, span.argument, span.type
 
 
 def faults_of(key: Key, calls: Sequence[Call], number: int, texts: Sequence[PlatformText]) -> Iterator[Fault]:
@@ -199,7 +199,7 @@ def faults_of(key: Key, calls: Sequence[Call], number: int, texts: Sequence[Plat
         wanted = tuple(type for _, _, type in found)
         text, spans = texts[0]
         # The argument of h and hh is converted to a type of this sign.
-        is_short = argument == spans[index].argument and b"h" in text[spans[index].start : spans[index].end]
+        is_short = argument == spans[index].argument and SpelledSpecification(spans[index], text).modifier in ("h", "hh")
         fits = tuple(
             Fit.EQUAL if fit is Fit.SIGN and (is_short or had.is_unsigned) else fit
             for fit, had in zip(map(fit_of, wanted, given, [it.model for it in PLATFORMS]), given)
@@ -219,13 +219,13 @@ def judged(units: Sequence[Mapping[Key, Call]]) -> Judged:
             result.lost.append((call, missing or [it.name for it in PLATFORMS[1:]]))
             continue
         for number in range(len(call.formats)):
+            texts, text = [], b""
             try:
-                texts = [text_of(it.formats[number], platform) for it, platform in zip(calls, PLATFORMS)]
-            except Refused as why:
-                result.refused.append(RefusedFormat(call, bytes_of(call.formats[number]), why))
-                continue
-            except BadLiteral as why:
-                result.refused.append(RefusedFormat(call, b"", why))
+                for it, platform in zip(calls, PLATFORMS):
+                    text = bytes_of(it.formats[number])
+                    texts.append(PlatformText(text, specifications(text, model=platform.model)))
+            except (Refused, BadLiteral) as why:
+                result.refused.append(RefusedFormat(call, text, why))
                 continue
             if call.function not in WITH_ERRNO:
                 result.errnos.extend(ErrnoFormat(call, texts[0].text, at) for at in errnos_of(texts[0].text)[:1])

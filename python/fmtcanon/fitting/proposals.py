@@ -4,15 +4,15 @@ import functools
 import re
 from typing import Dict, Iterator, NamedTuple, Optional, Tuple
 
-from .. import Refused, directives
+from .. import directives
 from ..compiling.platforms import PLATFORMS, Platform
-from ..kinds import Type
+from ..formats.items import specification_alone
+from ..kinds import Part, Type
 from ..models import Model
+from ..specification import NO_PART
 from .judging import SIGNED, Fault, Fit, fit_of
 
 LENGTHS = ("", "l", "ll", "z", "t", "j")
-# What length modifiers are made of.
-LETTERS = "hlLjzt"
 MACROS = ("64", "PTR")
 # Typedefs whose types the standards leave open: no directive fits them everywhere.
 OPEN = re.compile(
@@ -22,13 +22,10 @@ OPEN = re.compile(
 # What is tried first for a type, by its name.
 FIRST = {"size_t": "z", "ssize_t": "z", "ptrdiff_t": "t", "intmax_t": "j", "uintmax_t": "j"}
 FIRST.update(intptr_t="PTR", uintptr_t="PTR")
-# What characters are cast to.
-CHARACTERS = {"c": "int", "C": "wint_t", "lc": "wint_t"}
 # The unsigned types that length modifiers and the ends of PRI macros take, by which a cast can name them.
 UNSIGNED = {"": "unsigned int", "l": "unsigned long", "ll": "unsigned long long", "z": "size_t", "j": "uintmax_t"}
 UNSIGNED.update({"64": "uint64_t", "PTR": "uintptr_t"})
 MACRO = re.compile(r'" PRI([diouxX])(\w+) "$')
-NUMBER = re.compile(r"\d+\$")
 
 
 class Proposal(NamedTuple):
@@ -81,15 +78,15 @@ def proposal(fault: Fault) -> Optional[Proposal]:
 
 def proposals(fault: Fault) -> Iterator[Proposal]:
     """Yields what may be written instead of a directive, the best first."""
-    directive, type, end = fault.directive, fault.given[0].type, fitting(fault)
-    letter, bare = directive[-1], directive[:-1].rstrip(LETTERS)
-    is_unsigned, is_sign = type in SIGNED, fault.worst is Fit.SIGN
+    one, end = fault.specification, fitting(fault)
+    letter = one.conversion
+    is_unsigned, is_sign = fault.given[0].type in SIGNED, fault.worst is Fit.SIGN
     if letter in "cC":
-        yield Proposal("", False, CHARACTERS["lc" if directive[-2:] == "lc" else letter])
+        yield Proposal("", False, "int" if one.modifier + letter == "c" else "wint_t")
         return
-    if letter in "di" and is_unsigned:
-        # Flags for a sign do nothing there.
-        bare = re.sub("[+ ]", "", bare)
+    # Flags for a sign do nothing if it is unsigned.
+    signs = Part.PLUS | Part.SPACE if letter in "di" and is_unsigned else NO_PART
+    bare = one.without(signs | Part.MODIFIER)[:-1].decode()
     if letter in "diu" and (is_unsigned or is_sign):
         letter = "u" if is_unsigned else "d"
     if end in MACROS:
@@ -117,14 +114,10 @@ def is_right(fault: Fault, made: Proposal) -> bool:
 
 def type_of(directive: str, platform: Platform) -> Optional[Type]:
     """Returns the type that a directive takes, without the numbers of arguments, or None if it isn't accepted."""
-    plain = MACRO.sub(lambda it: f"{platform.modifiers[it[2]]}{it[1]}", NUMBER.sub("", directive))
-    return taken(plain, platform.model)
+    one = specification_alone(MACRO.sub(lambda it: f"{platform.modifiers[it[2]]}{it[1]}", directive).encode())
+    return taken(one.alone(), platform.model) if one else None
 
 
 @functools.lru_cache(maxsize=None)
-def taken(directive: str, model: Model) -> Optional[Type]:
-    try:
-        found = directives(directive, model=model)
-    except Refused:
-        return None
-    return found[0].type if len(found) == 1 else None
+def taken(directive: bytes, model: Model) -> Type:
+    return directives(directive, model=model)[0].type

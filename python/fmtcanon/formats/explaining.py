@@ -1,29 +1,31 @@
 """Explains formats: what each directive prints, and how two formats differ.
 
-Every fact comes from a call of the library. A part of a directive has no effect if the library says that the directive
-without it is the same.
+Every fact comes from a call of the library, also which parts of a directive have no effect.
 """
 
 from __future__ import annotations
 
-from typing import Dict, List, NamedTuple, Optional, Sequence, Tuple, Union
+import itertools
+from typing import Dict, List, Mapping, NamedTuple, Optional, Sequence, Tuple, Union
 
 import fmtcanon
-from fmtcanon import DirectiveSpan, Kind, Model, Refused, Type
+from fmtcanon import Kind, Model, Refused, Specification, Type
 
 from ..kinds import TYPE_NAMES
-from ..specification import SpelledSpecification, specification_of
+from ..specification import SpelledSpecification
+from ..words import WORDS
 from .items import errnos_of
 from .rejections import instead_of, sentence
 from .verdicts import Argument, Library, PairKind, PairVerdict, taker_of, telling_arguments
-from .wording import ERRNO, ERRNO_NOTE, Stars, meaning, meaning_of_number, note
+from .wording import meaning, meaning_of_number, notes, type_name
 
 LIBRARY = Library()
 
 
 class ExplainedDirective(NamedTuple):
     """A directive of a format: where it is, its text, its argument from 1, its type by data model, and in words what it
-    prints and which of its parts have no effect. `%m` has no argument, and no types.
+    prints, which of its parts have no effect, and the name of its type in C if it has one in all data models; and the
+    specification. `%m` has no argument, no types and no specification.
     """
 
     start: int
@@ -33,6 +35,8 @@ class ExplainedDirective(NamedTuple):
     types: Dict[Model, Type]
     meaning: str
     notes: Tuple[str, ...]
+    type_name: str = ""
+    specification: Optional[SpelledSpecification] = None
 
 
 class Marked(NamedTuple):
@@ -62,7 +66,7 @@ class Difference(NamedTuple):
 
     formats: Tuple[bytes, bytes]
     verdict: PairKind
-    canonical: Optional[bytes] = None
+    canonical: Dict[Model, bytes] = {}
     arguments: Tuple[Argument, ...] = ()
     printed: Tuple[bytes, ...] = ()
     at: Optional[int] = None
@@ -90,15 +94,16 @@ class Rejection(NamedTuple):
         return str(Refused(self.refusal.kind, self.refusal.name, at))
 
 
-def explain(text: bytes, model: Model) -> Explanation:
-    """Explains a format of the whole language. Raises `Refused`."""
-    spans = fmtcanon.directives(text, model=model)
-    types = {other: types_in(text, other) for other in Model}
-    by_model = [{it: found[at] for it, found in types.items() if found} for at in range(len(spans))]
-    parts = [part_of(text, span, types_of) for span, types_of in zip(spans, by_model)]
-    parts += [ExplainedDirective(at, at + 2, b"%m", None, {}, ERRNO, (ERRNO_NOTE,)) for at in errnos_of(text)]
+def explain(text: bytes, model: Model, texts: Optional[Mapping[Model, bytes]] = None) -> Explanation:
+    """Explains a format of the whole language, which may be another text in other data models. Raises `Refused`."""
+    found, texts = fmtcanon.specifications(text, model=model), texts or dict.fromkeys(Model, text)
+    types = {it: types_in(other, it) for it, other in texts.items()}
+    by_model = [{it: known[at] for it, known in types.items() if known} for at in range(len(found))]
+    effects = found if model is Model.LP64 else effects_of(found, text, texts[Model.LP64])
+    parts = [part_of(*it) for it in zip(found, effects, itertools.repeat(text), by_model)]
+    parts += [errno_part(at) for at in errnos_of(text)]
     parts.sort(key=lambda it: it.start)
-    return Explanation(text, tuple(parts), canonical_by_model(text), bounds_of(text, model))
+    return Explanation(text, tuple(parts), canonical_by_model(texts), bounds_of(text, model))
 
 
 def types_in(text: bytes, model: Model) -> List[Type]:
@@ -109,10 +114,21 @@ def types_in(text: bytes, model: Model) -> List[Type]:
         return []
 
 
-def canonical_by_model(text: bytes) -> Dict[Model, bytes]:
+def effects_of(found: Sequence[Specification], text: bytes, other: bytes) -> List[Specification]:
+    """Returns the specifications of a format in LP64, where it is another text, each alone if it is rejected there.
+
+    No type is shorter in LP64 than elsewhere. So a part without an effect there has none in any data model.
+    """
+    try:
+        return fmtcanon.specifications(other)
+    except Refused:
+        return fmtcanon.specifications(b"".join(SpelledSpecification(it, text).alone() for it in found))
+
+
+def canonical_by_model(texts: Mapping[Model, bytes]) -> Dict[Model, bytes]:
     """Returns the canonical text in each data model; none if arguments are numbered."""
     try:
-        return {model: fmtcanon.canonical(text, model=model, whole=True) for model in Model}
+        return {model: LIBRARY.canonical(text, model) for model, text in texts.items()}
     except Refused:
         return {}
 
@@ -125,33 +141,21 @@ def bounds_of(text: bytes, model: Model) -> Optional[fmtcanon.Bounds]:
         return None
 
 
-def part_of(text: bytes, span: DirectiveSpan, types: Dict[Model, Type]) -> ExplainedDirective:
-    """Returns a directive, whose types are these, with what it prints."""
-    spelling = text[span.start : span.end]
-    effective, notes = effects(specification_of(spelling))
-    stars = Stars(*(None if it is None else it + 1 for it in (span.width_argument, span.precision_argument)))
-    return ExplainedDirective(span.start, span.end, spelling, span.argument + 1, types, meaning(effective, stars), notes)
+def part_of(
+    found: Specification, effects: Specification, text: bytes, types: Dict[Model, Type]
+) -> ExplainedDirective:
+    """Returns a directive, whose types are these, with what it prints; what has no effect has none in any data model."""
+    one = SpelledSpecification(found._replace(needless=effects.needless, together=effects.together), text)
+    argument = None if found.argument is None else found.argument + 1
+    said = meaning(one), notes(one), type_name(one)
+    return ExplainedDirective(found.start, found.end, one.text, argument, types, *said, one)
 
 
-def effects(found: SpelledSpecification) -> Tuple[SpelledSpecification, Tuple[str, ...]]:
-    """Returns the parts of a specification that have an effect, and a note on each other one."""
-    notes: List[str] = []
-    effective = found.without_numbers()
-    for name, spelling, shorter in found.without_numbers().shorter():
-        if is_same(found.without_numbers(), shorter):
-            notes.append(note(name, spelling, found))
-            without = [it for other, part, it in effective.shorter() if (other, part) == (name, spelling)]
-            effective = without[0] if is_same(effective, without[0]) else effective
-    notes += [f"`{flag}` is there more than once" for flag in dict.fromkeys(found.flags) if found.flags.count(flag) > 1]
-    return effective, tuple(notes)
-
-
-def is_same(first: SpelledSpecification, second: SpelledSpecification) -> bool:
-    """Returns whether two specifications are interchangeable in all data models."""
-    try:
-        return len(fmtcanon.same_in(str(first), str(second), whole=True)) == len(Model)
-    except Refused:
-        return False
+def errno_part(at: int) -> ExplainedDirective:
+    """Returns the `%m` at an offset."""
+    words = WORDS["errno"]
+    text = words["write"].encode()
+    return ExplainedDirective(at, at + len(text), text, None, {}, words["meaning"], (words["note"],))
 
 
 def reject(text: bytes, refusal: Refused, model: Model, side: Optional[int] = None) -> Rejection:
@@ -159,8 +163,10 @@ def reject(text: bytes, refusal: Refused, model: Model, side: Optional[int] = No
     return Rejection(text, refusal, sentence(text, refusal), instead_of(text, refusal, model), side)
 
 
-def compare(first: bytes, second: bytes, model: Model) -> Union[Difference, Rejection]:
-    """Compares two formats."""
+def compare(
+    first: bytes, second: bytes, model: Model, texts: Optional[Mapping[Model, bytes]] = None
+) -> Union[Difference, Rejection]:
+    """Compares two formats. The first may be another text in other data models."""
     formats = (first, second)
     try:
         found = LIBRARY.compared(first, second, model)
@@ -169,7 +175,7 @@ def compare(first: bytes, second: bytes, model: Model) -> Union[Difference, Reje
         is_numbered = refusal.kind is Kind.NUMBERED
         return rejection._replace(types=by_types(formats, model, refusal)) if is_numbered else rejection
     if found.kind is PairKind.SAME:
-        return Difference(formats, found.kind, canonical=LIBRARY.canonical(first, model))
+        return Difference(formats, found.kind, canonical=canonical_by_model(texts or dict.fromkeys(Model, first)))
     if found.kind is PairKind.DIFFERENT:
         return printed_unlike(formats, found.arguments, model)
     parts = (unlike_at if found.kind is PairKind.DIRECTIVES else parts_at)(formats, found.at, model)
@@ -230,7 +236,8 @@ def printed_unlike(formats: Tuple[bytes, bytes], arguments: Tuple[Argument, ...]
 def about_argument(part: ExplainedDirective, arguments: Sequence[Argument]) -> ExplainedDirective:
     """Returns a directive. If its argument is a number with a sign, its meaning is that for this number."""
     argument = argument_of(part, arguments)
-    said = meaning_of_number(specification_of(part.text), argument) if isinstance(argument, int) else None
+    one = part.specification
+    said = meaning_of_number(one, argument) if one and isinstance(argument, int) else None
     return part._replace(meaning=said or part.meaning)
 
 

@@ -4,14 +4,17 @@ The library says what is a specification. Here it is only known where one may en
 """
 
 import re
-from typing import Iterator, List, NamedTuple
+from typing import Iterator, List, NamedTuple, Optional
 
 import fmtcanon
+
+from ..specification import SpelledSpecification
 
 # A macro of <inttypes.h> comes in angle brackets, as xgettext writes it. Its name has its conversion (C11 7.8.1). d and
 # i take one type, and so do o, u, x and X.
 MACRO = re.compile(rb"<PRI([dioxXu])(?:(?:LEAST|FAST)?(?:8|16|32|64)|MAX|PTR)>")
-# What a specification may have before its conversion. The library says whether it is one.
+# What a specification may have before its conversion, also outside of C: the flag I of translations, and what comes before
+# a macro or `m`. It only finds where such an item may end; the library says what it is.
 ITEM = re.compile(rb"%([-+ #0-9'I$*.hljztL]*)(" + MACRO.pattern.replace(b"([", b"(?:[") + rb"|[\s\S]|\Z)")
 LENGTHS = b"hljztL"
 
@@ -46,12 +49,14 @@ def errnos_of(text: bytes) -> List[int]:
     return [it.start for it in items_of(text) if it.text == b"%m"] if b"m" in text else []
 
 
-def is_specification(text: bytes) -> bool:
-    """Returns whether a text is one specification, whatever arguments come before its own."""
+def specification_alone(text: bytes) -> Optional[SpelledSpecification]:
+    """Returns the specification that a text is, whatever arguments come before its own; None if it isn't one."""
     try:
-        return len(fmtcanon.directives(text)) == 1
+        found = fmtcanon.specifications(text)
     except fmtcanon.Refused as refusal:
-        return refusal.kind in (fmtcanon.Kind.MISSING_ARGUMENT, fmtcanon.Kind.TWO_TYPES)
+        is_one = refusal.kind in (fmtcanon.Kind.MISSING_ARGUMENT, fmtcanon.Kind.TWO_TYPES)
+        found = [refusal.specification] if is_one and refusal.specification else []
+    return SpelledSpecification(found[0], text) if len(found) == 1 else None
 
 
 def is_unexpected(text: bytes) -> bool:

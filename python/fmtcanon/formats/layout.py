@@ -6,12 +6,14 @@ from itertools import zip_longest
 from typing import Dict, Iterator, List, Optional
 
 import fmtcanon
-from fmtcanon import Model, Type
+from fmtcanon import Kind, Model, Type
 
 from ..frame.terminals import Style, beside, columns
 from ..frame.visible import visible
 from ..kinds import TYPE_NAMES
+from ..words import WORDS, phrase
 from .explaining import Difference, ExplainedDirective, Explanation, Rejection
+from .rejections import refused_span
 from .verdicts import PairKind, argument_words, cut, shared_front, shown_argument, shown_arguments
 
 # Formats up to this many columns have the words next to the carets; the words of others are on lines of their own.
@@ -32,15 +34,18 @@ def column_of(text: bytes, offset: int) -> int:
 
 
 def type_names(part: ExplainedDirective, model: Model) -> List[str]:
-    """Returns the type of an argument, and the types that it has in other data models, each with these; none of `%m`."""
+    """Returns the type of an argument, after its name if it has one in all data models, and the types that it has in other
+    data models, each with these; none of `%m`.
+    """
     if part.argument is None:
-        return ["the message of errno"]
+        return [WORDS["errno"]["type"]]
     others: Dict[Type, List[str]] = {}
     for other, kind in part.types.items():
         if kind is not part.types[model]:
             others.setdefault(kind, []).append(other.name)
     listed = [f"{TYPE_NAMES[kind]} in {' and '.join(names)}" for kind, names in others.items()]
-    return [TYPE_NAMES[part.types[model]], *listed]
+    own = TYPE_NAMES[part.types[model]]
+    return [f"{part.type_name}: {own}" if part.type_name else own, *listed]
 
 
 def type_words(part: ExplainedDirective, model: Model) -> str:
@@ -74,32 +79,45 @@ def explanation_lines(found: Explanation, model: Model, style: Style) -> Iterato
         else:
             yield mark
             yield from beside("", 0, start, part_words(part, model), style.width)
-    if found.canonical:
-        yield f"canonical text: {as_source(found.canonical[model])}"
+    yield from key_lines(found.canonical, model)
     if found.bounds is not None:
         yield bounds_words(found.bounds)
 
 
+def key_lines(canonical: Dict[Model, bytes], model: Model) -> Iterator[str]:
+    """Yields the canonical text in a data model, and whether it is another elsewhere; nothing if there is none."""
+    if not canonical:
+        return
+    key, others = canonical[model], [it.name for it, other in canonical.items() if other != canonical[model]]
+    yield WORDS["key_in_model" if others else "key"].format(key=as_source(key), model=model.name)
+    if others:
+        yield WORDS["not_a_rewrite"].format(models=" and ".join(others))
+
+
 def bounds_words(bounds: fmtcanon.Bounds) -> str:
     """Returns how many bytes a format prints."""
-    if bounds.greatest is None:
-        return f"it prints at least {bounds.least} bytes"
-    if bounds.greatest == bounds.least:
-        return f"it prints {bounds.least} bytes"
-    return f"it prints {bounds.least} to {bounds.greatest} bytes"
+    tokens = {f"least{bounds.least}", "unbounded" if bounds.greatest is None else "bounded"}
+    tokens |= {"exact"} if bounds.greatest == bounds.least else set()
+    return phrase(WORDS["bytes"], "", tokens).format(least=bounds.least, most=bounds.greatest)
 
 
 def rejection_lines(found: Rejection, model: Model, style: Style) -> Iterator[str]:
-    """Yields the error line, the format with a caret under the byte that is rejected, and what to write."""
+    """Yields the error line, the format with a caret under the byte that is rejected, or carets under the specification
+    that takes an argument after a missing one, and what to write.
+    """
     yield f"{'' if found.side is None else SIDES[found.side]}{found}"
     yield as_source(found.format)
-    begin = column_of(found.format, found.refusal.byte)
+    start, end = found.refusal.byte, found.refusal.byte + 1
+    if found.refusal.kind is Kind.MISSING_ARGUMENT:
+        start, end = refused_span(found.format, found.refusal)
+    begin = column_of(found.format, start)
+    count = max(column_of(found.format, end) - begin, 1)
     more = [f"Write {as_source(found.instead)}."] if found.instead else []
     words = " ".join([found.help, *more])
     if begin <= BESIDE:
-        yield from beside(" " * begin + style.carets(1), begin + 1, begin + 2, [words], style.width)
+        yield from beside(" " * begin + style.carets(count), begin + count, begin + count + 1, [words], style.width)
     else:
-        yield " " * begin + style.carets(1)
+        yield " " * begin + style.carets(count)
         yield from beside("", 0, INDENT, [words], style.width)
     if found.types is not None:
         yield from types_lines(found.types, model, style)
@@ -116,19 +134,18 @@ def types_lines(found: Difference, model: Model, style: Style) -> Iterator[str]:
 def difference_lines(found: Difference, model: Model, style: Style) -> Iterator[str]:
     """Yields how two formats compare."""
     if found.verdict is PairKind.SAME:
-        yield from same_lines(found)
+        yield from same_lines(found, model)
     elif found.verdict is PairKind.DIFFERENT:
         yield from printed_lines(found, style)
     else:
         yield from apart_lines(found, model, style)
 
 
-def same_lines(found: Difference) -> Iterator[str]:
+def same_lines(found: Difference, model: Model) -> Iterator[str]:
     yield "same"
     for text in found.formats:
         yield f"  {as_source(text)}"
-    if found.canonical is not None:
-        yield f"canonical text: {as_source(found.canonical)}"
+    yield from key_lines(found.canonical, model)
 
 
 def printed_lines(found: Difference, style: Style) -> Iterator[str]:

@@ -5,7 +5,6 @@ types of formats with numbered arguments, which the comparison rejects.
 """
 
 import enum
-import re
 from typing import AnyStr, Iterator, List, NamedTuple, Optional, Sequence, Tuple, Union
 
 import fmtcanon
@@ -14,10 +13,8 @@ from fmtcanon import Model
 from ..frame.visible import visible
 from ..kinds import TYPE_NAMES
 
-# What a specification has before its last byte. So after every other byte a piece of a format ends.
-INNER = b"%0123456789$-+ #'*.hljztL"
-# A number of a format. One with more digits is rejected as a width or a precision.
-NUMBER = re.compile(rb"(?<!\d)0*(\d{1,6})(?!\d)")
+# How many percent signs are tried as the beginning of the back that two long formats share.
+MOST_SIGNS = 8
 # How much of a text is shown, and how much of that comes before the first difference.
 SHOWN, BEFORE = 60, 20
 # Strings up to the first length are not shortened, and up to the second they are shown; how many arguments are shown.
@@ -56,10 +53,12 @@ class PairVerdict(NamedTuple):
 
 
 class Span(NamedTuple):
-    """Where a specification is in a format: the offsets of its `%` and of what follows it."""
+    """Where a specification is in a format: the offsets of its `%` and of what follows it; and its width and precision."""
 
     start: int
     end: int
+    width: Optional[int]
+    precision: Optional[int]
 
 
 class Taker(NamedTuple):
@@ -94,13 +93,20 @@ def shared_back(first: bytes, second: bytes, front: int) -> int:
 
 
 def narrowed(old: bytes, new: bytes) -> Tuple[int, int]:
-    """Returns the lengths of a front and of a back that two accepted formats share.
-
-    Neither ends within a specification. Without them the formats are the same exactly if they are with them.
+    """Returns the lengths of a front and of a back that two accepted formats share. Neither ends within a specification.
+    Without them the formats are the same exactly if they are with them.
     """
-    front = len(old[: shared_front(old, new)].rstrip(INNER))
-    back = old[len(old) - shared_back(old, new, front) :].lstrip(INNER)
-    return front, max(len(back) - 1, 0)
+    shared = shared_front(old, new)
+    cut = fmtcanon._refused_specification(old[:shared])
+    front = cut.start if cut else shared
+    back = shared_back(old, new, front)
+    for _ in range(MOST_SIGNS):
+        sign = old.find(b"%", len(old) - back)
+        back = len(old) - sign if sign >= 0 else 0
+        if not back or not any(fmtcanon._refused_specification(it[: len(it) - back]) for it in (old, new)):
+            return front, back
+        back -= 1
+    return front, 0
 
 
 class Library:
@@ -175,16 +181,18 @@ def directives_in(text: bytes) -> Iterator[Span]:
     # Most texts have none.
     while text.find(b"%", done) >= 0:
         try:
-            found = fmtcanon.directives(text[done:])
+            found = fmtcanon.specifications(text[done:])
         except fmtcanon.Refused as refusal:
-            at = done + refusal.byte
-            end = at if refusal.kind is fmtcanon.Kind.NUL_BYTE else text.rfind(b"%", done, at)
-            if end > done:
-                yield from (Span(it.start + done, it.end + done) for it in directives_in(text[done:end]))
-            done = max(at, done + 1)
+            one = refusal.specification
+            front, end = (one.start, one.end) if one else (refusal.byte, refusal.byte)
+            for it in directives_in(text[done : done + front]):
+                yield it._replace(start=it.start + done, end=it.end + done)
+            # It is accepted by itself.
+            found = [one] if one and refusal.kind is fmtcanon.Kind.MISSING_ARGUMENT else []
         else:
-            yield from (Span(it.start + done, it.end + done) for it in found)
-            return
+            end = len(text)
+        yield from (Span(it.start + done, it.end + done, it.width, it.precision) for it in found)
+        done += max(end, 1)
 
 
 def specifications(text: bytes) -> bytes:
@@ -237,9 +245,8 @@ def shortened(
 
     A width or a precision makes a difference at its own number or at the next.
     """
-    numbers = sorted(
-        {int(it) + more for it in NUMBER.findall(specifications(old) + specifications(new)) for more in (0, 1)} | {0, 1}
-    )
+    fields = [it for text in (old, new) for one in directives_in(text) for it in (one.width, one.precision)]
+    numbers = sorted({it + more for it in fields if it is not None for more in (0, 1)} | {0, 1})
     found = list(arguments)
     for at, argument in enumerate(arguments):
         if not isinstance(argument, bytes) or len(argument) <= SHORT:

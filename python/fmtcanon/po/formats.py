@@ -6,25 +6,19 @@ from typing import Dict, Iterator, List, NamedTuple, Optional
 
 import fmtcanon
 
-from ..formats.items import MACRO, Item, is_specification, is_unexpected, items_of
-from ..kinds import TYPE_NAMES
-from ..specification import specification_of
+from ..formats.items import MACRO, Item, is_unexpected, items_of, specification_alone
+from ..formats.rejections import asked
+from ..kinds import TYPE_NAMES, Part
+from ..specification import SpelledSpecification, moved
+from ..words import WORDS, phrase
 
 # The conversions for which the GNU C library has the flag I, other digits. It is for translations, and changes no type.
 WITH_OTHER_DIGITS = b"diufFeEgG"
 PERCENT = ord("%")
 
-# How an argument of the types int and unsigned int is used, as bits.
-KINDS = {
-    1: "a number",
-    2: "a character",
-    4: "a number of type short",
-    8: "a number of type signed char",
-    16: "a width or precision",
-    32: "a number of type unsigned short",
-    64: "a number of type unsigned char",
-}
-NUMBER, CHARACTER, SHORT, SIGNED_CHAR, WIDTH, UNSIGNED_SHORT, UNSIGNED_CHAR = KINDS
+# How an argument of the types int and unsigned int is used, as bits. The last row of the table has what is usual.
+KINDS = {words: 1 << bit for bit, (_, _, words) in enumerate(reversed(WORDS["uses"]))}
+NUMBER, WIDTH = (KINDS[phrase(WORDS["uses"], conversion, set())] for conversion in "d*")
 # What of a specification has another type in another data model (C11 7.21.6.1p7).
 DEPENDENT = re.compile(rb"[jzt]")
 # The shape of a longer text isn't looked for.
@@ -92,14 +86,15 @@ class MessageFormat:
         """Yields each use of an argument. The format must be accepted in this data model."""
         # A `%m` with stars has become a directive for each.
         edits = {it.start + at: it for it in self.edits for at, byte in enumerate(it.new) if byte == PERCENT}
-        for span in fmtcanon.directives(self.plain, model=model):
-            plain, edit = self.plain[span.start : span.end], edits.get(span.start)
-            text, start = (edit.item.text, edit.item.start) if edit else (plain, self.place_of(span.start))
+        for span in fmtcanon.specifications(self.plain, model=model):
+            one, edit = SpelledSpecification(span, self.plain), edits.get(span.start)
+            text, start = (edit.item.text, edit.item.start) if edit else (one.text, self.place_of(span.start))
             for star in (span.width_argument, span.precision_argument):
                 if star is not None:
                     yield ArgumentUse(star, WIDTH, None, text, start)
             is_star = edit is not None and edit.item.last == b"m"
-            kind = WIDTH if is_star else kind_of(plain)
+            kind = WIDTH if is_star else KINDS[phrase(WORDS["uses"], one.conversion, {one.modifier})]
+            assert span.argument is not None
             yield ArgumentUse(span.argument, kind, edit.macro if edit else None, text, start)
 
     def codes(self, model: fmtcanon.Model) -> bytes:
@@ -107,7 +102,10 @@ class MessageFormat:
         try:
             return fmtcanon._argument_codes(self.plain, model)
         except fmtcanon.Refused as refusal:
-            raise fmtcanon.Refused(refusal.kind, refusal.name, self.place_of(refusal.byte)) from None
+            found = fmtcanon.Refused(refusal.kind, refusal.name, self.place_of(refusal.byte))
+            one = asked(self.plain, refusal)
+            found.specification = moved(one, self.place_of) if one else None
+            raise found from None
 
     def two_types(self, model: fmtcanon.Model) -> Optional[str]:
         """Says which argument two macros, or a macro and a conversion, give different types.
@@ -176,11 +174,10 @@ def only_stars(item: Item) -> Optional[bytes]:
         return None
     # `f` has all flags, and needs no length modifier; the flag I does nothing. A number is only there for that of a `*`.
     inner = item.inner.replace(b"I", b"-") + b"f"
-    found = next(filter(is_specification, [b"%" + inner, b"%1$" + inner]), None)
+    found = next(filter(None, map(specification_alone, [b"%" + inner, b"%1$" + inner])), None)
     if found is None:
         return None
-    specification = specification_of(found)
-    stars = [it.partition("*") for it in (specification.width, specification.precision)]
+    stars = [found.piece(it).decode().partition("*") for it in (Part.WIDTH, Part.PRECISION)]
     return "".join(f"%{number}d" for _, star, number in stars if star).encode() or b"%%"
 
 
@@ -189,19 +186,6 @@ def macro_type(last: bytes) -> Optional[bytes]:
     if last[:1] != b"<":
         return None
     return last[:4] + (b"d" if last[4:5] in b"di" else b"u") + last[5:]
-
-
-def kind_of(specification: bytes) -> int:
-    """Returns as what a specification prints its argument."""
-    last, is_short, is_char = specification[-1:], specification[-2:-1] == b"h", specification[-3:-1] == b"hh"
-    if last == b"c":
-        return CHARACTER
-    is_signed = last in (b"d", b"i")
-    if is_char:
-        return SIGNED_CHAR if is_signed else UNSIGNED_CHAR
-    if is_short:
-        return SHORT if is_signed else UNSIGNED_SHORT
-    return NUMBER
 
 
 def shown_type(code: int, macro: Optional[bytes]) -> str:
@@ -214,4 +198,4 @@ def shown_type(code: int, macro: Optional[bytes]) -> str:
 
 
 def shown_kinds(kinds: int) -> str:
-    return " and ".join(name for bit, name in KINDS.items() if kinds & bit)
+    return " and ".join(name for name, bit in KINDS.items() if kinds & bit)

@@ -297,6 +297,14 @@ class Source:
         )
 
 
+def lone_place(data: bytes) -> Optional[Place]:
+    """Returns the place that a source is, without anything next to it; None if it is something else."""
+    source = Source(data).read()
+    place = source.places[0] if len(source.places) == 1 else None
+    is_alone = place is not None and not (source.plain[: place.start] + source.plain[place.end :]).strip()
+    return place if is_alone else None
+
+
 @functools.lru_cache(maxsize=1000)
 def is_gettext(function: bytes) -> bool:
     return GETTEXT.fullmatch(function.decode("latin-1")) is not None
