@@ -27,13 +27,16 @@ const inModels = (values, name) => {
 };
 
 // A string in which each character that can't be seen is an escape.
-const visible = (string) => string.replace(/[^\P{C} ]|[^\P{Z} ]/gu, (it) => `\\u${hexadecimal(it.codePointAt(0))}`);
-const hexadecimal = (number) => number.toString(16).padStart(4, "0");
+function visible(string) {
+  if (/^[ -~]*$/.test(string)) return string;
+  return string.replace(/[^\P{C} ]|[^\P{Z} ]/gu, (it) => `\\u${it.codePointAt(0).toString(16).padStart(4, "0")}`);
+}
 
 /** Shows a text with the byte that is rejected. */
-export function wrongAt(text, at, shown = (it) => visible(textOf(it))) {
+export function wrongAt(text, at, shown = (it) => visible(textOf(it)), start = at) {
   const byte = text.slice(at, at + 1), marked = made("mark.wrong", byte ? shown(byte) : "end");
-  return [made("h2", "Where"), made("pre", shown(text.slice(0, at)), marked, shown(text.slice(at + 1)))];
+  const [front, inner, back] = [text.slice(0, start), text.slice(start, at), text.slice(at + 1)].map(shown);
+  return [made("h2", "Where"), made("pre", front, inner && made("mark.m3", inner), marked, back)];
 }
 
 const verdictOf = ({ verdict, at }) =>
@@ -135,10 +138,11 @@ export class Answer {
   }
 
   copy(value) {
-    return button(["Copy"], async (it) => {
-      await navigator.clipboard?.writeText(this.shown(value));
-      it.textContent = navigator.clipboard ? "Copied" : "This browser can't copy";
-    });
+    const copied = async (it) => {
+      await navigator.clipboard.writeText(this.shown(value));
+      it.textContent = "Copied";
+    };
+    return button(["Copy"], (it) => copied(it).catch(() => (it.textContent = "This browser can't copy")));
   }
 
   // Two formats.
@@ -210,12 +214,14 @@ export class Answer {
     const { refusal, side, help, instead, types } = found, place = placeOf(refusal, side ?? 0);
     const words = [...said(help), ...(instead ? [" Write ", made("code", this.shown(instead)), "."] : [])];
     const summary = [made("strong", `${side === null ? "" : `${SIDES[side]}: `}${place}`), made("p", ...words)];
-    const below = [...this.wrong(found.format, refusal.at), ...(types ? this.typesOnly(types) : [])];
+    const below = [...this.wrong(found), ...(types ? this.typesOnly(types) : [])];
     return { kind: "bad", summary, below: [...below, ...(formats.length > 1 ? this.both(formats) : [])] };
   }
 
-  wrong(text, at) {
-    return wrongAt(text, at, (it) => this.shown(it));
+  wrong({ format, refusal, start, end }) {
+    if (refusal.at >= start && refusal.at < end) return wrongAt(format, refusal.at, (it) => this.shown(it), start);
+    const [front, inner, back] = [format.slice(0, start), format.slice(start, end), format.slice(end)];
+    return [made("h2", "Where"), made("pre", this.shown(front), made("mark.wrong", this.shown(inner)), this.shown(back))];
   }
 
   typesOnly(found) {

@@ -253,7 +253,8 @@ export class Explainer {
   /** Says what a refusal of a format means, and what to write instead. */
   reject(text, refusal, model, side = null) {
     const one = this.refusedIn(text, refusal), help = this.help(text, refusal, one);
-    return { format: text, refusal, help, instead: this.insteadOf(refusal.kind, one, model), side, types: null };
+    const instead = this.insteadOf(refusal.kind, one, model);
+    return { format: text, refusal, ...spanOf(refusal, one), help, instead, side, types: null };
   }
 
   // What is known of the specification in which a text is rejected; null outside of one.
@@ -318,6 +319,12 @@ export class Explainer {
     else if (kind === KINDS.unexpected && format[found.end] === "m" && text.slice(1).trim()) listed.push(errno.write);
     return listed;
   }
+}
+
+// Where a specification begins that is rejected, and the offset after the byte at which it is.
+function spanOf({ kind, at }, one) {
+  const start = one ? one.found.start : at;
+  return { start, end: one && kind === KINDS.missing ? one.found.end : at + 1 };
 }
 
 const effectsIn = ({ needless, together }) => ({ needless, together });

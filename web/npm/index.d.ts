@@ -137,6 +137,9 @@ export interface Difference {
 export interface Rejection {
   format: Bytes;
   refusal: Refused;
+  /** The specification in which it is, up to the byte at which it is rejected. */
+  start: number;
+  end: number;
   help: string;
   /** What to write instead of the specification. */
   instead: Bytes | null;
