@@ -9,6 +9,8 @@
 # make mutants           tries the mutants that the records don't have as refused, and writes them there
 # make library           builds the C library alone
 # make page              the library as a module of WebAssembly, and the page that runs it in a browser, in out/web
+# make try               that, and puts the page into docs/try
+# make try-again         makes the page of docs/try again of words and scripts, with the module that it has
 # make npm               a package of that module for Node and browsers
 # make install PREFIX=   installs what `make` built: the program, the C library, the Python module
 #                        with its five commands, manual pages, completions and documents; below
@@ -59,7 +61,7 @@ JOBS = $(shell awk -v n="$$(nproc)" '/^MemAvailable/ { m = int($$2 / 5000000); \
 BESIDE = $(shell echo $$(( $(JOBS) > 4 ? $(JOBS) / 2 : $(JOBS) > 1 ? 2 : 1 )))
 
 .PHONY: all program library archive test gate beside-gate tried trials check-more mutants tools c-tools
-.PHONY: page web-tools built places install uninstall dist deb wheel npm tables
+.PHONY: page try try-again web-tools built places install uninstall dist deb wheel npm tables
 
 all: $(if $(PROGRAM),program) library
 
@@ -110,6 +112,16 @@ page: tools web-tools
 	cd $(C_CRATE) && $(CURDIR)/web/keep_ir.sh $(CURDIR)/$(WEB)/fmtcanon.bc $(CPU_x86_64)
 	web/link.sh $(WEB)/fmtcanon.bc $(WEB)/fmtcanon.wasm
 	python3 web/build.py $(WEB)/fmtcanon.wasm $(WEB)/fmtcanon.html
+
+PUBLISHED = docs/try/index.html
+PUBLISHED_SUM = cd $(dir $(PUBLISHED)) && sha256sum $(notdir $(PUBLISHED)) > SHA256SUMS
+try: page
+	cp $(WEB)/fmtcanon.html $(PUBLISHED)
+	$(PUBLISHED_SUM)
+
+try-again:
+	python3 web/build.py $(PUBLISHED) $(PUBLISHED)
+	$(PUBLISHED_SUM)
 
 # How long each part of the gate took, said where it ends, and of all of them at the end.
 MINUTES = out/minutes

@@ -137,7 +137,7 @@ def test_published(trials):
     """The page in the documents is the one that the sources make of its module, and its checksum is right."""
     made, page = build(), (TRY / "index.html").read_bytes()
     is_current = made.page_of(made.module_of(TRY / "index.html")).encode() == page
-    trials.expect("docs/try/index.html is of these sources: make page, and copy it there", is_current, True)
+    trials.expect("docs/try/index.html is of these sources: make try-again makes it again", is_current, True)
     trials.expect("its version", f"fmtcanon {VERSION}" in page.decode(), True)
     listed = (TRY / "SHA256SUMS").read_text(encoding="utf-8")
     trials.expect("its checksum", listed, f"{hashlib.sha256(page).hexdigest()}  index.html\n")
