@@ -9,7 +9,7 @@ const FIRST = 40, LONGEST = 20;
 const SHOWN = 200, BEFORE = 40;
 // Shown where one text has ended.
 const NOTHING = "\u2423";
-const SIDES = ["First format", "Second format"];
+export const SIDES = ["First format", "Second format"];
 const STRINGS = ["", "abc", "hello, world"], CHARACTERS = [65n];
 
 // The values of a list, one for each data model, with the data models that have each.
@@ -213,7 +213,7 @@ export class Answer {
   rejection(found, formats, placeOf) {
     const { refusal, side, help, instead, types } = found, place = placeOf(refusal, side ?? 0);
     const words = [...said(help), ...(instead ? [" Write ", made("code", this.shown(instead)), "."] : [])];
-    const summary = [made("strong", `${side === null ? "" : `${SIDES[side]}: `}${place}`), made("p", ...words)];
+    const summary = [made("strong", `${side === null ? "" : `${SIDES[side]}: `}${place}`), made("span.help", ...words)];
     const below = [...this.wrong(found), ...(types ? this.typesOnly(types) : [])];
     return { kind: "bad", summary, below: [...below, ...(formats.length > 1 ? this.both(formats) : [])] };
   }

@@ -2,7 +2,7 @@
 import { Library, MODELS, Refused } from "./library.js";
 import { Explainer } from "./explain.js";
 import { Typed } from "./typed.js";
-import { Answer, wrongAt } from "./answer.js";
+import { Answer, SIDES, wrongAt } from "./answer.js";
 import { button, made } from "./elements.js";
 import { MODULE, TABLE } from "./parts.js";
 
@@ -82,15 +82,17 @@ class Page {
     const [first, second] = this.typed, answer = new Answer(this.explainer, this.model);
     if (!first && !second) return { kind: "", summary: ["Type a format, or choose an example."], below: [] };
     try {
-      const texts = (second ? [first, second] : [first]).map((it) => new Typed(this.library, it, this.isSource));
-      const place = (refusal, side) => `refused ${refusal.kind} ${refusal.name} at byte ${texts[side].offsetOf(refusal.at)}`;
+      const typed = second ? [first, second] : [first];
+      const texts = typed.map((it, side) => new Typed(this.library, it, this.isSource, side));
+      const place = ({ kind, name, at }, side) => new Refused(kind, name, texts[side].offsetOf(at), side).message;
       return answer.of(texts.map((it) => it.bytes), place);
     } catch (fault) {
       // It isn't C source, or there is no memory. After another fault, the module may be in any state.
       const isKnown = fault instanceof Refused || fault instanceof RangeError;
       if (!isKnown) return { kind: "bad", summary: [`Please load this page again: ${fault}`], below: [] };
       const below = fault.typed === undefined ? [] : wrongAt(fault.typed, fault.at);
-      return { kind: "bad", summary: [made("strong", fault.message)], below };
+      const side = second && fault.typed !== undefined ? `${SIDES[fault.side]}: ` : "";
+      return { kind: "bad", summary: [made("strong", side + fault.message)], below };
     }
   }
 }

@@ -6,9 +6,9 @@ const QUOTED = /\\[^]|"/g;
 
 /** The bytes of a format that is typed, and where in it they come from. Throws Refused for what isn't C source. */
 export class Typed {
-  constructor(library, typed, isSource) {
+  constructor(library, typed, isSource, side) {
     const bytes = bytesOf(typed), isBare = isSource && !/^\s*"/.test(typed);
-    Object.assign(this, { library, typed: bytes, isSource, isBare });
+    Object.assign(this, { library, typed: bytes, isSource, isBare, side });
     this.source = isBare ? `"${bytes.replace(QUOTED, (it) => (it === '"' ? '\\"' : it))}"` : bytes;
     this.bytes = isSource ? this.decoded() : bytes;
   }
@@ -18,7 +18,7 @@ export class Typed {
       return this.library.decode(this.source);
     } catch (fault) {
       if (!(fault instanceof Refused)) throw fault;
-      throw Object.assign(new Refused(fault.kind, fault.name, this.place(fault.at), 0), { typed: this.typed });
+      throw Object.assign(new Refused(fault.kind, fault.name, this.place(fault.at), this.side), { typed: this.typed });
     }
   }
 

@@ -43,6 +43,7 @@ TYPED = [
     ("%d files in %s", "In %s sind %d Dateien", "types differ at argument 1", ["string"]),
     ("%s\\q", "", "literal 3 BadEscape at byte 2", ["Where"]),
     ('a"b\\q', "", "literal 3 BadEscape at byte 3", ["Where"]),
+    ("%d", "a\\q", "Second format: literal 3 BadEscape at byte 1", ["Where"]),
     ('"Total:\\t%i" "\\n"', "", "accepted: it takes 1 argument, and it prints 9 to 19 bytes", ["Total:\\t%d\\n"]),
     ("", "", "Type a format", []),
     ("%s \u00fcber %d", "", "accepted: it takes 2 arguments, and it prints at least 8 bytes", ["\u00fcber"]),
