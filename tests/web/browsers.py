@@ -52,7 +52,7 @@ class Browser:
         return until(lambda: self.script("return document.documentElement.dataset.ready") == "1", "the page")
 
     def text(self, identity):
-        return self.script("return document.getElementById(arguments[0]).innerText", identity)
+        return self.script("return document.getElementById(arguments[0]).textContent", identity)
 
 
 class Chromium(Browser):
