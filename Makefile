@@ -8,6 +8,10 @@
 #                        completions, and a cross compiler and an emulator of AArch64
 # make mutants           tries the mutants that the records don't have as refused, and writes them there
 # make library           builds the C library alone
+# make page              the library as a module of WebAssembly, and the page that runs it in a browser, in out/web
+# make try               that, and puts the page into docs/try
+# make try-again         makes the page of docs/try again of words and scripts, with the module that it has
+# make npm               a package of that module for Node and browsers
 # make install PREFIX=   installs what `make` built: the program, the C library, the Python module
 #                        with its five commands, manual pages, completions and documents; below
 #                        DESTDIR=, where that is given. It builds nothing
@@ -57,7 +61,7 @@ JOBS = $(shell awk -v n="$$(nproc)" '/^MemAvailable/ { m = int($$2 / 5000000); \
 BESIDE = $(shell echo $$(( $(JOBS) > 4 ? $(JOBS) / 2 : $(JOBS) > 1 ? 2 : 1 )))
 
 .PHONY: all program library archive test gate beside-gate tried trials check-more mutants tools c-tools
-.PHONY: built places install uninstall dist deb wheel tables
+.PHONY: page try try-again web-tools built places install uninstall dist deb wheel npm tables
 
 all: $(if $(PROGRAM),program) library
 
@@ -101,6 +105,24 @@ $(C)/second.a: library
 	rm -f $@
 	ar rcs $@ $(C)/second.o
 
+# The LLVM module of the library for x86-64, compiled for WebAssembly, and the page with that inside.
+WEB = out/web
+page: tools web-tools
+	mkdir -p $(WEB)
+	cd $(C_CRATE) && $(CURDIR)/web/keep_ir.sh $(CURDIR)/$(WEB)/fmtcanon.bc $(CPU_x86_64)
+	web/link.sh $(WEB)/fmtcanon.bc $(WEB)/fmtcanon.wasm
+	python3 web/build.py $(WEB)/fmtcanon.wasm $(WEB)/fmtcanon.html
+
+PUBLISHED = docs/try/index.html
+PUBLISHED_SUM = cd $(dir $(PUBLISHED)) && sha256sum $(notdir $(PUBLISHED)) > SHA256SUMS
+try: page
+	cp $(WEB)/fmtcanon.html $(PUBLISHED)
+	$(PUBLISHED_SUM)
+
+try-again:
+	python3 web/build.py $(PUBLISHED) $(PUBLISHED)
+	$(PUBLISHED_SUM)
+
 # How long each part of the gate took, said where it ends, and of all of them at the end.
 MINUTES = out/minutes
 TIMED = tests/timed.sh $(MINUTES)
@@ -123,6 +145,7 @@ tried:
 	$(TRY) -q tests.library
 	$(TRY) -q tests.packages
 	$(TRY) -q tests.commands
+	$(TRY) -q tests.web
 
 gate: tools
 	RT_JOBS=$(JOBS) rt ci
@@ -135,7 +158,7 @@ trials: program library
 	$(MAKE) tried
 
 # What the gate doesn't try is in files more_*.py.
-check-more: program library $(C)/second.a
+check-more: program library $(C)/second.a page
 	$(MAKE) library TARGET=aarch64
 	cd $(C_CRATE) && rt lib $(CPU)
 	python3 bench/paths.py $(C)
@@ -158,6 +181,9 @@ c-tools:
 	@command -v $(CC) > /dev/null || { echo '$(CC) is missing: the package $(GCC_OF) has it'; exit 1; }
 	@for tool in ld ar objcopy nm; do command -v $(CROSS)$$tool > /dev/null || \
 	    { echo "$(CROSS)$$tool is missing: the package binutils$(DASHED) has it"; exit 1; }; done
+
+web-tools:
+	@command -v wasm-opt > /dev/null || { echo 'wasm-opt is missing: the package binaryen has it'; exit 1; }
 
 # The targets below need what only `make` builds.
 built:
@@ -185,6 +211,13 @@ deb: built
 wheel: built
 	python3 -B packaging/make_wheel.py out $(TARGET) $(SHARED) $(PROGRAM)
 	$(CHECKSUMS)
+
+npm: $(WEB)/fmtcanon.wasm
+	python3 -B packaging/make_npm.py out/fmtcanon-$(VERSION)-npm.tgz $<
+	$(CHECKSUMS)
+
+$(WEB)/fmtcanon.wasm:
+	@echo "$@ is missing: make page builds it" >&2; exit 1
 
 tables: TABLE = FMTCANON_LIBRARY=$(C)/$(SONAME) python3 -m tests.field
 tables:

@@ -87,7 +87,8 @@ Priority: optional
 Description: canonical texts of printf formats
  It brings the format strings of the C function printf to one canonical
  spelling, and decides whether two are interchangeable: the same arguments,
- and the same bytes printed. The package contains $contents.
+ and the same bytes printed.
+ The package contains $contents.
  fmtcanon-po checks message catalogs, fmtcanon-diff says what a change of C
  source does to its formats, fmtcanon-check whether they fit their calls on
  every platform, fmtcanon-explain what a format does, and fmtcanon-replace

@@ -25,6 +25,7 @@ from tests.program import more_linear as linear
 from tests.program import test_memory as memory
 from tests.program import test_short_streams as short_streams
 from tests.program import test_sizes as sizes
+from tests.web import more_module, more_page
 
 # The commands with rows of a model of the program.
 MODEL_COMMANDS = ["canon", "same", "format", "show", "stream", "types"]
@@ -52,6 +53,7 @@ CODE = [
     "crates.txt",
     "Makefile",
     "HANDLES",
+    "web/**/*",
 ]
 
 
@@ -150,6 +152,8 @@ def tested_counts():
     told = [it.PRINTED for it in (sentences, more_sentences)] + [it.TOLD for it in (sentences, more_sentences)]
     yield r"have different sentences \| (\d+) and (\d+) directives; (\d+) and (\d+) \|", told
     yield from limits()
+    yield r"the rows and (\d+) random formats and pairs", [more_module.RANDOM]
+    yield r"`fmtcanon-explain`, for (\d+) random formats and (\d+) pairs; what Chromium", [more_page.FORMATS, more_page.PAIRS]
     given = data_rows("records.jsonl")
     yield r"rows, (\d+) of them of a model; conversations; .* (\d+) rows", [len(given) - HAND_RECORDS, len(given)]
     yield r"(\d+) kinds of failure in rotation", [len(short_streams.STEPS) * len(short_streams.FAULTS)]
@@ -204,6 +208,7 @@ PLAIN_NUMBERS = [
     r"every 2 of",
     r"spells in 2 ways",
     r"`parse_printf_format`",
+    r"; 2 engines",
 ]
 NUMBER_WORDS = dict(
     zip(

@@ -1,8 +1,8 @@
 """Checks the words of what people read: phrases that this project doesn't use, and the length of each page.
 
 It reads the documents, the manual pages, the header, the help of the program, the comments of the crates' sources,
-definitions and proofs, the comments, docstrings, texts and words of the Python module, and the comments and docstrings of
-the tests.
+definitions and proofs, the comments, docstrings, texts and words of the Python module, the page and the comments of its
+sources, and the comments and docstrings of the tests.
 """
 
 import ast
@@ -57,7 +57,8 @@ CALLING = "crates/*/CALLING.md"
 LIMITS = {
     # With the table of questions, the picture, and what other tools answer.
     "README.md": 1300,
-    "docs/INSTALL.md": 430,
+    "docs/INSTALL.md": 460,
+    "docs/try/README.md": 140,
     # With tables of types and kinds.
     "docs/CHEATSHEET.md": 520,
     # With recipes.
@@ -73,7 +74,7 @@ LIMITS = {
     "docs/C.md": 1450,
     "docs/PYTHON.md": 1000,
     # With the theorem as it is written, the assumptions as a table, and the words of the last line of a check.
-    "docs/VERIFICATION.md": 2700,
+    "docs/VERIFICATION.md": 2760,
     # With one format read through the definitions.
     "docs/DEFINITIONS.md": 4750,
     "docs/PERFORMANCE.md": 980,
@@ -159,6 +160,10 @@ def texts():
         (files("python/fmtcanon/**/*.py"), words_of_python),
         (files("python/fmtcanon/**/*.json"), str),
         (files("tests/**/*.py"), comments_of_python),
+        (files("web/*.js"), comments_of_rattle),
+        (files("web/*.c"), comments_of_c),
+        (files("web/*.py"), words_of_python),
+        (files("web/*.html", "web/npm/*.md"), words_of_page),
     ]:
         for path in paths:
             yield str(path.relative_to(TOP)), reads(path.read_text(encoding="utf-8"))

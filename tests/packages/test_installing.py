@@ -43,6 +43,8 @@ INSTALLED = {
     "share/doc/fmtcanon/README.md",
     "share/doc/fmtcanon/SECURITY.md",
     "share/doc/fmtcanon/folders",
+    "share/doc/fmtcanon/docs/try/SHA256SUMS",
+    "share/doc/fmtcanon/docs/try/index.html",
     "share/doc/fmtcanon/examples/buffer.c",
     "share/doc/fmtcanon/examples/render.c",
     "share/doc/fmtcanon/examples/canon.c",
