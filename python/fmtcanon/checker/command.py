@@ -17,8 +17,9 @@ from ..frame.output import complain
 from ..frame.processes import in_order
 from ..rewriting.writing import replace
 from ..source.files import Unreadable
+from .baseline import Baseline
 from .fixer import Fixer
-from .options import NAME, parsed
+from .options import NAME, is_writing, parsed
 
 
 # How many functions that aren't known the last line names, if they get this many times the formats that were judged.
@@ -61,6 +62,8 @@ def summary(counts: Counter[str], others: Counter[str]) -> str:
     judged = ", ".join(counted(counts[f"{it}s"], it) for it in ("file", "format", "argument"))
     found = ", ".join(f"{counts[it]} {it}" for it in RULES if counts[it])
     parts = [f"{judged}: {found or 'nothing found'}"]
+    if counts["known"]:
+        parts.append(f"{counts['known']} in the baseline")
     if counts["unread"]:
         calls = counted(counts["unread"], "call")
         parts.append(f"{calls} with {'a format that wasn' if counts['unread'] == 1 else 'formats that weren'}'t read")
@@ -75,8 +78,8 @@ def named(others: Counter[str]) -> List[Tuple[str, int]]:
     return sorted(others.items(), key=lambda it: (-it[1], it[0]))[:MOST_NAMED]
 
 
-def check(printer: Printer, answers: Iterable[Answer], fail_on: Sequence[str]) -> int:
-    """Prints what is found. Returns the exit status."""
+def check(printer: Printer, answers: Iterable[Answer], fail_on: Sequence[str], baseline: Optional[Baseline]) -> int:
+    """Prints what is found and isn't in the baseline. Returns the exit status."""
     status = 0
     counts: Counter[str] = collections.Counter()
     others: Counter[str] = collections.Counter()
@@ -84,12 +87,19 @@ def check(printer: Printer, answers: Iterable[Answer], fail_on: Sequence[str]) -
         counts.update({it: one.counts[it] for it in ("files", "formats", "arguments", "unread")})
         others.update(one.others)
         for finding in by_place(leveled(it.finding, fail_on) for it in one.found.values()):
+            if baseline and not baseline.is_new(finding):
+                counts["known"] += 1
+                continue
             printer.add(with_source(finding) if printer.has_excerpts else finding)
             counts[finding.kind] += 1
             status = max(status, int(finding.level == ERROR))
-        status = max(status, USAGE if one.counts["left"] else 0)
+        if one.counts["left"]:
+            status = USAGE
+        elif baseline:
+            baseline.add_judged(one.file)
     printer.end()
-    printer.say(summary(counts, others))
+    said = baseline.end() if baseline else ""
+    printer.say("; ".join(filter(None, [summary(counts, others), said])))
     return status
 
 
@@ -106,14 +116,16 @@ def run(options: Any) -> int:
         return USAGE
     try:
         files = Files(options)
+        baseline = Baseline(options.baseline, options.update_baseline) if options.baseline else None
         with temporary_folder() as folder:
             printer = Printer(NAME, options.output, RULES, color=options.color)
             jobs = list(jobs_of(files, question_of(options, folder)))
             printer.progress.expect(len(jobs))
             answers = in_order(answer, jobs, options.jobs, instead=answer_without)
             found = each_once(printer.progress.each(answers), set())
-            is_writing = options.fix or options.diff or options.dry_run
-            return fix(options, files, list(found)) if is_writing else check(printer, found, options.fail_on)
+            if is_writing(options):
+                return fix(options, files, list(found))
+            return check(printer, found, options.fail_on, baseline)
     except BrokenPipeError:
         raise
     except (Unreadable, OSError) as error:

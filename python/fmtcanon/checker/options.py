@@ -60,6 +60,10 @@ def parser() -> Parser:
         ("--composed", "also report directives of several literals, once for each file and type"),
     ]:
         made.add_argument(option, action="store_true", help=text)
+    baseline = "report only what FILE doesn't have; if it isn't there, all that is found is reported and recorded in it"
+    made.add_argument("--baseline", metavar="FILE", help=baseline)
+    update = "record what is found now in the FILE of --baseline"
+    made.add_argument("--update-baseline", action="store_true", help=update)
     add_fail_on(made, tuple(RULES), ERRORS)
     add_writing(made, "write what is proposed where only a length modifier changes and the program prints the same")
     made.add_output()
@@ -86,4 +90,13 @@ def parsed(words: Optional[Sequence[str]]) -> Any:
     options.files += more
     if not options.files and not options.database:
         made.error("give files or folders, or the folder of a compile_commands.json")
+    if options.update_baseline and not options.baseline:
+        made.error("--update-baseline needs --baseline")
+    if options.baseline and is_writing(options):
+        made.error("--baseline isn't for --fix, --dry-run and --diff")
     return options
+
+
+def is_writing(options: Any) -> bool:
+    """Returns whether fixes are asked for, and not findings alone."""
+    return bool(options.fix or options.diff or options.dry_run)

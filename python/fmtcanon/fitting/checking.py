@@ -1,8 +1,10 @@
 """Checks a file as each of its compile commands compiles it."""
 
 import collections
-from typing import Any, Callable, Counter, Dict, Hashable, List, NamedTuple, Optional, Sequence, Tuple
+import functools
+from typing import Any, Counter, Dict, Hashable, Iterator, List, NamedTuple, Optional, Sequence, Tuple
 
+from ..compiling.calls import Call
 from ..compiling.compile_commands import CompileCommand
 from ..compiling.left import Left, own_trouble
 from ..compiling.platforms import LLP64
@@ -14,7 +16,8 @@ from .fixing import Fixes, fixes_of, merged
 from .judging import Fault, Judged, judged
 from .locating import Located, located
 from .proposals import proposal
-from .reporting import COMPOSED, LOST, RANK, SIGN, Spot
+from .reporting import COMPOSED, LOST, RANK, SIGN, UNUSED, Spot
+from .silencing import Silences, comments_of
 from .unit import Settings, Unit
 
 
@@ -25,10 +28,44 @@ class Question(NamedTuple):
     added: Sequence[str]
     settings: Settings
 
-    def kind_of(self, fault: Fault, unit: Unit, where: Optional[Located]) -> Optional[str]:
-        """Returns the kind of the finding of a fault in a unit, or None if it isn't reported."""
-        kind = reporting.kind_of(fault, self.models, lambda it: is_composed(it, unit, where))
-        return kind if kind not in (RANK, SIGN, COMPOSED) or kind in self.added else None
+
+class JudgedUnit:
+    """A unit of a file as it was judged, where its formats are, and the comments that silence what is found."""
+
+    def __init__(self, unit: Unit, result: Judged, question: Question, silences: Silences) -> None:
+        self.unit, self.result, self.question, self.silences = unit, result, question, silences
+
+    @functools.cached_property
+    def where(self) -> Optional[Located]:
+        return located(self.unit)
+
+    def spot_of(self, fault: Fault) -> Spot:
+        return reporting.spot_of(fault, self.where)
+
+    def is_silenced(self, fault: Fault, kind: str) -> bool:
+        """Returns whether a comment at the directive or at the call silences a finding."""
+        spot = self.spot_of(fault)
+        return self.silences.cover([(spot.file, spot.line), (fault.call.file, fault.call.line)], kind)
+
+    def kind_in(self, fault: Fault, models: Sequence[Model]) -> Optional[str]:
+        """Returns the kind of a fault in these data models, or None."""
+        return reporting.kind_of(fault, models, lambda it: is_composed(it, self.unit, self.where))
+
+    def kind_of(self, fault: Fault) -> Optional[str]:
+        """Returns the kind of the finding of a fault, or None if it isn't reported."""
+        kind = self.kind_in(fault, self.question.models)
+        if kind is None or (kind in (RANK, SIGN, COMPOSED) and kind not in self.question.added):
+            return None
+        return None if self.is_silenced(fault, kind) else kind
+
+    def use_comments(self) -> None:
+        """Notes which comments silence something, also if it isn't asked about."""
+        for fault in self.result.faults:
+            kind = self.kind_in(fault, list(Model))
+            if kind:
+                self.is_silenced(fault, kind)
+        for call, finding in findings_of_calls(self.result, list(Model)):
+            self.silences.cover([(call.file, call.line)], finding.kind)
 
 
 class Found(NamedTuple):
@@ -74,7 +111,7 @@ def answer_without(job: Job, how: str) -> Answer:
 
 def answer(job: Job) -> Answer:
     """Checks a file. An exception leaves it."""
-    result = empty_answer(job)
+    result, silences = empty_answer(job), Silences()
     if job.why_skipped:
         result.counts.clear()
         result.found[job.file] = Found(reporting.skipped(job.file, job.why_skipped, job.question.models, NOTE))
@@ -84,7 +121,7 @@ def answer(job: Job) -> Answer:
         if job.why_left:
             raise Left(job.why_left)
         with own_trouble():
-            fixes = fixes_in(result, job)
+            fixes = fixes_in(result, job, silences)
     except Left as why:
         add_left(result, job.question, str(why))
     if len(fixes) < len(job.commands):
@@ -96,35 +133,34 @@ def answer(job: Job) -> Answer:
     return result._replace(fixes=merged(fixes))
 
 
-def fixes_in(result: Answer, job: Job) -> List[Fixes]:
+def fixes_in(result: Answer, job: Job, silences: Silences) -> List[Fixes]:
     """Adds what is found in the units of a file, and returns the fixes of each. Raises Left once these are added that
     could be read.
     """
-    units: List[Tuple[Unit, Judged]] = []
+    units: List[JudgedUnit] = []
     left: Optional[Left] = None
     for command in job.commands:
         try:
             with own_trouble():
                 unit = Unit(command, job.question.settings)
-                units.append((unit, judged(unit.calls)))
+                units.append(JudgedUnit(unit, judged(unit.calls), job.question, silences))
         except Left as why:
             left = why
             break
-    is_faulty = any(it.faults for _, it in units)
+    is_reported = any(one.kind_of(fault) for one in units for fault in one.result.faults)
     fixes: List[Fixes] = []
-    for unit, one in units:
-        where = located(unit) if is_faulty else None
-        add(result, job.question, unit, one, where)
-        if where:
-            fixes.append(fixes_of(unit, one.faults, where, kinds_in(job.question, unit, where)))
+    for one in units:
+        add(result, one)
+        if is_reported and one.where:
+            fixes.append(fixes_of(one.unit, one.result.faults, one.where, one.kind_of))
     if left:
         raise left
+    if units and comments_of(job.file) and not result.counts["left"]:
+        for one in units:
+            one.use_comments()
+        for finding in silences.unused(job.file):
+            result.found[UNUSED, job.file, finding.line, finding.column] = Found(finding)
     return fixes
-
-
-def kinds_in(question: Question, unit: Unit, where: Optional[Located]) -> Callable[[Fault], Optional[str]]:
-    """Returns a function that returns the kind of the finding of a fault in a unit, or None if it isn't reported."""
-    return lambda fault: question.kind_of(fault, unit, where)
 
 
 def add_left(answer: Answer, question: Question, why: str) -> None:
@@ -133,28 +169,33 @@ def add_left(answer: Answer, question: Question, why: str) -> None:
     answer.counts["left"] += 1
 
 
-def add(answer: Answer, question: Question, unit: Unit, result: Judged, where: Optional[Located]) -> None:
+def add(answer: Answer, one: JudgedUnit) -> None:
     """Adds what is found in a unit."""
-    models, found = question.models, answer.found
+    unit, result, models = one.unit, one.result, one.question.models
     answer.counts.update(formats=result.formats, arguments=result.arguments, unread=unit.unread)
     answer.others.update(unit.others)
     if unit.why_left:
-        add_left(answer, question, f"libclang can't parse a part of it: {unit.why_left}")
+        add_left(answer, one.question, f"libclang can't parse a part of it: {unit.why_left}")
     for fault in result.faults:
-        kind = question.kind_of(fault, unit, where)
+        kind = one.kind_of(fault)
         if kind:
-            spot = reporting.spot_of(fault, where)
+            spot = one.spot_of(fault)
             finding = reporting.finding_of(fault, kind, spot, models)
-            found.setdefault(key_of(fault, kind, spot), Found(finding, place_of(fault, where)))
+            answer.found.setdefault(key_of(fault, kind, spot), Found(finding, place_of(fault, one.where)))
+    for call, finding in findings_of_calls(result, models):
+        if not one.silences.cover([(call.file, call.line)], finding.kind):
+            answer.found[call.file, call.line, finding.message] = Found(finding)
+
+
+def findings_of_calls(result: Judged, models: Sequence[Model]) -> Iterator[Tuple[Call, Finding]]:
+    """Yields what is found of calls as a whole."""
     for call, names in result.lost:
         message = f"the call of {call.function} isn't there{reporting.listed(names)}"
-        found[call.file, call.line, message] = Found(reporting.finding_of_call(call, LOST, message, models))
+        yield call, reporting.finding_of_call(call, LOST, message, models)
     for errno in result.errnos if LLP64.model in models else ():
-        finding = reporting.errno_finding(errno)
-        found[errno.call.file, errno.call.line, finding.message] = Found(finding)
+        yield errno.call, reporting.errno_finding(errno)
     for refused in result.refused:
-        finding = reporting.refused_finding(refused, models)
-        found[refused.call.file, refused.call.line, finding.message] = Found(finding)
+        yield refused.call, reporting.refused_finding(refused, models)
 
 
 def place_of(fault: Fault, where: Optional[Located]) -> Optional[int]:

@@ -21,7 +21,7 @@ from .locating import Located
 from .proposals import fitting, proposal
 
 SIZE, KIND, RANK, SIGN, COMPOSED = "size", "kind", "rank", "sign", "composed"
-LOST, ERRNO, UNJUDGED, SKIPPED, FIXED = "lost", "errno", "unjudged", "skipped", "fixed"
+LOST, ERRNO, UNJUDGED, SKIPPED, UNUSED, FIXED = "lost", "errno", "unjudged", "skipped", "unused", "fixed"
 RULES = {
     SIZE: "An argument has another size than its directive takes on some platform.",
     KIND: "An argument is missing, or of another kind than its directive takes, as a double for %d.",
@@ -32,10 +32,13 @@ RULES = {
     ERRNO: "A format has %m, which the C library of 64-bit Windows lacks; in syslog it is POSIX's.",
     UNJUDGED: "What may be the format of a call isn't accepted.",
     SKIPPED: "A file, or a part of it, wasn't judged; or not by itself, as a header.",
+    UNUSED: "A comment that silences findings silences none.",
     FIXED: "A directive was replaced by one that fits on every platform.",
 }
 # The kinds for which the status is 1, unless --fail-on names others.
 ERRORS = (SIZE, KIND)
+# Those that no comment silences.
+SILENT = (SKIPPED, UNUSED, FIXED)
 FITS = {Fit.SIZE: "wrong size", Fit.RANK: "wrong type", Fit.SIGN: "wrong sign"}
 # What the platforms are called.
 NAMES_OF_SYSTEMS = ["64-bit Unix", "32-bit systems", "32-bit systems with a 64-bit time_t", "64-bit Windows"]
@@ -220,7 +223,7 @@ def as_not_written(finding: Finding, why: str) -> Finding:
 def refused_finding(refused: RefusedFormat, models: Sequence[Model]) -> Finding:
     """Returns the finding of a format that isn't accepted, with the format and what helps."""
     call, text, why = refused
-    finding = finding_of_call(call, UNJUDGED, f"not judged: {why} of a format of {call.function}", models)
+    finding = finding_of_call(call, UNJUDGED, f"not judged: {why} of a format of {call.function}", models, text)
     if not isinstance(why, Refused):
         return finding
     excerpt = literal_excerpt("format", text, *refused_span(text, why), why.name)
@@ -232,11 +235,12 @@ def errno_finding(found: ErrnoFormat) -> Finding:
     call, text, at = found
     message = f"%m in a format of {call.function}: missing on {TITLES[LLP64.name]}; use %s and strerror(errno)"
     excerpt = literal_excerpt("format", text, at, at + 2, "")
-    return replace(finding_of_call(call, ERRNO, message, [LLP64.model]), excerpts=(excerpt,))
+    return replace(finding_of_call(call, ERRNO, message, [LLP64.model], text), excerpts=(excerpt,))
 
 
-def finding_of_call(call: Call, kind: str, message: str, models: Sequence[Model]) -> Finding:
-    """Returns a finding of a call as a whole."""
+def finding_of_call(call: Call, kind: str, message: str, models: Sequence[Model], format: bytes = b"") -> Finding:
+    """Returns a finding of a call as a whole, or of its format."""
+    known = {"format": format.decode(errors="backslashreplace")} if format else {}
     return Finding(
         shown_file(call.file),
         call.line,
@@ -245,7 +249,7 @@ def finding_of_call(call: Call, kind: str, message: str, models: Sequence[Model]
         WARNING,
         message,
         models=model_names(models),
-        details={"function": call.function},
+        details={"function": call.function, **known},
     )
 
 

@@ -1,0 +1,148 @@
+"""Tests of what fmtcanon-check has for every day, without libclang: python3 -m unittest, in the folder above."""
+
+import json
+import os
+import tempfile
+import unittest
+from pathlib import Path
+from unittest import mock
+
+from fmtcanon.checker.baseline import Baseline
+from fmtcanon.fitting.silencing import Silences, comments_of
+from fmtcanon.frame.findings import Finding
+from fmtcanon.source.comments import ok_comments
+from fmtcanon.source.files import Unreadable
+
+# Sources, and of each comment that silences findings its line and column, the lines that it is for, and its kinds.
+COMMENTS = [
+    (b"f(); /* fmtcanon: ok */\n", [(1, 6, 1, 1, ())]),
+    (b"// fmtcanon: ok size\nf();\n", [(1, 1, 2, 2, ("size",))]),
+    (b"  /* fmtcanon: ok size, rank kind */\nf();", [(1, 3, 2, 2, ("size", "rank", "kind"))]),
+    (b"/* fmtcanon: ok */ f();\n", [(1, 1, 1, 1, ())]),
+    (b"f(); // fmtcanon: ok -- size and more\n", [(1, 6, 1, 1, ())]),
+    (b"f(); // fmtcanon: ok size--a reason\n", [(1, 6, 1, 1, ("size",))]),
+    (b"/* fmtcanon: ok size --\n   reasons */\nf();\n", [(1, 1, 3, 3, ("size",))]),
+    (b"a; /* fmtcanon: ok\n*/ f();\n", [(1, 4, 1, 2, ())]),
+    (b"/*** fmtcanon:ok ***/\n", [(1, 1, 2, 2, ())]),
+    (b"#define F \\\n  /* fmtcanon: ok */ \\\n  f()\n", [(2, 3, 3, 3, ())]),
+    (b"/* first */ // fmtcanon: ok\n", [(1, 13, 2, 2, ())]),
+    ("/* ä */ f(); // fmtcanon: ok\n".encode(), [(1, 14, 1, 1, ())]),
+    (b'f("/* fmtcanon: ok */");\n', []),
+    (b'f(R"(// fmtcanon: ok)");\n', []),
+    (b"f('\"'); // fmtcanon: ok\n", [(1, 9, 1, 1, ())]),
+    (b"// fmtcanon: okay\n// fmtcanon:\n// see fmtcanon: ok\n// fmtcanon: ok-ish\n", []),
+]
+
+
+class Comments(unittest.TestCase):
+    def test_where(self):
+        for source, wanted in COMMENTS:
+            self.assertEqual([tuple(it) for it in ok_comments(source)], wanted, source)
+
+    def test_silenced(self):
+        """Lines are silenced, for all kinds or those that are named; a comment that silences nothing is noted."""
+        with tempfile.TemporaryDirectory() as folder:
+            file = Path(folder, "a.c")
+            file.write_text("a // fmtcanon: ok size\nb // fmtcanon: ok\nc // fmtcanon: ok siez\n", encoding="utf-8")
+            comments_of.cache_clear()
+            silences = Silences()
+            for line, kind, is_silenced in [
+                (1, "size", True),
+                (1, "rank", False),
+                (2, "rank", True),
+                (3, "size", False),
+                (4, "size", False),
+            ]:
+                self.assertEqual(silences.cover([(str(file), line)], kind), is_silenced, (line, kind))
+            self.assertFalse(silences.cover([("nothing.c", 2)], "size"))
+            unused = [(it.line, it.kind, it.level) for it in silences.unused(str(file))]
+            self.assertEqual(unused, [(3, "unused", "note")])
+            self.assertEqual([it.line for it in Silences().unused(str(file))], [1, 2, 3])
+
+
+def finding(line, kind="size", file="a.c", **details):
+    return Finding(file, line, 1, kind, "error", f"of line {line}", details={"function": "printf", **details})
+
+
+class Baselines(unittest.TestCase):
+    def setUp(self):
+        self.folder = tempfile.TemporaryDirectory()
+        self.addCleanup(self.folder.cleanup)
+        before = os.getcwd()
+        self.addCleanup(os.chdir, before)
+        os.chdir(self.folder.name)
+
+    def run_of(self, *findings, is_update=False, judged=("a.c", "b.c"), path="known"):
+        """Which findings of a run are new, and what is said at its end."""
+        baseline = Baseline(path, is_update)
+        new = [it.line for it in findings if baseline.is_new(it)]
+        for file in judged:
+            baseline.add_judged(file)
+        return new, baseline.end()
+
+    def test_life(self):
+        """The first run records, later ones know what it had, and only an update writes again."""
+        first = [finding(1, format="%d"), finding(2, format="%d"), finding(3, format="%u"), finding(4, "errno")]
+        self.assertEqual(self.run_of(*first), ([1, 2, 3, 4], "known: 4 recorded"))
+        text = Path("known").read_bytes()
+        self.assertEqual([it["count"] for it in json.loads(text)["findings"]], [1, 2, 1])
+        # Lines moved, and one is more.
+        moved = [finding(11, format="%d"), finding(12, format="%d"), finding(13, format="%d"), finding(14, "errno")]
+        self.assertEqual(self.run_of(*moved), ([13], "known: 1 not there any more (--update-baseline)"))
+        self.assertEqual(self.run_of(finding(1, "rank", format="%d"), judged=()), ([1], ""))
+        self.assertEqual(self.run_of(finding(1, file="b.c", format="%d"), judged=()), ([1], ""))
+        self.assertEqual(Path("known").read_bytes(), text)
+        self.assertEqual(self.run_of(*moved, is_update=True), ([13], "known: 4 recorded"))
+        self.assertEqual(self.run_of(*moved), ([], ""))
+        self.assertEqual(os.listdir(), ["known"])
+
+    def test_files_that_were_not_read(self):
+        """An update keeps what is known of files that weren't judged, as a header, and as often."""
+        of_header = [finding(it, file="a.h") for it in range(3)]
+        self.run_of(finding(1), finding(1, file="b.c"), *of_header)
+        self.run_of(finding(2), of_header[0], is_update=True, judged=["a.c"])
+        self.assertEqual(self.run_of(finding(1, file="b.c"), finding(3), *of_header), ([], ""))
+
+    def test_folders(self):
+        """Names are those below the folder of the baseline, wherever the command runs."""
+        os.mkdir("in")
+        self.run_of(finding(1, file="in/a.c"))
+        os.chdir("in")
+        self.assertEqual(self.run_of(finding(5), path="../known"), ([], ""))
+
+    def test_what_is_never_known(self):
+        """A file that wasn't judged stays said, and so does a comment that silences nothing."""
+        found = [finding(1, "skipped"), finding(2, "unused")]
+        self.assertEqual(self.run_of(*found), ([1, 2], "known: 0 recorded"))
+        self.assertEqual(self.run_of(*found), ([1, 2], ""))
+
+    def test_damaged(self):
+        """What isn't a baseline is never overwritten, also not by an update."""
+        for text in ["", "{}", "[]", '{"form": 2, "findings": []}', '{"form": 1, "findings": [1]}']:
+            Path("known").write_text(text, encoding="utf-8")
+            for is_update in (False, True):
+                with self.assertRaises(Unreadable):
+                    Baseline("known", is_update)
+            self.assertEqual(Path("known").read_text(encoding="utf-8"), text)
+        with self.assertRaises(Unreadable):
+            Baseline(".", False)
+
+    def test_race(self):
+        """A file that came meanwhile isn't overwritten."""
+        baseline = Baseline("known", False)
+        Path("known").write_text("another's", encoding="utf-8")
+        with self.assertRaises(FileExistsError):
+            baseline.end()
+        self.assertEqual(Path("known").read_text(encoding="utf-8"), "another's")
+
+    def test_failed_update(self):
+        """An update that fails leaves the file as it was."""
+        self.run_of(finding(1))
+        text = Path("known").read_bytes()
+        with mock.patch("os.replace", side_effect=OSError("no")), self.assertRaises(OSError):
+            self.run_of(finding(2), is_update=True)
+        self.assertEqual((Path("known").read_bytes(), os.listdir()), (text, ["known"]))
+
+
+if __name__ == "__main__":
+    unittest.main()

@@ -1,0 +1,103 @@
+"""Tries what fmtcanon-check has for every day: comments that silence findings and the baseline.
+
+It needs libclang and gcc.
+"""
+
+import json
+
+from tests.commands.more_check import SAYS
+from tests.commands.tool import Tool
+from tests.frame.cases import tests_of
+
+# Lines of a source, and the kinds of what is found there with --rank; what is silenced isn't.
+SILENCED = [
+    ('  printf("%lu", n);', ["size"]),
+    ('  printf("%lu", n); /* fmtcanon: ok */', []),
+    ('  printf("%lu", n); // fmtcanon: ok size', []),
+    ('  printf("%lu", n); // fmtcanon: ok kind', ["size", "unused"]),
+    ("  // fmtcanon: ok size, kind -- n is small", []),
+    ('  printf("%lu", n);', []),
+    ('  printf("%lu", n);', ["size"]),
+    ('  printf("%d", 1); // fmtcanon: ok', ["unused"]),
+    ('  printf("%u", i); // fmtcanon: ok sign', []),
+    ('  printf("%y", i); // fmtcanon: ok unjudged', []),
+    ('  printf("%m"); // fmtcanon: ok errno', []),
+    ('  printf("/* fmtcanon: ok */ %lu", n);', ["size"]),
+    ("  printf( // fmtcanon: ok", []),
+    ('    "%lu", n);', []),
+    ('  SHOW(n); // fmtcanon: ok', []),
+    ('  NOTED(n);', []),
+]
+MACROS = '#define SHOW(n) printf("%lu\\n", n)\n#define NOTED(n) printf("%lu", n) /* fmtcanon: ok */\n'
+
+
+def tool(folder, work, python):
+    return Tool("check", folder, work, python)
+
+
+def kinds_by_line(output):
+    found = {}
+    for one in map(json.loads, output.splitlines()):
+        found.setdefault(one["line"], []).append(one["kind"])
+    return found
+
+
+def test_comments(tool, trials):
+    """Comments silence what is found in their lines, also for --fix; those that silence nothing are notes."""
+    front = f"{SAYS}{MACROS}void f(size_t n, int i) {{\n"
+    source = front + "".join(f"{line}\n" for line, _ in SILENCED) + "}\n"
+    file = tool.put("a.c", source)
+    status, output, fault = tool.run("--output", "json", "a.c")
+    first = front.count("\n") + 1
+    wanted = {first + at: kinds for at, (_, kinds) in enumerate(SILENCED) if kinds}
+    trials.expect(f"comments: {fault}", (status, kinds_by_line(output)), (1, wanted))
+    trials.expect(f"the summary: {fault}", fault.endswith(": 4 size, 2 unused\n"), True)
+    tool.run("--fix", "a.c")
+    fixed = source.split("\n")
+    for at, (line, kinds) in enumerate(SILENCED):
+        if "size" in kinds:
+            fixed[first - 1 + at] = line.replace("%lu", "%zu")
+    trials.expect("--fix", file.read_text(encoding="utf-8").split("\n"), fixed)
+    status, output, _ = tool.run("a.c")
+    trials.expect(f"a note doesn't set the status: {output}", (status, output.count("[unused]")), (0, 2))
+    trials.expect("unless it is asked for", tool.run("--fail-on", "unused", "a.c")[0], 1)
+
+
+def test_comments_in_headers(tool, trials):
+    """A comment in a header silences for all files; that it silences nothing isn't known from some of them."""
+    shows = "static inline void %s(size_t n) {\n  printf(\"%%lu\", n);%s\n}\n"
+    tool.put("a.h", SAYS + shows % ("one", " // fmtcanon: ok") + shows % ("two", "") + "/* fmtcanon: ok */\n")
+    for name in ("a.c", "b.c"):
+        tool.put(name, f'#include "a.h"\nvoid {name[0]}(size_t n) {{ one(n); two(n); }}\n')
+    status, output, _ = tool.run("--output", "json", "a.c", "b.c")
+    trials.expect(f"a header: {output}", (status, kinds_by_line(output)), (1, {9: ["size"]}))
+
+
+def test_baseline(tool, trials):
+    """What a baseline has isn't reported, also after lines moved, and it is written only when that is asked for."""
+    call = 'void %s(size_t n) { printf("%%lu", n); }\n'
+    file = tool.put("a.c", SAYS + call % "f")
+    status, output, fault = tool.run("--baseline", "known.json", "a.c")
+    trials.expect("the first run", (status, output.count("[size]"), "; known.json: 1 recorded" in fault), (1, 1, True))
+    text = (tool.work / "known.json").read_bytes()
+    trials.expect("the second run", tool.run("--baseline", "known.json", "a.c")[:2], (0, ""))
+    tool.put("a.c", f"{SAYS}\n\n{call % 'e'}{call % 'f'}")
+    status, output, fault = tool.run("--baseline", "known.json", "a.c")
+    trials.expect(f"one more: {fault}", (status, output.count("[size]"), "; 1 in the baseline" in fault), (1, 1, True))
+    trials.expect("it isn't written", (tool.work / "known.json").read_bytes(), text)
+    tool.run("--baseline", "known.json", "--update-baseline", "a.c")
+    trials.expect("after an update", tool.run("--baseline", "known.json", "--rank", "--sign", "a.c")[:2], (0, ""))
+    file.write_text(SAYS, encoding="utf-8")
+    status, _, fault = tool.run("--baseline", "known.json", "a.c")
+    trials.expect("mended", (status, "known.json: 2 not there any more" in fault), (0, True))
+    for words, said in [
+        (["--update-baseline", "a.c"], "--update-baseline needs --baseline"),
+        (["--baseline", "known.json", "--fix", "a.c"], "--baseline isn't for --fix"),
+        (["--baseline", "a.c", "a.c"], "a.c isn't a baseline"),
+        (["--baseline", "none/known.json", "a.c"], "none/known.json"),
+    ]:
+        status, _, fault = tool.run(*words)
+        trials.expect(f"{words}: {fault}", (status, said in fault), (2, True))
+
+
+Tests = tests_of(globals())
