@@ -2,12 +2,21 @@
 
 import json
 import os
+import re
 import tempfile
 import unittest
+from collections import Counter
 from pathlib import Path
 from unittest import mock
 
+from fmtcanon import Type
+from fmtcanon.checker import command
 from fmtcanon.checker.baseline import Baseline
+from fmtcanon.compiling.calls import Argument, Call
+from fmtcanon.compiling.formats import Format, Literal
+from fmtcanon.fitting.checking import Answer, CallLines, Found
+from fmtcanon.fitting.judging import judged
+from fmtcanon.fitting.macros import Macros, definitions_in, macro_at
 from fmtcanon.fitting.silencing import Silences, comments_of
 from fmtcanon.frame.findings import Finding
 from fmtcanon.source.comments import ok_comments
@@ -60,8 +69,101 @@ class Comments(unittest.TestCase):
             self.assertEqual([it.line for it in Silences().unused(str(file))], [1, 2, 3])
 
 
+COUNTED = Counter(files=1), Counter(), {}
+
+
 def finding(line, kind="size", file="a.c", **details):
     return Finding(file, line, 1, kind, "error", f"of line {line}", details={"function": "printf", **details})
+
+
+# Preprocessed text with definitions, and the names, files and lines of those outside of system headers.
+DEFINED = b"""# 1 "a.c"
+# 1 "<built-in>"
+#define __LP64__ 1
+# 1 "/usr/include/stdio.h" 1 3 4
+#define EOF (-1)
+# 2 "a.c" 2
+# 1 "in/a \\"b.h" 1
+#define FMT "%lu"
+
+#define SHOW(n) LOG(FMT, n)
+# 7 "in/a \\"b.h"
+#define LOG(...) printf("log " __VA_ARGS__)
+# 3 "a.c" 2
+int x;
+#define OTHER(n) printf("%lu", n)
+"""
+DEFINITIONS = [("FMT", 'in/a "b.h', 1), ("SHOW", 'in/a "b.h', 3), ("LOG", 'in/a "b.h', 7), ("OTHER", "a.c", 4)]
+# Lines of a call, and the macro that has the literal "%lu" of its format.
+CALLS = [
+    ("SHOW(n);", "FMT"),
+    ("LOG(FMT, n);", "FMT"),
+    ("OTHER(n);", "OTHER"),
+    ('printf("x" FMT, n);', "FMT"),
+    ("OTHER(n); SHOW(n);", None),
+    ('LOG("%lu" FMT, n);', None),
+    ("LOG(n);", None),
+    ("unknown(n);", None),
+]
+# A source, and in whose definition each of its words `at` is.
+PLACES = b"""#define A "at"
+"at" #define
+ # define B(x) \\
+   f(x, "at") \\
+   "at"
+"at"
+#undef A "at"
+"""
+
+
+class InMacros(unittest.TestCase):
+    def test_definitions(self):
+        found = [(it.name, os.path.relpath(it.file), it.line) for it in definitions_in(DEFINED, ".")]
+        self.assertEqual(found[1:], DEFINITIONS)
+
+    def test_calls(self):
+        """The macro is known by the names in the lines of the call, if only one of them has the literal."""
+        known = Macros(DEFINED, ".")
+        format = Format('"%lu"', (Literal('"%lu"'),))
+        with tempfile.TemporaryDirectory() as folder:
+            for at, (lines, wanted) in enumerate(CALLS):
+                file = Path(folder, f"{at}.c")
+                file.write_text(f"first\n{lines}\nlast\n", encoding="utf-8")
+                call = Call(str(file), 2, "printf", (format,), (Argument(Type.INT, "int", "int"),), 2)
+                [fault] = judged([{(1, "printf", 0): call}] * 4).faults
+                found = known.of(fault)
+                self.assertEqual(found and found.name, wanted, lines)
+
+    def test_places(self):
+        at = [it.start() for it in re.finditer(rb"\bat\b", PLACES)]
+        self.assertEqual([macro_at(PLACES, it) for it in at], ["A", "", "B", "B", "", ""])
+
+
+class Together(unittest.TestCase):
+    def test_answers(self):
+        """What several files have is said once, and what a header's macro has at the end, with all uses."""
+
+        def found(file, line, *uses, **details):
+            return Found(finding(line, file=file, **details), None, frozenset(CallLines(*it) for it in uses))
+
+        used = ("a.c", 5, 5, 0), ("a.c", 5, 5, 1), ("b.c", 7, 8, 0), ("a.h", 2, 2, 0)
+        answers = [
+            {1: found("a.c", 1), 2: found("a.h", 2), 3: found("a.h", 3, *used[1::2], macro="M")},
+            {2: found("a.h", 2), 3: found("a.h", 3, used[2], used[3], used[0], macro="M", format="b")},
+            {4: found("c.c", 4, used[0], used[2], macro="OWN")},
+        ]
+        answers = [Answer(f"{name}.c", it, *COUNTED) for name, it in zip("abc", answers)]
+        said = [
+            [(it.finding.line, it.finding.details.get("uses")) for it in one.found.values()]
+            for one in command.each_once(answers)
+        ]
+        self.assertEqual(said, [[(1, None), (2, None)], [], [(4, 2)], [(3, 4)]])
+        *_, last = command.each_once(answers)
+        [one] = last.found.values()
+        calls = [(it["file"], it["line"]) for it in one.finding.details["calls"]]
+        self.assertEqual(calls, [("a.c", 5), ("a.c", 5), ("a.h", 2), ("b.c", 7)])
+        # What is said of one call is that of the first, in whatever order files come.
+        self.assertEqual((last.file, last.counts, one.finding.details["format"]), ("a.h", Counter(), "b"))
 
 
 class Baselines(unittest.TestCase):

@@ -1,4 +1,4 @@
-"""Tries what fmtcanon-check has for every day: comments that silence findings and the baseline.
+"""Tries what fmtcanon-check has for every day: comments that silence findings, the baseline, and macros.
 
 It needs libclang and gcc.
 """
@@ -71,6 +71,92 @@ def test_comments_in_headers(tool, trials):
         tool.put(name, f'#include "a.h"\nvoid {name[0]}(size_t n) {{ one(n); two(n); }}\n')
     status, output, _ = tool.run("--output", "json", "a.c", "b.c")
     trials.expect(f"a header: {output}", (status, kinds_by_line(output)), (1, {9: ["size"]}))
+
+
+MACROS_OF_HEADER = """#include <stdio.h>
+#include <inttypes.h>
+#define SHOW(n) printf("%lu\\n", n)
+#define LOG(...) \\
+  do { fprintf(stderr, "x " __VA_ARGS__); \\
+  } while (0)
+#define FMT "%lx"
+#define TWICE(n) do { SHOW(n); \\
+  printf("two %5lu", \\
+    n); } while (0)
+#define QUIET(n) printf("%lo", n) /* fmtcanon: ok */
+#define P64(n) printf("%" PRIu64, n)
+#define A(n) printf("both %lu", n)
+#define B(n) printf("both %lu", n)
+#define BOTH(n) do { A(n); B(n); } while (0)
+#define SPLICED(n) printf("spl\\
+iced %lu", n)
+static inline void in_line(size_t n) { SHOW(n); }
+"""
+USES = """#include "a.h"
+#define OWN(n) printf("%ld", n)
+void NAME(size_t n, uint64_t m) {
+  SHOW(n); SHOW(n);
+  SHOW(m);
+  SHOW(1ul);
+  LOG("%lu", n);
+  printf("a " FMT, n);
+  printf("b "
+    FMT " %d", n, 1);
+  TWICE(n);
+  QUIET(n);
+  OWN(n);
+  OWN(n);
+  P64(n);
+  BOTH(n);
+  SPLICED(n);
+  SHOW(n); // fmtcanon: ok
+}
+"""
+# The macros of the header, by their lines: columns, types of the arguments, and the lines of the uses in a file.
+IN_MACROS = [
+    (3, 25, "SHOW", "size_t", [4, 4, 11]),
+    (3, 25, "SHOW", "uint64_t", [5]),
+    (7, 14, "FMT", "size_t", [8, 9]),
+    (9, 15, "TWICE", "size_t", [11]),
+    (12, 24, "P64", "size_t", [15]),
+    (16, None, "SPLICED", "size_t", [17]),
+]
+
+
+def test_macros(tool, trials):
+    """What a macro has is one finding for all its uses in all files, where its definition is."""
+    tool.put("a.h", MACROS_OF_HEADER)
+    for name in "ab":
+        tool.put(f"{name}.c", USES.replace("NAME", name))
+    status, output, fault = tool.run("--output", "json", "a.c", "b.c")
+    found = [json.loads(it) for it in output.splitlines()]
+    of_header = [it for it in found if it["file"] == "a.h"]
+    said = [
+        (it["line"], it["column"], it["macro"], it["type"], [(one["file"], one["line"]) for one in it["calls"]])
+        for it in of_header
+    ]
+    wanted = [(*row[:4], [(f"{it}.c", line) for it in "ab" for line in row[4]]) for row in IN_MACROS]
+    # The header has a use itself.
+    wanted[0][4].insert(3, ("a.h", 18))
+    trials.expect(f"macros of a header: {fault}", (status, said), (1, wanted))
+    trials.expect("their uses", [it["uses"] for it in of_header], [len(it[4]) for it in wanted])
+    others = [
+        (it["file"], it["line"], it["column"], it.get("macro"), it.get("uses")) for it in found if it["file"] != "a.h"
+    ]
+    # Of two macros with one literal it isn't known which has it.
+    rest = [(2, 24, "OWN", 2), (7, 8, None, None), (16, None, None, None)]
+    trials.expect("others", others, [(f"{name}.c", *it) for name in "ab" for it in rest])
+    text = tool.run("a.c", "b.c")[1]
+    trials.expect("text", "use %zu; in the macro SHOW (7 uses) [size]\n" in text, True)
+    header = tool.work / "a.h"
+    fix = of_header[0]["fix"]
+    spelled = header.read_bytes()[fix["start"] : fix["end"]]
+    trials.expect("the fix of a macro", (spelled, fix["text"], fix["verified"]), (b"%lu", "%zu", False))
+    tool.run("--fix", "a.c", "b.c")
+    trials.expect("--fix leaves the header", header.read_text(encoding="utf-8"), MACROS_OF_HEADER)
+    known = tool.run("--baseline", "known.json", "a.c", "b.c")[0]
+    again = tool.run("--baseline", "known.json", "b.c", "a.c")
+    trials.expect(f"macros in a baseline: {again}", (known, again[:2]), (1, (0, "")))
 
 
 def test_baseline(tool, trials):

@@ -1,21 +1,22 @@
 """Says whether each printf format fits its call on every platform."""
 
 import collections
-from typing import Any, Counter, Hashable, Iterable, Iterator, List, Optional, Sequence, Set, Tuple
+from dataclasses import replace
+from typing import Any, Counter, Dict, Hashable, Iterable, Iterator, List, Optional, Sequence, Set, Tuple
 
 from ..compiling.left import Left
 from ..compiling.libclang import MISSING, cindex
 from ..compiling.retargeting import write_headers
 from ..compiling.sources import Files
-from ..fitting.checking import Answer, Job, Question, answer, answer_without
-from ..fitting.reporting import COMPOSED, RANK, RULES, SIGN, with_source
+from ..fitting.checking import Answer, Found, Job, Question, answer, answer_without
+from ..fitting.reporting import COMPOSED, RANK, RULES, SIGN, shown_file, with_source
 from ..fitting.unit import Settings
 from ..frame.command_line import MODELS, USAGE, status_of
-from ..frame.findings import ERROR, Printer, by_place, leveled
+from ..frame.findings import ERROR, Finding, Printer, by_place, leveled
 from ..frame.interrupting import temporary_folder
 from ..frame.output import complain
 from ..frame.processes import in_order
-from ..rewriting.writing import replace
+from ..rewriting.writing import replace as write_all
 from ..source.files import Unreadable
 from .baseline import Baseline
 from .fixer import Fixer
@@ -24,6 +25,8 @@ from .options import NAME, is_writing, parsed
 
 # How many functions that aren't known the last line names, if they get this many times the formats that were judged.
 MOST_NAMED, TIMES = 3, 4
+# The outputs whose messages say how often a macro is used. In the others it is a number, so that they can be merged.
+COUNTED = ("text", "github")
 
 
 def jobs_of(files: Files, question: Question) -> Iterator[Job]:
@@ -43,12 +46,26 @@ def question_of(options: Any, folder: str) -> Question:
     return Question(MODELS[options.model], added, settings)
 
 
-def each_once(answers: Iterable[Answer], seen: Set[Hashable]) -> Iterator[Answer]:
-    """Yields answers without what an earlier one has: what is found in a header, in several units."""
+def each_once(answers: Iterable[Answer]) -> Iterator[Answer]:
+    """Yields answers without what an earlier one has, as what is found in a header, in several units; and at the end, for
+    each header, what its macros have in all of them.
+    """
+    seen: Set[Hashable] = set()
+    in_headers: Dict[str, Dict[Hashable, Found]] = {}
     for one in answers:
-        found = {key: it for key, it in one.found.items() if key not in seen}
-        seen.update(found)
-        yield one._replace(found=found)
+        own, rest = shown_file(one.file), {}
+        for key, found in one.found.items():
+            file = found.finding.file
+            if "macro" in found.finding.details and file != own:
+                known = in_headers.setdefault(file, {})
+                known[key] = known[key].with_uses(found) if key in known else found
+            elif key not in seen:
+                rest[key] = found.counted()
+        seen.update(rest)
+        yield one._replace(found=rest)
+    for file, known in sorted(in_headers.items()):
+        nothing: Counter[str] = collections.Counter()
+        yield Answer(file, {key: it.counted() for key, it in known.items()}, nothing, nothing, {})
 
 
 def counted(count: int, word: str) -> str:
@@ -78,6 +95,12 @@ def named(others: Counter[str]) -> List[Tuple[str, int]]:
     return sorted(others.items(), key=lambda it: (-it[1], it[0]))[:MOST_NAMED]
 
 
+def with_count(finding: Finding) -> Finding:
+    """Returns a finding that says how many calls use the macro that it is in."""
+    uses = finding.details.get("uses", 0)
+    return replace(finding, message=f"{finding.message} ({uses} uses)") if uses > 1 else finding
+
+
 def check(printer: Printer, answers: Iterable[Answer], fail_on: Sequence[str], baseline: Optional[Baseline]) -> int:
     """Prints what is found and isn't in the baseline. Returns the exit status."""
     status = 0
@@ -90,12 +113,13 @@ def check(printer: Printer, answers: Iterable[Answer], fail_on: Sequence[str], b
             if baseline and not baseline.is_new(finding):
                 counts["known"] += 1
                 continue
-            printer.add(with_source(finding) if printer.has_excerpts else finding)
+            shown = with_count(finding) if printer.output in COUNTED else finding
+            printer.add(with_source(shown) if printer.has_excerpts else shown)
             counts[finding.kind] += 1
             status = max(status, int(finding.level == ERROR))
         if one.counts["left"]:
             status = USAGE
-        elif baseline:
+        elif baseline and one.counts["files"]:
             baseline.add_judged(one.file)
     printer.end()
     said = baseline.end() if baseline else ""
@@ -106,7 +130,7 @@ def check(printer: Printer, answers: Iterable[Answer], fail_on: Sequence[str], b
 def fix(options: Any, files: Files, answers: Sequence[Answer]) -> int:
     """Writes what is proposed, or prints it as a diff. Returns the exit status."""
     fixer = Fixer(options, files, answers)
-    status = replace(options, fixer, fixer.names())
+    status = write_all(options, fixer, fixer.names())
     return max(status, USAGE if any(it.counts["left"] for it in answers) else 0)
 
 
@@ -122,7 +146,7 @@ def run(options: Any) -> int:
             jobs = list(jobs_of(files, question_of(options, folder)))
             printer.progress.expect(len(jobs))
             answers = in_order(answer, jobs, options.jobs, instead=answer_without)
-            found = each_once(printer.progress.each(answers), set())
+            found = each_once(printer.progress.each(answers))
             if is_writing(options):
                 return fix(options, files, list(found))
             return check(printer, found, options.fail_on, baseline)

@@ -2,7 +2,8 @@
 
 import collections
 import functools
-from typing import Any, Counter, Dict, Hashable, Iterator, List, NamedTuple, Optional, Sequence, Tuple
+from dataclasses import replace
+from typing import Any, Counter, Dict, FrozenSet, Hashable, Iterator, List, NamedTuple, Optional, Sequence, Tuple
 
 from ..compiling.calls import Call
 from ..compiling.compile_commands import CompileCommand
@@ -15,6 +16,7 @@ from .composing import is_composed
 from .fixing import Fixes, fixes_of, merged
 from .judging import Fault, Judged, judged
 from .locating import Located, located
+from .macros import Macros
 from .proposals import proposal
 from .reporting import COMPOSED, LOST, RANK, SIGN, UNUSED, Spot
 from .silencing import Silences, comments_of
@@ -35,12 +37,21 @@ class JudgedUnit:
     def __init__(self, unit: Unit, result: Judged, question: Question, silences: Silences) -> None:
         self.unit, self.result, self.question, self.silences = unit, result, question, silences
 
+        self.spots: Dict[Hashable, Spot] = {}
+
     @functools.cached_property
     def where(self) -> Optional[Located]:
         return located(self.unit)
 
+    @functools.cached_property
+    def macros(self) -> Macros:
+        return Macros(self.unit.definitions(), self.unit.command.folder)
+
     def spot_of(self, fault: Fault) -> Spot:
-        return reporting.spot_of(fault, self.where)
+        key = fault.key, fault.format, fault.number, fault.span.start
+        if key not in self.spots:
+            self.spots[key] = reporting.spot_of(fault, self.where, lambda it: self.macros.of(it))
+        return self.spots[key]
 
     def is_silenced(self, fault: Fault, kind: str) -> bool:
         """Returns whether a comment at the directive or at the call silences a finding."""
@@ -68,11 +79,34 @@ class JudgedUnit:
             self.silences.cover([(call.file, call.line)], finding.kind)
 
 
+class CallLines(NamedTuple):
+    """A call in which something is found: its file, its first and its last line, and which of the calls there it is."""
+
+    file: str
+    line: int
+    last: int
+    number: int
+
+
 class Found(NamedTuple):
-    """A finding, and where the place starts whose new text makes it go away, if it has one."""
+    """A finding, where the place starts whose new text makes it go away, if it has one, and the calls that have it."""
 
     finding: Finding
     place: Optional[int] = None
+    uses: FrozenSet[CallLines] = frozenset()
+
+    def with_uses(self, other: "Found") -> "Found":
+        """Returns what is found here and there. What it says of one call is that of the first."""
+        first = min(self, other, key=lambda it: min(it.uses))
+        return first._replace(uses=self.uses | other.uses)
+
+    def counted(self) -> "Found":
+        """Returns the finding with the calls that use the macro that it is in, if it is in one."""
+        if "macro" not in self.finding.details:
+            return self
+        calls = [{"file": reporting.shown_file(it.file), "line": it.line} for it in sorted(self.uses)]
+        details = {**self.finding.details, "uses": len(calls), "calls": calls}
+        return self._replace(finding=replace(self.finding, details=details))
 
 
 class Answer(NamedTuple):
@@ -181,7 +215,9 @@ def add(answer: Answer, one: JudgedUnit) -> None:
         if kind:
             spot = one.spot_of(fault)
             finding = reporting.finding_of(fault, kind, spot, models)
-            answer.found.setdefault(key_of(fault, kind, spot), Found(finding, place_of(fault, one.where)))
+            found = Found(finding, place_of(fault, one.where), frozenset([lines_of(fault)]))
+            key = key_of(fault, kind, spot)
+            answer.found[key] = answer.found[key].with_uses(found) if key in answer.found else found
     for call, finding in findings_of_calls(result, models):
         if not one.silences.cover([(call.file, call.line)], finding.kind):
             answer.found[call.file, call.line, finding.message] = Found(finding)
@@ -196,6 +232,10 @@ def findings_of_calls(result: Judged, models: Sequence[Model]) -> Iterator[Tuple
         yield errno.call, reporting.errno_finding(errno)
     for refused in result.refused:
         yield refused.call, reporting.refused_finding(refused, models)
+
+
+def lines_of(fault: Fault) -> CallLines:
+    return CallLines(fault.call.file, fault.call.line, fault.call.last, fault.key[2])
 
 
 def place_of(fault: Fault, where: Optional[Located]) -> Optional[int]:

@@ -18,6 +18,7 @@ from ..models import Model
 from ..source.places import column_of
 from .judging import MISSING, ORDER, SIGNED, ErrnoFormat, Fault, Fit, RefusedFormat
 from .locating import Located
+from .macros import Definition, macro_at, span_of
 from .proposals import fitting, proposal
 
 SIZE, KIND, RANK, SIGN, COMPOSED = "size", "kind", "rank", "sign", "composed"
@@ -54,13 +55,16 @@ HEADERS.update(size_t="stddef.h", wint_t="wchar.h")
 
 
 class Spot(NamedTuple):
-    """A position: a file, a line, and a column, an end and the offsets of both if they are known."""
+    """A position: a file, a line, and a column, an end and the offsets of both if they are known; and the macro in whose
+    definition it is.
+    """
 
     file: str
     line: int
     column: Optional[int] = None
     end: Optional[Tuple[int, int]] = None
     offsets: Optional[Tuple[int, int]] = None
+    macro: str = ""
 
 
 def shown_file(path: str) -> str:
@@ -69,18 +73,30 @@ def shown_file(path: str) -> str:
     return path if name.startswith("..") else name
 
 
-def spot_of(fault: Fault, where: Optional[Located]) -> Spot:
-    """Returns where the directive of a fault is, or else its call."""
+def spot_of(fault: Fault, where: Optional[Located], definition_of: Callable[[Fault], Optional[Definition]]) -> Spot:
+    """Returns where the directive of a fault is: in the source of the unit, in the definition of a macro that a header
+    has, or else its call.
+    """
     first, after = fault.range
     start = where.offset_of(fault, first) if where else None
-    if where is None or start is None:
+    if where is not None and start is not None:
+        last, source = where.offset_of(fault, after - 1), where.file.source
+        return spot_in(where.file.path, source, start, last, macro_at(source, start))
+    definition = definition_of(fault)
+    if definition is None:
         return Spot(fault.call.file, fault.call.line)
-    source = where.file.source
-    last = where.offset_of(fault, after - 1)
+    span = span_of(definition, fault)
+    if span is None:
+        return Spot(definition.file, definition.line, macro=definition.name)
+    return spot_in(definition.file, *span, definition.name)
+
+
+def spot_in(file: str, source: bytes, start: int, last: Optional[int], macro: str) -> Spot:
+    """Returns the position of what begins at an offset of a source, and whose last byte is known."""
     line = source.count(b"\n", 0, start) + 1
     end = (source.count(b"\n", 0, last) + 1, column_of(source, last) + 1) if last is not None else None
     offsets = (start, last + 1) if last is not None else None
-    return Spot(where.file.path, line, column_of(source, start), end, offsets)
+    return Spot(file, line, column_of(source, start), end, offsets, macro)
 
 
 def kind_of(fault: Fault, models: Sequence[Model], composed: Callable[[Fault], bool]) -> Optional[str]:
@@ -169,13 +185,16 @@ def details_of(fault: Fault) -> Dict[str, Any]:
 def finding_of(fault: Fault, kind: str, spot: Spot, models: Sequence[Model]) -> Finding:
     wrong = {it.model for it, fit in zip(PLATFORMS, fault.fits) if fit is not Fit.EQUAL and it.model in models}
     details: Dict[str, Any] = {**details_of(fault), "fix": fix_of(fault, spot)}
+    message = message_of(fault, models)
+    if spot.macro:
+        details["macro"], message = spot.macro, f"{message}; in the macro {spot.macro}"
     return Finding(
         shown_file(spot.file),
         spot.line,
         spot.column,
         kind,
         ERROR if kind in ERRORS else NOTE,
-        message_of(fault, models),
+        message,
         spot.end,
         (details["format"],),
         model_names(sorted(wrong)),
