@@ -2,6 +2,7 @@
 
 import json
 import os
+import random
 import re
 import tempfile
 import unittest
@@ -12,8 +13,10 @@ from unittest import mock
 from fmtcanon import Type
 from fmtcanon.checker import command
 from fmtcanon.checker.baseline import Baseline
+from fmtcanon.checker.changes import GitChange, changed_lines
 from fmtcanon.compiling.calls import Argument, Call
 from fmtcanon.compiling.formats import Format, Literal
+from fmtcanon.compiling.git import FileChange
 from fmtcanon.fitting.checking import Answer, CallLines, Found
 from fmtcanon.fitting.judging import judged
 from fmtcanon.fitting.macros import Macros, definitions_in, macro_at
@@ -164,6 +167,60 @@ class Together(unittest.TestCase):
         self.assertEqual(calls, [("a.c", 5), ("a.c", 5), ("a.h", 2), ("b.c", 7)])
         # What is said of one call is that of the first, in whatever order files come.
         self.assertEqual((last.file, last.counts, one.finding.details["format"]), ("a.h", Counter(), "b"))
+
+
+# Texts before and after a change, and the lines that it adds, or between which it removes some.
+CHANGES = [
+    ("a\nb\nc\n", "a\nb\nc\n", []),
+    ("a\nb\nc\n", "a\nx\ny\nc\n", [(2, 3)]),
+    ("a\nb\nc\n", "a\nc\n", [(2, 1)]),
+    ("a\nb\nc\n", "b\nc\n", [(1, 0)]),
+    ("a\nb\n", "a\nb\nc\n", [(3, 3)]),
+    ("", "a\nb\n", [(1, 2)]),
+    ("a\nb", "a\nb\n", [(3, 3)]),
+    ("a\r\nb\r\n", "a\r\nc\r\n", [(2, 2)]),
+    ("a\rb\nc\n", "a\rb\nd\n", [(2, 2)]),
+    ("a\na\na\n", "a\na\n", [(3, 2)]),
+    ("1\n2\n3\n4\n5\n", "0\n1\n2\n4\nfive\n", [(1, 1), (4, 3), (5, 5)]),
+]
+# The first and the last line of a call, and whether a change of the lines 3 and 4, and the loss of lines between 8 and
+# 9, are in it.
+TOUCHED = [(1, 2, False), (2, 3, True), (4, 4, True), (1, 9, True), (5, 8, False), (8, 9, True), (9, 12, False)]
+
+
+class Changed(unittest.TestCase):
+    def test_lines(self):
+        for old, new, wanted in CHANGES:
+            self.assertEqual(list(changed_lines(old.encode(), new.encode())), wanted, (old, new))
+
+    def test_as_diff(self):
+        """The lines are right: without them, and with what they replace, a text is the other."""
+        chosen = random.Random(3)
+        for _ in range(300):
+            old, new = ([chosen.choice("abc") for _ in range(chosen.randrange(12))] for _ in range(2))
+            ranges = list(changed_lines("\n".join(old).encode(), "\n".join(new).encode()))
+            kept = [it for at, it in enumerate(new, 1) if not any(start <= at <= end for start, end in ranges)]
+            rest = iter(old)
+            self.assertTrue(all(it in rest for it in kept), (old, new, ranges))
+            self.assertEqual(ranges == [], old == new, (old, new))
+
+    def test_calls(self):
+        change = GitChange([FileChange("a.c", b"1\n2\n", b"1\n2\n3\n4\n")], False)
+        change.lines[os.path.realpath("a.c")] = [(3, 4), (9, 8)]
+        for first, last, is_touched in TOUCHED:
+            found = Found(finding(100), lines=frozenset([(os.path.realpath("a.c"), first, last)]))
+            self.assertEqual(change.has(found), is_touched, (first, last))
+            self.assertFalse(change.has(found._replace(lines=frozenset([(os.path.realpath("b.c"), first, last)]))))
+        self.assertTrue(change.has(Found(finding(4))))
+        self.assertTrue(change.has(Found(finding(0, file="b.c"))))
+        self.assertFalse(change.has(Found(finding(5))))
+
+    def test_fixes(self):
+        """Only what is reported is fixed."""
+        change = GitChange([FileChange("a.c", b"a\nb\n", b"a\nc\n")], False)
+        found = {1: Found(finding(1), 10), 2: Found(finding(2), 20)}
+        answer = change.part_of(Answer("a.c", found, Counter(), Counter(), {10: (b"x", ""), 20: (b"y", "")}))
+        self.assertEqual(([*answer.found], [*answer.fixes]), ([2], [20]))
 
 
 class Baselines(unittest.TestCase):

@@ -60,7 +60,9 @@ class Baseline:
         """Returns whether a finding isn't known, and notes it."""
         if finding.kind in SILENT:
             return True
-        entry = (self.name_of(finding.file), finding.kind, *(finding.details.get(it) for it in NAMES[2:]))
+        # The uses of a macro may have several formats.
+        details = {**finding.details, "format": None} if "macro" in finding.details else finding.details
+        entry = (self.name_of(finding.file), finding.kind, *(details.get(it) for it in NAMES[2:]))
         self.found[entry] += 1
         self.missing[entry] -= 1
         return self.missing[entry] < 0

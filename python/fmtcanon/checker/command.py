@@ -4,7 +4,6 @@ import collections
 from dataclasses import replace
 from typing import Any, Counter, Dict, Hashable, Iterable, Iterator, List, Optional, Sequence, Set, Tuple
 
-from ..compiling.left import Left
 from ..compiling.libclang import MISSING, cindex
 from ..compiling.retargeting import write_headers
 from ..compiling.sources import Files
@@ -19,7 +18,9 @@ from ..frame.processes import in_order
 from ..rewriting.writing import replace as write_all
 from ..source.files import Unreadable
 from .baseline import Baseline
+from .changes import change_of
 from .fixer import Fixer
+from .jobs import jobs_of, name_files
 from .options import NAME, is_writing, parsed
 
 
@@ -27,16 +28,6 @@ from .options import NAME, is_writing, parsed
 MOST_NAMED, TIMES = 3, 4
 # The outputs whose messages say how often a macro is used. In the others it is a number, so that they can be merged.
 COUNTED = ("text", "github")
-
-
-def jobs_of(files: Files, question: Question) -> Iterator[Job]:
-    """Yields what is to be checked, and what is left or skipped, and why."""
-    for name in files.names():
-        why = files.why_skipped(name)
-        try:
-            yield Job(name.path, () if why else files.commands(name.path), question, why_skipped=why)
-        except Left as left:
-            yield Job(name.path, (), question, str(left))
 
 
 def question_of(options: Any, folder: str) -> Question:
@@ -139,14 +130,19 @@ def run(options: Any) -> int:
         complain(f"{NAME}: {MISSING}")
         return USAGE
     try:
+        change = change_of(options) if options.git else None
+        if change:
+            name_files(options, change)
         files = Files(options)
         baseline = Baseline(options.baseline, options.update_baseline) if options.baseline else None
         with temporary_folder() as folder:
             printer = Printer(NAME, options.output, RULES, color=options.color)
-            jobs = list(jobs_of(files, question_of(options, folder)))
+            jobs = list(jobs_of(files, question_of(options, folder), change))
             printer.progress.expect(len(jobs))
             answers = in_order(answer, jobs, options.jobs, instead=answer_without)
             found = each_once(printer.progress.each(answers))
+            if change:
+                found = map(change.part_of, found)
             if is_writing(options):
                 return fix(options, files, list(found))
             return check(printer, found, options.fail_on, baseline)

@@ -1,6 +1,7 @@
 """The command line of fmtcanon-check."""
 
 import argparse
+import os
 import re
 from typing import Any, Optional, Sequence, Tuple
 
@@ -12,7 +13,8 @@ from ..frame.command_line import Parser
 NAME = "fmtcanon-check"
 USAGE = """\
 fmtcanon-check [OPTION]... -p DIR [FILE...]
-       fmtcanon-check [OPTION]... FILE..."""
+       fmtcanon-check [OPTION]... FILE...
+       fmtcanon-check [OPTION]... --git [REV] [FILE...]"""
 DESCRIPTION = """\
 Says of each call of a printf function in C source whether its arguments have the types that its format takes: where it \
 is compiled, on 32-bit systems, also with a 64-bit time_t, and on 64-bit Windows. It proposes a directive that is right \
@@ -27,6 +29,7 @@ Examples:
   fmtcanon-check src/*.c
   fmtcanon-check -p build --model ilp32
   fmtcanon-check -p build --diff
+  fmtcanon-check -p build --git main...
 
 Functions of the C library's printf family, as its headers declare them, and those with the attribute \
 format(printf, m, n) are known. Integers are compared by size, rank and sign; other arguments must have the type that \
@@ -60,6 +63,10 @@ def parser() -> Parser:
         ("--composed", "also report directives of several literals, once for each file and type"),
     ]:
         made.add_argument(option, action="store_true", help=text)
+    git = "report only what is in lines that differ from REV, or HEAD, and in calls and formats that have such lines; \
+REV... is where HEAD left REV"
+    made.add_argument("--git", nargs="?", const="HEAD", metavar="REV", help=git)
+    made.add_argument("--cached", action="store_true", help="with --git, judge what is staged instead of the work tree")
     baseline = "report only what FILE doesn't have; if it isn't there, all that is found is reported and recorded in it"
     made.add_argument("--baseline", metavar="FILE", help=baseline)
     update = "record what is found now in the FILE of --baseline"
@@ -88,13 +95,24 @@ def parsed(words: Optional[Sequence[str]]) -> Any:
     made = parser()
     options, more = made.parsed(words)
     options.files += more
-    if not options.files and not options.database:
-        made.error("give files or folders, or the folder of a compile_commands.json")
+    check_combination(made, options)
+    return options
+
+
+def check_combination(made: Parser, options: Any) -> None:
+    """Ends the command with a usage error if options don't go together."""
+    if options.cached and not options.git:
+        made.error("--cached needs --git")
+    if options.cached and is_writing(options):
+        made.error("--cached isn't for --fix, --dry-run and --diff")
+    if not options.files and not options.database and not options.git:
+        made.error("give files or folders, or the folder of a compile_commands.json, or --git")
     if options.update_baseline and not options.baseline:
         made.error("--update-baseline needs --baseline")
     if options.baseline and is_writing(options):
         made.error("--baseline isn't for --fix, --dry-run and --diff")
-    return options
+    if options.git and options.baseline and (options.update_baseline or not os.path.lexists(options.baseline)):
+        made.error("a baseline is recorded without --git")
 
 
 def is_writing(options: Any) -> bool:

@@ -9,6 +9,7 @@ from ..compiling.calls import Key
 from ..compiling.compile_commands import SOURCES, CompileCommand, commands_in, default_command
 from ..compiling.left import Left, own_trouble
 from ..compiling.platforms import PLATFORMS
+from ..compiling.sources import NO_COMMAND
 from ..fitting.checking import Answer, Job, JudgedUnit, Question, add, answer
 from ..fitting.judging import SIGNED, Fault, Fit, judged
 from ..fitting.locating import Located
@@ -23,7 +24,6 @@ from ..source.places import column_of
 
 # A line and a column, from 1.
 Position = Tuple[int, int]
-NO_COMMAND = "compile_commands.json has no command for it"
 
 
 class JudgedUse(NamedTuple):

@@ -19,7 +19,7 @@ from .locating import Located, located
 from .macros import Macros
 from .proposals import proposal
 from .reporting import COMPOSED, LOST, RANK, SIGN, UNUSED, Spot
-from .silencing import Silences, comments_of
+from .silencing import Silences
 from .unit import Settings, Unit
 
 
@@ -45,13 +45,19 @@ class JudgedUnit:
 
     @functools.cached_property
     def macros(self) -> Macros:
-        return Macros(self.unit.definitions(), self.unit.command.folder)
+        return Macros(self.unit.definitions(), self.unit.command.folder, self.silences.texts)
 
     def spot_of(self, fault: Fault) -> Spot:
         key = fault.key, fault.format, fault.number, fault.span.start
         if key not in self.spots:
             self.spots[key] = reporting.spot_of(fault, self.where, lambda it: self.macros.of(it))
         return self.spots[key]
+
+    def format_lines(self, fault: Fault) -> Iterator[Tuple[str, int, int]]:
+        """Yields the lines of the literals of a fault's format."""
+        for piece in self.where.pieces_of(fault) if self.where else ():
+            first = piece.place.line
+            yield self.unit.command.file, first, first + piece.place.source.count(b"\n")
 
     def is_silenced(self, fault: Fault, kind: str) -> bool:
         """Returns whether a comment at the directive or at the call silences a finding."""
@@ -89,16 +95,19 @@ class CallLines(NamedTuple):
 
 
 class Found(NamedTuple):
-    """A finding, where the place starts whose new text makes it go away, if it has one, and the calls that have it."""
+    """A finding, where the place starts whose new text makes it go away, if it has one, the calls that have it, and the
+    lines of these and of their formats: a file, the first and the last.
+    """
 
     finding: Finding
     place: Optional[int] = None
     uses: FrozenSet[CallLines] = frozenset()
+    lines: FrozenSet[Tuple[str, int, int]] = frozenset()
 
     def with_uses(self, other: "Found") -> "Found":
         """Returns what is found here and there. What it says of one call is that of the first."""
         first = min(self, other, key=lambda it: min(it.uses))
-        return first._replace(uses=self.uses | other.uses)
+        return first._replace(uses=self.uses | other.uses, lines=self.lines | other.lines)
 
     def counted(self) -> "Found":
         """Returns the finding with the calls that use the macro that it is in, if it is in one."""
@@ -123,13 +132,20 @@ class Answer(NamedTuple):
 
 
 class Job(NamedTuple):
-    """A file, its compile commands or why it has none, what is asked of it, and why it is skipped, if it is."""
+    """A file, its compile commands or why it has none, what is asked of it, and why it is skipped, if it is; the text
+    to read instead of its own; and files, if it is judged only if it includes one of them.
+    """
 
     file: str
     commands: Sequence[CompileCommand]
     question: Question
     why_left: str = ""
     why_skipped: str = ""
+    source: Optional[bytes] = None
+    among: FrozenSet[str] = frozenset()
+
+    def does_include(self) -> bool:
+        return not self.among or any(self.among & it.included() for it in self.commands)
 
 
 def empty_answer(job: Job) -> Answer:
@@ -145,7 +161,8 @@ def answer_without(job: Job, how: str) -> Answer:
 
 def answer(job: Job) -> Answer:
     """Checks a file. An exception leaves it."""
-    result, silences = empty_answer(job), Silences()
+    texts = {} if job.source is None else {job.file: job.source}
+    result, silences = empty_answer(job), Silences(texts)
     if job.why_skipped:
         result.counts.clear()
         result.found[job.file] = Found(reporting.skipped(job.file, job.why_skipped, job.question.models, NOTE))
@@ -154,6 +171,9 @@ def answer(job: Job) -> Answer:
     try:
         if job.why_left:
             raise Left(job.why_left)
+        if not job.does_include():
+            result.counts.clear()
+            return result
         with own_trouble():
             fixes = fixes_in(result, job, silences)
     except Left as why:
@@ -176,7 +196,7 @@ def fixes_in(result: Answer, job: Job, silences: Silences) -> List[Fixes]:
     for command in job.commands:
         try:
             with own_trouble():
-                unit = Unit(command, job.question.settings)
+                unit = Unit(command, job.question.settings, job.source)
                 units.append(JudgedUnit(unit, judged(unit.calls), job.question, silences))
         except Left as why:
             left = why
@@ -189,7 +209,7 @@ def fixes_in(result: Answer, job: Job, silences: Silences) -> List[Fixes]:
             fixes.append(fixes_of(one.unit, one.result.faults, one.where, one.kind_of))
     if left:
         raise left
-    if units and comments_of(job.file) and not result.counts["left"]:
+    if units and silences.comments_of(job.file) and not result.counts["left"]:
         for one in units:
             one.use_comments()
         for finding in silences.unused(job.file):
@@ -215,12 +235,15 @@ def add(answer: Answer, one: JudgedUnit) -> None:
         if kind:
             spot = one.spot_of(fault)
             finding = reporting.finding_of(fault, kind, spot, models)
-            found = Found(finding, place_of(fault, one.where), frozenset([lines_of(fault)]))
+            use = use_of(fault)
+            lines = frozenset([use[:3], *one.format_lines(fault)])
+            found = Found(finding, place_of(fault, one.where), frozenset([use]), lines)
             key = key_of(fault, kind, spot)
             answer.found[key] = answer.found[key].with_uses(found) if key in answer.found else found
     for call, finding in findings_of_calls(result, models):
         if not one.silences.cover([(call.file, call.line)], finding.kind):
-            answer.found[call.file, call.line, finding.message] = Found(finding)
+            lines = frozenset([(call.file, call.line, call.last)])
+            answer.found[call.file, call.line, finding.message] = Found(finding, lines=lines)
 
 
 def findings_of_calls(result: Judged, models: Sequence[Model]) -> Iterator[Tuple[Call, Finding]]:
@@ -234,7 +257,7 @@ def findings_of_calls(result: Judged, models: Sequence[Model]) -> Iterator[Tuple
         yield refused.call, reporting.refused_finding(refused, models)
 
 
-def lines_of(fault: Fault) -> CallLines:
+def use_of(fault: Fault) -> CallLines:
     return CallLines(fault.call.file, fault.call.line, fault.call.last, fault.key[2])
 
 

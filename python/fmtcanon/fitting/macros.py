@@ -3,7 +3,7 @@
 import functools
 import os
 import re
-from typing import Dict, Iterator, List, NamedTuple, Optional, Set, Tuple
+from typing import Dict, Iterator, List, Mapping, NamedTuple, Optional, Set, Tuple
 
 from .. import source_offset
 from ..compiling.calls import Call
@@ -43,7 +43,9 @@ def definitions_in(text: bytes, folder: str) -> Iterator[Definition]:
 class Macros:
     """The macros of a unit, by the text of it that has their definitions."""
 
-    def __init__(self, text: bytes, folder: str) -> None:
+    def __init__(self, text: bytes, folder: str, texts: Mapping[str, bytes] = {}) -> None:
+        # What is read instead of files.
+        self.texts = texts
         self.known: Dict[str, List[Definition]] = {}
         for one in definitions_in(text, folder):
             self.known.setdefault(one.name, []).append(one)
@@ -53,11 +55,16 @@ class Macros:
         and those that these are made of; None if there is none, or the lines have the literal, too.
         """
         literal = fault.tokens[0][0].source.encode()
-        text = lines_of(fault.call)
+        text = self.lines_of(fault.call)
         if literal in text:
             return None
         found = {it for name in self.reached(text) for it in self.known[name] if literal in it.body}
         return found.pop() if len(found) == 1 else None
+
+    def lines_of(self, call: Call) -> bytes:
+        """Returns the lines of a call."""
+        source = self.texts[call.file] if call.file in self.texts else source_of(call.file)
+        return b"\n".join(source.split(b"\n")[call.line - 1 : call.last])
 
     def reached(self, text: bytes) -> Set[str]:
         """Returns the macros that a text names, and those that these are made of."""
@@ -76,11 +83,6 @@ def source_of(file: str) -> bytes:
         return original(file).source
     except OSError:
         return b""
-
-
-def lines_of(call: Call) -> bytes:
-    """Returns the lines of a call."""
-    return b"\n".join(source_of(call.file).split(b"\n")[call.line - 1 : call.last])
 
 
 def macro_at(source: bytes, offset: int) -> str:

@@ -1,7 +1,7 @@
 """Which findings the comments of the sources silence, and which of these comments silence nothing."""
 
 import functools
-from typing import Iterable, Iterator, List, Sequence, Set, Tuple
+from typing import Iterable, Iterator, List, Mapping, Sequence, Set, Tuple
 
 from ..frame.findings import NOTE, Finding
 from ..source.comments import OkComment, ok_comments
@@ -24,18 +24,23 @@ def comments_of(path: str) -> List[OkComment]:
 class Silences:
     """The comments that silence what is found in the units of a file, and which of them do."""
 
-    def __init__(self) -> None:
+    def __init__(self, texts: Mapping[str, bytes] = {}) -> None:
+        # What is read instead of these files.
+        self.texts = texts
         self.used: Set[Tuple[str, OkComment]] = set()
+
+    def comments_of(self, path: str) -> List[OkComment]:
+        return ok_comments(self.texts[path]) if path in self.texts else comments_of(path)
 
     def cover(self, lines: Iterable[Line], kind: str) -> bool:
         """Returns whether comments silence a finding of a kind that has these lines, and notes which."""
-        found = {(path, it) for path, line in lines for it in comments_of(path) if it.is_for(line, kind)}
+        found = {(path, it) for path, line in lines for it in self.comments_of(path) if it.is_for(line, kind)}
         self.used |= found
         return bool(found)
 
     def unused(self, path: str) -> Iterator[Finding]:
         """Yields a note for each comment of a file that silences nothing."""
-        for comment in comments_of(path):
+        for comment in self.comments_of(path):
             others = [it for it in comment.kinds if it not in RULES or it in SILENT]
             if others or (path, comment) not in self.used:
                 yield unused_finding(path, comment, others)

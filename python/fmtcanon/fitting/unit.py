@@ -10,6 +10,7 @@ from ..compiling.left import Left
 from ..compiling.parsing import Shape, as_utf8
 from ..compiling.platforms import COMPILED, PLATFORMS, Platform
 from ..compiling.retargeting import retargeted
+from ..compiling.stand_ins import Original, original
 from ..compiling.targets import model_in
 from ..models import Model
 
@@ -25,14 +26,16 @@ class Settings(NamedTuple):
 
 
 class Unit:
-    """The calls of a unit on each platform, and why libclang can't parse a part of it, if so."""
+    """The calls of a unit on each platform, and why libclang can't parse a part of it, if so. Its source may be another
+    than that of the file.
+    """
 
-    def __init__(self, command: CompileCommand, settings: Settings) -> None:
+    def __init__(self, command: CompileCommand, settings: Settings, source: Optional[bytes] = None) -> None:
         model = model_in(command.macros())
         if model is not Model.LP64:
             raise Left(f"it is compiled for {model.name if model else 'another data model'}, and not for LP64")
         words = (command.words[0], *settings.words, *command.words[1:], "-U_FORTIFY_SOURCE")
-        self.command, self.settings = dataclasses.replace(command, words=words), settings
+        self.command, self.settings, self.source = dataclasses.replace(command, words=words), settings, source
         text = self.text()
         parsed = [self.parsed(text, it) for it in PLATFORMS]
         errors = parsed[0].errors()
@@ -43,12 +46,17 @@ class Unit:
 
     def text(self, source: Optional[bytes] = None) -> str:
         """Returns what the compiler's preprocessor makes of the file, or of another source of it."""
-        return as_utf8(self.command.preprocessed(source)).decode()
+        return as_utf8(self.command.preprocessed(self.source if source is None else source)).decode()
+
+    def original(self) -> Original:
+        """Returns the file, with the source that is judged. Raises `OSError` if it can't be read."""
+        file = original(self.command.file)
+        return file if self.source is None else file._replace(source=self.source)
 
     def definitions(self) -> bytes:
         """Returns the text of the unit with the definitions of its macros."""
         if self.defined is None:
-            self.defined = bytes(self.command.run(None, "-E", "-dD", "-w").stdout)
+            self.defined = bytes(self.command.run(self.source, "-E", "-dD", "-w").stdout)
         return self.defined
 
     def parsed(self, text: str, platform: Platform) -> FormatCalls:
