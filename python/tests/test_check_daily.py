@@ -1,5 +1,6 @@
 """Tests of what fmtcanon-check has for every day, without libclang: python3 -m unittest, in the folder above."""
 
+import argparse
 import json
 import os
 import random
@@ -11,7 +12,7 @@ from pathlib import Path
 from unittest import mock
 
 from fmtcanon import Type
-from fmtcanon.checker import command
+from fmtcanon.checker import command, options
 from fmtcanon.checker.baseline import Baseline
 from fmtcanon.checker.changes import GitChange, changed_lines
 from fmtcanon.compiling.calls import Argument, Call
@@ -221,6 +222,14 @@ class Changed(unittest.TestCase):
         found = {1: Found(finding(1), 10), 2: Found(finding(2), 20)}
         answer = change.part_of(Answer("a.c", found, Counter(), Counter(), {10: (b"x", ""), 20: (b"y", "")}))
         self.assertEqual(([*answer.found], [*answer.fixes]), ([2], [20]))
+
+
+class Shards(unittest.TestCase):
+    def test_numbers(self):
+        self.assertEqual([options.shard_of(it) for it in ("1/1", "2/3", "10/10")], [(1, 1), (2, 3), (10, 10)])
+        for word in ("0/2", "3/2", "1", "1/", "-1/2", "1/0", "a/b", "1/2/3", "01/2"):
+            with self.assertRaises(argparse.ArgumentTypeError, msg=word):
+                options.shard_of(word)
 
 
 class Baselines(unittest.TestCase):

@@ -1,13 +1,18 @@
-"""Tries what fmtcanon-check has for every day: comments that silence findings, the baseline, and macros.
+"""Tries what fmtcanon-check has for every day: comments that silence findings, the baseline, macros and shards.
 
 It needs libclang and gcc.
 """
 
 import json
+import os
+import re
+import shutil
+import subprocess
 
 from tests.commands.more_check import SAYS
 from tests.commands.tool import Tool
 from tests.frame.cases import tests_of
+from tests.frame.harness import TIMEOUT, TOP
 
 # Lines of a source, and the kinds of what is found there with --rank; what is silenced isn't.
 SILENCED = [
@@ -157,6 +162,62 @@ def test_macros(tool, trials):
     known = tool.run("--baseline", "known.json", "a.c", "b.c")[0]
     again = tool.run("--baseline", "known.json", "b.c", "a.c")
     trials.expect(f"macros in a baseline: {again}", (known, again[:2]), (1, (0, "")))
+
+
+CI = TOP / "examples/ci"
+COUNT = 4
+
+
+def run_of(recipe, word):
+    """The line of a recipe that runs a command, in the shell."""
+    [line] = re.findall(rf"^ *- (?:run: )?({word}.*)$", (CI / recipe).read_text(encoding="utf-8"), flags=re.MULTILINE)
+    return line
+
+
+def results_in(log):
+    """The results of a log, in an order of their own."""
+    return sorted(json.dumps(it, sort_keys=True) for it in log["runs"][0]["results"])
+
+
+def test_shards(tool, trials):
+    """The shards of a matrix, as processes at a time, together find what one run finds, each once."""
+    tool.put("a.h", MACROS_OF_HEADER)
+    for number in range(7):
+        own = f'void g{number}(size_t n) {{ printf("%lu", n); }}\n'
+        tool.put(f"f{number}.c", USES.replace("NAME", f"f{number}") + own)
+    tool.put_commands(*(["gcc", "-c", f"f{number}.c"] for number in range(7)))
+    (tool.work / "build").symlink_to(tool.work)
+    shutil.copy(CI / "merge_sarif.py", tool.put("tools/merge_sarif.py", ""))
+    tool.put("bin/fmtcanon-check", f'#!/bin/sh\nexec "{tool.python}" -m fmtcanon.checker "$@"\n').chmod(0o755)
+    path = os.pathsep.join([str(tool.work / "bin"), os.environ["PATH"]])
+    environment = {**tool.environment, "PATH": path, "CI_NODE_TOTAL": str(COUNT)}
+    status, output, _ = tool.run("-p", "build", "--output", "sarif")
+    whole = json.loads(output)
+    trials.expect("one run", (status, len(whole["runs"][0]["results"]) > 30), (1, True))
+    for recipe, name in [("matrix.yml", "SHARD"), ("gitlab-ci.yml", "CI_NODE_INDEX")]:
+        line = run_of(recipe, "fmtcanon-check")
+        values = [{**environment, name: str(number)} for number in range(1, COUNT + 1)]
+        shards = [
+            subprocess.Popen(["sh", "-ec", line], cwd=tool.work, env=it, stderr=subprocess.PIPE) for it in values
+        ]
+        said = [it.communicate(timeout=TIMEOUT)[1].decode() for it in shards]
+        files = sum(int(it.split()[0]) for it in said)
+        trials.expect(f"{recipe}: {said}", ([it.returncode for it in shards], files), ([0] * COUNT, 7))
+        logs = [json.loads((tool.work / f"shard-{it}.sarif").read_text()) for it in range(1, COUNT + 1)]
+        parts = [results_in(it) for it in logs]
+        trials.expect(f"{recipe}: each has a part", all(0 < len(it) < len(results_in(whole)) for it in parts), True)
+        merge = subprocess.run(["sh", "-ec", run_of(recipe, "python3")], cwd=tool.work, check=False, timeout=TIMEOUT)
+        log = json.loads((tool.work / "formats.sarif").read_text())
+        trials.expect(f"{recipe}: the status", merge.returncode, 1)
+        trials.expect(f"{recipe}: the results", results_in(log), results_in(whole))
+        trials.expect(f"{recipe}: the rest", rest_of(log), rest_of(whole))
+    found = [tool.run("-p", ".", "--shard", f"{it}/3", "--output", "json", "f0.c", "f1.c")[1] for it in (1, 2, 3)]
+    trials.expect("more shards than files", [bool(it) for it in found], [True, True, False])
+
+
+def rest_of(log):
+    run = {name: it for name, it in log["runs"][0].items() if name != "results"}
+    return {**log, "runs": [run]}
 
 
 def test_baseline(tool, trials):

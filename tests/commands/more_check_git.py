@@ -140,7 +140,7 @@ def test_revisions(tool, trials):
         (["--git", "HEAD..HEAD"], "give one revision"),
         (["--cached", "a.c"], "--cached needs --git"),
         (["--git", "--cached", "--fix"], "--cached isn't for --fix"),
-        (["--git", "--baseline", "known.json"], "a baseline is recorded without --git"),
+        (["--git", "--baseline", "known.json"], "a baseline is recorded without --git and --shard"),
     ]:
         status, _, fault = tool.run(*words)
         trials.expect(f"{words}: {fault}", (status, said in fault), (2, True))

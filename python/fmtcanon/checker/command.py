@@ -137,7 +137,8 @@ def run(options: Any) -> int:
         baseline = Baseline(options.baseline, options.update_baseline) if options.baseline else None
         with temporary_folder() as folder:
             printer = Printer(NAME, options.output, RULES, color=options.color)
-            jobs = list(jobs_of(files, question_of(options, folder), change))
+            part, parts = options.shard
+            jobs = list(jobs_of(files, question_of(options, folder), change))[part - 1 :: parts]
             printer.progress.expect(len(jobs))
             answers = in_order(answer, jobs, options.jobs, instead=answer_without)
             found = each_once(printer.progress.each(answers))

@@ -67,6 +67,8 @@ def parser() -> Parser:
 REV... is where HEAD left REV"
     made.add_argument("--git", nargs="?", const="HEAD", metavar="REV", help=git)
     made.add_argument("--cached", action="store_true", help="with --git, judge what is staged instead of the work tree")
+    shard = "judge the I-th of N parts of the files, which together are all"
+    made.add_argument("--shard", type=shard_of, default=(1, 1), metavar="I/N", help=shard)
     baseline = "report only what FILE doesn't have; if it isn't there, all that is found is reported and recorded in it"
     made.add_argument("--baseline", metavar="FILE", help=baseline)
     update = "record what is found now in the FILE of --baseline"
@@ -90,6 +92,14 @@ def type_of(word: str) -> Tuple[str, str]:
     return found[1], found[2]
 
 
+def shard_of(word: str) -> Tuple[int, int]:
+    """Returns the two numbers of `I/N`."""
+    found = re.fullmatch(r"([1-9]\d*)/([1-9]\d*)", word)
+    if not found or int(found[1]) > int(found[2]):
+        raise argparse.ArgumentTypeError(f"{word!r} isn't I/N, as 1/4 to 4/4")
+    return int(found[1]), int(found[2])
+
+
 def parsed(words: Optional[Sequence[str]]) -> Any:
     """Returns the options, with `files`. A usage error ends the command."""
     made = parser()
@@ -111,8 +121,9 @@ def check_combination(made: Parser, options: Any) -> None:
         made.error("--update-baseline needs --baseline")
     if options.baseline and is_writing(options):
         made.error("--baseline isn't for --fix, --dry-run and --diff")
-    if options.git and options.baseline and (options.update_baseline or not os.path.lexists(options.baseline)):
-        made.error("a baseline is recorded without --git")
+    is_recorded = options.baseline and (options.update_baseline or not os.path.lexists(options.baseline))
+    if is_recorded and (options.git or options.shard != (1, 1)):
+        made.error("a baseline is recorded without --git and --shard")
 
 
 def is_writing(options: Any) -> bool:
