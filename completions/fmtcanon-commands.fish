@@ -30,6 +30,7 @@ complete -c fmtcanon-check -l composed -d 'also report directives of several lit
 complete -c fmtcanon-check -l git -d 'report only what differs from a revision, or HEAD'
 complete -c fmtcanon-check -l cached -d 'with --git, judge what is staged'
 complete -c fmtcanon-check -l shard -x -d 'judge one of N parts of the files'
+complete -c fmtcanon-check -l no-cache -d 'keep nothing, and judge again what is kept'
 complete -c fmtcanon-check -l baseline -r -d 'a file of findings that are known'
 complete -c fmtcanon-check -l update-baseline -d 'record what is found now in the file of --baseline'
 complete -c fmtcanon-diff -l git -d 'compare what git has'

@@ -2,22 +2,22 @@
 
 import collections
 from dataclasses import replace
-from typing import Any, Counter, Dict, Hashable, Iterable, Iterator, List, Optional, Sequence, Set, Tuple
+from typing import Any, Counter, Dict, Iterable, Iterator, List, Optional, Sequence, Set, Tuple
 
 from ..compiling.libclang import MISSING, cindex
 from ..compiling.retargeting import write_headers
 from ..compiling.sources import Files
-from ..fitting.checking import Answer, Found, Job, Question, answer, answer_without
+from ..fitting.checking import Answer, Found, Question
 from ..fitting.reporting import COMPOSED, RANK, RULES, SIGN, shown_file, with_source
 from ..fitting.unit import Settings
 from ..frame.command_line import MODELS, USAGE, status_of
 from ..frame.findings import ERROR, Finding, Printer, by_place, leveled
 from ..frame.interrupting import temporary_folder
 from ..frame.output import complain
-from ..frame.processes import in_order
 from ..rewriting.writing import replace as write_all
 from ..source.files import Unreadable
 from .baseline import Baseline
+from .cache import Cache, answers_of, cache_folder
 from .changes import change_of
 from .fixer import Fixer
 from .jobs import jobs_of, name_files
@@ -30,10 +30,10 @@ MOST_NAMED, TIMES = 3, 4
 COUNTED = ("text", "github")
 
 
-def question_of(options: Any, folder: str) -> Question:
+def question_of(options: Any, folder: str, is_kept: bool) -> Question:
     """Returns what the options ask. The folder gets the headers of this command."""
     added = [it for it in (RANK, SIGN, COMPOSED) if getattr(options, it)]
-    settings = Settings(write_headers(folder), dict(options.function), dict(options.type))
+    settings = Settings(write_headers(folder), dict(options.function), dict(options.type), folder if is_kept else "")
     return Question(MODELS[options.model], added, settings)
 
 
@@ -41,8 +41,8 @@ def each_once(answers: Iterable[Answer]) -> Iterator[Answer]:
     """Yields answers without what an earlier one has, as what is found in a header, in several units; and at the end, for
     each header, what its macros have in all of them.
     """
-    seen: Set[Hashable] = set()
-    in_headers: Dict[str, Dict[Hashable, Found]] = {}
+    seen: Set[str] = set()
+    in_headers: Dict[str, Dict[str, Found]] = {}
     for one in answers:
         own, rest = shown_file(one.file), {}
         for key, found in one.found.items():
@@ -135,13 +135,14 @@ def run(options: Any) -> int:
             name_files(options, change)
         files = Files(options)
         baseline = Baseline(options.baseline, options.update_baseline) if options.baseline else None
+        folder_of_cache = None if options.no_cache else cache_folder()
+        cache = Cache(folder_of_cache) if folder_of_cache else None
         with temporary_folder() as folder:
             printer = Printer(NAME, options.output, RULES, color=options.color)
             part, parts = options.shard
-            jobs = list(jobs_of(files, question_of(options, folder), change))[part - 1 :: parts]
+            jobs = list(jobs_of(files, question_of(options, folder, cache is not None), change))[part - 1 :: parts]
             printer.progress.expect(len(jobs))
-            answers = in_order(answer, jobs, options.jobs, instead=answer_without)
-            found = each_once(printer.progress.each(answers))
+            found = each_once(printer.progress.each(answers_of(jobs, cache, options.jobs)))
             if change:
                 found = map(change.part_of, found)
             if is_writing(options):

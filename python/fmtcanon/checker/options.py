@@ -75,6 +75,7 @@ REV... is where HEAD left REV"
     made.add_argument("--update-baseline", action="store_true", help=update)
     add_fail_on(made, tuple(RULES), ERRORS)
     add_writing(made, "write what is proposed where only a length modifier changes and the program prints the same")
+    made.add_argument("--no-cache", action="store_true", help="keep nothing, and judge again what is kept")
     made.add_output()
     made.add_color()
     made.add_jobs("files")

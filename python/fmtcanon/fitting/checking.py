@@ -3,10 +3,11 @@
 import collections
 import functools
 from dataclasses import replace
-from typing import Any, Counter, Dict, FrozenSet, Hashable, Iterator, List, NamedTuple, Optional, Sequence, Tuple
+from typing import Any, Counter, Dict, FrozenSet, Hashable, Iterable, Iterator, List, NamedTuple, Optional, Sequence, Tuple
 
 from ..compiling.calls import Call
 from ..compiling.compile_commands import CompileCommand
+from ..compiling.dependencies import Dependencies
 from ..compiling.left import Left, own_trouble
 from ..compiling.platforms import LLP64
 from ..frame.findings import NOTE, WARNING, Finding
@@ -121,14 +122,16 @@ class Found(NamedTuple):
 class Answer(NamedTuple):
     """What is found in a file. `found` are the findings by what tells them apart in all units, `counts` how many
     formats and arguments were judged and calls weren't read, `others` the calls of functions that aren't known, by the
-    option for each, and `fixes` new texts for the places of the file.
+    option for each, and `fixes` new texts for the places of the file. `read` is what the answer depends on, if it is
+    known.
     """
 
     file: str
-    found: Dict[Hashable, Found]
+    found: Dict[str, Found]
     counts: Counter[str]
     others: Counter[str]
     fixes: Fixes
+    read: Optional[Dependencies] = None
 
 
 class Job(NamedTuple):
@@ -165,7 +168,7 @@ def answer(job: Job) -> Answer:
     result, silences = empty_answer(job), Silences(texts)
     if job.why_skipped:
         result.counts.clear()
-        result.found[job.file] = Found(reporting.skipped(job.file, job.why_skipped, job.question.models, NOTE))
+        result.found[key_in(job.file)] = Found(reporting.skipped(job.file, job.why_skipped, job.question.models, NOTE))
         return result
     fixes: List[Fixes] = []
     try:
@@ -175,7 +178,8 @@ def answer(job: Job) -> Answer:
             result.counts.clear()
             return result
         with own_trouble():
-            fixes = fixes_in(result, job, silences)
+            fixes, read = fixes_in(result, job, silences)
+            result = result._replace(read=read)
     except Left as why:
         add_left(result, job.question, str(why))
     if len(fixes) < len(job.commands):
@@ -187,9 +191,9 @@ def answer(job: Job) -> Answer:
     return result._replace(fixes=merged(fixes))
 
 
-def fixes_in(result: Answer, job: Job, silences: Silences) -> List[Fixes]:
-    """Adds what is found in the units of a file, and returns the fixes of each. Raises Left once these are added that
-    could be read.
+def fixes_in(result: Answer, job: Job, silences: Silences) -> Tuple[List[Fixes], Optional[Dependencies]]:
+    """Adds what is found in the units of a file, and returns the fixes of each and what all read. Raises Left once these
+    are added that could be read.
     """
     units: List[JudgedUnit] = []
     left: Optional[Left] = None
@@ -209,17 +213,32 @@ def fixes_in(result: Answer, job: Job, silences: Silences) -> List[Fixes]:
             fixes.append(fixes_of(one.unit, one.result.faults, one.where, one.kind_of))
     if left:
         raise left
+    add_unused(result, job, units, silences)
+    return fixes, together(it.unit.read for it in units)
+
+
+def together(read: Iterable[Optional[Dependencies]]) -> Optional[Dependencies]:
+    """Returns what several units read, if it is known of each."""
+    found = Dependencies()
+    for one in read:
+        if one is None:
+            return None
+        found = found.with_more(one)
+    return found
+
+
+def add_unused(result: Answer, job: Job, units: Sequence[JudgedUnit], silences: Silences) -> None:
+    """Adds the comments of a file that silence nothing, if all of it was judged."""
     if units and silences.comments_of(job.file) and not result.counts["left"]:
         for one in units:
             one.use_comments()
         for finding in silences.unused(job.file):
-            result.found[UNUSED, job.file, finding.line, finding.column] = Found(finding)
-    return fixes
+            result.found[key_in(UNUSED, job.file, finding.line, finding.column)] = Found(finding)
 
 
 def add_left(answer: Answer, question: Question, why: str) -> None:
     """Adds that a file, or a part of it, is left."""
-    answer.found[answer.file, why] = Found(reporting.skipped(answer.file, why, question.models, WARNING))
+    answer.found[key_in(answer.file, why)] = Found(reporting.skipped(answer.file, why, question.models, WARNING))
     answer.counts["left"] += 1
 
 
@@ -243,7 +262,7 @@ def add(answer: Answer, one: JudgedUnit) -> None:
     for call, finding in findings_of_calls(result, models):
         if not one.silences.cover([(call.file, call.line)], finding.kind):
             lines = frozenset([(call.file, call.line, call.last)])
-            answer.found[call.file, call.line, finding.message] = Found(finding, lines=lines)
+            answer.found[key_in(call.file, call.line, finding.message)] = Found(finding, lines=lines)
 
 
 def findings_of_calls(result: Judged, models: Sequence[Model]) -> Iterator[Tuple[Call, Finding]]:
@@ -268,9 +287,14 @@ def place_of(fault: Fault, where: Optional[Located]) -> Optional[int]:
     return piece.place.start if piece else None
 
 
-def key_of(fault: Fault, kind: str, spot: Spot) -> Hashable:
+def key_in(*parts: object) -> str:
+    """Returns what tells a finding apart, as a text that can be kept."""
+    return repr(parts)
+
+
+def key_of(fault: Fault, kind: str, spot: Spot) -> str:
     """Returns what tells a finding apart: all uses of a directive with one type of argument are one finding, and so are
     all directives that one macro of `#if` makes wrong in a file.
     """
     what: Tuple[Any, ...] = (fault.directive, fault.given[0].name, fault.is_star)
-    return (kind, spot.file, *what) if kind == COMPOSED else (kind, *spot, *what)
+    return key_in(kind, spot.file, *what) if kind == COMPOSED else key_in(kind, *spot, *what)

@@ -5,6 +5,7 @@ from typing import Dict, List, Mapping, NamedTuple, Optional, Sequence
 
 from ..compiling.calls import Call, FormatCalls, Key
 from ..compiling.compile_commands import CompileCommand
+from ..compiling.dependencies import Dependencies
 from ..compiling.functions import Functions
 from ..compiling.left import Left
 from ..compiling.parsing import Shape, as_utf8
@@ -16,13 +17,14 @@ from ..models import Model
 
 
 class Settings(NamedTuple):
-    """The words that find the headers of this command; functions that take formats, by the options; and typedefs, each
-    with the one whose type it has.
+    """The words that find the headers of this command; functions that take formats, by the options; typedefs, each with
+    the one whose type it has; and the folder of this command if it is to be known what units read.
     """
 
     words: Sequence[str]
     functions: Mapping[str, Shape]
     types: Mapping[str, str]
+    folder: str = ""
 
 
 class Unit:
@@ -36,13 +38,22 @@ class Unit:
             raise Left(f"it is compiled for {model.name if model else 'another data model'}, and not for LP64")
         words = (command.words[0], *settings.words, *command.words[1:], "-U_FORTIFY_SOURCE")
         self.command, self.settings, self.source = dataclasses.replace(command, words=words), settings, source
-        text = self.text()
+        # What was read, if that is known.
+        self.read: Optional[Dependencies] = None
+        text = self.first_text()
         parsed = [self.parsed(text, it) for it in PLATFORMS]
         errors = parsed[0].errors()
         self.why_left: Optional[str] = errors[0] if errors else None
         self.calls: List[Dict[Key, Call]] = [it.found for it in parsed]
         self.unread, self.others = parsed[0].unread, parsed[0].others
         self.defined: Optional[bytes] = None
+
+    def first_text(self) -> str:
+        """Returns the text of the unit, and notes what was read if it is asked for."""
+        if not self.settings.folder or self.source is not None:
+            return self.text()
+        text, self.read = self.command.preprocessed_with(self.settings.folder)
+        return as_utf8(text).decode()
 
     def text(self, source: Optional[bytes] = None) -> str:
         """Returns what the compiler's preprocessor makes of the file, or of another source of it."""
