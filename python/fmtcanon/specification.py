@@ -101,6 +101,7 @@ class SpelledSpecification(NamedTuple):
 
     def pieces(self, without: Part) -> List[bytes]:
         """Returns the bytes of its flags, its width, its precision, its length modifier and its conversion."""
-        flags = "".join(it for it in self.flags if not FLAGS[it] & without).encode()
+        # Translations have the flag I, too.
+        flags = "".join(it for it in self.flags if not FLAGS.get(it, 0) & without).encode()
         others = (Part.WIDTH, Part.PRECISION, Part.MODIFIER)
         return [flags, *(b"" if it & without else self.piece(it) for it in others), self.conversion.encode("latin-1")]

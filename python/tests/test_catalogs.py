@@ -184,6 +184,7 @@ class Shapes(unittest.TestCase):
             (b"%5m%Id %010s|", (7, 12), b"%10s"),
             (b"%<PRIu64>%Zd", (9, 11), b"%zd"),
             (b"%2$<PRId64> %4$d", (0, 11), None),
+            (b"%s %I0#d", (3, 8), None),
             (b"%#<PRIx64> %#<PRId64>", (11, 14), None),
         ]:
             with self.assertRaises(fmtcanon.Refused) as caught:

@@ -5,7 +5,6 @@ Every fact comes from a call of the library, also which parts of a directive hav
 
 from __future__ import annotations
 
-import itertools
 from typing import Dict, List, Mapping, NamedTuple, Optional, Sequence, Tuple, Union
 
 import fmtcanon
@@ -100,7 +99,7 @@ def explain(text: bytes, model: Model, texts: Optional[Mapping[Model, bytes]] = 
     types = {it: types_in(other, it) for it, other in texts.items()}
     by_model = [{it: known[at] for it, known in types.items() if known} for at in range(len(found))]
     effects = found if model is Model.LP64 else effects_of(found, text, texts[Model.LP64])
-    parts = [part_of(*it) for it in zip(found, effects, itertools.repeat(text), by_model)]
+    parts = [part_of(text, one, other, it) for one, other, it in zip(found, effects, by_model)]
     parts += [errno_part(at) for at in errnos_of(text)]
     parts.sort(key=lambda it: it.start)
     return Explanation(text, tuple(parts), canonical_by_model(texts), bounds_of(text, model))
@@ -133,6 +132,12 @@ def canonical_by_model(texts: Mapping[Model, bytes]) -> Dict[Model, bytes]:
         return {}
 
 
+def unlike_key(canonical: Mapping[Model, bytes], model: Model) -> List[Model]:
+    """Returns the data models in which the canonical text in one isn't the same as the format."""
+    key = canonical[model]
+    return [it for it, other in canonical.items() if other != key and other != LIBRARY.canonical(key, it)]
+
+
 def bounds_of(text: bytes, model: Model) -> Optional[fmtcanon.Bounds]:
     """Returns how many bytes a format of the profile prints."""
     try:
@@ -142,7 +147,7 @@ def bounds_of(text: bytes, model: Model) -> Optional[fmtcanon.Bounds]:
 
 
 def part_of(
-    found: Specification, effects: Specification, text: bytes, types: Dict[Model, Type]
+    text: bytes, found: Specification, effects: Specification, types: Dict[Model, Type]
 ) -> ExplainedDirective:
     """Returns a directive, whose types are these, with what it prints; what has no effect has none in any data model."""
     one = SpelledSpecification(found._replace(needless=effects.needless, together=effects.together), text)
