@@ -393,7 +393,8 @@ int64_t fmtcanon_directives(int model, const char *text, size_t len, fmtcanon_di
  * for the kinds 13 to 17 and 19, the other offsets are those of its end and its parts; if not, they are
  * `error->at`. For FMTCANON_MISSING_ARGUMENT, `argument` is the first argument that no specification takes, and
  * the record is of the first specification that takes a later one. All other numbers are FMTCANON_NONE, and
- * `kind` and the sets 0. If the format is accepted, `*rejected` stays as it was. `rejected` may be NULL. */
+ * `kind` and the sets 0. If the format is accepted, `*rejected` stays as it was. `rejected` may be NULL.
+ * Allocates nothing. */
 int64_t fmtcanon_specifications(int model, const char *text, size_t len, fmtcanon_specification *out,
                                 size_t cap, fmtcanon_specification *rejected, fmtcanon_error *error);
 

@@ -8,7 +8,7 @@ from pathlib import Path
 from types import SimpleNamespace
 from unittest import mock
 
-from fmtcanon.checker import command
+from fmtcanon.checker import command, jobs
 from fmtcanon.compiling.attributes import constant_of, printf_indexes, returned_index
 from fmtcanon.compiling.formats import MARK_AFTER, TOKEN, type_name_of
 from fmtcanon.compiling.left import Left, own_trouble
@@ -159,8 +159,8 @@ class Names(unittest.TestCase):
             files = Files(options)
             options.database = database
             files.database = {os.path.join(work, "a.c"): ["a command"]}
-            jobs = {os.path.basename(it.file): it for it in command.jobs_of(files, None)}
-            job = jobs[name]
+            found = {os.path.basename(it.file): it for it in jobs.jobs_of(files, None)}
+            job = found[name]
             return job.why_skipped or job.why_left, bool(job.why_left), bool(job.commands)
 
     def test_names(self):

@@ -3,7 +3,8 @@
 import unittest
 
 from fmtcanon import Model, Type
-from fmtcanon.diff.compiled import NO_COMMAND, Compiled, JudgedUse
+from fmtcanon.compiling.sources import NO_COMMAND
+from fmtcanon.diff.compiled import Compiled, JudgedUse
 from fmtcanon.fitting.checking import Question
 from fmtcanon.fitting.unit import Settings
 from fmtcanon.frame.findings import Finding

@@ -8,7 +8,8 @@ import unittest.mock
 from pathlib import Path
 
 from fmtcanon import Model
-from fmtcanon.compiling.compile_commands import SOURCES, CompileCommand, names_in_rule, said
+from fmtcanon.compiling.compile_commands import SOURCES, CompileCommand, said
+from fmtcanon.compiling.dependencies import names_in_rule
 from fmtcanon.compiling.left import Left
 from fmtcanon.compiling.targets import check_model, model_in
 from fmtcanon.rewriting.units import Inclusions, Units, asked, units_of

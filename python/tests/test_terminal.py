@@ -345,7 +345,7 @@ class Help(unittest.TestCase):
     def test_helps(self):
         """The help of each command fits 79 columns, shows what is required, and has an example that it accepts."""
         for name, usage in [
-            ("check", ["-p DIR [FILE...]", "FILE..."]),
+            ("check", ["-p DIR [FILE...]", "FILE...", "--git [REV] [FILE...]"]),
             ("diff", ["OLD NEW", "--git [REV [REV]] [-- PATH...]"]),
             ("explain", ["FORMAT", "FORMAT FORMAT", "--kind KIND"]),
             ("po", ["FILE..."]),

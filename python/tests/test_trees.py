@@ -10,9 +10,10 @@ import unittest
 from pathlib import Path
 from unittest import mock
 
-from fmtcanon.diff import trees
+from fmtcanon.compiling import git as of_git
+from fmtcanon.compiling.git import Git
 from fmtcanon.diff.renames import renamed
-from fmtcanon.diff.trees import Git, changes_of
+from fmtcanon.diff.trees import changes_of
 from fmtcanon.source.files import Unreadable
 
 # The seconds that git may take here, and those in which what it runs has ended.
@@ -48,7 +49,7 @@ class Asked(InFolder):
         """How git is asked for what changed, within a time."""
         began = time.monotonic()
         try:
-            with mock.patch.object(trees, "SECONDS", LIMIT, create=True):
+            with mock.patch.object(of_git, "SECONDS", LIMIT, create=True):
                 return [it.name for it in Git().changes(["HEAD"], [])]
         except Unreadable as error:
             return str(error)
@@ -68,6 +69,37 @@ class Asked(InFolder):
             script = f'#!/bin/sh\ncase "$*" in *{command}*) sleep 9 & sleep 9;; *) exec {real} "$@";; esac\n'
             self.put("bin/git", script).chmod(0o755)
             self.assertEqual(self.soon(), f"git took more than {LIMIT} seconds", command)
+
+
+    def test_hostile_configuration(self):
+        """git runs nothing that the configuration or the attributes of a repository name."""
+        self.git("init", "-q")
+        self.put("a.c", "int a;\n" * 20)
+        self.git("add", ".")
+        self.git("commit", "-qm", "first")
+        os.rename("a.c", "b.c")
+        self.put("b.c", "int a;\n" * 20 + "int b;\n")
+        self.git("add", "-N", "b.c")
+        self.put(".gitattributes", "*.c filter=mine diff=mine merge=mine\n")
+        ran = f"touch {self.work}/ran; cat"
+        for name in ["filter.mine.clean", "filter.mine.smudge", "filter.mine.process", "diff.mine.textconv"]:
+            self.git("config", name, ran)
+        self.git("config", "filter.mine.required", "true")
+        for name in ["diff.external", "diff.mine.command", "core.fsmonitor", "core.pager", "diff.mine.xfuncname"]:
+            self.git("config", name, ran)
+        for hook in ["post-index-change", "pre-commit", "fsmonitor-watchman"]:
+            self.put(f".git/hooks/{hook}", f"#!/bin/sh\n{ran}\n").chmod(0o755)
+        os.utime("b.c", (1, 1))
+        Path("ran").unlink(missing_ok=True)
+        for is_cached in (False, True):
+            names = {it.name for it in Git().changes(["HEAD"], [], is_cached=is_cached)}
+            self.assertEqual((names, os.path.exists("ran")), ({"b.c"}, False))
+        # The filter runs if nothing turns it off.
+        subprocess.run(["git", "diff-index", "-M", "HEAD"], check=False, capture_output=True, timeout=60)
+        self.assertTrue(os.path.exists("ran"))
+        self.git("config", "filter.a=b.clean", ran)
+        with self.assertRaises(Unreadable):
+            list(Git().changes(["HEAD"], []))
 
 
 def text_of(chosen, count):

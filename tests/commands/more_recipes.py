@@ -106,11 +106,13 @@ def try_entries(tool, trials):
 
 
 def test_files(module, trials):
-    """The hook fmtcanon-diff is run for the files that the command reads."""
+    """The hooks for what git has are run for the files that the commands read."""
     from fmtcanon.source.files import SOURCES
 
     text = (TOP / ".pre-commit-hooks.yaml").read_text(encoding="utf-8")
-    [pattern] = re.findall(r"id: fmtcanon-diff\n(?:  .*\n)*?  files: (.*)$", text, flags=re.MULTILINE)
+    patterns = re.findall(r"id: fmtcanon-(?:diff|check)\n(?:  .*\n)*?  files: (.*)$", text, flags=re.MULTILINE)
+    trials.expect("their hooks have one pattern", (len(patterns), len(set(patterns))), (2, 1))
+    pattern = patterns[0]
     names = ["c", "h", "y", "l", "m", "mm", "pc", "ec", "cpp", "c++", "h++", "inc", "C", "H", "def"]
     for name in [*(f"src/a.{it}" for it in names), "a.po", "a.c.txt", "c", "a.cs", "Makefile", "a.h.in"]:
         trials.expect(f"the hook for {name}", bool(re.search(pattern, name)), bool(SOURCES.fullmatch(name)))
@@ -120,7 +122,7 @@ def test_files(module, trials):
 def try_workflow(tool, trials):
     """The command of the workflow, on a branch."""
     [command] = re.findall(
-        r"^ *- run: (fmtcanon-.*)$", (CI / "workflow.yml").read_text(encoding="utf-8"), flags=re.MULTILINE
+        r"^ *- run: (fmtcanon-diff .*)$", (CI / "workflow.yml").read_text(encoding="utf-8"), flags=re.MULTILINE
     )
     # A pull request is checked out as its merge with a branch, which then goes on.
     tool.put("other.c", OLD)

@@ -25,6 +25,8 @@ class Tool:
             "PYTHONPATH": str(TOP / "python"),
             "PYTHONDONTWRITEBYTECODE": "1",
             "LC_ALL": "C.UTF-8",
+            # There is no folder for a cache.
+            "XDG_CACHE_HOME": f"{os.devnull}/none",
             "GIT_CONFIG_GLOBAL": os.devnull,
             "GIT_CONFIG_SYSTEM": os.devnull,
             "GIT_CEILING_DIRECTORIES": str(self.work.parent),

@@ -13,10 +13,12 @@ from tests.documents.test_words import pages
 from tests.frame.cases import tests_of
 from tests.frame.harness import TOP, fences, model_rows, section, usage_texts
 from tests.library import more_fewer_peers as fewer_peers
+from tests.library import more_sentences
 from tests.library import test_bounds_peers as bounds_peers
 from tests.library import test_library as library
 from tests.library import test_literals as literals
 from tests.library import test_opaque as opaque
+from tests.library import test_sentences as sentences
 from tests.library import test_whole_types as whole_types
 from tests.mutants import clauses, mutant_files, unedited
 from tests.program import more_linear as linear
@@ -147,6 +149,8 @@ def tested_counts():
     numbers = [sum(1 for _ in bounds_peers.directives()), bounds_peers.WHOLE, sum(1 for _ in bounds_peers.asked())]
     yield r"(\d+) directives, (\d+) formats, and (\d+) directives", numbers
     yield r"`fmtcheck` of libbsd \| (\d+) pairs", [sum(1 for _ in fewer_peers.pairs())]
+    told = [it.PRINTED for it in (sentences, more_sentences)] + [it.TOLD for it in (sentences, more_sentences)]
+    yield r"have different sentences \| (\d+) and (\d+) directives; (\d+) and (\d+) \|", told
     yield from limits()
     yield r"the rows and (\d+) random formats and pairs", [more_module.RANDOM]
     yield r"`fmtcanon-explain`, for (\d+) random formats and (\d+) pairs; what Chromium", [more_page.FORMATS, more_page.PAIRS]

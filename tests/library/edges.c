@@ -471,7 +471,6 @@ static int64_t growing(int call, char *out, size_t cap, fmtcanon_comparison *fou
     if (call == 3) return fmtcanon_encode_literal("a\n", 2, out, cap);
     if (call == 4) return fmtcanon_arguments(LP64, more, sizeof more - 1, (unsigned char *)out, cap, e);
     if (call == 7) return fmtcanon_whole_canonical(LP64, other, sizeof other - 1, out, cap, e);
-    if (call == 8) return fmtcanon_specifications(LP64, more, sizeof more - 1, (void *)out, cap / sizeof(fmtcanon_specification), NULL, e);
     if (call == 6) return fmtcanon_directives(LP64, more, sizeof more - 1, (void *)out, cap / sizeof(fmtcanon_directive), e);
     return fmtcanon_compare(LP64, "%d%s", 4, "%d%.4095s", 9, out, cap, found, e);
 }
@@ -481,7 +480,7 @@ static void refusals_of_memory(void)
     static uint64_t room[2048];
     char *out = (char *)room;
     int call, n;
-    for (call = 0; call < 9; call++) {
+    for (call = 0; call < 8; call++) {
         for (n = 0;; n++) {
             fmtcanon_error e = {77, 78, 79};
             fmtcanon_comparison found = {77, 78, 79};
@@ -516,7 +515,7 @@ static void memory_given_back(void)
     size_t i;
     int call;
     for (i = 0; i < COUNT(rooms); i++) {
-        for (call = 0; call < 9; call++) {
+        for (call = 0; call < 8; call++) {
             growths = 0;
             WANT(growing(call, out, rooms[i], &found, &e) > 0);
             WANT(growths > 0 && held == 0 && (call == 1 || call == 5 || growths == 1));
@@ -557,7 +556,7 @@ static void without_memory(void)
     fmtcanon_fits_models("%2$s%1$d", 8, "%d%s", 4, &e);
     fmtcanon_directives(LP64, "%*.*f", 5, NULL, 0, &e);
     fmtcanon_directives(LP64, "%d%d%d%d%d%d%d%d%d%d%d%d%d%d%d%d", 32, NULL, 0, &e);
-    fmtcanon_specifications(LP64, "%d%d%d%d%d%d%d%d%d%d%d%d%d%d%d%-+05.2d", 39, NULL, 0, NULL, &e);
+    fmtcanon_specifications(LP64, "%d%d%d%d%d%d%d%d%d%d%d%d%d%d%d%d%d%d%d%d%d%d%d%d%d%d%d%d%d%d%d%-+05.2d", 70, NULL, 0, NULL, &e);
     fmtcanon_specifications(LP64, "%2$d", 4, NULL, 0, NULL, &e);
     WANT(growths == 0);
 }

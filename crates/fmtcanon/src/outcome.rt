@@ -19,8 +19,8 @@ use std::io::Write;
 
 /// How a run ended, or why a question has no answer.
 ///
-/// Where something is refused, invalid or wrong, or memory was refused, nothing was written, except what
-/// `stream` had settled before, and over records the replies to the first of them.
+/// If something is refused, invalid or wrong, or memory is out, nothing was written, except the text that `stream`
+/// had settled before, and the replies to earlier records.
 #[derive(Drop)]
 pub enum Outcome {
     /// All was written.

@@ -30,7 +30,6 @@ use Rattle.fmtcanon_c.specs.declared.directives.TheConstants.{NO_ARGUMENT}
 use Rattle.fmtcanon_c.specs.declared.interface.CError.{CError}
 use Rattle.fmtcanon_c.specs.declared.specifications.CSpecification.{CSpecification}
 use Rattle.fmtcanon_c.specs.declared.specifications.TheConstants.{NONE}
-use Rattle.fmtcanon_c.specs.Calls.{HasSome, IsOut}
 use Rattle.fmtcanon_c.specs.Directives.{index_or_none}
 use Rattle.fmtcanon_c.specs.Errors.{IsRefusalCode}
 
@@ -82,6 +81,11 @@ ArePut model listed out out_now = MatchBool (leb (length listed) (length out))
     × (out_now ≡ records ++ drop (length listed) out))
     (out_now ≡ out)
 
+-- the specifications of an accepted text are counted, and put so
+abbrev pub HasPut : Model → Text → List CSpecification → ℤ → List CSpecification → Type 0
+HasPut model t out code out_now = (listed : List SpecificationSpan) × HasSpecifications model t listed × (code ≡ pos (length listed))
+    × ArePut model listed out out_now
+
 -- a record with these numbers alone
 abbrev pub known_record : ℕ → ℕ → PartOffsets → ℕ → CSpecification
 known_record begin end offsets argument = record {
@@ -132,12 +136,9 @@ abbrev pub IsRejectedAs : Model → Text → ℤ → CSpecification → CError �
 IsRejectedAs model t code rejected error = (refusal : Refusal) × IsPosixRefusedAt model t refusal.kind refusal.at
     × IsRefusalCode First refusal code error × IsRejection model t refusal.kind refusal.at rejected
 
--- The records of the specifications are put, and their number is answered; or the text is rejected, or memory is out.
+-- The records of the specifications are put, and their number is answered; or the text is rejected.
 abbrev pub PutsSpecifications : Model → Text → List CSpecification → CSpecification → CError → ℤ → List CSpecification
     → CSpecification → CError → Type 0
 PutsSpecifications model t out rejected error code out_now rejected_now error_now =
-    ((listed : List SpecificationSpan) × HasSpecifications model t listed × (code ≡ pos (length listed))
-    × ArePut model listed out out_now × (rejected_now ≡ rejected) × (error_now ≡ error))
-    ⊎ ((out_now ≡ out)
-    × (IsRejectedAs model t code rejected_now error_now
-    ⊎ ((rejected_now ≡ rejected) × IsOut (HasSome (HasSpecifications model t)) code error error_now)))
+    (HasPut model t out code out_now × (rejected_now ≡ rejected) × (error_now ≡ error))
+    ⊎ ((out_now ≡ out) × IsRejectedAs model t code rejected_now error_now)

@@ -1,26 +1,23 @@
 //! The conversion specifications of a format with their parts, as records.
-ghost use Rattle.std.specs.Prelude.{◌≡◌, ◌<◌, ◌≤◌, ◌^◌, length, pos};
-ghost use Rattle.std.specs.List.{AllByRecursion};
+ghost use Rattle.std.specs.Prelude.{◌≡◌, ◌≤◌, [], List, length};
 ghost use Rattle.pf_values.specs.meaning.Text.{Text};
+ghost use Rattle.pf_posix.specs.declared.directive_spans.DirectiveSpan.{DirectiveSpan};
 ghost use Rattle.pf_posix.specs.OpaqueParts.{amount_of};
 ghost use Rattle.pf_posix.specs.Refusals.{IsPosixRefusedAt};
 ghost use Rattle.pf_posix.specs.SpecificationSpans.{HasItsParts};
+ghost use Rattle.pf_posix.specs.SpecificationWalks.{IsAhead, IsBefore};
 ghost use Rattle.fmtcanon_c.specs.Models.{InModel};
-ghost use Rattle.fmtcanon_c.specs.Specifications.{ArePut, IsRecordOf, IsRejectedAs, PutsSpecifications, bit_of, known_record, missing_record, number_or_none, part_bits, rejected_record};
+ghost use Rattle.fmtcanon_c.specs.Specifications.{HasPut, IsRecordOf, IsRejectedAs, PutsSpecifications, bit_of, known_record, missing_record, number_or_none, part_bits, rejected_record};
 
 use crate::directives::NO_ARGUMENT;
-use crate::interface::{CError, NO_MEMORY, NO_MODEL, model_of, put_refusal};
+use crate::interface::{CError, NO_MODEL, model_of, put_refusal};
 use pf_posix::{
     MissingArgument, OpaqueAmount, PartOffsets, RefusedSpecification, SpecificationSpan,
-    missing_argument, refused_specification, specification_list, specification_list_vec,
+    SpecificationWalk, missing_argument, refused_specification,
 };
-use pf_text::{Refusal, Side, TextFault};
+use pf_text::{Refusal, Side};
 use pf_values::{Flag, Model, RefusalKind};
 use pf_whole::{Part, PartSet, needless_parts};
-use std::alloc::Global;
-
-// How many records are made with no allocation.
-const ROOM: usize = 16;
 
 /// `FMTCANON_NONE`
 pub(crate) const NONE: u64 = u64::MAX;
@@ -55,18 +52,17 @@ pub struct CSpecification {
     pub kind: u32,
     /// The bits of its parts.
     pub parts: u32,
-    /// The bits of those that have no effect, each by itself.
+    /// The bits of the parts that have no effect, each by itself.
     pub needless: u32,
-    /// The bits of some of these, which have none together.
+    /// The bits of some needless parts that have no effect together, either.
     pub together: u32,
 }
 
-/// Puts a record for each conversion specification into a buffer that has room for them, and one of what is
-/// known of the specification in which a format is rejected. The number of specifications, or the code of an
-/// error.
+/// Puts a record for each conversion specification of a format into `out`, if it has room for all. If the format
+/// is rejected, puts the specification in question into `rejected`, as far as it can be read. Returns the number
+/// of specifications, or the code of an error.
 #[unsafe(no_mangle)]
 pub extern "C" fn fmtcanon_specifications(
-    alloc: Global,
     model: i32,
     text: &[u8],
     out: &mut [CSpecification],
@@ -80,61 +76,39 @@ pub extern "C" fn fmtcanon_specifications(
     let Some(model) = model_of(model) else {
         return NO_MODEL;
     };
-    let mut listed = [SpecificationSpan::default(); ROOM];
-    match specification_list(model, text, &mut listed) {
-        Ok(count) => {
-            if count > ROOM as u64 {
-                return put_many(alloc, model, text, out, rejected, error);
-            }
-            put_records(model, out, &listed[..count as usize])
-        }
+    match SpecificationWalk::over(model, text) {
+        Ok(walk) => put_records(model, &walk, out),
         Err(refusal) => put_rejected(model, text, refusal, rejected, error),
-    }
-}
-
-// Puts a record for each of any number of specifications.
-#[inline(never)]
-fn put_many(
-    alloc: Global,
-    model: Model,
-    text: &[u8],
-    out: &mut [CSpecification],
-    rejected: &mut CSpecification,
-    error: &mut CError,
-) -> i64
-    ensures { PutsSpecifications model text.now out.old rejected.old error.old result out.new rejected.new error.new }
-{
-    match specification_list_vec(alloc, model, text) {
-        Ok(listed) => put_records(model, out, listed.as_slice()),
-        Err(TextFault::Refused(refusal)) => put_rejected(model, text, refusal, rejected, error),
-        Err(TextFault::Memory) => NO_MEMORY,
     }
 }
 
 // Puts a record for each specification of a format into a buffer that has room for all, and leaves any other as
 // it is. Returns how many there are.
-fn put_records(model: Model, out: &mut [CSpecification], listed: &[SpecificationSpan]) -> i64
-    requires few { length listed.now < 2 ^ 63 }
-    requires parts { (t : Text) × AllByRecursion (HasItsParts t) listed.now }
-    ensures count { result ≡ pos (length listed.now) }
-    ensures put { ArePut model listed.now out.old out.new }
+fn put_records(model: Model, walk: &SpecificationWalk, out: &mut [CSpecification]) -> i64
+    requires { (t : Text) × IsBefore model t walk.now }
+    ensures { (t : Text) → IsBefore model t walk.now → HasPut model t out.old result out.new }
 {
-    if listed.len() <= out.len() {
-        put_each(model, out, listed);
+    if walk.most() > out.len() as u64 {
+        let count = walk.count();
+        if count > out.len() as u64 {
+            return count as i64;
+        }
     }
-    listed.len() as i64
+    put_each(model, walk, out)
 }
 
-fn put_each(model: Model, out: &mut [CSpecification], listed: &[SpecificationSpan])
-    requires room { length listed.now ≤ length out.old }
-    requires parts { (t : Text) × AllByRecursion (HasItsParts t) listed.now }
-    ensures { ArePut model listed.now out.old out.new }
+fn put_each(model: Model, walk: &SpecificationWalk, out: &mut [CSpecification]) -> i64
+    requires before { (t : Text) × IsBefore model t walk.now }
+    requires room { (t : Text) (all : List DirectiveSpan) → IsAhead t walk.now all [] → length all ≤ length out.old }
+    ensures { (t : Text) → IsBefore model t walk.now → HasPut model t out.old result out.new }
 {
-    let mut at = 0;
-    while at < listed.len() {
-        out[at] = record_of(model, &listed[at]);
-        at += 1;
+    let mut walk = *walk;
+    let mut count = 0;
+    while let Some(span) = walk.next() {
+        out[count] = record_of(model, &span);
+        count += 1;
     }
+    count as i64
 }
 
 // The record of a specification.
@@ -198,7 +172,7 @@ fn bit_of(set: PartSet, part: Part, bit: u32) -> u32
     0
 }
 
-// Leaves what is known of the specification in which a format is rejected, and the refusal, and gives its code.
+// Fills the record and the error of a rejected format. Returns the code of the refusal.
 fn put_rejected(
     model: Model,
     text: &[u8],
@@ -242,7 +216,7 @@ fn rejected_record(at: u64, found: Option<RefusedSpecification>) -> CSpecificati
     }
 }
 
-// All at one offset.
+// The offsets of unknown parts: all are the same.
 fn offsets_at(at: u64) -> PartOffsets
     ensures { result ≡ record { flags = at; width = at; precision = at; modifier = at } }
 {
@@ -254,7 +228,7 @@ fn offsets_at(at: u64) -> PartOffsets
     }
 }
 
-// A record with no more than this.
+// A record whose other members are empty.
 fn known_record(begin: u64, end: u64, offsets: PartOffsets, argument: u64) -> CSpecification
     ensures { result ≡ known_record begin end offsets argument }
 {

@@ -1,6 +1,7 @@
 -- Canonical texts that are put together on the stack. This project's own.
-use Rattle.std.specs.Prelude.{◌≡◌, length, ⊤}
+use Rattle.std.specs.Prelude.{◌≡◌, ◌<◌, length}
 use Rattle.pf_values.specs.meaning.Text.{Text}
+use Rattle.pf_canon.specs.declared.canonical_texts.TheConstants.{STACK_ROOM}
 use Rattle.pf_canon.specs.declared.short_texts.Room.{Room}
 use Rattle.pf_canon.specs.declared.short_texts.Room.TheVariants as rooms
 use Rattle.pf_canon.specs.declared.short_texts.ShortText.{ShortText}
@@ -14,8 +15,8 @@ short_text short = short.builder.buffer.items
 abbrev pub IsUnused : ShortText → Type 0
 IsUnused short = given_len (λ v. v.items) short.builder ≡ 0
 
--- the canonical text is there, or has this length, or the format wasn't read
-abbrev pub HasRoom : (Text → Type 0) → ShortText → Room → Type 0
-HasRoom IsCanonical short rooms.Enough = IsCanonical (short_text short)
-HasRoom IsCanonical short (rooms.Counted len) = (c : Text) × IsCanonical c × (len ≡ length c)
-HasRoom IsCanonical short rooms.Unread = ⊤
+-- the canonical text of a format is there, or has this length, or the format is longer than the room
+abbrev pub HasRoom : (Text → Type 0) → Text → ShortText → Room → Type 0
+HasRoom IsCanonical t short rooms.Enough = IsCanonical (short_text short)
+HasRoom IsCanonical t short (rooms.Counted len) = (c : Text) × IsCanonical c × (len ≡ length c)
+HasRoom IsCanonical t short rooms.Unread = STACK_ROOM < length t

@@ -60,7 +60,7 @@ impl ShortText {
         requires unused { IsUnused self.old }
         requires front { IsVerbatimFront text.now front.now }
         ensures { MatchResult result
-            (HasRoom (HasCanonicalIn L.has_front (front_model front.now) text.now) self.new)
+            (HasRoom (HasCanonicalIn L.has_front (front_model front.now) text.now) text.now self.new)
             (λ refusal. L.refuses (front_model front.now) text.now refusal.kind refusal.at) }
     {
         if STACK_ROOM < text.len() {

@@ -1,6 +1,6 @@
 -- Two directives by what they are reduced to.
 use Rattle.std.proofs.Common.{◌≡◌, ◌≢◌, ℕ, zero, suc, ◌+◌, List, [], ◌∷◌, ◌++◌, length, map, replicate, refl, sym, ap, ◌∙◌, subst, arith, inl, inr, Bool, true}
-use Rattle.std.proofs.Common.{false, IsFalse, IsTrue, MatchBool}
+use Rattle.std.proofs.Common.{false, IsFalse, IsTrue}
 use Rattle.std.proofs.lemmas.List.{length-replicate}
 use Rattle.pf_values.specs.declared.models.Model.{Model}
 use Rattle.pf_values.specs.meaning.Arguments.{HasTypes}
@@ -11,7 +11,7 @@ use Rattle.pf_values.specs.meaning.Printing.{PrintAlike}
 use Rattle.pf_values.specs.meaning.Specification.{Specification}
 use Rattle.pf_values.specs.meaning.Text.{Text, space, zero_digit}
 use Rattle.pf_values.specs.Candidates.{IsProbe}
-use Rattle.pf_values.proofs.Alike.{AreAlike, alike-printed, alike_sym, alike_trans, all_printed, all_printed-is}
+use Rattle.pf_values.proofs.Alike.{AreAlike, alike-printed, printed-alike, alike_sym, alike_trans, all_printed, all_printed-is}
 use Rattle.pf_reduce.specs.Reducing.{IsNormalCore, IsReducedTo, core_of}
 use Rattle.pf_reduce.specs.declared.results.Core.{Core}
 use Rattle.pf_reduce.specs.declared.results.Core.TheVariants.{Normal, Silent}
@@ -125,7 +125,24 @@ module _ (model : Model) (s t : Specification) (r q : Reduced) (first : IsReduce
         (tail_claim model (length (reduced_items r) + length (reduced_items q)) (reduced_items r) (reduced_items q) [] (omega arith)
         (reduced_canonical model s r first) (reduced_canonical model t q second) reduced_types (agree same) (inl refl)).1
 
-    pub alike_by_parts : (told : Bool) → (IsTrue told → HaveSameParts r q) → (IsFalse told → ¬ HaveSameParts r q)
-        → MatchBool told (PrintAlike model (Directive s ∷ []) (Directive t ∷ [])) (¬ PrintAlikeOnCandidates model s t)
-    alike_by_parts true h g = same_parts_alike (h refl)
-    alike_by_parts false h g = λ alike. g refl (alike_same_parts alike)
+  -- those that print the same are, too
+  pub printed_same_parts : PrintAlike model (Directive s ∷ []) (Directive t ∷ []) → HaveSameParts r q
+  printed_same_parts h =
+      let alike = printed-alike model (Directive s ∷ []) (Directive t ∷ []) h in
+      let types_are : types model (reduced_items r) ≡ types model (reduced_items q) =
+      sym first_alike.same_types ∙ alike.same_types ∙ second_alike.same_types in
+      parts_of_items r q
+      (tail_claim model (length (reduced_items r) + length (reduced_items q)) (reduced_items r) (reduced_items q) [] (omega arith)
+      (reduced_canonical model s r first) (reduced_canonical model t q second) types_are (agreed alike) (inl refl)).1
+    where
+      agreed : AreAlike model (Directive s ∷ []) (Directive t ∷ []) → AgreeOnProbes model (reduced_items r) (reduced_items q) []
+      agreed alike p i =
+          let probe : IsProbe model (types model (Directive s ∷ [])) p = subst (λ ts. IsProbe model ts p) (sym first_alike.same_types) i in
+          let typed : HasTypes model p (types model (Directive s ∷ [])) = probe_typed model (types model (Directive s ∷ [])) p probe in
+          let also : HasTypes model p (types model (Directive t ∷ [])) = subst (HasTypes model p) alike.same_types typed in
+          sym (first_alike.same_bytes p typed) ∙ alike.same_bytes p typed ∙ second_alike.same_bytes p also
+
+-- what isn't other is so
+pub told_parts : {A : Type 0} (told : Bool) → (IsFalse told → ¬ A) → A → IsTrue told
+told_parts true other a = refl
+told_parts false other a = absurd (other refl a)

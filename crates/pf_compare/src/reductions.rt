@@ -1,5 +1,5 @@
 //! Whether two directives print the same, by what they are reduced to.
-ghost use Rattle.std.specs.Prelude.{◌≡◌, ◌≢◌, ◌∷◌, [], IsFalse, IsTrue, MatchBool};
+ghost use Rattle.std.specs.Prelude.{◌≡◌, ◌≢◌, ◌↔◌, ◌∷◌, [], IsFalse, IsTrue};
 ghost use Rattle.pf_values.specs.declared.models.Model.{Model};
 ghost use Rattle.pf_values.specs.meaning.DataModel.{arg_type};
 ghost use Rattle.pf_values.specs.meaning.Items.{Directive as item_of};
@@ -12,12 +12,11 @@ use crate::differences::are_equal;
 use pf_reduce::{Core, Reduced, reduce};
 use pf_values::{Directive, Model};
 
-/// Whether two directives of one type print the same for each argument. If they don't, some
-/// candidate tells them apart.
-pub(crate) fn print_alike(model: Model, first: &Directive, second: &Directive) -> bool
-    requires { arg_type model first.now ≡ arg_type model second.now }
-    ensures { MatchBool result (PrintAlike model (item_of first.now ∷ []) (item_of second.now ∷ []))
-        (¬ PrintAlikeOnCandidates model first.now second.now) }
+/// Returns whether two directives take an argument of one type, and print the same for each such argument.
+pub fn print_alike(model: Model, first: &Directive, second: &Directive) -> bool
+    ensures alike { IsTrue result ↔ PrintAlike model (item_of first.now ∷ []) (item_of second.now ∷ []) }
+    ensures unlike { arg_type model first.now ≡ arg_type model second.now
+        → IsFalse result → ¬ PrintAlikeOnCandidates model first.now second.now }
 {
     let first_reduced = reduce(model, first);
     let second_reduced = reduce(model, second);

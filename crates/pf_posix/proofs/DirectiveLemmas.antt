@@ -167,6 +167,16 @@ module _ (model : Model) (t : Text) (all done : List DirectiveSpan) (at next : �
 pub other_byte : (byte : ℕ) → byte ≢ 37 → (byte == 37) ≡ false
 other_byte byte h = grind (arith, nat_tests)
 
+-- all that are listed are the specifications of the text
+pub has_listed : (model : Model) (t : Text) (types : List ArgumentType) (given : HasArguments model t types) (done : List DirectiveSpan)
+    → done ≡ directives_from model 0 0 t given.items given.reads → HasDirectives model t done
+has_listed model t types given done are = record {
+  types = types;
+  accepted = given;
+  directives_are = are;
+  typed = subst (AllByRecursion (TakesFrom types)) (sym are) (all_typed model types t given.items given.reads given.types_are);
+}
+
 -- a walk through an accepted text, whose specifications by then are at the front of a slice
 pub record IsListing (model : Model) (t : Text) (walk : Walk) (fetched count : ℕ) (old new : List DirectiveSpan) : Type 0 where
   pub types : List ArgumentType
@@ -253,16 +263,5 @@ module _ (model : Model) (t : Text) where
       go (item ∷ later) reads e = let no : item ∷ later ≡ [] = items_once _ (item ∷ later) [] reads (drop_all walk.at t over) in cc
       go [] reads e = sym (append-nil h.done) ∙ sym e
 
-    -- and these are the specifications of the text
-    pub has_listed : length t ≤ walk.at → HasDirectives model t h.done
-    has_listed over =
-        let are = all_listed over in
-        record {
-          types = h.types;
-          accepted = h.given;
-          directives_are = are;
-          typed = subst (AllByRecursion (TakesFrom h.types)) (sym are) (all_typed model h.types t h.given.items h.given.reads h.given.types_are);
-        }
-
     pub listing_ends : length t ≤ walk.at → HasDirectiveCount model t old new count
-    listing_ends over = record { directives = h.done; listed = has_listed over; count_is = h.count_is; front = h.front }
+    listing_ends over = record { directives = h.done; listed = has_listed model t h.types h.given h.done (all_listed over); count_is = h.count_is; front = h.front }

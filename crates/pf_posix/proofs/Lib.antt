@@ -31,5 +31,6 @@ mod Examples
 pub mod DirectiveLemmas
 pub mod ErrnoAside
 pub mod SpecificationSpanLemmas
+pub mod SpecificationWalkLemmas
 mod RefusedSpecificationLemmas
 mod MissingArgumentLemmas

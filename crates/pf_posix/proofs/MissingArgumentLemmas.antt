@@ -4,27 +4,22 @@ use Rattle.std.specs.Prelude.{Option, Some, None, ◌⊎◌, MatchBool, is_some}
 use Rattle.std.specs.List.{AllByRecursion}
 use Rattle.std.proofs.lemmas.Bool.{cases_lt, eq-eqb, eqb-true}
 use Rattle.std.proofs.lemmas.Bool.Decides.{nat_tests}
-use Rattle.std.proofs.lemmas.List.{append-nil, append_assoc, drop_all}
+use Rattle.std.proofs.lemmas.List.{append-nil, append_assoc}
 use Rattle.pf_values.specs.declared.limits.TheConstants.{MAX_NUMBER, MAX_TEXT_LEN}
 use Rattle.pf_values.specs.declared.models.Model.{Model}
 use Rattle.pf_values.specs.declared.refusals.RefusalKind.TheVariants.{AltUndefined, BadPercent, CountUndefined, GroupUndefined, LengthUndefined, MissingArgument, NulByte, PrecisionUndefined, TooLong, ZeroUndefined}
 use Rattle.pf_values.specs.meaning.Text.{Text}
 use Rattle.pf_posix.specs.declared.directive_spans.DirectiveSpan.{DirectiveSpan}
 use Rattle.pf_posix.specs.declared.fetches.Fetch.{Fetch}
-use Rattle.pf_posix.specs.declared.missing_arguments.Place.{Place}
 use Rattle.pf_posix.specs.declared.numbered.TheConstants.{ROOM}
-use Rattle.pf_posix.specs.declared.specification_spans.SpecificationSpan.{SpecificationSpan}
 use Rattle.pf_posix.specs.declared.specifications.Numbering.{Numbering}
 use Rattle.pf_posix.specs.declared.specifications.Numbering.TheVariants.{Numbered}
-use Rattle.pf_posix.specs.declared.specifications.Specification.{Specification as Read}
 use Rattle.pf_posix.specs.Directives.{argument_index, directive_between, directives_from, star_index}
-use Rattle.pf_posix.specs.DirectivesInText.{IsBehindItem, IsListedBehind, IsListedTo}
-use Rattle.pf_posix.specs.Halts.{offsets_read}
 use Rattle.pf_posix.specs.Items.{Byte, Errno, PosixItem, ReadsPosix, Specification, errno_letter, fetched}
-use Rattle.pf_posix.specs.MissingArguments.{AreMarked, IsAhead, IsFirstLater, is_index, takes, takes_any, takes_later}
-use Rattle.pf_posix.specs.PartsInText.{specification_read}
+use Rattle.pf_posix.specs.MissingArguments.{AreMarked, IsFirstLater, is_index, takes, takes_any, takes_later}
 use Rattle.pf_posix.specs.Refusals.{HasGap, IsPosixRefusalCause, IsPosixRefusedAt, IsWrong, MayFollow, numbering_by, numbering_of}
-use Rattle.pf_posix.specs.SpecificationSpans.{ArePosixPartsAt, HasItsParts}
+use Rattle.pf_posix.specs.SpecificationWalks.{IsAhead}
+use Rattle.pf_posix.specs.declared.specification_walk.SpecificationWalk.{SpecificationWalk}
 use Rattle.pf_posix.specs.Specifications.{Amount, Fetched, Given, PosixSpecification}
 use Rattle.pf_posix.specs.Types.{IsFetched, conversion_type, fetch, fetches, star_fetches}
 use Rattle.pf_text.proofs.Sound.{find_holds}
@@ -32,50 +27,10 @@ use Rattle.pf_posix.specs.Defined.{is_undefined_as}
 use Rattle.pf_posix.proofs.Agreeing.{all_back, all_front}
 use Rattle.pf_posix.proofs.Bounds.{IsWithin, items_within}
 use Rattle.pf_posix.proofs.DifferenceLemmas.{fetched_few}
-use Rattle.pf_posix.proofs.ItemsOnce.{items_once}
 use Rattle.pf_posix.proofs.OneState.{never_empty}
 use Rattle.pf_posix.proofs.PartLemmas.{bool_no}
 use Rattle.pf_posix.proofs.PartStates.{state_of}
 use Rattle.pf_posix.proofs.Steps.{IsStateAfter}
-use Rattle.pf_posix.proofs.SpecificationSpanLemmas.{its_parts}
-
--- going on over a text
-module _ (model : Model) (t : Text) where
-  pub ahead_start : (items : List PosixItem) (reads : ReadsPosix t items) → length t ≤ MAX_TEXT_LEN
-      → IsAhead model t (record { at = 0; fetched = 0 }) (directives_from model 0 0 t items reads) []
-  ahead_start items reads limit = record {
-    listed = record { items = items; reads = reads; within = omega arith; all_are = refl };
-    limit = limit;
-    few = omega arith;
-  }
-
-  module _ (place : Place) (all done : List DirectiveSpan) (h : IsAhead model t place all done) (end : ℕ) (low : place.at < end) where
-    pub ahead_passed : IsListedTo model t all end place.fetched done → IsAhead model t (record place { at = end }) all done
-    ahead_passed listed = record { listed = listed; limit = h.limit; few = omega (arith, h.few, low) }
-
-    pub ahead_found : (read : Read) → IsListedBehind model t all place.at place.fetched done (Some read) end
-        → IsBehindItem t h.listed.items (Some read) end → ArePosixPartsAt t place.at end (offsets_read read) (specification_read read)
-        → (span : SpecificationSpan) → span.directive ≡ directive_between model place.at end place.fetched (specification_read read)
-        → span.parts ≡ read.parts → span.offsets ≡ offsets_read read
-        → (more : ℕ) → more ≡ length (fetches model (specification_read read)) → more ≤ 3
-        → IsAhead model t (record { at = end; fetched = place.fetched + more }) all (done ++ span.directive ∷ []) × HasItsParts t span
-    ahead_found read listed behind places span spanned parts offsets more counted many =
-        let own = length (fetches model (specification_read read)) in
-        let spanned_there = subst (λ d. IsListedTo model t all end (place.fetched + own) (done ++ d ∷ [])) (sym spanned) listed in (
-          record {
-            listed = subst (λ n. IsListedTo model t all end (place.fetched + n) (done ++ span.directive ∷ [])) (sym counted) spanned_there;
-            limit = h.limit;
-            few = omega (arith, h.few, low, many);
-          },
-          its_parts model t place.at end place.fetched read ((subst (ReadsPosix (drop place.at t)) behind.1 h.listed.reads).2.1) places span spanned parts offsets,
-        )
-
-  pub ahead_ends : (place : Place) (all done : List DirectiveSpan) → IsAhead model t place all done → length t ≤ place.at → done ≡ all
-  ahead_ends place all done h over = go h.listed.items h.listed.reads h.listed.all_are where
-    go : (items : List PosixItem) (reads : ReadsPosix (drop place.at t) items)
-        → all ≡ done ++ directives_from model place.at place.fetched (drop place.at t) items reads → done ≡ all
-    go (item ∷ later) reads e = let no : item ∷ later ≡ [] = items_once _ (item ∷ later) [] reads (drop_all place.at t over) in cc
-    go [] reads e = sym (append-nil done) ∙ sym e
 
 -- marks
 pub takes_any_push : (directives : List DirectiveSpan) (d : DirectiveSpan) (index : ℕ)
@@ -107,17 +62,18 @@ marked_push old one two new directives d e f g marked first second third index l
     regrouped m a w p = grind arith
 
 -- the first that takes a later one
-pub first_is : (model : Model) (t : Text) (place : Place) (all done : List DirectiveSpan) (d : DirectiveSpan) (argument : ℕ)
-    → IsAhead model t place all (done ++ d ∷ []) → AllByRecursion (λ e. takes_later e argument ≡ false) done → takes_later d argument ≡ true
+pub first_is : (t : Text) (walk : SpecificationWalk) (all done : List DirectiveSpan) (d : DirectiveSpan) (argument : ℕ)
+    → IsAhead t walk all (done ++ d ∷ []) → AllByRecursion (λ e. takes_later e argument ≡ false) done → takes_later d argument ≡ true
     → IsFirstLater all argument d
-first_is model t place all done d argument h none later = record {
-  before = done;
-  after = directives_from model place.at place.fetched (drop place.at t) h.listed.items h.listed.reads;
-  directives_are = h.listed.all_are
-      ∙ append_assoc done (d ∷ []) (directives_from model place.at place.fetched (drop place.at t) h.listed.items h.listed.reads);
-  earlier = none;
-  later = later;
-}
+first_is t walk all done d argument h none later =
+    let rest = directives_from walk.model walk.walk.at walk.fetched (drop walk.walk.at t) h.listed.items h.listed.reads in
+    record {
+      before = done;
+      after = rest;
+      directives_are = h.listed.all_are ∙ append_assoc done (d ∷ []) rest;
+      earlier = none;
+      later = later;
+    }
 
 -- what is fetched is taken
 module _ (k : ℕ) where

@@ -25,7 +25,8 @@ use Rattle.pf_posix.specs.StretchesInText.{push}
 use Rattle.pf_posix.specs.Unnumbered.{IsUnnumbered, IsAcceptedUnnumbered}
 use Rattle.pf_posix.specs.Opaque.{is_opaque, is_outside, is_star}
 use Rattle.pf_posix.specs.Stretches.{Stretches, Last, Before, ReadsWhole, IsWholeAccepted}
-use Rattle.pf_posix.proofs.ReadOnce.{amount_back, narrow, pushed_or, stretched}
+use Rattle.pf_posix.specs.OpaqueParts.{amount_back, narrow}
+use Rattle.pf_posix.proofs.ReadOnce.{pushed_or, stretched}
 use Rattle.pf_posix.proofs.SpecificationsOnce.{no_reason, made, parts_of, regrouped}
 
 no_width : (t : Text) (width : Option Amount) → is_star width ≡ false → SpellsPosixWidth t None width

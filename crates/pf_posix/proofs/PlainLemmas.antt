@@ -32,7 +32,7 @@ use Rattle.pf_posix.specs.Specifications.{PosixSpecification}
 use Rattle.pf_posix.specs.Stretches.{Last, IsWholeAccepted}
 use Rattle.pf_posix.proofs.SpecificationsOnce.{parted, unnumbered_parts}
 use Rattle.pf_posix.proofs.Narrowed.{narrowed, accepted_here}
-use Rattle.pf_posix.proofs.ReadOnce.{narrow}
+use Rattle.pf_posix.specs.OpaqueParts.{narrow}
 use Rattle.pf_posix.proofs.Agreeing.{without_number}
 use Rattle.pf_posix.specs.Halts.{IsDefinedAt}
 use Rattle.pf_posix.specs.Spelling.{SpellsPosix}

@@ -1,9 +1,7 @@
 -- A text of the whole language is read in one way at most.
-use Rattle.std.proofs.Common.{◌≡◌, ℕ, Bool, true, false, List, [], ◌∷◌, ◌++◌, map, refl, sym, ap, ◌∙◌, arith}
-use Rattle.std.specs.Prelude.{Option, Some, None, ◌&&◌}
+use Rattle.std.proofs.Common.{◌≡◌, Bool, true, false, List, [], ◌∷◌, ◌++◌, map, refl, sym, ap, ◌∙◌, arith}
+use Rattle.std.specs.Prelude.{◌&&◌}
 use Rattle.std.proofs.lemmas.List.{append-nil}
-use Rattle.pf_values.specs.declared.conversions.Conv.{Conv}
-use Rattle.pf_values.specs.declared.conversions.Conv.TheVariants.{D}
 use Rattle.pf_values.specs.meaning.Conversions.{is_text}
 use Rattle.pf_values.specs.meaning.Defined.{IsDefined}
 use Rattle.pf_values.specs.meaning.Items.{Byte, Directive, Item, Reads}
@@ -11,36 +9,16 @@ use Rattle.pf_values.specs.meaning.Lengths.{is_long}
 use Rattle.pf_values.specs.meaning.Specification.{Specification}
 use Rattle.pf_values.specs.meaning.Text.{Text}
 use Rattle.pf_values.proofs.DefinedLemmas.{none_broken}
-use Rattle.pf_posix.specs.declared.conversions.Conversion.{Conversion}
-use Rattle.pf_posix.specs.declared.conversions.Conversion.TheVariants.{Profile}
 use Rattle.pf_posix.specs.Items.{PosixItem, Byte as PosixByte, Errno as PosixErrno, Specification as PosixDirective}
-use Rattle.pf_posix.specs.Specifications.{Amount, Given, Fetched, PosixSpecification}
+use Rattle.pf_posix.specs.Specifications.{PosixSpecification}
+use Rattle.pf_posix.specs.OpaqueParts.{amount_back, narrow}
 use Rattle.pf_posix.specs.StretchesInText.{push, push_all}
-use Rattle.pf_posix.specs.Types.{integer_length}
 use Rattle.pf_posix.specs.Opaque.{OpaqueErrno, OpaqueItem, OpaqueSpecification, SpellsOpaqueItem, is_opaque, is_star}
 use Rattle.pf_posix.specs.Stretches.{Stretches, Last, Before, ReadsWhole}
 use Rattle.pf_posix.proofs.ItemsOnce.{items_once}
 use Rattle.pf_posix.proofs.KeptTypes.{flat, posix_item, posix_reads, given, item_of, whole_of}
 
 -- from a list of items and directives to stretches
-abbrev pub amount_back : Option Amount → Option ℕ
-amount_back None = None
-amount_back (Some (Given n)) = Some n
-amount_back (Some (Fetched number)) = None
-
-abbrev pub conv_back : Conversion → Conv
-conv_back (Profile conv) = conv
-conv_back _ = D
-
-abbrev pub narrow : PosixSpecification → Specification
-narrow s = record {
-  flags = s.flags;
-  width = amount_back s.width;
-  precision = amount_back s.precision;
-  length = integer_length s.modifier;
-  conv = conv_back s.conversion;
-}
-
 abbrev pub pushed_or : Bool → PosixSpecification → Stretches → Stretches
 pushed_or true s rest = Before [] (OpaqueSpecification s) rest
 pushed_or false s rest = push (Directive (narrow s)) rest

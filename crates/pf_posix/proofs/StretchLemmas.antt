@@ -19,7 +19,7 @@ use Rattle.pf_posix.specs.Defined.{IsPosixDefined}
 use Rattle.pf_posix.specs.Heads.{IsHead}
 use Rattle.pf_posix.specs.Items.{Byte as PosixByte, Errno as PosixErrno, PosixItem, ReadsPosix, Specification as PosixDirective, errno}
 use Rattle.pf_posix.specs.Opaque.{OpaqueErrno, OpaqueSpecification, SpellsOpaqueItem, is_opaque}
-use Rattle.pf_posix.specs.OpaqueParts.{item_of_opaque, parts_of_opaque}
+use Rattle.pf_posix.specs.OpaqueParts.{item_of_opaque, narrow, parts_of_opaque}
 use Rattle.pf_posix.specs.PartsInText.{IsSpecificationAt, specification_read}
 use Rattle.pf_posix.specs.Halts.{BeginsNoneAfter}
 use Rattle.pf_posix.specs.declared.specifications.Numbering.TheVariants.{Undecided}
@@ -33,7 +33,7 @@ use Rattle.pf_posix.proofs.Narrowed.{narrowed, reads_whole}
 use Rattle.pf_posix.proofs.DirectiveLemmas.{errno_split, percent_split, some_specification}
 use Rattle.pf_posix.proofs.ItemsOnce.{HasText, first_item}
 use Rattle.pf_posix.proofs.SpecificationsOnce.{parted, unnumbered_parts}
-use Rattle.pf_posix.proofs.ReadOnce.{narrow, push_all-before, push_all-last, pushed_or, read_once, stretched, stretches_back}
+use Rattle.pf_posix.proofs.ReadOnce.{push_all-before, push_all-last, pushed_or, read_once, stretched, stretches_back}
 
 -- a byte that doesn't end a run of literal ones
 literal : (byte : ℕ) → is_byte2 37 0 byte ≢ true → ((byte == 0) ≡ false) × ((byte == 37) ≡ false)

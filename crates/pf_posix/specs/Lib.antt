@@ -23,6 +23,7 @@ pub mod ListComparisons
 pub mod Directives
 pub mod DirectivesInText
 pub mod SpecificationSpans
+pub mod SpecificationWalks
 pub mod RefusedSpecifications
 pub mod MissingArguments
 pub mod Plain

@@ -1,14 +1,11 @@
 -- The argument that the specifications of a text leave out, and the first that takes a later one.
-use Rattle.std.specs.Prelude.{◌≡◌, ◌<◌, ◌≤◌, ◌*◌, ℕ, Bool, true, false, ◌||◌, ◌==◌, List, [], ◌∷◌, ◌++◌, get_or, length, nat_lt, Option, Some, None}
+use Rattle.std.specs.Prelude.{◌≡◌, ◌<◌, ℕ, Bool, true, false, ◌||◌, ◌==◌, List, [], ◌∷◌, ◌++◌, get_or, length, nat_lt, Option, Some, None}
 use Rattle.std.specs.List.{AllByRecursion}
-use Rattle.pf_values.specs.declared.limits.TheConstants.{MAX_TEXT_LEN}
 use Rattle.pf_values.specs.declared.models.Model.{Model}
 use Rattle.pf_values.specs.meaning.Text.{Text}
 use Rattle.pf_posix.specs.declared.directive_spans.DirectiveSpan.{DirectiveSpan}
 use Rattle.pf_posix.specs.declared.missing_arguments.MissingArgument.{MissingArgument}
-use Rattle.pf_posix.specs.declared.missing_arguments.Place.{Place}
 use Rattle.pf_posix.specs.Directives.{directives_from}
-use Rattle.pf_posix.specs.DirectivesInText.{IsListedTo}
 use Rattle.pf_posix.specs.Items.{PosixItem, ReadsPosix}
 use Rattle.pf_posix.specs.SpecificationSpans.{HasItsParts}
 
@@ -50,18 +47,6 @@ pub record IsMissingArgument (model : Model) (t : Text) (missing : MissingArgume
   pub all_before : (index : ℕ) → index < missing.argument → takes_any (directives_from model 0 0 t items reads) index ≡ true
   pub first : IsFirstLater (directives_from model 0 0 t items reads) missing.argument missing.specification.directive
   pub parts : HasItsParts t missing.specification
-
--- The rest is about how the code goes through the specifications. No public contract names it.
-
--- some of the specifications of a text within the limit, which is read as items, come before a place
-pub record IsAhead (model : Model) (t : Text) (place : Place) (all done : List DirectiveSpan) : Type 0 where
-  pub listed : IsListedTo model t all place.at place.fetched done
-  pub limit : length t ≤ MAX_TEXT_LEN
-  pub few : place.fetched ≤ 3 * place.at
-
--- a text within the limit is read as items
-abbrev pub IsReadable : Text → Type 0
-IsReadable t = (items : List PosixItem) × ReadsPosix t items × (length t ≤ MAX_TEXT_LEN)
 
 -- the arguments that some specifications take are marked
 abbrev pub AreMarked : List Bool → List DirectiveSpan → Type 0

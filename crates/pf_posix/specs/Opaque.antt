@@ -1,4 +1,4 @@
--- What the whole language has and the profile lacks: opaque directives, and `%m`.
+-- The items of the whole language that the profile lacks: opaque directives, and `%m`.
 use Rattle.std.specs.Prelude.{◌≡◌, Bool, true, false, ◌&&◌, ◌||◌, Option, Some, None}
 use Rattle.pf_values.specs.meaning.Conversions.{is_text}
 use Rattle.pf_values.specs.meaning.Lengths.{is_long}
@@ -41,7 +41,7 @@ pub record SpellsOpaque (t : Text) (s : PosixSpecification) : Type 0 where
   pub unnumbered : s.position ≡ None
   pub opaque : is_opaque s ≡ true
 
--- what the profile lacks: an opaque directive, or `%m`
+-- an item that the profile lacks: an opaque directive, or `%m`
 pub data OpaqueItem : Type 0 where
   OpaqueSpecification : (s : PosixSpecification) → OpaqueItem
   OpaqueErrno : OpaqueItem

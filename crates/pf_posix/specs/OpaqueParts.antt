@@ -1,7 +1,13 @@
 -- The parts of an opaque directive, and what the profile lacks, as the code holds them.
 use Rattle.std.specs.Prelude.{ℕ, Option, Some, None}
+use Rattle.pf_values.specs.declared.conversions.Conv.{Conv}
+use Rattle.pf_values.specs.declared.conversions.Conv.TheVariants.{D}
+use Rattle.pf_values.specs.meaning.Specification.{Specification}
+use Rattle.pf_posix.specs.declared.conversions.Conversion.{Conversion}
+use Rattle.pf_posix.specs.declared.conversions.Conversion.TheVariants.{Profile}
 use Rattle.pf_posix.specs.Opaque.{OpaqueErrno, OpaqueItem, OpaqueSpecification}
 use Rattle.pf_posix.specs.Specifications.{Amount, Given, Fetched, PosixSpecification}
+use Rattle.pf_posix.specs.Types.{integer_length}
 use Rattle.pf_posix.specs.declared.opaque_directives.Opaque.{Opaque}
 use Rattle.pf_posix.specs.declared.opaque_directives.Opaque.TheVariants as opaques
 use Rattle.pf_posix.specs.declared.opaque_directives.OpaqueDirective.{OpaqueDirective}
@@ -33,3 +39,22 @@ parts_of_opaque d = record {
 abbrev pub item_of_opaque : Opaque → OpaqueItem
 item_of_opaque (opaques.Directive directive) = OpaqueSpecification (parts_of_opaque directive)
 item_of_opaque opaques.Errno = OpaqueErrno
+
+-- what the profile has of a width or a precision, of a conversion, and of a specification
+abbrev pub amount_back : Option Amount → Option ℕ
+amount_back None = None
+amount_back (Some (Given n)) = Some n
+amount_back (Some (Fetched number)) = None
+
+abbrev pub conv_back : Conversion → Conv
+conv_back (Profile conv) = conv
+conv_back _ = D
+
+abbrev pub narrow : PosixSpecification → Specification
+narrow s = record {
+  flags = s.flags;
+  width = amount_back s.width;
+  precision = amount_back s.precision;
+  length = integer_length s.modifier;
+  conv = conv_back s.conversion;
+}

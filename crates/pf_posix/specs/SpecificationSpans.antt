@@ -1,20 +1,16 @@
 -- The conversion specifications of a text with their parts: where each part is, and what it says.
-use Rattle.std.specs.Prelude.{◌≡◌, ◌≢◌, ℕ, ◌+◌, ◌-◌, List, [], ◌∷◌, length, map, Option, Some, None}
+use Rattle.std.specs.Prelude.{◌≡◌, ℕ, ◌+◌, ◌-◌, List, [], ◌∷◌, map, Option, Some, None}
 use Rattle.std.specs.List.{AllByRecursion}
 use Rattle.pf_values.specs.declared.flags.Flag.{Flag}
 use Rattle.pf_values.specs.declared.models.Model.{Model}
-use Rattle.pf_values.specs.meaning.Flags.{flag_byte, flag_set, no_flags}
+use Rattle.pf_values.specs.meaning.Flags.{flag_byte, flag_set}
 use Rattle.pf_values.specs.meaning.Text.{Text, percent}
 use Rattle.pf_text.specs.Offsets.{HasBytes}
-use Rattle.pf_text.specs.declared.refusals.TextFault.{TextFault}
-use Rattle.pf_text.specs.declared.refusals.TextFault.TheVariants as faults
 use Rattle.pf_posix.specs.declared.specification_spans.PartOffsets.{PartOffsets}
 use Rattle.pf_posix.specs.declared.specification_spans.SpecificationSpan.{SpecificationSpan}
 use Rattle.pf_posix.specs.Defined.{IsPosixDefined}
 use Rattle.pf_posix.specs.Directives.{HasDirectives}
-use Rattle.pf_posix.specs.Laws.{filled}
 use Rattle.pf_posix.specs.OpaqueParts.{parts_of_opaque}
-use Rattle.pf_posix.specs.Refusals.{IsPosixRefusedAt}
 use Rattle.pf_posix.specs.Specifications.{Amount, Given, Fetched, PosixSpecification, conversion_letter, modifier_letters}
 use Rattle.pf_posix.specs.Spelling.{SpellsPosition, SpellsPosixPrecision, SpellsPosixWidth}
 
@@ -41,10 +37,6 @@ without_number (Some (Fetched number)) = Some (Fetched None)
 abbrev pub alone : PosixSpecification → PosixSpecification
 alone s = record s { position = None; width = without_number s.width; precision = without_number s.precision }
 
--- what a buffer holds before specifications are listed: one without parts
-abbrev pub IsBlank : SpecificationSpan → Type 0
-IsBlank span = (span.parts.flags ≡ no_flags) × (span.parts.width ≡ None) × (span.parts.precision ≡ None)
-
 -- a specification is defined, and its offsets and parts are those of the bytes that it is
 pub record HasItsParts (t : Text) (span : SpecificationSpan) : Type 0 where
   pub s : PosixSpecification
@@ -56,17 +48,3 @@ pub record HasItsParts (t : Text) (span : SpecificationSpan) : Type 0 where
 pub record HasSpecifications (model : Model) (t : Text) (specifications : List SpecificationSpan) : Type 0 where
   pub listed : HasDirectives model t (map (λ span. span.directive) specifications)
   pub each : AllByRecursion (HasItsParts t) specifications
-
--- A text has `count` specifications. They fill the slice from its front, as far as it goes; the rest of the slice is as
--- it was.
-pub record HasSpecificationCount (model : Model) (t : Text) (old new : List SpecificationSpan) (count : ℕ) : Type 0 where
-  pub specifications : List SpecificationSpan
-  pub listed : HasSpecifications model t specifications
-  pub count_is : count ≡ length specifications
-  pub front : new ≡ filled old specifications
-
--- why there is no list of them: out of memory only where a text is accepted and has some
-abbrev pub FaultForSpecifications : Model → Text → TextFault → Type 0
-FaultForSpecifications model t (faults.Refused refusal) = IsPosixRefusedAt model t refusal.kind refusal.at
-FaultForSpecifications model t faults.Memory =
-    (specifications : List SpecificationSpan) × HasSpecifications model t specifications × (specifications ≢ [])

@@ -1,22 +1,19 @@
 //! The conversion specifications of a format: which bytes they are, and which arguments they take.
-ghost use Rattle.std.specs.Prelude.{◌≡◌, ◌<◌, ◌≤◌, ◌*◌, ℕ, IfSome, List, Option, length, drop, MatchResult};
+ghost use Rattle.std.specs.Prelude.{◌≡◌, ◌≤◌, ◌*◌, ℕ, Option, length, MatchResult};
 ghost use Rattle.pf_values.specs.declared.limits.TheConstants.{MAX_TEXT_LEN as LIMIT};
 ghost use Rattle.pf_values.specs.declared.models.Model.{Model as ModelOf};
-ghost use Rattle.pf_posix.specs.declared.directive_spans.DirectiveSpan.{DirectiveSpan as DirectiveSpanOf};
 ghost use Rattle.pf_posix.specs.Directives.{FaultForDirectives, HasDirectiveCount, HasDirectives, argument_index, directive_between, star_index};
-ghost use Rattle.pf_posix.specs.DirectivesInText.{IsBehindItem, IsListedBehind, IsListedTo};
-ghost use Rattle.pf_posix.specs.Halts.{offsets_read};
-ghost use Rattle.pf_posix.specs.Items.{IsPosixAccepted, PosixItem, ReadsPosix};
+ghost use Rattle.pf_posix.specs.Items.{IsPosixAccepted};
 ghost use Rattle.pf_posix.specs.OpaqueParts.{amount_at};
 ghost use Rattle.pf_posix.specs.PartsInText.{specification_read};
 ghost use Rattle.pf_posix.specs.Refusals.{IsPosixRefusedAt};
-ghost use Rattle.pf_posix.specs.SpecificationSpans.{ArePosixPartsAt};
 ghost use Rattle.pf_posix.specs.Types.{fetches, star_fetches};
 
 use crate::argument_types::{arguments, put, room_for};
 use crate::fetches::conversion_type;
 use crate::opaque_directives::{OpaqueAmount, is_star};
-use crate::specifications::{Numbering, Specification, has_byte, has_errno, specification_at};
+use crate::specification_walk::item_at;
+use crate::specifications::Specification;
 use crate::types::ArgumentType;
 use pf_text::{Percents, Refusal, TextFault, Walk};
 use pf_values::Model;
@@ -80,7 +77,8 @@ pub fn directives_vec(
     Ok(listed)
 }
 
-// Puts the specifications of an accepted format at the front of a slice.
+// Puts the specifications of an accepted format at the front of a slice. By a `SpecificationWalk`, `directives` takes
+// 1,024 instructions instead of 782 (4,000 formats).
 fn put_directives(model: Model, text: &[u8], out: &mut [DirectiveSpan]) -> u64
     requires { IsPosixAccepted model text.now }
     ensures directives { HasDirectiveCount model text.now out.old out.new result }
@@ -108,33 +106,6 @@ fn put_directives(model: Model, text: &[u8], out: &mut [DirectiveSpan]) -> u64
         }
     }
     count as u64
-}
-
-/// The item at an offset of an accepted format, if it is a specification; and where it ends.
-#[inline(always)]
-pub(crate) fn item_at(text: &[u8], at: usize) -> (Option<Specification>, usize)
-    requires within { at < length text.now }
-    requires reads { (items : List PosixItem) × ReadsPosix (drop at text.now) items }
-    ensures further { at < result.1 }
-    ensures item { (items : List PosixItem) → ReadsPosix (drop at text.now) items
-        → IsBehindItem text.now items result.0 result.1 }
-    ensures listed { (model : ModelOf) (all done : List DirectiveSpanOf) (next : ℕ) → IsListedTo model text.now all at next done
-        → IsListedBehind model text.now all at next done result.0 result.1 }
-    ensures parts { IfSome result.0 (λ read. ArePosixPartsAt text.now at result.1 (offsets_read read) (specification_read read)) }
-{
-    if text[at] != b'%' {
-        return (None, at + 1);
-    }
-    if has_byte(text, at + 1, b'%') {
-        return (None, at + 2);
-    }
-    if has_errno(text, at) {
-        return (None, at + 2);
-    }
-    let Ok((read, end)) = specification_at(text, at, Numbering::Undecided) else {
-        unreachable!();
-    };
-    (Some(read), end)
 }
 
 /// The specification between two offsets, after `next` arguments were fetched.

@@ -59,8 +59,9 @@ pub(crate) fn bare_type(byte: u8) -> Option<ArgumentType>
     }
 }
 
+/// Returns the length modifier of an integer conversion. `L` is none.
 #[inline(always)]
-fn integer_length(modifier: Modifier) -> Length
+pub fn integer_length(modifier: Modifier) -> Length
     ensures { result ≡ integer_length modifier }
 {
     match modifier {

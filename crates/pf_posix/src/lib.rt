@@ -22,6 +22,7 @@ mod numbered;
 mod opaque_directives;
 mod refused_specifications;
 mod specification_spans;
+mod specification_walk;
 mod specifications;
 mod stretches;
 mod types;
@@ -33,12 +34,12 @@ pub use argument_types::{arguments, arguments_vec};
 pub use comparison::{fits, fits_fewer};
 pub use conversions::{Conversion, Floating, Modifier};
 pub use directive_spans::{DirectiveSpan, directives, directives_vec};
+pub use fetches::integer_length;
 pub use missing_arguments::{MissingArgument, missing_argument};
 pub use opaque_directives::{Opaque, OpaqueAmount, OpaqueDirective, is_opaque};
 pub use refused_specifications::{RefusedSpecification, WholeSpecification, refused_specification};
-pub use specification_spans::{
-    PartOffsets, SpecificationSpan, specification_list, specification_list_vec,
-};
+pub use specification_spans::{PartOffsets, SpecificationSpan};
+pub use specification_walk::SpecificationWalk;
 pub use stretches::{Stretch, next_stretch};
 pub use types::ArgumentType;
 pub use unnumbered::{check_unnumbered, opaque_at};

@@ -1,17 +1,18 @@
 //! The argument that a format leaves out (POSIX fprintf on numbered arguments).
-ghost use Rattle.std.specs.Prelude.{◌≡◌, ◌||◌, ◌<◌, ◌++◌, ◌∷◌, [], ℕ, List, IfSome, MatchOption, false, true, get_or, length};
+ghost use Rattle.std.specs.Prelude.{◌≡◌, ◌||◌, ◌<◌, [], ℕ, List, MatchOption, false, true, get_or, length};
 ghost use Rattle.std.specs.List.{AllByRecursion};
 ghost use Rattle.pf_values.specs.declared.refusals.RefusalKind.TheVariants.{MissingArgument as IsMissingKind};
-ghost use Rattle.pf_posix.specs.declared.directive_spans.DirectiveSpan.{DirectiveSpan as DirectiveSpanOf};
 ghost use Rattle.pf_posix.specs.Directives.{directives_from};
 ghost use Rattle.pf_posix.specs.Items.{PosixItem, ReadsPosix};
-ghost use Rattle.pf_posix.specs.MissingArguments.{AreMarked, IsAhead, IsFirstLater, IsMissingArgument, IsReadable, takes_later, is_index, is_later};
+ghost use Rattle.pf_posix.specs.MissingArguments.{AreMarked, IsFirstLater, IsMissingArgument, takes_later, is_index, is_later};
 ghost use Rattle.pf_posix.specs.Refusals.{IsPosixRefusedAt};
 ghost use Rattle.pf_posix.specs.SpecificationSpans.{HasItsParts};
+ghost use Rattle.pf_posix.specs.SpecificationWalks.{IsReadable};
 
-use crate::directive_spans::{DirectiveSpan, fetch_count, item_at};
+use crate::directive_spans::DirectiveSpan;
 use crate::numbered::ROOM;
-use crate::specification_spans::{SpecificationSpan, span_of};
+use crate::specification_spans::SpecificationSpan;
+use crate::specification_walk::SpecificationWalk;
 use pf_values::Model;
 
 /// An argument that no specification of a format takes, although one takes a later argument.
@@ -21,13 +22,6 @@ pub struct MissingArgument {
     pub argument: u64,
     /// The first specification that takes a later one.
     pub specification: SpecificationSpan,
-}
-
-// The offset of a walk over the specifications of a format, and the number of arguments fetched so far.
-#[derive(Clone, Copy)]
-struct Place {
-    at: usize,
-    fetched: u64,
 }
 
 /// Returns the argument that a format leaves out, which `arguments` refuses as `MissingArgument`.
@@ -55,8 +49,8 @@ fn mark_taken(model: Model, text: &[u8], taken: &mut [bool])
         → AreMarked taken.new (directives_from model 0 0 text.now items reads) }
     ensures length { length taken.new ≡ length taken.old }
 {
-    let mut place = Place { at: 0, fetched: 0 };
-    while let Some(span) = next_specification(model, text, &mut place) {
+    let mut walk = SpecificationWalk::of(model, text);
+    while let Some(span) = walk.next() {
         mark(taken, Some(span.directive.argument));
         mark(taken, span.directive.width_argument);
         mark(taken, span.directive.precision_argument);
@@ -98,8 +92,8 @@ fn first_later(model: Model, text: &[u8], argument: u64) -> Option<Specification
         (AllByRecursion (λ d. takes_later d argument ≡ false) (directives_from model 0 0 text.now items reads))
         (λ span. IsFirstLater (directives_from model 0 0 text.now items reads) argument span.directive × HasItsParts text.now span) }
 {
-    let mut place = Place { at: 0, fetched: 0 };
-    while let Some(span) = next_specification(model, text, &mut place) {
+    let mut walk = SpecificationWalk::of(model, text);
+    while let Some(span) = walk.next() {
         if takes_later(&span.directive, argument) {
             return Some(span);
         }
@@ -123,26 +117,4 @@ fn is_later(given: Option<u64>, argument: u64) -> bool
         None => false,
         Some(given) => argument < given,
     }
-}
-
-// The next specification of a format that is read as items, if there is one.
-fn next_specification(model: Model, text: &[u8], place: &mut Place) -> Option<SpecificationSpan>
-    requires { (all : List DirectiveSpanOf) × (done : List DirectiveSpanOf) × IsAhead model text.now place.old all done }
-    ensures next { (all done : List DirectiveSpanOf) → IsAhead model text.now place.old all done
-        → MatchOption result (done ≡ all)
-        (λ span. IsAhead model text.now place.new all (done ++ span.directive ∷ []) × HasItsParts text.now span) }
-    ensures further { IfSome result (λ _. place.old.at < place.new.at) }
-{
-    while place.at < text.len() {
-        match item_at(text, place.at) {
-            (None, end) => place.at = end,
-            (Some(read), end) => {
-                let span = span_of(model, place.at, end, place.fetched, &read);
-                place.at = end;
-                place.fetched += fetch_count(&read);
-                return Some(span);
-            }
-        }
-    }
-    None
 }

@@ -1,21 +1,14 @@
-//! The conversion specifications of a format, with the offset and the value of each part.
-ghost use Rattle.std.specs.Prelude.{◌≡◌, ◌≤◌, ◌*◌, length, MatchResult};
+//! A conversion specification of a format, with the offset and the value of each part.
+ghost use Rattle.std.specs.Prelude.{◌≡◌, ◌≤◌, ◌*◌};
 ghost use Rattle.pf_values.specs.declared.limits.TheConstants.{MAX_TEXT_LEN as LIMIT};
 ghost use Rattle.pf_posix.specs.Directives.{directive_between};
 ghost use Rattle.pf_posix.specs.Halts.{offsets_read};
-ghost use Rattle.pf_posix.specs.Items.{IsPosixAccepted};
 ghost use Rattle.pf_posix.specs.PartsInText.{specification_read};
-ghost use Rattle.pf_posix.specs.Refusals.{IsPosixRefusedAt};
-ghost use Rattle.pf_posix.specs.SpecificationSpans.{FaultForSpecifications, HasSpecificationCount, HasSpecifications, IsBlank};
 
-use crate::argument_types::{arguments, put, room_for};
-use crate::conversions::{Conversion, Modifier};
-use crate::directive_spans::{DirectiveSpan, directives, fetch_count, item_at, span_between};
+use crate::directive_spans::{DirectiveSpan, span_between};
 use crate::opaque_directives::OpaqueDirective;
 use crate::specifications::Specification;
-use pf_text::{Percents, Refusal, TextFault, Walk};
-use pf_values::{FlagSet, Length, Model};
-use std::alloc::{AllocError, Global};
+use pf_values::Model;
 
 /// The offsets of the parts of a conversion specification (C11 7.21.6.1, paragraph 4). Each part ends at the next
 /// offset, and is empty if the specification doesn't have it. The conversion is the last byte.
@@ -40,94 +33,6 @@ pub struct SpecificationSpan {
     pub parts: OpaqueDirective,
     /// The offsets of these parts.
     pub offsets: PartOffsets,
-}
-
-// The record that fills a buffer before specifications are listed.
-impl Default for SpecificationSpan {
-    ghost is_default = { IsBlank };
-
-    fn default() -> SpecificationSpan {
-        SpecificationSpan {
-            directive: DirectiveSpan::default(),
-            parts: OpaqueDirective {
-                flags: FlagSet::empty(),
-                width: None,
-                precision: None,
-                modifier: Modifier::Integer(Length::None),
-                conversion: Conversion::Pointer,
-            },
-            offsets: PartOffsets::default(),
-        }
-    }
-}
-
-/// Lists the conversion specifications of a format of the whole language with their parts, as
-/// `directives` lists them without, and returns their number. It writes them to `out` from the front, as
-/// far as there is room, and leaves the rest of `out` as it was. `Err` for the formats that `arguments`
-/// refuses: then nothing in `out` changes.
-pub fn specification_list(
-    model: Model,
-    text: &[u8],
-    out: &mut [SpecificationSpan],
-) -> Result<u64, Refusal>
-    ensures specifications { MatchResult result
-        (λ count. HasSpecificationCount model text.now out.old out.new count)
-        (λ refusal. IsPosixRefusedAt model text.now refusal.kind refusal.at × (out.new ≡ out.old)) }
-    ensures length { length out.new ≡ length out.old }
-{
-    match arguments(model, text, &mut []) {
-        Ok(_) => Ok(put_specifications(model, text, out)),
-        Err(refusal) => Err(refusal),
-    }
-}
-
-/// Lists the conversion specifications of a format with their parts, as `specification_list` does. It
-/// allocates once, for exactly their number. If there are no specifications, it allocates nothing. `Err` if
-/// the format or memory is refused.
-pub fn specification_list_vec(
-    alloc: Global,
-    model: Model,
-    text: &[u8],
-) -> Result<Vec<SpecificationSpan>, TextFault>
-    ensures { MatchResult result (λ specifications. HasSpecifications model text.now specifications.items)
-        (FaultForSpecifications model text.now) }
-{
-    let count = match specification_list(model, text, &mut []) {
-        Ok(count) => count,
-        Err(refusal) => return Err(TextFault::Refused(refusal)),
-    };
-    let mut listed = match room_for(alloc, SpecificationSpan::default(), count) {
-        Ok(listed) => listed,
-        Err(AllocError) => return Err(TextFault::Memory),
-    };
-    put_specifications(model, text, &mut listed);
-    Ok(listed)
-}
-
-// Puts the specifications of an accepted format at the front of a slice.
-fn put_specifications(model: Model, text: &[u8], out: &mut [SpecificationSpan]) -> u64
-    requires { IsPosixAccepted model text.now }
-    ensures specifications { HasSpecificationCount model text.now out.old out.new result }
-    ensures length { length out.new ≡ length out.old }
-{
-    let mut walk = Walk::new(text);
-    let mut count: usize = 0;
-    let mut fetched: u64 = 0;
-    while walk.at < text.len() {
-        match item_at(text, walk.at) {
-            (None, end) => {
-                walk.at = end;
-                walk.find::<Percents>();
-            }
-            (Some(read), end) => {
-                put(out, count, span_of(model, walk.at, end, fetched, &read));
-                walk.at = end;
-                count += 1;
-                fetched += fetch_count(&read);
-            }
-        }
-    }
-    count as u64
 }
 
 /// The specification between two offsets, after `next` arguments were fetched.

@@ -7,8 +7,9 @@ ghost use Rattle.pf_posix.specs.declared.types.ArgumentType.{ArgumentType as Arg
 ghost use Rattle.pf_posix.specs.Items.{HasArguments};
 ghost use Rattle.pf_posix.specs.ListComparisons.{HasLeft};
 
-use crate::directive_spans::{fetch_count, item_at};
+use crate::directive_spans::fetch_count;
 use crate::fetches::conversion_type;
+use crate::specification_walk::item_at;
 use crate::types::ArgumentType;
 use pf_values::{ArgType, Model};
 

@@ -1,41 +1,39 @@
 -- That parts have no effect is shown by one spelling of a specification, and one of it without them.
-use Rattle.std.proofs.Common.{◌≡◌, ◌≢◌, ◌∙◌, ◌≤◌, ℕ, inl, inr, Bool, true, false, List, [], ◌∷◌, length, refl, sym, arith, subst}
+use Rattle.std.proofs.Common.{◌≡◌, ◌≢◌, ◌∙◌, ℕ, zero, suc, ap, inl, inr, Bool, true, false, List, [], ◌∷◌, refl, sym, arith, subst}
 use Rattle.std.specs.Prelude.{◌↔◌, ◌⊎◌, ◌&&◌, ◌||◌, not, IsTrue, Option, None, Some, is_some, if◌then◌else◌}
 use Rattle.std.proofs.lemmas.List.{append-nil}
 use Rattle.pf_values.specs.declared.flags.Flag.TheVariants.{Minus, Plus, Space, Alt, Zero, Group}
-use Rattle.pf_values.specs.declared.limits.TheConstants.{MAX_TEXT_LEN}
 use Rattle.pf_values.specs.declared.models.Model.{Model}
 use Rattle.pf_values.specs.meaning.Text.{Text}
-use Rattle.pf_text.specs.Refusals.{RefusesOne}
-use Rattle.pf_text.specs.declared.refusals.Refusal.{Refusal}
-use Rattle.pf_text.specs.declared.refusals.Side.{Side}
-use Rattle.pf_text.specs.declared.refusals.Side.TheVariants.{First, Second}
+use Rattle.pf_values.specs.Directives.{specification_of, width_given}
+use Rattle.pf_values.specs.meaning.Defined.{IsDefined}
+use Rattle.pf_values.specs.meaning.Items.{Directive}
+use Rattle.pf_values.specs.meaning.Printing.{PrintAlike}
 use Rattle.pf_posix.specs.Defined.{IsPosixDefined, has_any_flag, is_count, takes_alt, takes_group, takes_modifier, takes_precision, takes_zero}
-use Rattle.pf_posix.specs.Opaque.{OpaqueSpecification, is_opaque}
+use Rattle.pf_posix.specs.Opaque.{OpaqueSpecification, is_opaque, is_outside, is_star}
 use Rattle.pf_posix.specs.declared.conversions.Conversion.{Conversion}
 use Rattle.pf_posix.specs.declared.conversions.Modifier.{Modifier as ModifierOf}
 use Rattle.pf_posix.specs.declared.conversions.Modifier.TheVariants.{Integer}
 use Rattle.pf_values.specs.declared.flags.FlagSet.{FlagSet}
 use Rattle.pf_values.specs.declared.lengths.Length.TheVariants as lengths
 use Rattle.pf_posix.specs.Items.{PosixItem, ReadsPosix, Specification, SpellsPosixItem}
-use Rattle.pf_posix.specs.OpaqueParts.{parts_of_opaque}
+use Rattle.pf_posix.specs.OpaqueParts.{amount_back, amount_of, conv_back, narrow, parts_of_opaque}
+use Rattle.pf_posix.specs.Types.{integer_length}
+use Rattle.pf_posix.specs.declared.opaque_directives.OpaqueDirective.{OpaqueDirective}
 use Rattle.pf_posix.specs.SpecificationSpans.{HasItsParts, alone, without_number}
 use Rattle.pf_posix.specs.declared.specification_spans.SpecificationSpan.{SpecificationSpan}
 use Rattle.pf_posix.specs.Specifications.{Amount, Fetched, Given, PosixSpecification}
 use Rattle.pf_posix.specs.Spelling.{SpellsPosix, SpellsPosixPrecision, SpellsPosixWidth}
-use Rattle.pf_posix.specs.Stretches.{Stretches, Before, Last, IsWholeAccepted, ReadsWhole}
-use Rattle.pf_posix.specs.Unnumbered.{IsWholeRefusedAt}
+use Rattle.pf_posix.specs.Stretches.{Stretches, Before, Last, ReadsWhole}
 use Rattle.pf_posix.proofs.ItemsOnce.{first_item}
 use Rattle.pf_posix.proofs.KeptTypes.{flat, posix_reads}
-use Rattle.pf_posix.proofs.Narrowed.{reads_whole}
+use Rattle.pf_posix.proofs.Narrowed.{narrowed, reads_whole}
 use Rattle.pf_posix.proofs.ReadOnce.{pushed_or, stretched}
 use Rattle.pf_posix.proofs.SpecificationsOnce.{HasParts, is_defined, no_reason, parts_of}
-use Rattle.pf_posix.proofs.UnnumberedVerdicts.{judged}
 use Rattle.pf_whole.specs.declared.needless.Question.{Question}
 use Rattle.pf_whole.specs.declared.parts.Part.{Part}
 use Rattle.pf_whole.specs.declared.parts.Part.TheVariants.{Flag, Width, Precision, Modifier}
 use Rattle.pf_whole.specs.declared.parts.PartSet.{PartSet}
-use Rattle.pf_whole.specs.Faults.{AreWholeSame, FaultForWholeSame}
 use Rattle.pf_whole.specs.Needless.{AreFound, AreNeedless, AreTogether, HaveNoEffect, IsPartQuestion}
 use Rattle.pf_whole.specs.Parts.{given_parts, has_part, left_out, no_parts, only, with_part, without, without_flags}
 use Rattle.pf_whole.specs.meaning.NormalSpellings.{directive_spelling, posix_spelling_of}
@@ -57,18 +55,6 @@ reads_alone t s h defined unnumbered =
 defined_of : (t : Text) (s : PosixSpecification) (a : Stretches) → SpellsPosix t s → ReadsWhole t a → IsPosixDefined s
 defined_of t s a h reads =
     (first_item (Specification s) t [] (flat a) h (subst (λ u. ReadsPosix u (flat a)) (sym (append-nil t)) (posix_reads t a reads))).spelled.1
-
-module _ (model : Model) (s : PosixSpecification) (unnumbered : s.position ≡ None) (defined : IsPosixDefined s) where
-  -- if one spelling of each is alike, all are
-  all_alike : (set : PartSet) (w v : Text) → SpellsPosix w s → SpellsPosix v (without s set) → AreWholeAlike model w v → HaveNoEffect model s set
-  all_alike set w v h g alike t u x y =
-      let short = without s set in
-      let kept : IsPosixDefined short = defined_of v short alike.second g alike.reads_second in
-      let read : (t : Text) → SpellsPosix t s → ReadsWhole t (stretched (items_alone s)) = λ t h. reads_alone t s h defined unnumbered in
-      let read_short : (t : Text) → SpellsPosix t short → ReadsWhole t (stretched (items_alone short)) = λ t h. reads_alone t short h kept unnumbered in
-      let a = stretched (items_alone s) in
-      let b = stretched (items_alone short) in
-      (alike_is_corresponding model t u a b (read t x) (read_short u y)).1 ((alike_is_corresponding model w v a b (read w h) (read_short v g)).0 alike)
 
 -- whether what is left out is spelled, or something
 width_left : (out : Bool) (t : Text) (width : Option Amount) → SpellsPosixWidth t None width → (u : Text) × SpellsPosixWidth u None (left_out out width)
@@ -94,29 +80,6 @@ module _ (model : Model) (s : PosixSpecification) (unnumbered : s.position ≡ N
   rest_spelled =
       let width = width_left set.width parts.width s.width parts.width_is in
       spelled_parts (without s set) unnumbered width.0 width.1 (few_left set.precision s.precision few)
-
-  module _ (w v : Text) (w_is : w ≡ posix_spelling_of s) (v_is : v ≡ posix_spelling_of (without s set)) where
-    w_spelled : SpellsPosix w s
-    w_spelled = subst (λ t. SpellsPosix t s) (sym w_is) whole_spelled
-
-    v_spelled : SpellsPosix v (without s set)
-    v_spelled = subst (λ t. SpellsPosix t (without s set)) (sym v_is) rest_spelled
-
-    pub compared : (is : Bool) → AreWholeSame model w v is → IsTrue is ↔ HaveNoEffect model s set
-    compared is same = (
-      λ yes. all_alike model s unnumbered h.1 set w v w_spelled v_spelled (same.same.0 yes),
-      λ none. same.same.1 (none w v w_spelled v_spelled),
-    )
-
-    pub not_compared : (fault : Side × Refusal) → FaultForWholeSame model w v fault → length w ≤ MAX_TEXT_LEN → length v ≤ MAX_TEXT_LEN
-        → ¬ HaveNoEffect model s set
-    not_compared fault refused short short_rest none = go fault.0 refused where
-      alike : AreWholeAlike model w v
-      alike = none w v w_spelled v_spelled
-
-      go : (side : Side) → RefusesOne IsWholeAccepted (IsWholeRefusedAt model) w v side fault.1 → ⊥
-      go First r = (judged model w).1 fault.1.kind fault.1.at r (record { stretches = alike.first; reads = alike.reads_first; limit = short })
-      go Second r = (judged model v).1 fault.1.kind fault.1.at r.1 (record { stretches = alike.second; reads = alike.reads_second; limit = short_rest })
 
 -- a defined specification is defined without any of its parts
 defined_without : (s : PosixSpecification) (set : PartSet) → IsPosixDefined s → IsPosixDefined (without s set)
@@ -190,6 +153,72 @@ module _ (model : Model) (s : PosixSpecification) (unnumbered : s.position ≡ N
       subst (λ b. ReadsWhole (posix_spelling_of rest) (pushed_or b rest (Last []))) other read in
       (alike_is_corresponding model (posix_spelling_of s) (posix_spelling_of rest) (alone_opaque s) (pushed_or false rest (Last []))
       (opaque_read (posix_spelling_of s) s unnumbered h.1 opaque w) narrow_read).0 (none (posix_spelling_of s) (posix_spelling_of rest) w v)
+
+-- of one that the profile has
+not_long : (out : Bool) (conversion : Conversion) (modifier : ModifierOf) → is_outside conversion modifier ≡ false
+    → is_outside conversion (if out then Integer lengths.None else modifier) ≡ false
+not_long false conversion modifier e = e
+not_long true conversion modifier e = grind (arith, e)
+
+no_star : (out : Bool) (amount : Option Amount) → is_star amount ≡ false → is_star (left_out out amount) ≡ false
+no_star true amount e = refl
+no_star false amount e = e
+
+narrow_without : (s : PosixSpecification) (set : PartSet) → is_opaque s ≡ false → is_opaque (without s set) ≡ false
+narrow_without s set e = rw (
+  no_star set.width s.width (grind (arith, e)),
+  no_star set.precision s.precision (grind (arith, e)),
+  not_long set.modifier s.conversion s.modifier (grind (arith, e)),
+) refl
+
+abbrev alone_narrow : PosixSpecification → Stretches
+alone_narrow s = Last (Directive (narrow s) ∷ [])
+
+module _ (model : Model) (s : PosixSpecification) (unnumbered : s.position ≡ None) (text : Text) (h : SpellsPosixItem text (Specification s)) (set : PartSet)
+    (profile : is_opaque s ≡ false) where
+  abbrev less : PosixSpecification
+  less = without s set
+
+  pub still_narrow : is_opaque less ≡ false
+  still_narrow = narrow_without s set profile
+
+  -- some text is the directive without these parts
+  pub spelled_without : (t : Text) × SpellsPosixItem t (Specification less)
+  spelled_without = (posix_spelling_of less, (rest_spelled model s unnumbered text h set, defined_without s set h.1))
+
+  narrow_read : (t : Text) (p : PosixSpecification) → p.position ≡ None → IsPosixDefined p → is_opaque p ≡ false → SpellsPosix t p → ReadsWhole t (alone_narrow p)
+  narrow_read t p none defined is spelled = subst (λ b. ReadsWhole t (pushed_or b p (Last []))) is (reads_alone t p spelled defined none)
+
+  -- it prints the same, or it has an effect
+  pub printed : PrintAlike model (Directive (narrow s) ∷ []) (Directive (narrow less) ∷ []) ↔ HaveNoEffect model s set
+  printed = (
+    λ alike t u x y. (corresponds t u x y).1 alike,
+    λ none.
+        let w = whole_spelled model s unnumbered text h set in
+        let v = rest_spelled model s unnumbered text h set in
+        (corresponds (posix_spelling_of s) (posix_spelling_of less) w v).0 (none (posix_spelling_of s) (posix_spelling_of less) w v),
+  ) where
+    corresponds : (t u : Text) → SpellsPosix t s → SpellsPosix u less
+        → (AreWholeAlike model t u ↔ Correspond model (alone_narrow s) (alone_narrow less))
+    corresponds t u x y =
+        alike_is_corresponding model t u (alone_narrow s) (alone_narrow less) (narrow_read t s unnumbered h.1 profile x)
+        (narrow_read u less unnumbered (defined_without s set h.1) still_narrow y)
+
+-- the directive of the profile that a text is, is defined
+pub narrow_defined : (d : OpaqueDirective) (t : Text) → SpellsPosixItem t (Specification (parts_of_opaque d)) → is_opaque (parts_of_opaque d) ≡ false
+    → IsDefined (narrow (parts_of_opaque d))
+narrow_defined d t h e = (narrowed t (parts_of_opaque d) h.0 h.1 refl e).1
+
+some_given : (width : Option ℕ) → width ≢ Some 0 → width_given width ≡ width
+some_given None some = refl
+some_given (Some zero) some = absurd (some refl)
+some_given (Some (suc n)) some = refl
+
+-- it has the width that is given
+pub given_narrow : (d : OpaqueDirective) → IsDefined (narrow (parts_of_opaque d))
+    → specification_of d.flags (amount_back (amount_of d.width)) (amount_back (amount_of d.precision)) (integer_length d.modifier) (conv_back d.conversion)
+    ≡ narrow (parts_of_opaque d)
+given_narrow d h = ap (λ width. record (narrow (parts_of_opaque d)) { width = width }) (some_given (amount_back (amount_of d.width)) h.width)
 
 -- a set with one part more
 pub with_own : (set : PartSet) (part : Part) → has_part (with_part set part) part ≡ true

@@ -1,5 +1,5 @@
 -- Which parts of a conversion specification have no effect: without them, it is alike.
-use Rattle.std.specs.Prelude.{◌≡◌, ◌≤◌, ◌↔◌, IsTrue, length}
+use Rattle.std.specs.Prelude.{◌≡◌, ◌↔◌, IsTrue}
 use Rattle.pf_values.specs.declared.models.Model.{Model}
 use Rattle.pf_values.specs.meaning.Text.{Text}
 use Rattle.pf_posix.specs.Items.{Specification, SpellsPosixItem}
@@ -11,7 +11,6 @@ use Rattle.pf_whole.specs.declared.needless.Question.{Question}
 use Rattle.pf_whole.specs.declared.parts.Part.{Part}
 use Rattle.pf_whole.specs.declared.parts.PartSet.{PartSet}
 use Rattle.pf_whole.specs.Parts.{given_parts, has_part, only, without}
-use Rattle.pf_whole.specs.meaning.NormalSpellings.{posix_spelling_of}
 use Rattle.pf_whole.specs.meaning.Traces.{AreWholeAlike}
 
 -- A text that is the specification alone, and one that is it without these parts, are alike, however they are spelled.
@@ -30,13 +29,11 @@ pub record AreNeedless (model : Model) (s : PosixSpecification) (found : Needles
 
 -- The rest is about how the code asks. No public contract names it.
 
--- a question about a specification that some text is, and its one spelling
+-- a question about a specification that some text is
 pub record IsPartQuestion (question : Question) : Type 0 where
   pub text : Text
   pub spelled : SpellsPosixItem text (Specification (parts_of_opaque question.directive))
   pub given : question.given ≡ given_parts (parts_of_opaque question.directive)
-  pub whole : question.whole.now ≡ posix_spelling_of (parts_of_opaque question.directive)
-  pub short : length question.whole.now ≤ 21
 
 -- of these parts, those that the specification has and that have no effect are found
 abbrev pub AreFound : Question → PartSet → PartSet → Type 0

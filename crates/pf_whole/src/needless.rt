@@ -1,43 +1,42 @@
-//! Which parts of a conversion specification have no effect.
+//! The parts of a conversion specification that have no effect.
 ghost use Rattle.std.specs.Prelude.{◌≡◌, ◌↔◌, IsTrue, false, true};
 ghost use Rattle.pf_values.specs.meaning.Text.{Text};
 ghost use Rattle.pf_posix.specs.Items.{Specification, SpellsPosixItem};
 ghost use Rattle.pf_posix.specs.Opaque.{is_opaque};
-ghost use Rattle.pf_posix.specs.OpaqueParts.{parts_of_opaque};
+ghost use Rattle.pf_posix.specs.OpaqueParts.{amount_back, amount_of, conv_back, narrow, parts_of_opaque};
 ghost use Rattle.pf_whole.specs.declared.parts.Part.{Part as PartOf};
 ghost use Rattle.pf_whole.specs.declared.parts.PartSet.{PartSet as PartSetOf};
 ghost use Rattle.pf_whole.specs.Needless.{AreFound, AreNeedless, AreTogether, HaveNoEffect, IsPartQuestion};
 ghost use Rattle.pf_whole.specs.Parts.{has_part, only, with_part, without};
 
-use crate::comparison::{make_one_call, same_text};
+use crate::comparison::make_one_call;
 use crate::parts::{Part, PartSet, given_parts, without};
-use crate::spelling::spell_parts;
-use pf_posix::{Opaque, OpaqueDirective, is_opaque};
-use pf_values::{Flag, Model};
+use pf_compare::print_alike;
+use pf_posix::{Conversion, Opaque, OpaqueAmount, OpaqueDirective, integer_length, is_opaque};
+use pf_values::{Conv, Directive, Flag, Model};
 
 /// Sets of parts of a conversion specification.
 #[derive(Clone, Copy, Debug, PartialEq, Eq)]
 pub struct NeedlessParts {
-    /// The parts that it has.
+    /// The parts that the specification has.
     pub given: PartSet,
-    /// Those that have no effect, each by itself.
+    /// The parts that have no effect, each by itself.
     pub each: PartSet,
-    /// Some of these, which have none together.
+    /// Some needless parts that have no effect together, either.
     pub together: PartSet,
 }
 
-// A question about a directive that has these parts and this spelling.
+// A question about a directive that has these parts.
 #[derive(Clone, Copy)]
-struct Question<'a> {
+struct Question {
     model: Model,
     directive: OpaqueDirective,
     given: PartSet,
-    whole: &'a [u8],
 }
 
-/// Returns which parts of a directive have no effect in a data model: those without which `same_text` says that it is
-/// alike, each by itself; and a set of these without which it is alike, too. Of `%02.2u` both the width and the
-/// precision have no effect, but without both it prints less.
+/// Returns the parts of a directive that have no effect in a data model: without any one of them, the directive is
+/// alike. Also returns some of them without all of which it is alike. In `%02.2u`, neither the width
+/// nor the precision has an effect, but without both the directive prints less.
 pub fn needless_parts(model: Model, directive: OpaqueDirective) -> NeedlessParts
     requires { (t : Text) × SpellsPosixItem t (Specification (parts_of_opaque directive)) }
     ensures { AreNeedless model (parts_of_opaque directive) result }
@@ -50,12 +49,10 @@ pub fn needless_parts(model: Model, directive: OpaqueDirective) -> NeedlessParts
             together: given,
         };
     }
-    let spelling = spell_parts(directive);
     let question = Question {
         model,
         directive,
         given,
-        whole: spelling.as_slice(),
     };
     let each = question.each();
     NeedlessParts {
@@ -65,7 +62,7 @@ pub fn needless_parts(model: Model, directive: OpaqueDirective) -> NeedlessParts
     }
 }
 
-impl Question<'_> {
+impl Question {
     // The parts that have no effect.
     fn each(&self) -> PartSet
         requires { IsPartQuestion self.now }
@@ -83,7 +80,7 @@ impl Question<'_> {
         self.ask(each, Part::Modifier)
     }
 
-    // Asks of one part more.
+    // Asks about one more part.
     fn ask(&self, each: PartSet, part: Part) -> PartSet
         requires { IsPartQuestion self.now }
         ensures { (asked : PartSetOf) → AreFound self.now asked each → AreFound self.now (with_part asked part) result }
@@ -97,7 +94,7 @@ impl Question<'_> {
         each.with(part)
     }
 
-    // Some of these parts, which have no effect together: all of them, if that holds, or all but the precision.
+    // Some of these parts that have no effect together: all if possible, otherwise all except the precision if possible.
     fn together(&self, each: PartSet) -> PartSet
         requires { IsPartQuestion self.now }
         ensures { AreTogether self.now each result }
@@ -148,11 +145,7 @@ impl Question<'_> {
         if is_opaque(self.directive) {
             return self.is_opaque_alike(set, shorter);
         }
-        let spelling = spell_parts(shorter);
-        match same_text(self.model, self.whole, spelling.as_slice()) {
-            Ok(is) => is,
-            Err(_) => false,
-        }
+        print_alike(self.model, &narrow(self.directive), &narrow(shorter))
     }
 
     // Whether a directive that the profile lacks is alike without these parts: it makes the same call.
@@ -170,6 +163,40 @@ impl Question<'_> {
             Opaque::Directive(self.directive),
             Opaque::Directive(shorter),
         )
+    }
+}
+
+// A directive that the profile has.
+fn narrow(directive: OpaqueDirective) -> Directive
+    requires spelled { (t : Text) × SpellsPosixItem t (Specification (parts_of_opaque directive)) }
+    requires narrow { is_opaque (parts_of_opaque directive) ≡ false }
+    ensures { result ≡ narrow (parts_of_opaque directive) }
+{
+    Directive::of_defined(
+        directive.flags,
+        number_of(directive.width),
+        number_of(directive.precision),
+        integer_length(directive.modifier),
+        conv_of(directive.conversion),
+    )
+}
+
+fn number_of(amount: Option<OpaqueAmount>) -> Option<u16>
+    ensures { result ≡ amount_back (amount_of amount) }
+{
+    match amount {
+        Some(OpaqueAmount::Number(n)) => Some(n),
+        Some(OpaqueAmount::Star) => None,
+        None => None,
+    }
+}
+
+fn conv_of(conversion: Conversion) -> Conv
+    ensures { result ≡ conv_back conversion }
+{
+    match conversion {
+        Conversion::Profile(conv) => conv,
+        _ => Conv::D,
     }
 }
 

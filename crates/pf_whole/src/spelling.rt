@@ -54,21 +54,6 @@ fn spell(directive: OpaqueDirective) -> Spelling
     out
 }
 
-/// Returns the one spelling of a directive's parts, as `spell` does, also of one that has the flag `'`.
-pub(crate) fn spell_parts(directive: OpaqueDirective) -> ArrayVec<u8, 21>
-    ensures bytes { result.items ≡ posix_spelling_of (parts_of_opaque directive) }
-    ensures short { array_vec_len result ≤ 21 }
-{
-    let mut out = ArrayVec::new();
-    out.push(b'%');
-    push_flags(&mut out, directive.flags);
-    push_width(&mut out, directive.width);
-    push_precision(&mut out, directive.precision);
-    push_letters(&mut out, directive.modifier);
-    out.push(directive.conversion.letter());
-    out
-}
-
 fn push_kept_flags(out: &mut Spelling, flags: FlagSet)
     requires group { has flags Group ≡ false }
     requires room { array_vec_len out.old ≤ 1 }

@@ -1,6 +1,7 @@
 """The command line of fmtcanon-check."""
 
 import argparse
+import os
 import re
 from typing import Any, Optional, Sequence, Tuple
 
@@ -12,7 +13,8 @@ from ..frame.command_line import Parser
 NAME = "fmtcanon-check"
 USAGE = """\
 fmtcanon-check [OPTION]... -p DIR [FILE...]
-       fmtcanon-check [OPTION]... FILE..."""
+       fmtcanon-check [OPTION]... FILE...
+       fmtcanon-check [OPTION]... --git [REV] [FILE...]"""
 DESCRIPTION = """\
 Says of each call of a printf function in C source whether its arguments have the types that its format takes: where it \
 is compiled, on 32-bit systems, also with a 64-bit time_t, and on 64-bit Windows. It proposes a directive that is right \
@@ -27,6 +29,7 @@ Examples:
   fmtcanon-check src/*.c
   fmtcanon-check -p build --model ilp32
   fmtcanon-check -p build --diff
+  fmtcanon-check -p build --git main...
 
 Functions of the C library's printf family, as its headers declare them, and those with the attribute \
 format(printf, m, n) are known. Integers are compared by size, rank and sign; other arguments must have the type that \
@@ -60,8 +63,19 @@ def parser() -> Parser:
         ("--composed", "also report directives of several literals, once for each file and type"),
     ]:
         made.add_argument(option, action="store_true", help=text)
+    git = "report only what is in lines that differ from REV, or HEAD, and in calls and formats that have such lines; \
+REV... is where HEAD left REV"
+    made.add_argument("--git", nargs="?", const="HEAD", metavar="REV", help=git)
+    made.add_argument("--cached", action="store_true", help="with --git, judge what is staged instead of the work tree")
+    shard = "judge the I-th of N parts of the files, which together are all"
+    made.add_argument("--shard", type=shard_of, default=(1, 1), metavar="I/N", help=shard)
+    baseline = "report only what FILE doesn't have; if it isn't there, all that is found is reported and recorded in it"
+    made.add_argument("--baseline", metavar="FILE", help=baseline)
+    update = "record what is found now in the FILE of --baseline"
+    made.add_argument("--update-baseline", action="store_true", help=update)
     add_fail_on(made, tuple(RULES), ERRORS)
     add_writing(made, "write what is proposed where only a length modifier changes and the program prints the same")
+    made.add_argument("--no-cache", action="store_true", help="keep nothing, and judge again what is kept")
     made.add_output()
     made.add_color()
     made.add_jobs("files")
@@ -79,11 +93,40 @@ def type_of(word: str) -> Tuple[str, str]:
     return found[1], found[2]
 
 
+def shard_of(word: str) -> Tuple[int, int]:
+    """Returns the two numbers of `I/N`."""
+    found = re.fullmatch(r"([1-9]\d*)/([1-9]\d*)", word)
+    if not found or int(found[1]) > int(found[2]):
+        raise argparse.ArgumentTypeError(f"{word!r} isn't I/N, as 1/4 to 4/4")
+    return int(found[1]), int(found[2])
+
+
 def parsed(words: Optional[Sequence[str]]) -> Any:
     """Returns the options, with `files`. A usage error ends the command."""
     made = parser()
     options, more = made.parsed(words)
     options.files += more
-    if not options.files and not options.database:
-        made.error("give files or folders, or the folder of a compile_commands.json")
+    check_combination(made, options)
     return options
+
+
+def check_combination(made: Parser, options: Any) -> None:
+    """Ends the command with a usage error if options don't go together."""
+    if options.cached and not options.git:
+        made.error("--cached needs --git")
+    if options.cached and is_writing(options):
+        made.error("--cached isn't for --fix, --dry-run and --diff")
+    if not options.files and not options.database and not options.git:
+        made.error("give files or folders, or the folder of a compile_commands.json, or --git")
+    if options.update_baseline and not options.baseline:
+        made.error("--update-baseline needs --baseline")
+    if options.baseline and is_writing(options):
+        made.error("--baseline isn't for --fix, --dry-run and --diff")
+    is_recorded = options.baseline and (options.update_baseline or not os.path.lexists(options.baseline))
+    if is_recorded and (options.git or options.shard != (1, 1)):
+        made.error("a baseline is recorded without --git and --shard")
+
+
+def is_writing(options: Any) -> bool:
+    """Returns whether fixes are asked for, and not findings alone."""
+    return bool(options.fix or options.diff or options.dry_run)

@@ -44,13 +44,16 @@ class Argument(NamedTuple):
 
 
 class Call(NamedTuple):
-    """A call: the file and the line where it is, its function, what may be its format, and what that converts."""
+    """A call: the file and the line where it begins, its function, what may be its format, what that converts, and the
+    line where it ends.
+    """
 
     file: str
     line: int
     function: str
     formats: Tuple[Format, ...]
     arguments: Tuple[Argument, ...]
+    last: int = 0
 
 
 # The line of the text that a call is in, its function, and which of such calls it is: one key on all platforms.
@@ -132,6 +135,7 @@ class FormatCalls(Calls):
             name,
             tuple(it for it in read if it),
             tuple(map(argument_of, arguments[shape.first :])),
+            self.line_of(cursor.extent.end),
         )
 
     def note_other(self, cursor: Any, callee: Callee) -> None:

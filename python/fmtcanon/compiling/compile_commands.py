@@ -11,6 +11,7 @@ from typing import Dict, List, Optional, Sequence, Set, Tuple
 
 from .. import encode_literal
 from . import compile_words
+from .dependencies import Dependencies, dependencies_of, names_in_rule
 from .left import Left
 from .libclang import cindex
 from .running import run
@@ -22,12 +23,10 @@ SOURCES = re.compile(r".*\.(?:c|cc|cp|cpp|cxx|c\+\+|C|CPP)", re.DOTALL)
 OF_THE_MACHINE = re.compile(
     r"-m|-std|--std|-ansi|-stdlib|-nostd|-nobuiltininc|-isysroot|--(?:sysroot|target|gcc-toolchain)|-target"
 )
-# So that __DATE__ and __TIME__ stay the same.
-FIXED_TIME = {"SOURCE_DATE_EPOCH": "0"}
+# So that __DATE__ and __TIME__ stay the same, and what the compiler says is in the language that is read here.
+FIXED = {"SOURCE_DATE_EPOCH": "0", "LANGUAGE": "en"}
 # The line markers of standard input, and of the name that its first line gives it.
 OF_INPUT = re.compile(rb'^# 1 "<stdin>"( 2)?\n# 1 ("(?:[^"\\\n]|\\.)*")\n', re.MULTILINE)
-# A name in a rule of make.
-IN_RULE = re.compile(r"(?:\\[\s#]|[^\s])+")
 
 
 @dataclass(frozen=True)
@@ -66,12 +65,12 @@ class CompileCommand:
         """
         words, at = self.used()
         if source is None:
-            return run([*words, *more], self.folder, FIXED_TIME)
+            return run([*words, *more], self.folder, FIXED)
         name, folder = encode_literal(os.fsencode(words[at])), os.path.dirname(words[at])
         words[at : at + 1] = ["-x", self.language(), "-"]
         words[1:1] = ["-iquote", folder] if folder else []
         words += ["-Wno-builtin-macro-redefined", f"-D__BASE_FILE__={os.fsdecode(name)}"]
-        done = run([*words, *more], self.folder, FIXED_TIME, b"#line 1 " + name + b"\n" + source)
+        done = run([*words, *more], self.folder, FIXED, b"#line 1 " + name + b"\n" + source)
         done.stdout = OF_INPUT.sub(rb"# 1 \2\1\n", done.stdout, 1).replace(b'"<stdin>"', name)
         return done
 
@@ -81,6 +80,17 @@ class CompileCommand:
         if done.returncode:
             raise Left(f"its compiler can't preprocess it: {said(done.stderr)}")
         return bytes(done.stdout)
+
+    def preprocessed_with(self, folder: str) -> Tuple[bytes, Dependencies]:
+        """Returns what the compiler's preprocessor makes of the file, and what it read: with a file in a folder of this
+        command, and without the files there.
+        """
+        rule = os.path.join(folder, f"rule-{os.getpid()}")
+        done = self.run(None, "-E", "-w", "-v", "-MD", "-MF", rule, "-MT", "x")
+        if done.returncode:
+            raise Left(f"its compiler can't preprocess it: {said(done.stderr)}")
+        with open(rule, "rb") as stream:
+            return bytes(done.stdout), dependencies_of(stream.read(), done.stderr, self.folder, folder)
 
     def check_compiles(self, source: bytes) -> None:
         """Raises Left if the compiler, with all its warnings, rejects a source."""
@@ -126,12 +136,6 @@ def said(errors: bytes) -> str:
     """Returns the line of a compiler's messages that says what is wrong."""
     lines = errors.decode(errors="replace").strip().split("\n")
     return next((it for it in lines if "error: " in it), lines[0])
-
-
-def names_in_rule(text: str) -> List[str]:
-    """Returns the names that a rule of make has after its target."""
-    names = IN_RULE.findall(text.replace("\\\n", " ").partition(": ")[2])
-    return [re.sub(r"\\([\s#])", r"\1", it).replace("$$", "$") for it in names]
 
 
 @functools.lru_cache(maxsize=None)

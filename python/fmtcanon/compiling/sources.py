@@ -9,6 +9,9 @@ from .left import Left
 from .stand_ins import is_stand_in
 
 
+NO_COMMAND = "compile_commands.json has no command for it"
+
+
 class Name(NamedTuple):
     """A file as the operands name it, and its path without links."""
 
@@ -51,7 +54,7 @@ class Files:
             return "it isn't compiled by itself; a header is judged with the files that include it"
         is_given = not self.options.files or name.shown in self.options.files
         if not is_given and self.options.database and name.path not in self.database:
-            return "compile_commands.json has no command for it"
+            return NO_COMMAND
         return ""
 
     def commands(self, path: str) -> List[CompileCommand]:
@@ -65,7 +68,7 @@ class Files:
         if not self.options.database:
             return [default_command(path, self.options.flag)]
         if path not in self.database:
-            raise Left("compile_commands.json has no command for it")
+            raise Left(NO_COMMAND)
         return self.database[path]
 
 

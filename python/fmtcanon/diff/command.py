@@ -5,6 +5,7 @@ import functools
 import os
 from typing import Any, Callable, Dict, Iterable, Iterator, Optional, Sequence
 
+from ..compiling.git import FileChange, Git
 from ..compiling.libclang import MISSING, cindex
 from ..compiling.options import add_compiling, add_fail_on
 from ..compiling.retargeting import write_headers
@@ -17,7 +18,7 @@ from ..frame.visible import visible
 from ..source.files import Unreadable
 from .compiled import Fitting
 from .reporting import FAULTS, RULES, DiffQuestion, DiffReport, report_on, report_without
-from .trees import FileChange, Git, changes_of
+from .trees import changes_of
 
 NAME = "fmtcanon-diff"
 DESCRIPTION = """\

@@ -9,9 +9,11 @@ from ..compiling.calls import Key
 from ..compiling.compile_commands import SOURCES, CompileCommand, commands_in, default_command
 from ..compiling.left import Left, own_trouble
 from ..compiling.platforms import PLATFORMS
-from ..fitting.checking import Answer, Job, Question, add, answer
+from ..compiling.sources import NO_COMMAND
+from ..fitting.checking import Answer, Job, JudgedUnit, Question, add, answer
 from ..fitting.judging import SIGNED, Fault, Fit, judged
-from ..fitting.locating import Located, located
+from ..fitting.locating import Located
+from ..fitting.silencing import Silences
 from ..fitting.unit import Settings, Unit
 from ..formats.verdicts import shown
 from ..frame.findings import ERROR, NOTE, Finding
@@ -22,7 +24,6 @@ from ..source.places import column_of
 
 # A line and a column, from 1.
 Position = Tuple[int, int]
-NO_COMMAND = "compile_commands.json has no command for it"
 
 
 class JudgedUse(NamedTuple):
@@ -70,10 +71,11 @@ class Compiled:
 
     def add(self, unit: Unit, question: Question) -> None:
         """Adds what one compile command says."""
-        result, where = judged(unit.calls), located(unit)
+        checked = JudgedUnit(unit, judged(unit.calls), question, Silences())
+        result, where = checked.result, checked.where
         if where is None:
             raise Left("its literals can't be found")
-        add(self.found, question, unit, result, where)
+        add(self.found, checked)
         self.compiled.update(position_of(where, start) for start in where.compiled)
         faults: Dict[Tuple[Key, int], List[Fault]] = {}
         for one in result.faults:

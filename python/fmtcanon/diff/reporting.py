@@ -3,6 +3,7 @@
 from dataclasses import replace
 from typing import Iterator, Mapping, NamedTuple, Optional, Sequence
 
+from ..compiling.git import FileChange
 from ..fitting.reporting import KIND, RULES as OF_CALLS, SIZE, with_source
 from ..formats.verdicts import Library, PairKind
 from ..frame.command_line import model_names
@@ -13,7 +14,6 @@ from . import judging
 from .compiled import Compiled, Fitting
 from .judging import is_judged, judge, may_be_format
 from .pairing import Pair, Pairing, paired
-from .trees import FileChange
 
 RULES = {**judging.RULES, **{it: OF_CALLS[it] for it in (SIZE, KIND)}}
 FAULTS = (*judging.FAULTS, SIZE, KIND)

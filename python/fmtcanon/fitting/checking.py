@@ -1,9 +1,13 @@
 """Checks a file as each of its compile commands compiles it."""
 
 import collections
-from typing import Any, Callable, Counter, Dict, Hashable, List, NamedTuple, Optional, Sequence, Tuple
+import functools
+from dataclasses import replace
+from typing import Any, Counter, Dict, FrozenSet, Hashable, Iterable, Iterator, List, NamedTuple, Optional, Sequence, Tuple
 
+from ..compiling.calls import Call
 from ..compiling.compile_commands import CompileCommand
+from ..compiling.dependencies import Dependencies
 from ..compiling.left import Left, own_trouble
 from ..compiling.platforms import LLP64
 from ..frame.findings import NOTE, WARNING, Finding
@@ -13,8 +17,10 @@ from .composing import is_composed
 from .fixing import Fixes, fixes_of, merged
 from .judging import Fault, Judged, judged
 from .locating import Located, located
+from .macros import Macros
 from .proposals import proposal
-from .reporting import COMPOSED, LOST, RANK, SIGN, Spot
+from .reporting import COMPOSED, LOST, RANK, SIGN, UNUSED, Spot
+from .silencing import Silences
 from .unit import Settings, Unit
 
 
@@ -25,40 +31,124 @@ class Question(NamedTuple):
     added: Sequence[str]
     settings: Settings
 
-    def kind_of(self, fault: Fault, unit: Unit, where: Optional[Located]) -> Optional[str]:
-        """Returns the kind of the finding of a fault in a unit, or None if it isn't reported."""
-        kind = reporting.kind_of(fault, self.models, lambda it: is_composed(it, unit, where))
-        return kind if kind not in (RANK, SIGN, COMPOSED) or kind in self.added else None
+
+class JudgedUnit:
+    """A unit of a file as it was judged, where its formats are, and the comments that silence what is found."""
+
+    def __init__(self, unit: Unit, result: Judged, question: Question, silences: Silences) -> None:
+        self.unit, self.result, self.question, self.silences = unit, result, question, silences
+
+        self.spots: Dict[Hashable, Spot] = {}
+
+    @functools.cached_property
+    def where(self) -> Optional[Located]:
+        return located(self.unit)
+
+    @functools.cached_property
+    def macros(self) -> Macros:
+        return Macros(self.unit.definitions(), self.unit.command.folder, self.silences.texts)
+
+    def spot_of(self, fault: Fault) -> Spot:
+        key = fault.key, fault.format, fault.number, fault.span.start
+        if key not in self.spots:
+            self.spots[key] = reporting.spot_of(fault, self.where, lambda it: self.macros.of(it))
+        return self.spots[key]
+
+    def format_lines(self, fault: Fault) -> Iterator[Tuple[str, int, int]]:
+        """Yields the lines of the literals of a fault's format."""
+        for piece in self.where.pieces_of(fault) if self.where else ():
+            first = piece.place.line
+            yield self.unit.command.file, first, first + piece.place.source.count(b"\n")
+
+    def is_silenced(self, fault: Fault, kind: str) -> bool:
+        """Returns whether a comment at the directive or at the call silences a finding."""
+        spot = self.spot_of(fault)
+        return self.silences.cover([(spot.file, spot.line), (fault.call.file, fault.call.line)], kind)
+
+    def kind_in(self, fault: Fault, models: Sequence[Model]) -> Optional[str]:
+        """Returns the kind of a fault in these data models, or None."""
+        return reporting.kind_of(fault, models, lambda it: is_composed(it, self.unit, self.where))
+
+    def kind_of(self, fault: Fault) -> Optional[str]:
+        """Returns the kind of the finding of a fault, or None if it isn't reported."""
+        kind = self.kind_in(fault, self.question.models)
+        if kind is None or (kind in (RANK, SIGN, COMPOSED) and kind not in self.question.added):
+            return None
+        return None if self.is_silenced(fault, kind) else kind
+
+    def use_comments(self) -> None:
+        """Notes which comments silence something, also if it isn't asked about."""
+        for fault in self.result.faults:
+            kind = self.kind_in(fault, list(Model))
+            if kind:
+                self.is_silenced(fault, kind)
+        for call, finding in findings_of_calls(self.result, list(Model)):
+            self.silences.cover([(call.file, call.line)], finding.kind)
+
+
+class CallLines(NamedTuple):
+    """A call in which something is found: its file, its first and its last line, and which of the calls there it is."""
+
+    file: str
+    line: int
+    last: int
+    number: int
 
 
 class Found(NamedTuple):
-    """A finding, and where the place starts whose new text makes it go away, if it has one."""
+    """A finding, where the place starts whose new text makes it go away, if it has one, the calls that have it, and the
+    lines of these and of their formats: a file, the first and the last.
+    """
 
     finding: Finding
     place: Optional[int] = None
+    uses: FrozenSet[CallLines] = frozenset()
+    lines: FrozenSet[Tuple[str, int, int]] = frozenset()
+
+    def with_uses(self, other: "Found") -> "Found":
+        """Returns what is found here and there. What it says of one call is that of the first."""
+        first = min(self, other, key=lambda it: min(it.uses))
+        return first._replace(uses=self.uses | other.uses, lines=self.lines | other.lines)
+
+    def counted(self) -> "Found":
+        """Returns the finding with the calls that use the macro that it is in, if it is in one."""
+        if "macro" not in self.finding.details:
+            return self
+        calls = [{"file": reporting.shown_file(it.file), "line": it.line} for it in sorted(self.uses)]
+        details = {**self.finding.details, "uses": len(calls), "calls": calls}
+        return self._replace(finding=replace(self.finding, details=details))
 
 
 class Answer(NamedTuple):
     """What is found in a file. `found` are the findings by what tells them apart in all units, `counts` how many
     formats and arguments were judged and calls weren't read, `others` the calls of functions that aren't known, by the
-    option for each, and `fixes` new texts for the places of the file.
+    option for each, and `fixes` new texts for the places of the file. `read` is what the answer depends on, if it is
+    known.
     """
 
     file: str
-    found: Dict[Hashable, Found]
+    found: Dict[str, Found]
     counts: Counter[str]
     others: Counter[str]
     fixes: Fixes
+    read: Optional[Dependencies] = None
 
 
 class Job(NamedTuple):
-    """A file, its compile commands or why it has none, what is asked of it, and why it is skipped, if it is."""
+    """A file, its compile commands or why it has none, what is asked of it, and why it is skipped, if it is; the text
+    to read instead of its own; and files, if it is judged only if it includes one of them.
+    """
 
     file: str
     commands: Sequence[CompileCommand]
     question: Question
     why_left: str = ""
     why_skipped: str = ""
+    source: Optional[bytes] = None
+    among: FrozenSet[str] = frozenset()
+
+    def does_include(self) -> bool:
+        return not self.among or any(self.among & it.included() for it in self.commands)
 
 
 def empty_answer(job: Job) -> Answer:
@@ -74,17 +164,22 @@ def answer_without(job: Job, how: str) -> Answer:
 
 def answer(job: Job) -> Answer:
     """Checks a file. An exception leaves it."""
-    result = empty_answer(job)
+    texts = {} if job.source is None else {job.file: job.source}
+    result, silences = empty_answer(job), Silences(texts)
     if job.why_skipped:
         result.counts.clear()
-        result.found[job.file] = Found(reporting.skipped(job.file, job.why_skipped, job.question.models, NOTE))
+        result.found[key_in(job.file)] = Found(reporting.skipped(job.file, job.why_skipped, job.question.models, NOTE))
         return result
     fixes: List[Fixes] = []
     try:
         if job.why_left:
             raise Left(job.why_left)
+        if not job.does_include():
+            result.counts.clear()
+            return result
         with own_trouble():
-            fixes = fixes_in(result, job)
+            fixes, read = fixes_in(result, job, silences)
+            result = result._replace(read=read)
     except Left as why:
         add_left(result, job.question, str(why))
     if len(fixes) < len(job.commands):
@@ -96,65 +191,93 @@ def answer(job: Job) -> Answer:
     return result._replace(fixes=merged(fixes))
 
 
-def fixes_in(result: Answer, job: Job) -> List[Fixes]:
-    """Adds what is found in the units of a file, and returns the fixes of each. Raises Left once these are added that
-    could be read.
+def fixes_in(result: Answer, job: Job, silences: Silences) -> Tuple[List[Fixes], Optional[Dependencies]]:
+    """Adds what is found in the units of a file, and returns the fixes of each and what all read. Raises Left once these
+    are added that could be read.
     """
-    units: List[Tuple[Unit, Judged]] = []
+    units: List[JudgedUnit] = []
     left: Optional[Left] = None
     for command in job.commands:
         try:
             with own_trouble():
-                unit = Unit(command, job.question.settings)
-                units.append((unit, judged(unit.calls)))
+                unit = Unit(command, job.question.settings, job.source)
+                units.append(JudgedUnit(unit, judged(unit.calls), job.question, silences))
         except Left as why:
             left = why
             break
-    is_faulty = any(it.faults for _, it in units)
+    is_reported = any(one.kind_of(fault) for one in units for fault in one.result.faults)
     fixes: List[Fixes] = []
-    for unit, one in units:
-        where = located(unit) if is_faulty else None
-        add(result, job.question, unit, one, where)
-        if where:
-            fixes.append(fixes_of(unit, one.faults, where, kinds_in(job.question, unit, where)))
+    for one in units:
+        add(result, one)
+        if is_reported and one.where:
+            fixes.append(fixes_of(one.unit, one.result.faults, one.where, one.kind_of))
     if left:
         raise left
-    return fixes
+    add_unused(result, job, units, silences)
+    return fixes, together(it.unit.read for it in units)
 
 
-def kinds_in(question: Question, unit: Unit, where: Optional[Located]) -> Callable[[Fault], Optional[str]]:
-    """Returns a function that returns the kind of the finding of a fault in a unit, or None if it isn't reported."""
-    return lambda fault: question.kind_of(fault, unit, where)
+def together(read: Iterable[Optional[Dependencies]]) -> Optional[Dependencies]:
+    """Returns what several units read, if it is known of each."""
+    found = Dependencies()
+    for one in read:
+        if one is None:
+            return None
+        found = found.with_more(one)
+    return found
+
+
+def add_unused(result: Answer, job: Job, units: Sequence[JudgedUnit], silences: Silences) -> None:
+    """Adds the comments of a file that silence nothing, if all of it was judged."""
+    if units and silences.comments_of(job.file) and not result.counts["left"]:
+        for one in units:
+            one.use_comments()
+        for finding in silences.unused(job.file):
+            result.found[key_in(UNUSED, job.file, finding.line, finding.column)] = Found(finding)
 
 
 def add_left(answer: Answer, question: Question, why: str) -> None:
     """Adds that a file, or a part of it, is left."""
-    answer.found[answer.file, why] = Found(reporting.skipped(answer.file, why, question.models, WARNING))
+    answer.found[key_in(answer.file, why)] = Found(reporting.skipped(answer.file, why, question.models, WARNING))
     answer.counts["left"] += 1
 
 
-def add(answer: Answer, question: Question, unit: Unit, result: Judged, where: Optional[Located]) -> None:
+def add(answer: Answer, one: JudgedUnit) -> None:
     """Adds what is found in a unit."""
-    models, found = question.models, answer.found
+    unit, result, models = one.unit, one.result, one.question.models
     answer.counts.update(formats=result.formats, arguments=result.arguments, unread=unit.unread)
     answer.others.update(unit.others)
     if unit.why_left:
-        add_left(answer, question, f"libclang can't parse a part of it: {unit.why_left}")
+        add_left(answer, one.question, f"libclang can't parse a part of it: {unit.why_left}")
     for fault in result.faults:
-        kind = question.kind_of(fault, unit, where)
+        kind = one.kind_of(fault)
         if kind:
-            spot = reporting.spot_of(fault, where)
+            spot = one.spot_of(fault)
             finding = reporting.finding_of(fault, kind, spot, models)
-            found.setdefault(key_of(fault, kind, spot), Found(finding, place_of(fault, where)))
+            use = use_of(fault)
+            lines = frozenset([use[:3], *one.format_lines(fault)])
+            found = Found(finding, place_of(fault, one.where), frozenset([use]), lines)
+            key = key_of(fault, kind, spot)
+            answer.found[key] = answer.found[key].with_uses(found) if key in answer.found else found
+    for call, finding in findings_of_calls(result, models):
+        if not one.silences.cover([(call.file, call.line)], finding.kind):
+            lines = frozenset([(call.file, call.line, call.last)])
+            answer.found[key_in(call.file, call.line, finding.message)] = Found(finding, lines=lines)
+
+
+def findings_of_calls(result: Judged, models: Sequence[Model]) -> Iterator[Tuple[Call, Finding]]:
+    """Yields what is found of calls as a whole."""
     for call, names in result.lost:
         message = f"the call of {call.function} isn't there{reporting.listed(names)}"
-        found[call.file, call.line, message] = Found(reporting.finding_of_call(call, LOST, message, models))
+        yield call, reporting.finding_of_call(call, LOST, message, models)
     for errno in result.errnos if LLP64.model in models else ():
-        finding = reporting.errno_finding(errno)
-        found[errno.call.file, errno.call.line, finding.message] = Found(finding)
+        yield errno.call, reporting.errno_finding(errno)
     for refused in result.refused:
-        finding = reporting.refused_finding(refused, models)
-        found[refused.call.file, refused.call.line, finding.message] = Found(finding)
+        yield refused.call, reporting.refused_finding(refused, models)
+
+
+def use_of(fault: Fault) -> CallLines:
+    return CallLines(fault.call.file, fault.call.line, fault.call.last, fault.key[2])
 
 
 def place_of(fault: Fault, where: Optional[Located]) -> Optional[int]:
@@ -164,9 +287,14 @@ def place_of(fault: Fault, where: Optional[Located]) -> Optional[int]:
     return piece.place.start if piece else None
 
 
-def key_of(fault: Fault, kind: str, spot: Spot) -> Hashable:
+def key_in(*parts: object) -> str:
+    """Returns what tells a finding apart, as a text that can be kept."""
+    return repr(parts)
+
+
+def key_of(fault: Fault, kind: str, spot: Spot) -> str:
     """Returns what tells a finding apart: all uses of a directive with one type of argument are one finding, and so are
     all directives that one macro of `#if` makes wrong in a file.
     """
     what: Tuple[Any, ...] = (fault.directive, fault.given[0].name, fault.is_star)
-    return (kind, spot.file, *what) if kind == COMPOSED else (kind, *spot, *what)
+    return key_in(kind, spot.file, *what) if kind == COMPOSED else key_in(kind, *spot, *what)

@@ -9,7 +9,7 @@ from ..compiling.formats import Format
 from ..compiling.left import Left
 from ..compiling.markers import Marker
 from ..compiling.parsing import OTHER_BYTES
-from ..compiling.stand_ins import Original, original
+from ..compiling.stand_ins import Original
 from ..source.respelling import LiteralRun, runs_in
 from ..source.tokens import plain_literals
 from .judging import Fault
@@ -55,6 +55,10 @@ class Located(NamedTuple):
             return None
         return next((it for it in pieces if it.at <= index < it.at + len(it.place.text)), None)
 
+    def pieces_of(self, fault: Fault) -> List[Piece]:
+        """Returns the pieces of a fault's format that are in the source."""
+        return self.formats.get((fault.key, fault.format), (b"", []))[1]
+
     def uses(self) -> Dict[int, List[Use]]:
         """Returns the uses of places by where these start."""
         found: Dict[int, List[Use]] = {}
@@ -68,7 +72,7 @@ class Located(NamedTuple):
 def located(unit: Unit) -> Optional[Located]:
     """Returns where the formats of a unit are, or None if its file can't be preprocessed with markers."""
     try:
-        file = original(unit.command.file)
+        file = unit.original()
         places = [it for it in runs_in(file.source) if b"%" in it.text]
         marker = Marker()
         text = unit.text(with_markers(file.source, places, marker))

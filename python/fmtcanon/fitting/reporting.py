@@ -18,10 +18,11 @@ from ..models import Model
 from ..source.places import column_of
 from .judging import MISSING, ORDER, SIGNED, ErrnoFormat, Fault, Fit, RefusedFormat
 from .locating import Located
+from .macros import Definition, macro_at, span_of
 from .proposals import fitting, proposal
 
 SIZE, KIND, RANK, SIGN, COMPOSED = "size", "kind", "rank", "sign", "composed"
-LOST, ERRNO, UNJUDGED, SKIPPED, FIXED = "lost", "errno", "unjudged", "skipped", "fixed"
+LOST, ERRNO, UNJUDGED, SKIPPED, UNUSED, FIXED = "lost", "errno", "unjudged", "skipped", "unused", "fixed"
 RULES = {
     SIZE: "An argument has another size than its directive takes on some platform.",
     KIND: "An argument is missing, or of another kind than its directive takes, as a double for %d.",
@@ -32,10 +33,13 @@ RULES = {
     ERRNO: "A format has %m, which the C library of 64-bit Windows lacks; in syslog it is POSIX's.",
     UNJUDGED: "What may be the format of a call isn't accepted.",
     SKIPPED: "A file, or a part of it, wasn't judged; or not by itself, as a header.",
+    UNUSED: "A comment that silences findings silences none.",
     FIXED: "A directive was replaced by one that fits on every platform.",
 }
 # The kinds for which the status is 1, unless --fail-on names others.
 ERRORS = (SIZE, KIND)
+# Those that no comment silences.
+SILENT = (SKIPPED, UNUSED, FIXED)
 FITS = {Fit.SIZE: "wrong size", Fit.RANK: "wrong type", Fit.SIGN: "wrong sign"}
 # What the platforms are called.
 NAMES_OF_SYSTEMS = ["64-bit Unix", "32-bit systems", "32-bit systems with a 64-bit time_t", "64-bit Windows"]
@@ -51,13 +55,16 @@ HEADERS.update(size_t="stddef.h", wint_t="wchar.h")
 
 
 class Spot(NamedTuple):
-    """A position: a file, a line, and a column, an end and the offsets of both if they are known."""
+    """A position: a file, a line, and a column, an end and the offsets of both if they are known; and the macro in whose
+    definition it is.
+    """
 
     file: str
     line: int
     column: Optional[int] = None
     end: Optional[Tuple[int, int]] = None
     offsets: Optional[Tuple[int, int]] = None
+    macro: str = ""
 
 
 def shown_file(path: str) -> str:
@@ -66,18 +73,30 @@ def shown_file(path: str) -> str:
     return path if name.startswith("..") else name
 
 
-def spot_of(fault: Fault, where: Optional[Located]) -> Spot:
-    """Returns where the directive of a fault is, or else its call."""
+def spot_of(fault: Fault, where: Optional[Located], definition_of: Callable[[Fault], Optional[Definition]]) -> Spot:
+    """Returns where the directive of a fault is: in the source of the unit, in the definition of a macro that a header
+    has, or else its call.
+    """
     first, after = fault.range
     start = where.offset_of(fault, first) if where else None
-    if where is None or start is None:
+    if where is not None and start is not None:
+        last, source = where.offset_of(fault, after - 1), where.file.source
+        return spot_in(where.file.path, source, start, last, macro_at(source, start))
+    definition = definition_of(fault)
+    if definition is None:
         return Spot(fault.call.file, fault.call.line)
-    source = where.file.source
-    last = where.offset_of(fault, after - 1)
+    span = span_of(definition, fault)
+    if span is None:
+        return Spot(definition.file, definition.line, macro=definition.name)
+    return spot_in(definition.file, *span, definition.name)
+
+
+def spot_in(file: str, source: bytes, start: int, last: Optional[int], macro: str) -> Spot:
+    """Returns the position of what begins at an offset of a source, and whose last byte is known."""
     line = source.count(b"\n", 0, start) + 1
     end = (source.count(b"\n", 0, last) + 1, column_of(source, last) + 1) if last is not None else None
     offsets = (start, last + 1) if last is not None else None
-    return Spot(where.file.path, line, column_of(source, start), end, offsets)
+    return Spot(file, line, column_of(source, start), end, offsets, macro)
 
 
 def kind_of(fault: Fault, models: Sequence[Model], composed: Callable[[Fault], bool]) -> Optional[str]:
@@ -166,13 +185,16 @@ def details_of(fault: Fault) -> Dict[str, Any]:
 def finding_of(fault: Fault, kind: str, spot: Spot, models: Sequence[Model]) -> Finding:
     wrong = {it.model for it, fit in zip(PLATFORMS, fault.fits) if fit is not Fit.EQUAL and it.model in models}
     details: Dict[str, Any] = {**details_of(fault), "fix": fix_of(fault, spot)}
+    message = message_of(fault, models)
+    if spot.macro:
+        details["macro"], message = spot.macro, f"{message}; in the macro {spot.macro}"
     return Finding(
         shown_file(spot.file),
         spot.line,
         spot.column,
         kind,
         ERROR if kind in ERRORS else NOTE,
-        message_of(fault, models),
+        message,
         spot.end,
         (details["format"],),
         model_names(sorted(wrong)),
@@ -220,7 +242,7 @@ def as_not_written(finding: Finding, why: str) -> Finding:
 def refused_finding(refused: RefusedFormat, models: Sequence[Model]) -> Finding:
     """Returns the finding of a format that isn't accepted, with the format and what helps."""
     call, text, why = refused
-    finding = finding_of_call(call, UNJUDGED, f"not judged: {why} of a format of {call.function}", models)
+    finding = finding_of_call(call, UNJUDGED, f"not judged: {why} of a format of {call.function}", models, text)
     if not isinstance(why, Refused):
         return finding
     excerpt = literal_excerpt("format", text, *refused_span(text, why), why.name)
@@ -232,11 +254,12 @@ def errno_finding(found: ErrnoFormat) -> Finding:
     call, text, at = found
     message = f"%m in a format of {call.function}: missing on {TITLES[LLP64.name]}; use %s and strerror(errno)"
     excerpt = literal_excerpt("format", text, at, at + 2, "")
-    return replace(finding_of_call(call, ERRNO, message, [LLP64.model]), excerpts=(excerpt,))
+    return replace(finding_of_call(call, ERRNO, message, [LLP64.model], text), excerpts=(excerpt,))
 
 
-def finding_of_call(call: Call, kind: str, message: str, models: Sequence[Model]) -> Finding:
-    """Returns a finding of a call as a whole."""
+def finding_of_call(call: Call, kind: str, message: str, models: Sequence[Model], format: bytes = b"") -> Finding:
+    """Returns a finding of a call as a whole, or of its format."""
+    known = {"format": format.decode(errors="backslashreplace")} if format else {}
     return Finding(
         shown_file(call.file),
         call.line,
@@ -245,7 +268,7 @@ def finding_of_call(call: Call, kind: str, message: str, models: Sequence[Model]
         WARNING,
         message,
         models=model_names(models),
-        details={"function": call.function},
+        details={"function": call.function, **known},
     )
 
 

@@ -5,35 +5,42 @@ from typing import Dict, List, Mapping, NamedTuple, Optional, Sequence
 
 from ..compiling.calls import Call, FormatCalls, Key
 from ..compiling.compile_commands import CompileCommand
+from ..compiling.dependencies import Dependencies
 from ..compiling.functions import Functions
 from ..compiling.left import Left
 from ..compiling.parsing import Shape, as_utf8
 from ..compiling.platforms import COMPILED, PLATFORMS, Platform
 from ..compiling.retargeting import retargeted
+from ..compiling.stand_ins import Original, original
 from ..compiling.targets import model_in
 from ..models import Model
 
 
 class Settings(NamedTuple):
-    """The words that find the headers of this command; functions that take formats, by the options; and typedefs, each
-    with the one whose type it has.
+    """The words that find the headers of this command; functions that take formats, by the options; typedefs, each with
+    the one whose type it has; and the folder of this command if it is to be known what units read.
     """
 
     words: Sequence[str]
     functions: Mapping[str, Shape]
     types: Mapping[str, str]
+    folder: str = ""
 
 
 class Unit:
-    """The calls of a unit on each platform, and why libclang can't parse a part of it, if so."""
+    """The calls of a unit on each platform, and why libclang can't parse a part of it, if so. Its source may be another
+    than that of the file.
+    """
 
-    def __init__(self, command: CompileCommand, settings: Settings) -> None:
+    def __init__(self, command: CompileCommand, settings: Settings, source: Optional[bytes] = None) -> None:
         model = model_in(command.macros())
         if model is not Model.LP64:
             raise Left(f"it is compiled for {model.name if model else 'another data model'}, and not for LP64")
         words = (command.words[0], *settings.words, *command.words[1:], "-U_FORTIFY_SOURCE")
-        self.command, self.settings = dataclasses.replace(command, words=words), settings
-        text = self.text()
+        self.command, self.settings, self.source = dataclasses.replace(command, words=words), settings, source
+        # What was read, if that is known.
+        self.read: Optional[Dependencies] = None
+        text = self.first_text()
         parsed = [self.parsed(text, it) for it in PLATFORMS]
         errors = parsed[0].errors()
         self.why_left: Optional[str] = errors[0] if errors else None
@@ -41,14 +48,26 @@ class Unit:
         self.unread, self.others = parsed[0].unread, parsed[0].others
         self.defined: Optional[bytes] = None
 
+    def first_text(self) -> str:
+        """Returns the text of the unit, and notes what was read if it is asked for."""
+        if not self.settings.folder or self.source is not None:
+            return self.text()
+        text, self.read = self.command.preprocessed_with(self.settings.folder)
+        return as_utf8(text).decode()
+
     def text(self, source: Optional[bytes] = None) -> str:
         """Returns what the compiler's preprocessor makes of the file, or of another source of it."""
-        return as_utf8(self.command.preprocessed(source)).decode()
+        return as_utf8(self.command.preprocessed(self.source if source is None else source)).decode()
+
+    def original(self) -> Original:
+        """Returns the file, with the source that is judged. Raises `OSError` if it can't be read."""
+        file = original(self.command.file)
+        return file if self.source is None else file._replace(source=self.source)
 
     def definitions(self) -> bytes:
         """Returns the text of the unit with the definitions of its macros."""
         if self.defined is None:
-            self.defined = bytes(self.command.run(None, "-E", "-dD", "-w").stdout)
+            self.defined = bytes(self.command.run(self.source, "-E", "-dD", "-w").stdout)
         return self.defined
 
     def parsed(self, text: str, platform: Platform) -> FormatCalls:

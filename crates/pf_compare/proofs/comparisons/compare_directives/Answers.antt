@@ -3,7 +3,6 @@ use Rattle.std.proofs.lemmas.Result.{err_from_is_err_and}
 use Rattle.pf_compare.specs.Answers.{IsComparisonOf}
 use Rattle.pf_compare.specs.declared.comparisons.Comparison.{Comparison}
 use Rattle.pf_compare.proofs.LoneLemmas.{lone_have_same}
-use Rattle.pf_compare.proofs.ProbeLemmas.{told_alike, told_unlike}
 use Rattle.pf_compare.proofs.VerdictLemmas.{lone_verdict, told_not_equivalent}
 use Rattle.pf_compare.proofs.comparisons.compare_directives.Goals as goal
 
@@ -12,7 +11,7 @@ returns-then-print_alike c =
     let h = c.requires.lone in
     subst (λ (r : Comparison). IsComparisonOf c.args.model c.args.first.now c.args.second.now r) (sym c.same_comparison.ensures)
     (lone_verdict c.args.model c.args.first.now c.args.second.now c.args.difference.now h
-    (told_unlike _ _ c.print_alike.result c.if-print_alike.true c.print_alike.ensures))
+    (c.print_alike.ensures.alike.0 c.if-print_alike.true))
 
 pub returns-in_err-candidate_index : goal.returns-in_err-candidate_index
 returns-in_err-candidate_index c =
@@ -21,7 +20,7 @@ returns-in_err-candidate_index c =
       lone_have_same c.args.model c.args.first.now c.args.second.now c.args.difference.now c.requires.lone c.requires.types,
       told_not_equivalent
           c.args.model c.args.first.now c.args.second.now c.args.difference.now c.requires.lone c.requires.types
-          (told_alike _ _ c.print_alike.result c.if-print_alike.false c.print_alike.ensures),
+          (c.print_alike.ensures.unlike c.requires.types c.if-print_alike.false),
     )
 
 pub returns-in_err-compare_at-in-Some : goal.returns-in_err-compare_at-in-Some
@@ -31,5 +30,5 @@ returns-in_err-compare_at-in-Some c =
       lone_have_same c.args.model c.args.first.now c.args.second.now c.args.difference.now c.requires.lone c.requires.types,
       told_not_equivalent
           c.args.model c.args.first.now c.args.second.now c.args.difference.now c.requires.lone c.requires.types
-          (told_alike _ _ c.print_alike.result c.if-print_alike.false c.print_alike.ensures),
+          (c.print_alike.ensures.unlike c.requires.types c.if-print_alike.false),
     )

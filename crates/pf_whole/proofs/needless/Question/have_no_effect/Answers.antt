@@ -1,20 +1,29 @@
-use Rattle.std.proofs.Common.{◌∙◌, ap, arith, length, refl}
-use Rattle.pf_whole.specs.meaning.NormalSpellings.{posix_spelling_of}
-use Rattle.pf_whole.proofs.NeedlessLemmas.{compared, not_compared}
+use Rattle.std.proofs.Common.{◌∙◌, ap, refl, subst, sym}
+use Rattle.pf_values.specs.meaning.Text.{Text}
+use Rattle.pf_posix.specs.Items.{Specification, SpellsPosixItem}
+use Rattle.pf_posix.specs.Opaque.{is_opaque}
+use Rattle.pf_posix.specs.OpaqueParts.{narrow}
+use Rattle.pf_whole.proofs.NeedlessLemmas.{printed, spelled_without, still_narrow}
 use Rattle.pf_whole.proofs.needless.Question.have_no_effect.Goals as goal
 
-pub returns-in-Ok : goal.returns-in-Ok
-returns-in-Ok c =
+pub narrow-requires-2-clause-spelled : goal.narrow-requires-2-clause-spelled
+narrow-requires-2-clause-spelled c =
     let q = c.requires in
-    let shorter = c.as_slice.ensures.value ∙ c.spell_parts-spelling.ensures.bytes ∙ ap posix_spelling_of c.without-shorter.ensures in
-    compared c.args.self.now.model _ refl q.text q.spelled c.args.set _ _ q.whole shorter c.in-Ok.is' c.in-Ok.ensures
+    let profile = sym c.is_opaque.ensures ∙ c.if-is_opaque.false in
+    subst (λ s. (t : Text) × SpellsPosixItem t (Specification s)) (sym c.without-shorter.ensures)
+    (spelled_without c.args.self.now.model _ refl q.text q.spelled c.args.set profile)
 
-pub returns-in-Err : goal.returns-in-Err
-returns-in-Err c =
+pub narrow-requires-2-clause-narrow : goal.narrow-requires-2-clause-narrow
+narrow-requires-2-clause-narrow c =
     let q = c.requires in
-    let value = c.as_slice.ensures.value in
-    let shorter = value ∙ c.spell_parts-spelling.ensures.bytes ∙ ap posix_spelling_of c.without-shorter.ensures in (
-      λ no. cc,
-      λ none. absurd (not_compared c.args.self.now.model _ refl q.text q.spelled c.args.set _ _ q.whole shorter c.in-Err.field-0 c.in-Err.ensures
-          (omega (arith, q.short)) (omega (arith, ap length value, c.spell_parts-spelling.ensures.short)) none),
-    )
+    let profile = sym c.is_opaque.ensures ∙ c.if-is_opaque.false in
+    ap is_opaque c.without-shorter.ensures ∙ still_narrow c.args.self.now.model _ refl q.text q.spelled c.args.set profile
+
+pub returns : goal.returns
+returns c =
+    let q = c.requires in
+    let profile = sym c.is_opaque.ensures ∙ c.if-is_opaque.false in
+    let both = printed c.args.self.now.model _ refl q.text q.spelled c.args.set profile in
+    let second = c.narrow-2.ensures ∙ ap narrow c.without-shorter.ensures in
+    let told = rw (c.narrow.ensures, second) at c.print_alike.ensures.alike in
+    (λ yes. both.0 (told.0 yes), λ none. told.1 (both.1 none))

@@ -3,7 +3,7 @@ use Rattle.std.proofs.lemmas.Bool.{eqb-false}
 use Rattle.pf_posix.specs.Items.{errno_letter}
 use Rattle.pf_posix.proofs.DirectiveLemmas.{item_byte, item_errno, item_percent, item_specification, listed_byte, listed_errno, listed_percent, listed_specification}
 use Rattle.pf_posix.proofs.DirectiveLemmas.{other_byte, some_specification}
-use Rattle.pf_posix.proofs.directive_spans.item_at.Goals as goal
+use Rattle.pf_posix.proofs.specification_walk.item_at.Goals as goal
 
 pub returns-then-text-at-ne37-clause-listed : goal.returns-then-text-at-ne37-clause-listed
 returns-then-text-at-ne37-clause-listed c model all done next h =

@@ -1,0 +1,49 @@
+"""The files that are judged, and what is left or skipped, and why."""
+
+import os
+from typing import Any, FrozenSet, Iterator, Optional
+
+from ..compiling.compile_commands import SOURCES
+from ..compiling.left import Left
+from ..compiling.sources import NO_COMMAND, Files, Name
+from ..fitting.checking import Job, Question
+from .changes import GitChange
+
+
+def job_of(
+    files: Files, name: Name, question: Question, source: Optional[bytes] = None, among: FrozenSet[str] = frozenset()
+) -> Job:
+    """Returns what is to be done for a file."""
+    why = files.why_skipped(name)
+    try:
+        commands = () if why else files.commands(name.path)
+    except Left as left:
+        return Job(name.path, (), question, str(left))
+    return Job(name.path, commands, question, why_skipped=why, source=source, among=among)
+
+
+def jobs_of(files: Files, question: Question, change: Optional[GitChange] = None) -> Iterator[Job]:
+    """Yields what is to be done: for all files, or for those that a change has or that include what it has."""
+    if change is None:
+        yield from (job_of(files, name, question) for name in files.names())
+        return
+    names = list(files.names())
+    included = frozenset(change.lines.keys() - {it.path for it in names if not files.why_skipped(it)})
+    for name in names:
+        if name.path in change.lines:
+            yield job_of(files, name, question, change.staged.get(name.path))
+        elif included and not files.why_skipped(name):
+            yield job_of(files, name, question, among=included)
+    for path in sorted(included & change.staged.keys()):
+        yield Job(path, (), question, "a header has changes that aren't staged")
+    if not files.options.files:
+        for path in sorted(filter(SOURCES.fullmatch, included)):
+            yield Job(path, (), question, why_skipped=NO_COMMAND)
+    for path, one in change.others.items():
+        yield Job(path, (), question, one.error, one.why_not)
+
+
+def name_files(options: Any, change: GitChange) -> None:
+    """Has the files of a change read if the options name none."""
+    if not options.files and not options.database:
+        options.files = sorted(os.path.relpath(it) for it in change.lines)
