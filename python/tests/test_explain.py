@@ -207,9 +207,13 @@ class Lines(unittest.TestCase):
 
     def test_what_follows(self):
         self.assertEqual(run("%i")[1][-2:], ["key: %d", "it prints 1 to 11 bytes"])
-        key = ["key (LP64): %lu", "it is not a rewrite: in ILP32 and LLP64 it names other types"]
+        key = ["key (LP64): %lu", "it is not a rewrite: in ILP32 and LLP64 it means something else"]
         self.assertEqual(run("%zu")[1][-3:], [*key, "it prints 1 to 20 bytes"])
         self.assertEqual(run("--model", "ilp32", "%jd")[1][-3], "key (ILP32): %lld")
+        # In ILP32, a long has 11 bytes at most.
+        self.assertEqual(run("%20ld")[1][-2:], ["key (LP64): %20ld", "it prints 20 bytes"])
+        key = ["key (ILP32): " + " " * 9 + "%11ld", "it is not a rewrite: in LP64 it means something else"]
+        self.assertEqual(run("--model", "ilp32", "%20ld")[1][-3:], [*key, "it prints 20 bytes"])
         rows = [("%s", "at least 0 bytes"), (" %s", "at least 1 byte"), ("%c", "1 byte"), ("%2c", "2 bytes")]
         for text, said in rows:
             self.assertEqual(run(text)[1][-1], f"it prints {said}")
@@ -428,7 +432,7 @@ WORKED = [
             ^^^^     argument 2, size_t: unsigned long (unsigned int in ILP32, unsigned long long in
                      LLP64): decimal, right-justified in at least 5 bytes
 key (LP64): %-8f of %5lu%%
-it is not a rewrite: in ILP32 and LLP64 it names other types""",
+it is not a rewrite: in ILP32 and LLP64 it means something else""",
     ),
     (
         ["%d: %05d", "%d: %.5d"],

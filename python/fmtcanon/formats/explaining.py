@@ -133,6 +133,12 @@ def canonical_by_model(texts: Mapping[Model, bytes]) -> Dict[Model, bytes]:
         return {}
 
 
+def unlike_key(canonical: Mapping[Model, bytes], model: Model) -> List[Model]:
+    """Returns the data models in which the canonical text in one isn't the same as the format."""
+    key = canonical[model]
+    return [it for it, other in canonical.items() if other != key and other != LIBRARY.canonical(key, it)]
+
+
 def bounds_of(text: bytes, model: Model) -> Optional[fmtcanon.Bounds]:
     """Returns how many bytes a format of the profile prints."""
     try:

@@ -12,7 +12,7 @@ from ..frame.terminals import Style, beside, columns
 from ..frame.visible import visible
 from ..kinds import TYPE_NAMES
 from ..words import WORDS, phrase
-from .explaining import Difference, ExplainedDirective, Explanation, Rejection
+from .explaining import Difference, ExplainedDirective, Explanation, Rejection, unlike_key
 from .rejections import refused_span
 from .verdicts import PairKind, argument_words, cut, shared_front, shown_argument, shown_arguments
 
@@ -85,11 +85,12 @@ def explanation_lines(found: Explanation, model: Model, style: Style) -> Iterato
 
 
 def key_lines(canonical: Dict[Model, bytes], model: Model) -> Iterator[str]:
-    """Yields the canonical text in a data model, and whether it is another elsewhere; nothing if there is none."""
+    """Yields the canonical text in a data model, and where it isn't the same as the format; nothing if there is none."""
     if not canonical:
         return
-    key, others = canonical[model], [it.name for it, other in canonical.items() if other != canonical[model]]
-    yield WORDS["key_in_model" if others else "key"].format(key=as_source(key), model=model.name)
+    is_one = len(set(canonical.values())) == 1
+    yield WORDS["key" if is_one else "key_in_model"].format(key=as_source(canonical[model]), model=model.name)
+    others = [it.name for it in unlike_key(canonical, model)]
     if others:
         yield WORDS["not_a_rewrite"].format(models=" and ".join(others))
 
