@@ -136,7 +136,7 @@ spelled_long {first} {s} h =
     let begun = ap length f.whole in
     omega (arith, whole, letters, precise, wide, begun)
 
--- of two bytes each, there are so many at most
+-- a text has at most one for two of its bytes
 pub spans_few : (model : Model) (at next : ℕ) (t : Text) (items : List PosixItem) (reads : ReadsPosix t items)
     → 2 * length (directives_from model at next t items reads) ≤ length t
 spans_few model at next t [] reads = omega arith
@@ -183,7 +183,7 @@ module _ (t : Text) (walk : SpecificationWalk) (all done : List DirectiveSpan) w
     each = all_push (HasItsParts t) spans span each next.1;
   }
 
--- these are no more than all, of which there is one for two bytes at most
+-- these are no more than all, and than one for two bytes
 pub behind_few : (t : Text) (walk : SpecificationWalk) (all : List DirectiveSpan) (spans : List SpecificationSpan) → AreBehind t walk all [] spans
     → (length spans ≤ length all) × (2 * length spans ≤ length t)
 behind_few t walk all spans h =
@@ -193,7 +193,7 @@ behind_few t walk all spans h =
       omega (arith, long, h.ahead.apart, h.ahead.listed.within),
     )
 
--- so it is if all specifications are behind a walk that was before them
+-- so it is if a walk has gone past all
 pub has_specifications : (model : Model) (t : Text) (walk : SpecificationWalk) (before : IsBefore model t walk) (spans : List SpecificationSpan)
     → AreTheRest t (directives_from model 0 0 t before.accepted.items before.accepted.reads) [] spans → HasSpecifications model t spans
 has_specifications model t walk before spans rest = record {

@@ -59,7 +59,7 @@ pub(crate) fn bare_type(byte: u8) -> Option<ArgumentType>
     }
 }
 
-/// Returns the length modifier of an integer conversion. `L` is none.
+/// Returns a length modifier as one of integer conversions: none in place of `L`.
 #[inline(always)]
 pub fn integer_length(modifier: Modifier) -> Length
     ensures { result ≡ integer_length modifier }

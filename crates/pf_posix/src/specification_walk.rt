@@ -58,7 +58,7 @@ impl<'a> SpecificationWalk<'a> {
         }
     }
 
-    /// Returns the next specification, if there is one.
+    /// Returns the next specification, or `None` if there is none.
     #[inline(always)]
     pub fn next(&mut self) -> Option<SpecificationSpan>
         requires { (t : Text) × (all : List DirectiveSpanOf) × (done : List DirectiveSpanOf) × IsAhead t self.old all done }

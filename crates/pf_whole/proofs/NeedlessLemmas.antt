@@ -16,7 +16,7 @@ use Rattle.pf_posix.specs.declared.conversions.Modifier.{Modifier as ModifierOf}
 use Rattle.pf_posix.specs.declared.conversions.Modifier.TheVariants.{Integer}
 use Rattle.pf_values.specs.declared.flags.FlagSet.{FlagSet}
 use Rattle.pf_values.specs.declared.lengths.Length.TheVariants as lengths
-use Rattle.pf_posix.specs.Items.{PosixItem, ReadsPosix, Specification, SpellsPosixItem}
+use Rattle.pf_posix.specs.Items.{PosixItem, Specification, SpellsPosixItem}
 use Rattle.pf_posix.specs.OpaqueParts.{amount_back, amount_of, conv_back, narrow, parts_of_opaque}
 use Rattle.pf_posix.specs.Types.{integer_length}
 use Rattle.pf_posix.specs.declared.opaque_directives.OpaqueDirective.{OpaqueDirective}
@@ -25,8 +25,6 @@ use Rattle.pf_posix.specs.declared.specification_spans.SpecificationSpan.{Specif
 use Rattle.pf_posix.specs.Specifications.{Amount, Fetched, Given, PosixSpecification}
 use Rattle.pf_posix.specs.Spelling.{SpellsPosix, SpellsPosixPrecision, SpellsPosixWidth}
 use Rattle.pf_posix.specs.Stretches.{Stretches, Before, Last, ReadsWhole}
-use Rattle.pf_posix.proofs.ItemsOnce.{first_item}
-use Rattle.pf_posix.proofs.KeptTypes.{flat, posix_reads}
 use Rattle.pf_posix.proofs.Narrowed.{narrowed, reads_whole}
 use Rattle.pf_posix.proofs.ReadOnce.{pushed_or, stretched}
 use Rattle.pf_posix.proofs.SpecificationsOnce.{HasParts, is_defined, no_reason, parts_of}
@@ -50,11 +48,6 @@ items_alone s = Specification s ∷ []
 reads_alone : (t : Text) (s : PosixSpecification) → SpellsPosix t s → IsPosixDefined s → s.position ≡ None → ReadsWhole t (stretched (items_alone s))
 reads_alone t s h defined unnumbered =
     reads_whole t (items_alone s) (t, [], (h, defined), refl, sym (append-nil t)) (unnumbered, tt)
-
--- it is defined, if it is read
-defined_of : (t : Text) (s : PosixSpecification) (a : Stretches) → SpellsPosix t s → ReadsWhole t a → IsPosixDefined s
-defined_of t s a h reads =
-    (first_item (Specification s) t [] (flat a) h (subst (λ u. ReadsPosix u (flat a)) (sym (append-nil t)) (posix_reads t a reads))).spelled.1
 
 -- whether what is left out is spelled, or something
 width_left : (out : Bool) (t : Text) (width : Option Amount) → SpellsPosixWidth t None width → (u : Text) × SpellsPosixWidth u None (left_out out width)

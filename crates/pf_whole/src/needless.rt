@@ -35,7 +35,7 @@ struct Question {
 }
 
 /// Returns the parts of a directive that have no effect in a data model: without any one of them, the directive is
-/// alike. Also returns some of them without all of which it is alike. In `%02.2u`, neither the width
+/// alike. Also returns some of them that can be left out together. In `%02.2u`, neither the width
 /// nor the precision has an effect, but without both the directive prints less.
 pub fn needless_parts(model: Model, directive: OpaqueDirective) -> NeedlessParts
     requires { (t : Text) × SpellsPosixItem t (Specification (parts_of_opaque directive)) }
