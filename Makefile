@@ -5,7 +5,7 @@
 #                        program and the library are tried
 # make check-more        tries the library with tools that the gate doesn't need: clang, valgrind,
 #                        gettext, libclang, mypy, lintian, debootstrap, meson, CMake, the shells of the
-#                        completions, and a cross compiler and an emulator of AArch64
+#                        completions, wasm-opt, node, browsers, and a cross compiler and an emulator of AArch64
 # make mutants           tries the mutants that the records don't have as refused, and writes them there
 # make library           builds the C library alone
 # make page              the library as a module of WebAssembly, and the page that runs it in a browser, in out/web

@@ -128,11 +128,10 @@ export class Answer {
 
   keys(found, isAlone) {
     if (!found.canonical) return [made("p.soft", "It has no canonical text, since its arguments are numbered.")];
-    const groups = byModel(found.canonical), others = groups.filter(({ models }) => !models.includes(this.model));
+    const groups = byModel(found.canonical), others = this.explainer.unlikeKey(found.canonical, this.model);
     const name = (models) => this.words.key(groups.length === 1 ? "" : namesOf(models));
     const rows = groups.map(({ value, models }) => [name(models), made("samp", this.shown(value)), " ", this.copy(value)]);
-    const names = namesOf(others.flatMap((it) => it.models));
-    const warning = made("p.soft", `In ${namesOf([this.model])}, ${this.words.notARewrite(names)}.`);
+    const warning = made("p.soft", `${this.words.key(namesOf([this.model]))}: ${this.words.notARewrite(namesOf(others))}.`);
     const use = made("p.soft", "Two formats are the same in a data model if and only if they have the same key there.");
     return [made("h2", "Canonical text"), terms(rows), ...(isAlone ? [use] : []), ...(others.length ? [warning] : [])];
   }

@@ -51,6 +51,12 @@ export class Explainer {
     return unlessRefused(null, () => MODELS.map((_, model) => this.library.canonical(model, text)));
   }
 
+  /** Returns the data models in which the canonical text in one, of those of a format, isn't the same as the format. */
+  unlikeKey(canonical, model) {
+    const key = canonical[model], others = MODELS.map((_, it) => it).filter((it) => canonical[it] !== key);
+    return others.filter((it) => canonical[it] !== this.library.canonical(it, key));
+  }
+
   // The specifications in LP64, each alone. No type is shorter in LP64 than elsewhere, so a part without an effect there has
   // none in any data model.
   effectsAlone(found, text) {

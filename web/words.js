@@ -107,7 +107,7 @@ export class Words {
     return filled(model ? this.table.key_in_model : this.table.key, { model, key: "" }).replace(/:? *$/, "");
   }
 
-  /** Returns that a canonical text names other types in these data models. */
+  /** Returns that a canonical text isn't the same as the format in these data models. */
   notARewrite(models) {
     return filled(this.table.not_a_rewrite, { models });
   }

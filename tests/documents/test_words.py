@@ -74,19 +74,19 @@ LIMITS = {
     "docs/C.md": 1450,
     "docs/PYTHON.md": 1000,
     # With the theorem as it is written, the assumptions as a table, and the words of the last line of a check.
-    "docs/VERIFICATION.md": 2760,
+    "docs/VERIFICATION.md": 2800,
     # With one format read through the definitions.
     "docs/DEFINITIONS.md": 4750,
     "docs/PERFORMANCE.md": 980,
     # With a walk through one call, tables of files by what they do, and words of the sources.
-    "docs/internals/ARCHITECTURE.md": 3250,
+    "docs/internals/ARCHITECTURE.md": 3300,
     "docs/internals/DECISIONS.md": 2250,
     # With an index by what rt prints.
     "docs/internals/PROOF_NOTES.md": 4000,
     # With what rt prints for an open goal, and what is inlined.
     "docs/CONTRIBUTING.md": 1350,
     "SECURITY.md": 150,
-    "CHANGELOG.md": 1450,
+    "CHANGELOG.md": 1490,
     CALLING: 9300,
 }
 MARGIN = 10

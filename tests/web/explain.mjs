@@ -46,14 +46,16 @@ function rejection({ format, refusal, start, end, help, side, instead, types }) 
   return { format: textOf(format), accepted: false, refusal: told, ...(types ? { types: difference(types) } : {}) };
 }
 
-function explanation({ format, parts, canonical, bounds }) {
+function explanation({ format, parts, canonical, bounds }, model) {
   const texts = canonical && Object.fromEntries(canonical.map((it, model) => [MODELS[model], textOf(it)]));
-  const sizes = bounds && { least: number(bounds.least), greatest: number(bounds.greatest), words: explainer.words.bytes(bounds) };
-  return { format: textOf(format), accepted: true, directives: parts.map(part), canonical: texts, bounds: sizes };
+  const [least, greatest] = [bounds?.least ?? null, bounds?.greatest ?? null].map(number);
+  const sizes = bounds && { least, greatest, words: explainer.words.bytes(bounds) };
+  const unlike = canonical && explainer.unlikeKey(canonical, model).map((it) => MODELS[it]);
+  return { format: textOf(format), accepted: true, directives: parts.map(part), canonical: texts, bounds: sizes, unlike };
 }
 
 for await (const line of readline.createInterface({ input: process.stdin })) {
   const [model, ...formats] = JSON.parse(line), found = explainer.found(formats, model);
-  const told = found.refusal ? rejection(found) : formats.length > 1 ? difference(found) : explanation(found);
+  const told = found.refusal ? rejection(found) : formats.length > 1 ? difference(found) : explanation(found, model);
   process.stdout.write(JSON.stringify(told) + "\n");
 }

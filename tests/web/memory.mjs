@@ -13,7 +13,6 @@ const CASES = [
   ["types", 0, MANY],
   ["arguments", 0, `${MANY}%f`],
   ["directives", 0, MANY],
-  ["specifications", 0, MANY],
   ["compare", 0, `${MANY}%s%05d`, `${MANY}%s%.5d`],
   ["whole_compare", 0, `${MANY}%f%05d`, `${MANY}%f%.5d`],
   ["decode_literal", `"${LONG}"`],
