@@ -1,7 +1,10 @@
-"""Reads the lines of findings with vim's quickfix list and Emacs' compilation mode, as these are installed."""
+"""Reads the lines of findings with vim's quickfix list and Emacs' compilation mode, as these are installed, and lets
+neovim and Emacs with eglot talk to fmtcanon-lsp.
+"""
 
 import json
 import subprocess
+import sys
 
 from tests.commands.tool import Tool
 from tests.frame.cases import tests_of
@@ -55,6 +58,83 @@ EMACS = """\
       (forward-line 1))
     (with-temp-file "found" (insert (json-encode (vconcat (nreverse found)))))))
 """
+# What editors show of these files by the server: lines from 1 and columns from 0 in bytes, levels and kinds; what the first
+# line of a hover says in that place; and the lines after the first action there.
+SOURCE = """\
+#include <stdio.h>
+void f(int n, size_t size)
+{
+    printf("é %-05d of %zu\\n", n, size);
+    printf("%#x %#d\\n", n, n);
+}
+"""
+SERVED = {
+    "a.c": (SOURCE, [[4, 15, 4, "no-effect"], [5, 16, 2, "AltUndefined"]], [4, 15], "`%-05d` ← `n`: argument 1, int: "),
+    "de.po": (FILES["in/de.po"], [[3, 15, 1, "types"]], [3, 15], "`%s`: argument 1, string: the string"),
+}
+FIXED = {
+    "a.c": SOURCE.replace("%-05d", "%-5d"),
+    "de.po": FILES["in/de.po"].replace("%s", "%d"),
+}
+NEOVIM = """\
+local file, line, column = vim.env.SERVED, tonumber(vim.env.LINE), tonumber(vim.env.COLUMN)
+vim.cmd("edit " .. file)
+local id = vim.lsp.start_client({name = "fmtcanon", cmd = {vim.env.PYTHON, "-m", "fmtcanon.lsp"}, root_dir = vim.fn.getcwd()})
+vim.lsp.buf_attach_client(0, id)
+vim.wait(30000, function() return #vim.diagnostic.get(0) > 0 end, 20)
+local found = {}
+for _, it in ipairs(vim.diagnostic.get(0)) do
+  table.insert(found, {it.lnum + 1, it.col, it.severity, it.user_data.lsp.code})
+end
+vim.api.nvim_win_set_cursor(0, {line, column})
+local function ask(method, params)
+  for _, answer in pairs(vim.lsp.buf_request_sync(0, method, params, 30000) or {}) do return answer.result end
+end
+local hover = ask("textDocument/hover", vim.lsp.util.make_position_params())
+local range = vim.lsp.util.make_range_params()
+range.context = {diagnostics = {}}
+local actions = ask("textDocument/codeAction", range)
+vim.lsp.util.apply_workspace_edit(actions[1].edit, "utf-16")
+local lines = table.concat(vim.api.nvim_buf_get_lines(0, 0, -1, false), "\\n") .. "\\n"
+vim.fn.writefile({vim.fn.json_encode({found, hover.contents.value, lines})}, "found")
+vim.cmd("quitall!")
+"""
+EGLOT = """\
+(require 'package)
+(package-initialize)
+(require 'eglot)
+(define-derived-mode po-mode text-mode "PO")
+(add-to-list 'auto-mode-alist '("\\\\.po\\\\'" . po-mode))
+(add-to-list 'eglot-server-programs `((c-mode po-mode) . (,(getenv "PYTHON") "-m" "fmtcanon.lsp")))
+(setq eglot-sync-connect 30 eglot-confirm-server-initiated-edits nil)
+(find-file (getenv "SERVED"))
+(apply 'eglot (eglot--guess-contact))
+(let ((waited 0))
+  (while (and (< waited 300) (not (flymake-diagnostics)))
+    (accept-process-output nil 0.1)
+    (setq waited (1+ waited))))
+(defun place (it)
+  (save-excursion
+    (goto-char (flymake-diagnostic-beg it))
+    (let ((given (alist-get 'eglot-lsp-diag (flymake-diagnostic-data it))))
+      (vector (line-number-at-pos) (string-bytes (buffer-substring (line-beginning-position) (point)))
+              (plist-get given :severity) (plist-get given :code)))))
+(let ((found (vconcat (mapcar 'place (sort (flymake-diagnostics)
+                                           (lambda (a b) (< (flymake-diagnostic-beg a) (flymake-diagnostic-beg b)))))))
+      (server (eglot-current-server)))
+  (goto-char (point-min))
+  (forward-line (1- (string-to-number (getenv "LINE"))))
+  (goto-char (byte-to-position (+ (position-bytes (point)) (string-to-number (getenv "COLUMN")))))
+  (let* ((hover (jsonrpc-request server :textDocument/hover (eglot--TextDocumentPositionParams)))
+         (place (eglot--pos-to-lsp-position))
+         (asked (list :textDocument (eglot--TextDocumentIdentifier) :range (list :start place :end place)
+                      :context (list :diagnostics [])))
+         (actions (jsonrpc-request server :textDocument/codeAction asked)))
+    (eglot--apply-workspace-edit (plist-get (aref actions 0) :edit))
+    (let ((text (buffer-string)) (said (plist-get (plist-get hover :contents) :value)))
+      (with-temp-file "found" (insert (json-encode (vector found said text)))))))
+(kill-emacs 0)
+"""
 
 
 def lines(folder, work, python):
@@ -71,10 +151,10 @@ def lines(folder, work, python):
     return work
 
 
-def found_by(words, lines):
+def found_by(words, lines, **names):
     """What an editor writes into the file `found`."""
     run = {"cwd": lines, "check": False, "timeout": TIMEOUT, "stdin": subprocess.DEVNULL, "capture_output": True}
-    done = subprocess.run(words, **run)
+    done = subprocess.run(words, **run, env=names or None)
     file = lines / "found"
     return json.loads(file.read_text(encoding="utf-8")) if file.exists() else done.stderr.decode()
 
@@ -93,6 +173,31 @@ def test_emacs(lines, tools, trials):
     (lines / "read.el").write_text(EMACS, encoding="utf-8")
     found = found_by(["emacs", "-Q", "--batch", "-l", "read.el"], lines)
     trials.expect((lines / "lines").read_text(encoding="utf-8"), found, PLACES)
+
+
+def served(words, folder, work, trials):
+    """Compares what an editor shows by the server with what is expected of each file."""
+    environment = {**Tool("lsp", folder, work).environment, "PYTHON": sys.executable, "HOME": str(work), "XDG_CACHE_HOME": str(work)}
+    for name, (text, places, (line, column), hover) in SERVED.items():
+        (work / name).write_text(text, encoding="utf-8")
+        (work / "found").unlink(missing_ok=True)
+        found = found_by(words, work, **environment, SERVED=name, LINE=str(line), COLUMN=str(column))
+        shown = [found[0], found[1][: len(hover)], found[2]] if isinstance(found, list) else found
+        trials.expect(f"{name} in {words[0]}", shown, [places, hover, FIXED[name]])
+
+
+def test_neovim(folder, work, tools, trials):
+    """Neovim shows what the server says."""
+    tools.need("nvim", "neovim")
+    (work / "serve.lua").write_text(NEOVIM, encoding="utf-8")
+    served(["nvim", "-u", "NONE", "-n", "--headless", "-S", "serve.lua", "-c", "cquit"], folder, work, trials)
+
+
+def test_eglot(folder, work, tools, trials):
+    """Emacs with eglot shows what the server says."""
+    tools.need("emacs", "emacs-nox")
+    (work / "serve.el").write_text(EGLOT, encoding="utf-8")
+    served(["emacs", "-q", "--batch", "-l", "serve.el"], folder, work, trials)
 
 
 Tests = tests_of(globals())

@@ -10,7 +10,7 @@ from ..source.known import Shape
 
 
 class Options(NamedTuple):
-    """The data models, of which hovers name the first; whether clangd runs, so that what it says isn't said again; and
+    """The data models, and hovers name the types of the first one first; whether clangd runs, so that what it says isn't said again; and
     functions that take formats.
     """
 

@@ -1,4 +1,4 @@
-"""The server: it answers one message after another, and works on the documents between them."""
+"""The server: messages are answered one after another, and between them it works on the documents."""
 
 import os
 import select

@@ -150,7 +150,7 @@ class CatalogView(DocumentView):
 
     def __init__(self, document: Document, options: Options) -> None:
         super().__init__(document, options)
-        # The shapes of pairs of texts of which nothing is wrong: most are as they were before a change.
+        # The shapes of pairs of texts without a fault: after a change, most are as they were.
         self.right: Right = set()
 
     def diagnoses(self) -> Iterator[Optional[Diagnosis]]:
