@@ -173,7 +173,13 @@ class PlatformText(NamedTuple):
 def text_of(format: Format, platform: Platform) -> PlatformText:
     """Returns the text of a format. Raises `Refused` or `BadLiteral`."""
     text = bytes_of(format)
-    return PlatformText(text, directives(text, model=platform.model))
+    return PlatformText(text, spans_in(text, platform.model))
+
+
+@functools.lru_cache(maxsize=4096)
+def spans_in(text: bytes, model: Model) -> Sequence[DirectiveSpan]:
+    """Returns the directives of a format. Raises `Refused`."""
+    return directives(text, model=model)
 
 
 def bytes_of(format: Format) -> bytes:
