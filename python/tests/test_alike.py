@@ -10,10 +10,9 @@ from fmtcanon.compiling.calls import Argument, Call
 from fmtcanon.compiling.formats import Format, Literal
 from fmtcanon.fitting.alike import is_alike, is_same, own_text
 
-INT, LONG, SIZE = Argument(Type.INT, "int", "int"), Argument(Type.LONG, "long", "long", False, True), Argument(
-    Type.ULONG, "unsigned long", "size_t"
-)
-TEXT, WIDE, REAL = Argument(None, "char *", "char *"), Argument(None, "int *", "int *"), Argument(None, "double", "double")
+INT, LONG = Argument(Type.INT, "int", "int"), Argument(Type.LONG, "long", "long", False, True)
+SIZE = Argument(Type.ULONG, "unsigned long", "size_t")
+TEXT, WIDE, REAL = (Argument(None, it, it) for it in ("char *", "int *", "double"))
 # Formats and arguments of calls, and whether these are the same everywhere, whatever fits.
 CALLS = [
     ("%d", [INT], True),
@@ -88,7 +87,8 @@ class Alike(unittest.TestCase):
         self.assertFalse(is_alike(unit(is_computed=True), "int x;\n"))
 
     def test_own_text(self):
-        text = '# 1 "a.c"\nint a;\n# 1 "/x.h" 1 3\nint b;\n# 3 "/x.h"\nint c;\n# 2 "in.h" 1\nint d;\n# 2 "a.c" 2\nint e;\n'
+        text = '# 1 "a.c"\nint a;\n# 1 "/x.h" 1 3\nint b;\n# 3 "/x.h"\nint c;\n'
+        text += '# 2 "in.h" 1\nint d;\n# 2 "a.c" 2\nint e;\n'
         self.assertEqual(own_text(text).split(), ["int", "a;", "int", "d;", "int", "e;"])
 
 

@@ -43,10 +43,10 @@ CHANGES = [
 
 def answer_for(file):
     """An answer with all that one may have."""
-    finding = Finding(
-        "a.c", 3, 5, "size", "error", "ä \udcff", (3, 8), ("%d",), ("ilp32", "llp64"), {"fix": {"start": 1}, "macro": "M"},
-        excerpts=(Excerpt("3", "text", 1, 2, "words"),), help="help",
-    )
+    details = {"fix": {"start": 1}, "macro": "M"}
+    shown = (Excerpt("3", "text", 1, 2, "words"),), "help"
+    first = "a.c", 3, 5, "size", "error", "ä \udcff"
+    finding = Finding(*first, (3, 8), ("%d",), ("ilp32", "llp64"), details, *shown)
     plain = Finding("b.c", 1, None, "errno", "note", "more")
     found = {
         "first": Found(finding, 7, frozenset([CallLines("/a.c", 3, 4, 0)]), frozenset([("/a.c", 3, 4)])),

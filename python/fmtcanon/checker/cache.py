@@ -1,7 +1,7 @@
 """Keeps what was found in a file in the cache folder of the user, for as long as all that it depends on is as it was.
 
-An entry is a file whose name is the hash of the question: the version, the commands, the options and the environment. In
-it are the files that the compiler read, with their states, and the answer. It is written under another name first, so
+An entry is a file whose name is the hash of the question: the version, the commands, the options and the environment.
+In it are the files that the compiler read, with their states, and the answer. It is written under another name first, so
 that nobody reads half of it, and has a hash of itself, so that a damaged one counts as none.
 """
 
@@ -113,7 +113,7 @@ class Cache:
         return bool(self.states.found_in(entry["folders"], entry["names"]) == entry["found"])
 
     def put(self, job: Job, answer: Answer, began: int) -> None:
-        """Keeps the answer about a file whose reading began at a time in nanoseconds, unless a file has changed since."""
+        """Keeps the answer about a file whose reading began at this time, in nanoseconds, unless a file changed since."""
         entry = self.entry_of(job, answer, began)
         if entry is not None:
             self.write(self.path_of(job), encoded(entry))

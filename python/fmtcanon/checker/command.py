@@ -38,7 +38,7 @@ def question_of(options: Any, folder: str, is_kept: bool) -> Question:
 
 
 def each_once(answers: Iterable[Answer]) -> Iterator[Answer]:
-    """Yields answers without what an earlier one has, as what is found in a header, in several units; and at the end, for
+    """Yields answers without what an earlier one has, as what is found in a header, in several units; and at the end, of
     each header, what its macros have in all of them.
     """
     seen: Set[str] = set()

@@ -51,7 +51,7 @@ def is_older(state: State, time: int) -> bool:
 
 @functools.lru_cache(maxsize=None)
 def contents(path: str, state: State) -> Optional[Tuple[str, FrozenSet[str], bool]]:
-    """Returns the hash of a file in a state, the names that it asks for with `__has_include`, and whether these are all."""
+    """Returns the hash of a file, the names that it asks for with `__has_include`, and whether these are all."""
     try:
         with open(path, "rb") as stream:
             data = stream.read()

@@ -62,7 +62,7 @@ def is_alike(unit: FormatCalls, text: str) -> bool:
 
 
 def own_text(text: str) -> str:
-    """Returns a text without what is of system headers. Where these use a macro, their markers don't say that they are."""
+    """Returns a text without what is of system headers. After a macro in these, their markers don't say what they are."""
     found = list(MARKER.finditer(text))
     system = {it["file"] for it in found if "3" in it["flags"]}
     ends = [*(it.start() for it in found[1:]), len(text)]
