@@ -19,6 +19,7 @@ from pathlib import Path
 from typing import Any, Dict, FrozenSet, Iterator, List, Optional, Sequence, Set, Tuple
 
 from .. import __version__
+from ..compiling.libclang import cindex
 from ..fitting.checking import Answer, CallLines, Found, Job, answer, answer_without
 from ..frame.excerpts import Excerpt
 from ..frame.findings import Finding
@@ -79,7 +80,7 @@ class Cache:
     def __init__(self, folder: str) -> None:
         self.folder, self.states = folder, States()
         environment = sorted(it for it in os.environ.items() if TELLING.fullmatch(it[0]))
-        self.front = repr((own_state(), os.getcwd(), environment))
+        self.front = repr((own_state(), getattr(cindex, "__file__", ""), os.getcwd(), environment))
 
     def path_of(self, job: Job) -> str:
         question, settings = job.question, job.question.settings
@@ -101,7 +102,7 @@ class Cache:
                 os.utime(path)
             files = {os.path.realpath(it) for it, _, _ in entry["files"]} if job.among else set()
             answer = answer_in(job.file, entry["answer"])
-        except (OSError, ValueError, TypeError, KeyError, IndexError, AttributeError):
+        except (OSError, ValueError, TypeError, KeyError, IndexError, AttributeError, zlib.error):
             # Another version may have written it, or nobody.
             return None
         return answer if not job.among or job.among & files else nothing_in(job.file)
