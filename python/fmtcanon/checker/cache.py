@@ -52,9 +52,11 @@ def cache_folder() -> Optional[str]:
 
 def own_state() -> str:
     """Returns a hash of the version and the files of this module, which may be changed without a new version."""
-    top = Path(__file__).parent.parent
-    files = sorted((str(it.relative_to(top)), it.stat().st_size, it.stat().st_mtime_ns) for it in top.rglob("*.py"))
-    return digest(repr((__version__, files)).encode())
+    found = []
+    for folder, _, names in os.walk(os.path.dirname(os.path.dirname(__file__))):
+        states = ((it, os.stat(os.path.join(folder, it))) for it in names if it.endswith(".py"))
+        found += [(os.path.basename(folder), name, it.st_size, it.st_mtime_ns) for name, it in states]
+    return digest(repr((__version__, sorted(found))).encode())
 
 
 def libraries() -> List[str]:
