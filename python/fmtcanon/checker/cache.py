@@ -236,8 +236,10 @@ def answer_and_keep(cache: Optional[Cache], job: Job) -> Answer:
 
 
 def answers_of(jobs: Sequence[Job], cache: Optional[Cache], count: int) -> Iterator[Answer]:
-    """Yields the answers about files in their order: those that are kept, and the others by several processes."""
-    kept = [cache.get(it) if cache and it.commands else None for it in jobs]
+    """Yields the answers about files in their order: those that are kept or need no compiler, and the others by several
+    processes.
+    """
+    kept = [(cache.get(it) if cache else None) if it.commands else answer(it) for it in jobs]
     rest = [job for job, it in zip(jobs, kept) if it is None]
     others = in_order(functools.partial(answer_and_keep, cache), rest, count, instead=answer_without)
     for one in kept:
