@@ -211,9 +211,9 @@ class NotKept(InFolder):
 
     def test_folder(self):
         for value, wanted in [
-            (f"{self.work}/xdg", f"{self.work}/xdg/fmtcanon"),
-            ("xdg", f"{self.work}/home/.cache/fmtcanon"),
-            ("", f"{self.work}/home/.cache/fmtcanon"),
+            (f"{self.work}/xdg", f"{self.work}/xdg/fmtcanon/check"),
+            ("xdg", f"{self.work}/home/.cache/fmtcanon/check"),
+            ("", f"{self.work}/home/.cache/fmtcanon/check"),
             (f"{self.work}/src/a.c", None),
         ]:
             with mock.patch.dict(os.environ, {"XDG_CACHE_HOME": value, "HOME": f"{self.work}/home"}):

@@ -51,7 +51,7 @@ def runs(tool):
 
 
 def entries(tool):
-    return sorted((tool.work / "notes/xdg/fmtcanon").iterdir())
+    return sorted((tool.work / "notes/xdg/fmtcanon/check").iterdir())
 
 
 def said(tool, *words):
@@ -164,7 +164,7 @@ def test_entries(tool, trials):
     states = [it.stat() for it in entries(tool)]
     trials.expect("rights", {it.st_mode & 0o777 for it in states}, {0o600})
     trials.expect("sizes", max(it.st_size for it in states) < 20_000, True)
-    trials.expect("the folder", Path(tool.work / "notes/xdg/fmtcanon").stat().st_mode & 0o777, 0o700)
+    trials.expect("the folder", Path(tool.work / "notes/xdg/fmtcanon/check").stat().st_mode & 0o777, 0o700)
     first = json.loads(said(tool)[1].splitlines()[0])
     trials.expect("names are those of the folder", first["file"], "f0.c")
     status, output, _ = tool.run("-p", "..", "--output", "json", where="inc")

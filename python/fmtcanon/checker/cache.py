@@ -42,7 +42,7 @@ def cache_folder() -> Optional[str]:
     top = os.environ.get("XDG_CACHE_HOME", "")
     if not os.path.isabs(top):
         top = os.path.join(os.path.expanduser("~"), ".cache")
-    folder = os.path.join(top, "fmtcanon")
+    folder = os.path.join(top, "fmtcanon", "check")
     try:
         os.makedirs(folder, mode=0o700, exist_ok=True)
     except OSError:
