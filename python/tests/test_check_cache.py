@@ -13,6 +13,7 @@ from unittest import mock
 from fmtcanon import Model
 from fmtcanon.checker import cache as of_cache
 from fmtcanon.checker.cache import Cache, cache_folder
+from fmtcanon.checker.states import digest
 from fmtcanon.compiling.compile_commands import CompileCommand
 from fmtcanon.compiling.dependencies import Dependencies, dependencies_of
 from fmtcanon.fitting.checking import Answer, CallLines, Found, Job, Question
@@ -43,10 +44,10 @@ CHANGES = [
 
 def answer_for(file):
     """An answer with all that one may have."""
-    finding = Finding(
-        "a.c", 3, 5, "size", "error", "ä \udcff", (3, 8), ("%d",), ("ilp32", "llp64"), {"fix": {"start": 1}, "macro": "M"},
-        excerpts=(Excerpt("3", "text", 1, 2, "words"),), help="help",
-    )
+    details = {"fix": {"start": 1}, "macro": "M"}
+    shown = (Excerpt("3", "text", 1, 2, "words"),), "help"
+    first = "a.c", 3, 5, "size", "error", "ä \udcff"
+    finding = Finding(*first, (3, 8), ("%d",), ("ilp32", "llp64"), details, *shown)
     plain = Finding("b.c", 1, None, "errno", "note", "more")
     found = {
         "first": Found(finding, 7, frozenset([CallLines("/a.c", 3, 4, 0)]), frozenset([("/a.c", 3, 4)])),
@@ -168,6 +169,15 @@ class NotKept(InFolder):
         self.assertEqual(self.put_answer(), [])
         os.unlink("src/a.h")
         self.assertEqual(self.put_answer(), [])
+        os.mkfifo("src/a.h")
+        self.assertEqual(self.put_answer(), [])
+
+    def test_another_kind_of_file(self):
+        """Nothing waits for what takes the place of a file."""
+        self.put_answer()
+        os.unlink("src/a.h")
+        os.mkfifo("src/a.h")
+        self.assertIsNone(Cache("kept").get(self.job()))
 
     def test_damage(self):
         """An entry that is damaged anywhere counts as none, and is written again."""
@@ -182,6 +192,8 @@ class NotKept(InFolder):
         for other in ({}, {"files": [1]}, {"files": [], "folders": [], "names": [], "found": 1}, []):
             file.write_bytes(of_cache.encoded(other))
             self.assertIsNone(Cache("kept").get(self.job()), other)
+        file.write_bytes(bytes.fromhex(digest(b"not packed")) + b"not packed")
+        self.assertIsNone(Cache("kept").get(self.job()))
         file.unlink()
         file.mkdir()
         self.assertIsNone(Cache("kept").get(self.job()))
@@ -199,9 +211,9 @@ class NotKept(InFolder):
 
     def test_folder(self):
         for value, wanted in [
-            (f"{self.work}/xdg", f"{self.work}/xdg/fmtcanon"),
-            ("xdg", f"{self.work}/home/.cache/fmtcanon"),
-            ("", f"{self.work}/home/.cache/fmtcanon"),
+            (f"{self.work}/xdg", f"{self.work}/xdg/fmtcanon/check"),
+            ("xdg", f"{self.work}/home/.cache/fmtcanon/check"),
+            ("", f"{self.work}/home/.cache/fmtcanon/check"),
             (f"{self.work}/src/a.c", None),
         ]:
             with mock.patch.dict(os.environ, {"XDG_CACHE_HOME": value, "HOME": f"{self.work}/home"}):

@@ -115,7 +115,8 @@ def test_compilers(tool, trials):
             wrong = Counter(
                 it["line"]
                 for it in found
-                if it["file"] == f"{name}.c" and it["platforms"][platform]["fit"] in ("size", "kind", "rank")
+                if it["file"] == f"{name}.c" and "platforms" in it
+                and it["platforms"][platform]["fit"] in ("size", "kind", "rank")
             )
             said, errors = said_by(tool, f"{name}.c", platform)
             trials.expect(f"{platform}: {name}.c is compiled", errors, [])

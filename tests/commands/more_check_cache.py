@@ -51,7 +51,7 @@ def runs(tool):
 
 
 def entries(tool):
-    return sorted((tool.work / "notes/xdg/fmtcanon").iterdir())
+    return sorted((tool.work / "notes/xdg/fmtcanon/check").iterdir())
 
 
 def said(tool, *words):
@@ -74,7 +74,8 @@ def test_second_run(tool, trials):
         runs(tool)
     for words in (["--rank"], ["--model=ilp32"], ["--function=none:1"], ["--type=count_t=size_t"]):
         trials.expect(f"{words}: anew", (said(tool, *words)[:2], runs(tool) > 0), (said(tool, *words)[:2], True))
-        trials.expect(f"{words}: and kept", (said(tool, *words)[1], runs(tool)), (said(tool, *words, "--no-cache")[1], 0))
+        kept = said(tool, *words)[1], runs(tool)
+        trials.expect(f"{words}: and kept", kept, (said(tool, *words, "--no-cache")[1], 0))
         runs(tool)
 
 
@@ -123,7 +124,8 @@ def test_damage(tool, trials):
     whole = {it: it.read_bytes() for it in files}
     for at, file in enumerate(files):
         data = whole[file]
-        file.write_bytes([data[: len(data) // 2], b"", b"\0" * len(data), data[:40] + b"x" + data[41:], data + b"x"][at % 5])
+        damaged = [data[: len(data) // 2], b"", b"\0" * len(data), data[:40] + b"x" + data[41:], data + b"x"]
+        file.write_bytes(damaged[at % len(damaged)])
     files[5].unlink()
     files[5].mkdir()
     trials.expect("damaged entries", (said(tool), runs(tool) > COUNT), (wanted, True))
@@ -162,11 +164,12 @@ def test_entries(tool, trials):
     states = [it.stat() for it in entries(tool)]
     trials.expect("rights", {it.st_mode & 0o777 for it in states}, {0o600})
     trials.expect("sizes", max(it.st_size for it in states) < 20_000, True)
-    trials.expect("the folder", Path(tool.work / "notes/xdg/fmtcanon").stat().st_mode & 0o777, 0o700)
+    trials.expect("the folder", Path(tool.work / "notes/xdg/fmtcanon/check").stat().st_mode & 0o777, 0o700)
     first = json.loads(said(tool)[1].splitlines()[0])
     trials.expect("names are those of the folder", first["file"], "f0.c")
     status, output, _ = tool.run("-p", "..", "--output", "json", where="inc")
-    trials.expect("and of another one", (status, json.loads(output.splitlines()[0])["file"]), (1, str(tool.work / "f0.c")))
+    first = json.loads(output.splitlines()[0])
+    trials.expect("and of another one", (status, first["file"]), (1, str(tool.work / "f0.c")))
 
 
 Tests = tests_of(globals())

@@ -164,6 +164,84 @@ def test_macros(tool, trials):
     trials.expect(f"macros in a baseline: {again}", (known, again[:2]), (1, (0, "")))
 
 
+# A program of C++ as those that are mostly classes: its sources, its header, and the places of what is wrong.
+PROGRAM = {
+    "device.h": """#include <cinttypes>
+#include <cstdarg>
+#include <cstdio>
+#include <string>
+#include <vector>
+#define FORMAT(m, n) __attribute__((format(printf, m, n)))
+void pout(const char *, ...) FORMAT(1, 2);
+namespace os {
+class device {
+ public:
+  explicit device(const char *name) : name_(name) {}
+  virtual ~device() {}
+  bool set_error(int number, const char *format, ...) FORMAT(3, 4);
+  static std::string strprintf(const char *format, ...) FORMAT(1, 2);
+  uint64_t sectors() const { return sectors_; }
+ protected:
+  void show() const { pout("%lu\\n", sectors_); }
+  std::string name_;
+  uint64_t sectors_ = 0;
+};
+}
+""",
+    "device.cpp": """#include "device.h"
+namespace os {
+bool device::set_error(int, const char *format, ...) {
+  va_list ap;
+  va_start(ap, format);
+  std::vprintf(format, ap);
+  va_end(ap);
+  return false;
+}
+class disk : public device {
+ public:
+  using device::device;
+  bool open(size_t size) { return size ? set_error(1, "%s: %lu", name_.c_str(), size) : true; }
+};
+}
+""",
+    "main.cpp": """#include "device.h"
+template <class T> static void each(const std::vector<T> &all) {
+  for (const auto &it : all)
+    pout("%lu of %zu\\n", it.sectors(), all.size());
+}
+int main() {
+  std::vector<os::device> all;
+  each(all);
+  for (auto &it : all)
+    pout("%s: %" PRIu64 ", %lu\\n", os::device::strprintf("%lu", all.size()).c_str(), it.sectors(), it.sectors());
+  auto said = [&](off_t at) { std::printf("%ld\\n", at); };
+  said(0);
+}
+""",
+}
+# The file and the line of what is wrong there, and the text that begins with the directive, if its column is known.
+WRONG = [
+    ("device.cpp", 13, '%lu", name_'),
+    ("device.h", 17, None),
+    ("main.cpp", 10, '%lu\\n"'),
+    ("main.cpp", 10, '%lu", all'),
+    ("main.cpp", 11, "%ld"),
+]
+
+
+def test_program_of_cxx(tool, trials):
+    """Members and functions with attributes, namespaces, lambdas and references of C++ are judged, in all files."""
+    for name, text in PROGRAM.items():
+        tool.put(name, text)
+    tool.put_commands(*(["g++", "-std=gnu++11", "-c", name] for name in PROGRAM if name.endswith(".cpp")))
+    status, output, fault = tool.run("-p", ".", "--output", "json")
+    found = [(it["file"], it["line"], it["column"]) for it in map(json.loads, output.splitlines())]
+    lines = {name: text.split("\n") for name, text in PROGRAM.items()}
+    wanted = [(name, line, text and lines[name][line - 1].index(text) + 1) for name, line, text in WRONG]
+    trials.expect(f"C++: {fault}", (status, sorted(found, key=str)), (1, wanted))
+    trials.expect("no file is left", (fault.split(",")[0], "skipped" in fault), ("2 files", False))
+
+
 CI = TOP / "examples/ci"
 COUNT = 4
 

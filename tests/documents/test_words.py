@@ -68,7 +68,7 @@ LIMITS = {
     # With settings of editors.
     "docs/EDITORS.md": 560,
     # With the figures of real sources and of compilers, and what is for every day.
-    "docs/PORTING.md": 1750,
+    "docs/PORTING.md": 1900,
     "docs/REFACTORING.md": 1450,
     # With a part for each kind, the table of flags, and the grammar.
     "docs/REFUSALS.md": 2050,

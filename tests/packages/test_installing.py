@@ -426,7 +426,7 @@ def options_of(name):
         capture_output=True,
         encoding="utf-8",
     )
-    return re.findall(r"^  (?:-h, |-j N, )?(--?[\w-]+(?: [A-Z:,.=\[\]]+)?)(?:  +|$)", done.stdout, flags=re.MULTILINE)
+    return re.findall(r"^  (?:-h, |-j N, )?(--?[\w-]+(?: [A-Z:,.=/\[\]]+)?)(?:  +|$)", done.stdout, flags=re.MULTILINE)
 
 
 def test_command_pages(trials):

@@ -1,7 +1,7 @@
 """Keeps what was found in a file in the cache folder of the user, for as long as all that it depends on is as it was.
 
-An entry is a file whose name is the hash of the question: the version, the commands, the options and the environment. In
-it are the files that the compiler read, with their states, and the answer. It is written under another name first, so
+An entry is a file whose name is the hash of the question: the version, the commands, the options and the environment.
+In it are the files that the compiler read, with their states, and the answer. It is written under another name first, so
 that nobody reads half of it, and has a hash of itself, so that a damaged one counts as none.
 """
 
@@ -19,6 +19,7 @@ from pathlib import Path
 from typing import Any, Dict, FrozenSet, Iterator, List, Optional, Sequence, Set, Tuple
 
 from .. import __version__
+from ..compiling.libclang import cindex
 from ..fitting.checking import Answer, CallLines, Found, Job, answer, answer_without
 from ..frame.excerpts import Excerpt
 from ..frame.findings import Finding
@@ -41,7 +42,7 @@ def cache_folder() -> Optional[str]:
     top = os.environ.get("XDG_CACHE_HOME", "")
     if not os.path.isabs(top):
         top = os.path.join(os.path.expanduser("~"), ".cache")
-    folder = os.path.join(top, "fmtcanon")
+    folder = os.path.join(top, "fmtcanon", "check")
     try:
         os.makedirs(folder, mode=0o700, exist_ok=True)
     except OSError:
@@ -51,9 +52,11 @@ def cache_folder() -> Optional[str]:
 
 def own_state() -> str:
     """Returns a hash of the version and the files of this module, which may be changed without a new version."""
-    top = Path(__file__).parent.parent
-    files = sorted((str(it.relative_to(top)), it.stat().st_size, it.stat().st_mtime_ns) for it in top.rglob("*.py"))
-    return digest(repr((__version__, files)).encode())
+    found = []
+    for folder, _, names in os.walk(os.path.dirname(os.path.dirname(__file__))):
+        states = ((it, os.stat(os.path.join(folder, it))) for it in names if it.endswith(".py"))
+        found += [(os.path.basename(folder), name, it.st_size, it.st_mtime_ns) for name, it in states]
+    return digest(repr((__version__, sorted(found))).encode())
 
 
 def libraries() -> List[str]:
@@ -79,7 +82,7 @@ class Cache:
     def __init__(self, folder: str) -> None:
         self.folder, self.states = folder, States()
         environment = sorted(it for it in os.environ.items() if TELLING.fullmatch(it[0]))
-        self.front = repr((own_state(), os.getcwd(), environment))
+        self.front = repr((own_state(), getattr(cindex, "__file__", ""), os.getcwd(), environment))
 
     def path_of(self, job: Job) -> str:
         question, settings = job.question, job.question.settings
@@ -101,7 +104,7 @@ class Cache:
                 os.utime(path)
             files = {os.path.realpath(it) for it, _, _ in entry["files"]} if job.among else set()
             answer = answer_in(job.file, entry["answer"])
-        except (OSError, ValueError, TypeError, KeyError, IndexError, AttributeError):
+        except (OSError, ValueError, TypeError, KeyError, IndexError, AttributeError, zlib.error):
             # Another version may have written it, or nobody.
             return None
         return answer if not job.among or job.among & files else nothing_in(job.file)
@@ -113,7 +116,7 @@ class Cache:
         return bool(self.states.found_in(entry["folders"], entry["names"]) == entry["found"])
 
     def put(self, job: Job, answer: Answer, began: int) -> None:
-        """Keeps the answer about a file whose reading began at a time in nanoseconds, unless a file has changed since."""
+        """Keeps the answer about a file whose reading began at this time, in nanoseconds, unless a file changed since."""
         entry = self.entry_of(job, answer, began)
         if entry is not None:
             self.write(self.path_of(job), encoded(entry))
@@ -233,8 +236,10 @@ def answer_and_keep(cache: Optional[Cache], job: Job) -> Answer:
 
 
 def answers_of(jobs: Sequence[Job], cache: Optional[Cache], count: int) -> Iterator[Answer]:
-    """Yields the answers about files in their order: those that are kept, and the others by several processes."""
-    kept = [cache.get(it) if cache and it.commands else None for it in jobs]
+    """Yields the answers about files in their order: those that are kept or need no compiler, and the others by several
+    processes.
+    """
+    kept = [(cache.get(it) if cache else None) if it.commands else answer(it) for it in jobs]
     rest = [job for job, it in zip(jobs, kept) if it is None]
     others = in_order(functools.partial(answer_and_keep, cache), rest, count, instead=answer_without)
     for one in kept:

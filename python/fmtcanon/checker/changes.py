@@ -75,8 +75,8 @@ def changed_lines(old: bytes, new: bytes) -> Iterator[Lines]:
 
 
 def change_of(options: Any) -> GitChange:
-    """Returns the change that the options ask about: of a revision, or of where HEAD left it, to the work tree, or to what
-    is staged.
+    """Returns the change that the options ask about: from a revision, or from where HEAD left it, to the work tree or to
+    what is staged.
     """
     git, revision = Git(), options.git
     if os.path.lexists(revision) and not git.has(revision):

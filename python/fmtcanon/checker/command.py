@@ -14,12 +14,10 @@ from ..frame.command_line import MODELS, USAGE, status_of
 from ..frame.findings import ERROR, Finding, Printer, by_place, leveled
 from ..frame.interrupting import temporary_folder
 from ..frame.output import complain
-from ..rewriting.writing import replace as write_all
 from ..source.files import Unreadable
 from .baseline import Baseline
 from .cache import Cache, answers_of, cache_folder
 from .changes import change_of
-from .fixer import Fixer
 from .jobs import jobs_of, name_files
 from .options import NAME, is_writing, parsed
 
@@ -38,7 +36,7 @@ def question_of(options: Any, folder: str, is_kept: bool) -> Question:
 
 
 def each_once(answers: Iterable[Answer]) -> Iterator[Answer]:
-    """Yields answers without what an earlier one has, as what is found in a header, in several units; and at the end, for
+    """Yields answers without what an earlier one has, as what is found in a header, in several units; and at the end, of
     each header, what its macros have in all of them.
     """
     seen: Set[str] = set()
@@ -120,6 +118,10 @@ def check(printer: Printer, answers: Iterable[Answer], fail_on: Sequence[str], b
 
 def fix(options: Any, files: Files, answers: Sequence[Answer]) -> int:
     """Writes what is proposed, or prints it as a diff. Returns the exit status."""
+    # Other runs begin faster without these.
+    from ..rewriting.writing import replace as write_all
+    from .fixer import Fixer
+
     fixer = Fixer(options, files, answers)
     status = write_all(options, fixer, fixer.names())
     return max(status, USAGE if any(it.counts["left"] for it in answers) else 0)

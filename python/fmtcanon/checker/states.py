@@ -8,6 +8,7 @@ import functools
 import hashlib
 import os
 import re
+import stat
 from typing import AbstractSet, Dict, FrozenSet, Iterable, Iterator, List, NamedTuple, Optional, Set, Tuple
 
 from ..compiling.dependencies import Dependencies
@@ -36,10 +37,12 @@ def digest(data: bytes) -> str:
 
 
 def state_of(path: str) -> Optional[State]:
-    """Returns the state of a file, or None if it isn't there."""
+    """Returns the state of a file or a folder, or None if there is neither."""
     try:
         found = os.stat(path)
     except OSError:
+        return None
+    if not (stat.S_ISREG(found.st_mode) or stat.S_ISDIR(found.st_mode)):
         return None
     return State(found.st_size, found.st_mtime_ns, found.st_ctime_ns, found.st_ino)
 
@@ -51,7 +54,7 @@ def is_older(state: State, time: int) -> bool:
 
 @functools.lru_cache(maxsize=None)
 def contents(path: str, state: State) -> Optional[Tuple[str, FrozenSet[str], bool]]:
-    """Returns the hash of a file in a state, the names that it asks for with `__has_include`, and whether these are all."""
+    """Returns the hash of a file, the names that it asks for with `__has_include`, and whether these are all."""
     try:
         with open(path, "rb") as stream:
             data = stream.read()

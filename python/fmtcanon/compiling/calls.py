@@ -10,9 +10,9 @@ from ..models import Model
 from ..source.known import Shape
 from .compile_commands import CompileCommand
 from .formats import AROUND, Format, Formats
-from .functions import Callee, Callees, Functions
+from .functions import Callee, Callees, Functions, is_system
 from .libclang import cindex
-from .parsing import CALL_EXPR, FUNCTION_DECL, TYPEDEF_DECL, UNREADABLE, VISIT_INSIDE, VISIT_NEXT, Parsed
+from .parsing import CALL_EXPR, FUNCTION_DECL, TYPEDEF_DECL, TYPES, UNREADABLE, VISIT_INSIDE, VISIT_NEXT, Parsed
 from .platforms import Platform
 from .retargeting import TYPE_MARK
 
@@ -29,19 +29,24 @@ INTEGERS = {
     "LONGLONG": Type.LONG_LONG,
     "ULONGLONG": Type.ULONG_LONG,
 }
+# The types that may be a typedef's, and the expressions whose types the source declares.
+LONGS = ("LONG", "ULONG")
+DECLARED = ("DECL_REF_EXPR", "MEMBER_REF_EXPR", "CSTYLE_CAST_EXPR")
 # Those whose values are never negative. A bit-field of the last may be promoted to int.
 UNSIGNED = ("BOOL", "CHAR_U", "UCHAR", "USHORT", "UINT")
 
 
 class Argument(NamedTuple):
     """An argument of a call: its type after promotion, if that is an integer, the same in C, its type as the source
-    names it, and whether it is an int that can't be negative: a literal, or of an unsigned type before promotion.
+    names it, whether it is an int that can't be negative: a literal, or of an unsigned type before promotion; and
+    whether the source declares it as `long`, which it is on every platform then.
     """
 
     type: Optional[Type]
     spelling: str
     name: str
     is_unsigned: bool = False
+    is_long: bool = False
 
 
 class Call(NamedTuple):
@@ -67,16 +72,19 @@ class Calls(Parsed):
     def __init__(self, command: CompileCommand, text: bytes, functions: Functions, words: Sequence[str] = ()) -> None:
         super().__init__(command, text, words)
         self.callees = Callees(self, functions)
+        # In C, what declares types has no calls.
+        self.without_calls = () if command.is_cxx() else TYPES
 
     def note(self, cursor: Any) -> int:
         """Notes a cursor. Returns whether what is inside is visited, too."""
-        if cursor._kind_id == FUNCTION_DECL:
-            return self.note_function(cursor)
-        if cursor._kind_id == TYPEDEF_DECL:
-            self.note_typedef(cursor)
-        elif cursor._kind_id == CALL_EXPR:
+        kind = cursor._kind_id
+        if kind == CALL_EXPR:
             self.note_call(cursor)
-        return VISIT_INSIDE
+        elif kind == FUNCTION_DECL:
+            return self.note_function(cursor)
+        elif kind == TYPEDEF_DECL:
+            self.note_typedef(cursor)
+        return VISIT_NEXT if kind in self.without_calls else VISIT_INSIDE
 
     def note_function(self, cursor: Any) -> int:
         """Notes a declaration of a function. Returns whether what is inside is visited, too."""
@@ -105,7 +113,9 @@ class FormatCalls(Calls):
         self.visit(self.note)
 
     def note_function(self, cursor: Any) -> int:
-        return VISIT_NEXT if cindex.conf.lib.clang_Location_isInSystemHeader(cursor.location) else VISIT_INSIDE
+        library = cindex.conf.lib
+        is_passed = self.without_calls and not library.clang_isCursorDefinition(cursor)
+        return VISIT_NEXT if is_passed or library.clang_Location_isInSystemHeader(cursor.location) else VISIT_INSIDE
 
     def note_typedef(self, cursor: Any) -> None:
         self.formats.typedefs.append(cursor)
@@ -131,8 +141,7 @@ class FormatCalls(Calls):
         number = self.in_line[line, name]
         self.in_line[line, name] += 1
         self.found[line, name, number] = Call(
-            self.file_of(cursor.location),
-            self.line_of(cursor.location),
+            *self.place_of(cursor.location),
             name,
             tuple(it for it in read if it),
             tuple(map(argument_of, arguments[shape.first :])),
@@ -167,4 +176,21 @@ def argument_of(cursor: Any) -> Argument:
     spelling = f"{type.element_type.spelling} *" if type.kind.name in ARRAYS else type.spelling
     is_natural = inside.kind.name == "INTEGER_LITERAL" or inside.type.get_canonical().kind.name in UNSIGNED
     is_unsigned = type.kind.name == "INT" and is_natural
-    return Argument(INTEGERS.get(type.kind.name), spelling, inside.type.spelling.replace(TYPE_MARK, ""), is_unsigned)
+    is_long = type.kind.name in LONGS and inside.type.kind == type.kind and is_declared_long(inside)
+    name = inside.type.spelling.replace(TYPE_MARK, "")
+    return Argument(INTEGERS.get(type.kind.name), spelling, name, is_unsigned, is_long)
+
+
+def is_declared_long(cursor: Any) -> bool:
+    """Returns whether an expression is a cast to `long` by that name, or what the source declares so: not a typedef,
+    whose type may be another elsewhere, nor a member of the C library's or a bit-field. A call of a function that clang
+    knows has its result's type without the name of the typedef.
+    """
+    if cursor.kind.name not in DECLARED:
+        return False
+    if cursor.kind.name == "CSTYLE_CAST_EXPR":
+        return True
+    found = cursor.referenced
+    if found is None or found.kind.name not in ("VAR_DECL", "PARM_DECL", "FIELD_DECL"):
+        return False
+    return found.kind.name != "FIELD_DECL" or not (is_system(found) or found.is_bitfield())

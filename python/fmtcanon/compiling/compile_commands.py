@@ -18,6 +18,8 @@ from .running import run
 from .stand_ins import is_stand_in
 
 CACHES = ("ccache", "sccache", "distcc")
+# The word that libclang adds to the command of a compiler for C++, and which gcc doesn't know.
+MODE = "--driver-mode=g++"
 SOURCES = re.compile(r".*\.(?:c|cc|cp|cpp|cxx|c\+\+|C|CPP)", re.DOTALL)
 # The words that choose the machine, the standard and the compiler's own headers.
 OF_THE_MACHINE = re.compile(
@@ -179,7 +181,7 @@ def commands_in(folder: str) -> Dict[str, List[CompileCommand]]:
         raise OSError(f"libclang can't be loaded: {error}") from error
     for command in database.getAllCompileCommands() or ():
         file = os.path.realpath(os.path.join(command.directory, command.filename))
-        words = list(command.arguments)
+        words = [it for it in command.arguments if it != MODE]
         while words and os.path.basename(words[0]) in CACHES:
             words.pop(0)
         made = CompileCommand(command.directory, file, tuple(words))

@@ -4,6 +4,7 @@ Compilers have options that write files, run programs or read their input in ano
 a word is kept or dropped only if it is listed here, and a file whose command has another word is left.
 """
 
+import functools
 import re
 from typing import Iterator, List, Pattern, Sequence, Tuple
 
@@ -60,12 +61,22 @@ def one_of(names: str) -> str:
     return "|".join(map(re.escape, names.split()))
 
 
-def patterns(*texts: str) -> Pattern[str]:
-    return re.compile("|".join(texts), re.DOTALL)
+class Words:
+    """Words of a compile command that match one of these patterns, which are compiled once they are needed."""
+
+    def __init__(self, *texts: str) -> None:
+        self.text = "|".join(texts)
+
+    @functools.cached_property
+    def pattern(self) -> Pattern[str]:
+        return re.compile(self.text, re.DOTALL)
+
+    def has(self, word: str) -> bool:
+        return self.pattern.fullmatch(word) is not None
 
 
 # One word, or two with a space between. A value without a slash or another mark of paths names no file.
-KEPT = patterns(
+KEPT = Words(
     r"-[DUI].+",
     r"-i(?:system|quote|dirafter|sysroot).+",
     r"--?std=[\w+:]+|-ansi|-pedantic(?:-errors)?|-xc(?:\+\+)?|-undef|-trigraphs|-pthreads?|-O(?:\d|[szg]|fast)?",
@@ -75,7 +86,7 @@ KEPT = patterns(
     r"-f(?:template|constexpr)-(?:depth|loop-limit|ops-limit|steps)[=-]\d+",
     r"-f(?:file|macro)-prefix-map=.+|(?i:-f(?:exec|input|wide-exec)-charset=utf-?8)",
 )
-KEPT_PAIRS = patterns(
+KEPT_PAIRS = Words(
     r"-[DUI] .+",
     r"-i(?:nclude|macros|system|quote|dirafter|sysroot|prefix|withprefix|withprefixbefore) .+",
     r"-x c(?:\+\+)?|(?:--sysroot|-target) .+",
@@ -93,7 +104,7 @@ LINKED = rf"(?:-?-(?:{one_of(LINKER)})(?:=[^,]*)?|-[OEsSx]\d?|[^-@,][^,]*)"
 ASSEMBLED = (
     r"(?:--(?:no)?execstack|--fatal-warnings|--no-warn|--gdwarf[\w-]*|--compress-debug-sections[=\w-]*|-[gm][\w=-]*)"
 )
-DROPPED = patterns(
+DROPPED = Words(
     r"-[cSEPCHvsp]|-CC|-o.+|--output=.+|-M(?:M|G|P|D|MD)?|-M[FTQJ].+|--write-(?:user-)?dependencies|-d[A-Za-z]",
     r"-?-save-temps(?:=.+)?|-save-stats(?:=.+)?|-time(?:=.+)?|-pipe|-pg|-?-coverage|-g[\w.,+=-]*|-Q[\w-]+|--param=.+",
     r"-[lL].+|-r(?:dynamic)?|-(?:static|shared)(?:-[\w+]+)?|-(?:no-|static-)?pie",
@@ -102,7 +113,7 @@ DROPPED = patterns(
     rf"-Wl(?:,{LINKED})+",
     rf"-Wa(?:,{ASSEMBLED})+",
 )
-DROPPED_PAIRS = patterns(
+DROPPED_PAIRS = Words(
     r"-(?:o|M[FTQJ]|dumpbase|dumpbase-ext|dumpdir|aux-info|[lLuz]|mllvm) .+",
     r"--output .+|--param .+|-?-serialize-diagnostics .+",
     r"-Xclang -(?:disable-O0-optnone|disable-llvm-passes|disable-llvm-optzns|disable-llvm-verifier|fno-pch-timestamp)",
@@ -120,18 +131,18 @@ def without_effects(words: Sequence[str]) -> Iterator[Tuple[str, ...]]:
     while rest:
         word = rest.pop(0)
         pair = f"{word} {rest[0]}" if rest else ""
-        if KEPT_PAIRS.fullmatch(pair) or DROPPED_PAIRS.fullmatch(pair):
+        if KEPT_PAIRS.has(pair) or DROPPED_PAIRS.has(pair):
             after = rest.pop(0)
-            if KEPT_PAIRS.fullmatch(pair):
+            if KEPT_PAIRS.has(pair):
                 yield word, after
         elif word == "--":
             yield from ((it,) for it in rest)
             return
         elif word.startswith("-Wp,"):
             yield from ((it,) for it in for_preprocessor(word))
-        elif not word.startswith(("-", "@")) or KEPT.fullmatch(word):
+        elif not word.startswith(("-", "@")) or KEPT.has(word):
             yield (word,)
-        elif not DROPPED.fullmatch(word):
+        elif not DROPPED.has(word):
             raise Left(f"its compile command has {pair if word.startswith('-X') else word}")
 
 

@@ -52,11 +52,17 @@ class Formats:
     def __init__(self, unit: Parsed) -> None:
         self.unit = unit
         self.typedefs: List[Any] = []
+        # Whether a value that was computed chose a format, or where one begins: it may be another elsewhere.
+        self.is_computed = False
 
     def read(self, cursor: Any) -> Iterator[Optional[Format]]:
         """Yields the formats that the value of an expression may be, and None for what can't be read. Exceptions of
         libclang's visitors are lost, so nothing here is as deep as the expression.
         """
+        bare = unparenthesized(cursor)
+        if bare.kind.name == "STRING_LITERAL":
+            yield self.format_of(bare, 0)
+            return
         waiting: List[Inside] = [(cursor, 0)]
         for _ in range(MOST_PARTS):
             if not waiting:
@@ -91,7 +97,7 @@ class Formats:
         if kind in (*AROUND, "CSTYLE_CAST_EXPR"):
             return [(it, 0) for it in self.unwrapped(cursor, children)]
         if kind == "CONDITIONAL_OPERATOR":
-            value = integer_of(children[0])
+            value = self.value_of(children[0])
             return [(it, 0) for it in (children[1:] if value is None else [children[1 if value else 2]])]
         if kind == "GENERIC_SELECTION_EXPR":
             return [(it, 0) for it in self.selected(cursor, children)]
@@ -109,7 +115,7 @@ class Formats:
             return children[-1:]
         text = self.unit.text_of(cursor)
         if len(children) == 3 and text.startswith(CHOOSE):
-            value = integer_of(children[0])
+            value = self.value_of(children[0])
             return [] if value is None else [children[1 if value else 2]]
         # `a ?: b`, whose `a` comes three times.
         return [children[0], children[3]] if len(children) == 4 else []
@@ -123,14 +129,25 @@ class Formats:
             element, is_address = unparenthesized(children[0]), text.startswith("&")
             parts = list(element.get_children())
             is_element = is_address and element.kind.name == "ARRAY_SUBSCRIPT_EXPR" and len(parts) == 2
-            return moved(parts[0], parts[1], 1) if is_element else []
+            return self.moved(parts[0], parts[1], 1) if is_element else []
         first, second = children[0].extent.end.offset, children[1].extent.start.offset
         between = LINE_MARKER.sub("", self.unit.text[first:second].decode(errors="replace")).strip()
         if between == ",":
             return [(children[1], 0)]
         if between == "+" and children[1].type.get_canonical().kind.name == "POINTER":
-            return moved(children[1], children[0], 1)
-        return moved(children[0], children[1], 1 if between == "+" else -1) if between in ("+", "-") else []
+            return self.moved(children[1], children[0], 1)
+        return self.moved(children[0], children[1], 1 if between == "+" else -1) if between in ("+", "-") else []
+
+    def value_of(self, cursor: Any) -> Optional[int]:
+        """Returns the value of an expression that chooses, or None."""
+        value = integer_of(cursor)
+        self.is_computed = self.is_computed or value is not None
+        return value
+
+    def moved(self, pointer: Any, number: Any, sign: int) -> List[Inside]:
+        """Returns where a pointer points if a constant number is added; nothing if it isn't a constant."""
+        value = self.value_of(number)
+        return [] if value is None else [(pointer, sign * value)]
 
     def selected(self, cursor: Any, children: Sequence[Any]) -> Sequence[Any]:
         """Returns the expression that `_Generic` selects by the names of types before each; none if that isn't known."""
@@ -176,12 +193,6 @@ def type_name_of(spelling: str) -> str:
     kept = [it for it in base if it != "signed" or "char" in base]
     kept = [it for it in kept if it != "int" or not is_long] or ["int"]
     return " ".join([*sorted(kept), *rest])
-
-
-def moved(pointer: Any, number: Any, sign: int) -> List[Inside]:
-    """Returns where a pointer points if a constant number is added; nothing if it isn't a constant."""
-    value = integer_of(number)
-    return [] if value is None else [(pointer, sign * value)]
 
 
 def integer_of(cursor: Any) -> Optional[int]:

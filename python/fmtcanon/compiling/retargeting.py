@@ -19,9 +19,9 @@ SPACE = r"(?:\s|(?<=\n)# \d+ [^\n]*)*"
 # The same, which stays.
 GAP = f"({SPACE})"
 # A line marker, and its flags: 3 is that of a system header.
-MARKER = re.compile(r'(?m)^# \d+ "(?:[^"\\\n]|\\.)*"([ \d]*)$')
+MARKER = re.compile(r'(?m)^# \d+ (?P<file>"(?:[^"\\\n]|\\.)*")(?P<flags>[ \d]*)$')
 # A typedef of a name, which may be an array.
-TYPEDEF = r"\btypedef(?P<words>\s+[A-Za-z_][\w\s]*?[\s*]+)(?P<name>\w+)(?=\s*(?:\[[^;]*\])?;)"
+TYPEDEF = r"typedef(?<!\wtypedef)(?P<words>\s+[A-Za-z_][\w\s]*?[\s*]+)(?P<name>\w+)(?=\s*(?:\[[^;]*\])?;)"
 # A struct with at most one in another, which has a name or which a typedef names; and a member of it.
 STRUCT = re.compile(r"\bstruct\s*(\w*)\s*\{[^{}]*(?:\{[^{}]*\}[^{}]*)*\}\s*(\w*)")
 MEMBER = re.compile(rf"([{{;]{SPACE})((?:\w+\s+)+)(\w+)(?=\s*(?:\[[^;]*\])?;)")
@@ -106,7 +106,7 @@ def chunks(text: str) -> Iterator[Tuple[bool, str]]:
     """Yields the parts of a text that system headers have in turn with those that others have, and which these are."""
     start, is_system = 0, False
     for found in MARKER.finditer(text):
-        if ("3" in found[1]) != is_system:
+        if ("3" in found["flags"]) != is_system:
             yield is_system, text[start : found.start()]
             start, is_system = found.start(), not is_system
     yield is_system, text[start:]
@@ -183,6 +183,6 @@ def retargeted(text: str, platform: Platform, own: Mapping[str, str]) -> str:
         text = CHARACTER_SIZE.sub(r"int\1", text)
     front = declarations(platform) if TYPE_MARK in text else ""
     return front + "".join(
-        with_types(with_members(it, platform.members), types, wider) if is_system else with_types(it, own, {})
+        with_types(with_members(it, platform.members), types, wider) if is_system else with_types(it, own, {}) if own else it
         for is_system, it in chunks(text)
     )

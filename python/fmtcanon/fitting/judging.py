@@ -8,7 +8,7 @@ from typing import Iterator, List, Mapping, NamedTuple, Sequence, Set, Tuple, Un
 from .. import BadLiteral, Refused, Specification, decode_literal, specifications
 from ..compiling.calls import Argument, Call, Key
 from ..compiling.formats import Format, Literal
-from ..compiling.platforms import PLATFORMS
+from ..compiling.platforms import PLATFORMS, Platform
 from ..formats.items import errnos_of
 from ..kinds import Type
 from ..models import Model
@@ -175,6 +175,18 @@ class PlatformText(NamedTuple):
     spans: Sequence[Specification]
 
 
+def text_of(format: Format, platform: Platform) -> PlatformText:
+    """Returns the text of a format. Raises `Refused` or `BadLiteral`."""
+    text = bytes_of(format)
+    return PlatformText(text, spans_in(text, platform.model))
+
+
+@functools.lru_cache(maxsize=4096)
+def spans_in(text: bytes, model: Model) -> Sequence[Specification]:
+    """Returns the directives of a format. Raises `Refused`."""
+    return specifications(text, model=model)
+
+
 def bytes_of(format: Format) -> bytes:
     """Returns the text of a format. Raises `BadLiteral`."""
     return decode_literal(format.source.encode("utf-8", "surrogateescape"))[format.skipped :]
@@ -223,7 +235,7 @@ def judged(units: Sequence[Mapping[Key, Call]]) -> Judged:
             try:
                 for it, platform in zip(calls, PLATFORMS):
                     text = bytes_of(it.formats[number])
-                    texts.append(PlatformText(text, specifications(text, model=platform.model)))
+                    texts.append(PlatformText(text, spans_in(text, platform.model)))
             except (Refused, BadLiteral) as why:
                 result.refused.append(RefusedFormat(call, text, why))
                 continue

@@ -15,6 +15,7 @@ from ..compiling.stand_ins import Original, original
 from ..compiling.targets import model_in
 from ..models import Model
 from ..source.known import Shape
+from .alike import is_alike
 
 
 class Settings(NamedTuple):
@@ -42,7 +43,9 @@ class Unit:
         # What was read, if that is known.
         self.read: Optional[Dependencies] = None
         text = self.first_text()
-        parsed = [self.parsed(text, it) for it in PLATFORMS]
+        first = self.parsed(text, COMPILED)
+        is_one = not settings.types and is_alike(first, text)
+        parsed = [first if is_one or it is COMPILED else self.parsed(text, it) for it in PLATFORMS]
         errors = parsed[0].errors()
         self.why_left: Optional[str] = errors[0] if errors else None
         self.calls: List[Dict[Key, Call]] = [it.found for it in parsed]
