@@ -1,10 +1,7 @@
 """Tests of fmtcanon-lsp: a scripted client over pipes, with what the server says by hand."""
 
 import json
-import os
 import random
-import re
-import select
 import subprocess
 import sys
 import tempfile
@@ -12,13 +9,11 @@ import time
 import unittest
 from pathlib import Path
 
-from fmtcanon.lsp.documents import UTF_8, UTF_16, Document
-from fmtcanon.lsp.framing import BadFraming, BadMessage, Framing, framed
+from fmtcanon.lsp.documents import UTF_8, UTF_16
+from fmtcanon.lsp.framing import framed
 
-TOP = Path(__file__).resolve().parents[2]
-URI = "file:///nowhere/a.c"
-# Seconds after which an answer is missing.
-PATIENCE = 60
+from .lsp_client import PATIENCE, URI, Client
+
 CASES = """\
 #include <stdio.h>
 void note(int level, const char *format, ...) __attribute__((format(printf, 2, 3)));
@@ -34,108 +29,6 @@ void f(int n, size_t size, const char *name, double x)
 """
 
 
-class Client:
-    """An editor without a screen."""
-
-    def __init__(self, uri=URI, options=None, encodings=None, environment=None, start=True):
-        words = [sys.executable, "-B", "-m", "fmtcanon.lsp"]
-        pipes = {"stdin": subprocess.PIPE, "stdout": subprocess.PIPE, "stderr": subprocess.PIPE}
-        environment = {**os.environ, "PYTHONPATH": str(TOP / "python"), **(environment or {})}
-        self.process = subprocess.Popen(words, env=environment, **pipes)
-        self.uri, self.number, self.framing, self.held, self.notes = uri, 0, Framing(), [], []
-        if start:
-            general = {"positionEncodings": encodings} if encodings else {}
-            given = {"capabilities": {"general": general}, "initializationOptions": options}
-            self.capabilities = self.request("initialize", given)["result"]["capabilities"]
-            self.notify("initialized")
-
-    def write(self, data):
-        self.process.stdin.write(data)
-        self.process.stdin.flush()
-
-    def notify(self, method, **params):
-        self.write(framed({"method": method, "params": params}))
-
-    def next(self, wanted):
-        """The next message that is wanted. Others are kept, or are notes."""
-        end = time.monotonic() + PATIENCE
-        while time.monotonic() < end:
-            for at, message in enumerate(self.held):
-                if wanted(message):
-                    return self.held.pop(at)
-            if select.select([self.process.stdout], [], [], end - time.monotonic())[0]:
-                data = os.read(self.process.stdout.fileno(), 1 << 16)
-                if not data:
-                    raise EOFError
-                self.held += self.framing.feed(data)
-        raise AssertionError("no answer")
-
-    def request(self, method, params):
-        self.number += 1
-        self.write(framed({"id": self.number, "method": method, "params": params}))
-        number = self.number
-        return self.next(lambda it: it.get("id") == number)
-
-    def open(self, text, language="c"):
-        document = {"uri": self.uri, "languageId": language, "version": 1, "text": text}
-        self.notify("textDocument/didOpen", textDocument=document)
-        self.text = text
-        return self.diagnostics(1)
-
-    def diagnostics(self, version):
-        """What is published of a version of the document."""
-        found = self.next(lambda it: it.get("params", {}).get("version") == version)
-        return found["params"]["diagnostics"]
-
-    def change(self, *changes, version):
-        self.notify("textDocument/didChange", textDocument={"uri": self.uri, "version": version}, contentChanges=changes)
-
-    def at(self, words, offset=0, text=None):
-        """The position of words in the text, in UTF-16."""
-        text = self.text if text is None else text
-        front = text[: text.index(words) + offset]
-        return {"line": front.count("\n"), "character": len(front.rpartition("\n")[2].encode("utf-16-le")) // 2}
-
-    def ask(self, method, words, offset=0):
-        params = {"textDocument": {"uri": self.uri}, "position": self.at(words, offset)}
-        return self.request(f"textDocument/{method}", params)["result"]
-
-    def hover(self, words, offset=0):
-        found = self.ask("hover", words, offset)
-        return found and found["contents"]["value"]
-
-    def spot(self, range):
-        """The text that a range of the protocol has, of one line."""
-        line = self.text.split("\n")[range["start"]["line"]].encode("utf-16-le")
-        return line[2 * range["start"]["character"] : 2 * range["end"]["character"]].decode("utf-16-le")
-
-    def actions(self, words):
-        given = {"textDocument": {"uri": self.uri}, "range": {"start": self.at(words), "end": self.at(words)}, "context": {}}
-        return self.request("textDocument/codeAction", given)["result"]
-
-    def fixed(self, action):
-        """The line after an action."""
-        [edit] = action["edit"]["changes"][self.uri]
-        place = edit["range"]
-        line = self.text.split("\n")[place["start"]["line"]].encode("utf-16-le")
-        front, back = line[: 2 * place["start"]["character"]], line[2 * place["end"]["character"] :]
-        return (front.decode("utf-16-le") + edit["newText"] + back.decode("utf-16-le")).strip()
-
-    def stop(self):
-        """Ends the server as an editor does, and returns its status."""
-        if self.process.poll() is None:
-            self.request("shutdown", None)
-            self.notify("exit")
-        return self.end()
-
-    def end(self):
-        try:
-            return self.process.wait(PATIENCE)
-        finally:
-            for stream in (self.process.stdin, self.process.stdout, self.process.stderr):
-                stream.close()
-
-
 class Conversations(unittest.TestCase):
     def client(self, *words, **more):
         client = Client(*words, **more)
@@ -147,7 +40,11 @@ class Conversations(unittest.TestCase):
         client = self.client()
         client.open(CASES)
         rows = [
-            ("%-05d", "`%-05d` ← `n`: argument 1, int: decimal, left-justified in at least 5 bytes", "`-` overrides `0`"),
+            (
+                "%-05d",
+                "`%-05d` ← `n`: argument 1, int: decimal, left-justified in at least 5 bytes",
+                "`-` overrides `0`",
+            ),
             ("%5zu", "`%5zu` ← `size`: argument 2, size_t: unsigned long (unsigned int in ILP32", "right-justified"),
             ("%s", "`%s` ← `name`: argument 3, string: the string", "the string"),
             ("%I64d", "`%I`: `I64` is Microsoft's name of `ll`", "Write %lld."),
@@ -210,7 +107,12 @@ class Conversations(unittest.TestCase):
         client = self.client()
         text = CASES.replace("x, x);", "x,")
         client.open(text)
-        rows = [("n, size, name", 0, 0, "%-05d"), ("size, name", 0, 1, "%5zu"), ("name);", 4, 2, "%s"), ("x,\n", 2, 1, "%lf")]
+        rows = [
+            ("n, size, name", 0, 0, "%-05d"),
+            ("size, name", 0, 1, "%5zu"),
+            ("name);", 4, 2, "%s"),
+            ("x,\n", 2, 1, "%lf"),
+        ]
         for words, offset, index, directive in rows:
             with self.subTest(words=words):
                 found = client.ask("signatureHelp", words, offset)
@@ -251,13 +153,27 @@ class Conversations(unittest.TestCase):
                 found = client.ask("documentHighlight", words)
                 self.assertEqual([client.spot(it["range"]) for it in found], wanted)
 
+    def test_branches(self):
+        """Where an `#if` is between arguments, it isn't said which one a directive takes."""
+        client = self.client()
+        client.open(
+            'void f(void)\n{\n    printf("%d %s",\n#ifdef A\n        a,\n#else\n        b,\n#endif\n        c);\n}\n'
+        )
+        self.assertEqual(client.hover("%d"), "`%d`: argument 1, int: decimal")
+        self.assertIsNone(client.ask("signatureHelp", "b,"))
+        self.assertEqual([client.spot(it["range"]) for it in client.ask("documentHighlight", "%d")], ["%d"])
+
     def test_changes(self):
         """What is said follows the text, also before it is read again."""
         client = self.client()
         client.open(CASES)
         place = client.at("%-05d")
         end = {"line": place["line"], "character": place["character"] + 5}
-        client.change({"range": {"start": place, "end": end}, "text": "%x"}, {"text": "%.0", "range": {"start": place, "end": {**place, "character": place["character"] + 1}}}, version=2)
+        client.change(
+            {"range": {"start": place, "end": end}, "text": "%x"},
+            {"text": "%.0", "range": {"start": place, "end": {**place, "character": place["character"] + 1}}},
+            version=2,
+        )
         client.text = CASES.replace("%-05d", "%.0x")
         self.assertIn("hexadecimal with `a` to `f`, no digit for 0", client.hover("%.0x"))
         self.assertEqual([it["code"] for it in client.diagnostics(2)][:1], ["AltUndefined"])
@@ -266,18 +182,24 @@ class Conversations(unittest.TestCase):
 
     def test_macros_of_the_file(self):
         """A macro is known that is defined far from the cursor, also right after a change."""
-        text = '#define FORM "%5d: "\n' + "int x(void)\n{\n}\n" * 10 + 'int f(void)\n{\n    printf(FORM "%s", 1, name);\n}\n'
+        text = (
+            '#define FORM "%5d: "\n'
+            + "int x(void)\n{\n}\n" * 10
+            + 'int f(void)\n{\n    printf(FORM "%s", 1, name);\n}\n'
+        )
         client = self.client()
         client.open(text)
         client.change({"range": {"start": client.at("%s"), "end": client.at("%s")}, "text": "%i "}, version=2)
         client.text = text.replace('"%s"', '"%i %s"')
         self.assertIn("`%i` ← `name`: argument 2, int", client.hover("%i"))
-        self.assertIn("`%5d` ← `1`: argument 1, int", client.hover("FORM \"%i", 1))
+        self.assertIn("`%5d` ← `1`: argument 1, int", client.hover('FORM "%i', 1))
 
     def test_headers(self):
         """A function is known whose attribute is in a header that is included in quotes, or that is an option."""
         with tempfile.TemporaryDirectory() as folder:
-            header = "__attribute__((__format__(__printf__, 2, 3)))\nvoid trace(int level,\n    const char *format, ...);\n"
+            header = (
+                "__attribute__((__format__(__printf__, 2, 3)))\nvoid trace(int level,\n    const char *format, ...);\n"
+            )
             Path(folder, "trace.h").write_text(header, encoding="utf-8")
             text = '#include "trace.h"\nvoid f(void) { trace(1, "%hs", "x"); own("%hs"); }\n'
             for functions, count in [([], 1), (["own:1"], 2)]:
@@ -288,8 +210,13 @@ class Conversations(unittest.TestCase):
     def test_options(self):
         """Next to clangd, only what clang doesn't say is said; the first data model is named first."""
         client = self.client(options={"beside_clangd": True, "model": "ilp32", "colour": 1})
-        found = client.open(CASES.replace("%5zu", "%5000d"))
+        found = client.open(CASES.replace("%5zu", "%5000d").replace("%s\\n", "%+u % +d %+1x"))
         self.assertEqual([it["code"] for it in found], ["WidthTooLarge", "no-effect", "no-effect"])
+        client.change({"text": CASES.replace("%s\\n", "%+u % +d %+1x")}, version=9)
+        found = client.diagnostics(9)
+        client.text = CASES.replace("%s\\n", "%+u % +d %+1x")
+        self.assertEqual([client.spot(it["range"]) for it in found], ["%+1x", "%lf", "%lf"])
+        client.text = CASES
         # What may be done is offered all the same.
         self.assertEqual(client.fixed(client.actions("%#d")[0]), 'printf("é\\t%d", n);')
         said = client.next(lambda it: it.get("method") == "window/logMessage")["params"]["message"]
@@ -333,10 +260,18 @@ class Conversations(unittest.TestCase):
         client.write(b"content-length: 2\r\nContent-Type: x\r\n\r\n[]")
         self.assertEqual(client.next(lambda it: "error" in it)["error"]["code"], -32600)
         client.request("initialize", {})
-        rows = [("nothing", {}, -32601), ("textDocument/hover", {}, -32602), ("textDocument/hover", {"textDocument": {"uri": URI}}, -32602)]
+        rows = [
+            ("nothing", {}, -32601),
+            ("textDocument/hover", {}, -32602),
+            ("textDocument/hover", {"textDocument": {"uri": URI}}, -32602),
+        ]
         for method, params, number in rows:
             self.assertEqual(client.request(method, params)["error"]["code"], number)
-        for params in ({}, {"textDocument": {"uri": 1}}, {"textDocument": {"uri": URI}, "contentChanges": [{"text": 5}]}):
+        for params in (
+            {},
+            {"textDocument": {"uri": 1}},
+            {"textDocument": {"uri": URI}, "contentChanges": [{"text": 5}]},
+        ):
             for method in ("didOpen", "didChange", "didClose", "didSave"):
                 client.notify(f"textDocument/{method}", **params)
         self.assertEqual(client.open(CASES)[0]["code"], "no-effect")
@@ -471,9 +406,59 @@ class Catalogs(unittest.TestCase):
 class Hostile(unittest.TestCase):
     """Texts that no one writes: the server says something of each, or nothing, and goes on."""
 
-    PIECES = ['"', "'", "\\", "\n", "%", "%5", "%*d", "%2$s", "/*", "*/", "//", "(", ")", "printf(", '"%d', "R\"x(", ")x\"", ",", ";"]
-    PIECES += ["}", "\n}\n", "PRIu64", "#define A ", "\\\n", "\r\n", "\r", "é", "😀", "\0", "\ud83d", "L", "u8", "_(", "%hs", "%#d\" ", "\ufeff"]
-    PO = ['msgid "', 'msgstr "', "msgstr[0]", '"\n', "#, c-format\n", "\n\n", "\\x", "\\777", "%<PRIu64>", "msgctxt", "charset=KOI8-R\\n"]
+    PIECES = [
+        '"',
+        "'",
+        "\\",
+        "\n",
+        "%",
+        "%5",
+        "%*d",
+        "%2$s",
+        "/*",
+        "*/",
+        "//",
+        "(",
+        ")",
+        "printf(",
+        '"%d',
+        'R"x(',
+        ')x"',
+        ",",
+        ";",
+    ]
+    PIECES += [
+        "}",
+        "\n}\n",
+        "PRIu64",
+        "#define A ",
+        "\\\n",
+        "\r\n",
+        "\r",
+        "é",
+        "😀",
+        "\0",
+        "\ud83d",
+        "L",
+        "u8",
+        "_(",
+        "%hs",
+        '%#d" ',
+        "\ufeff",
+    ]
+    PO = [
+        'msgid "',
+        'msgstr "',
+        "msgstr[0]",
+        '"\n',
+        "#, c-format\n",
+        "\n\n",
+        "\\x",
+        "\\777",
+        "%<PRIu64>",
+        "msgctxt",
+        "charset=KOI8-R\\n",
+    ]
 
     def test_texts(self):
         chosen = random.Random(3)
@@ -498,91 +483,6 @@ class Hostile(unittest.TestCase):
         logged = [it for it in client.held if it.get("method") == "window/logMessage"]
         self.assertEqual(logged, [])
         self.assertEqual(client.stop(), 0)
-
-
-class Units:
-    """A text as a list of the units in which an editor counts, to change it in another way than the server does."""
-
-    def __init__(self, text, encoding):
-        self.size, self.name = (1, "utf-8") if encoding == UTF_8 else (2, "utf-16-le")
-        self.data = text.encode(self.name)
-
-    @property
-    def text(self):
-        return self.data.decode(self.name)
-
-    def place(self, position):
-        """The offset of a position: lines end with `\\r\\n`, `\\n` or `\\r`."""
-        lines = re.split("(\r\n|\n|\r)", self.text)
-        front = "".join(lines[: 2 * position["line"]])
-        line = lines[2 * position["line"]]
-        return len(front.encode(self.name)) + min(position["character"] * self.size, len(line.encode(self.name)))
-
-
-class Documents(unittest.TestCase):
-    def test_changes(self):
-        """Random changes give the text that an editor has, in both encodings."""
-        chosen = random.Random(1)
-        count = 0
-        for encoding in (UTF_8, UTF_16):
-            for _ in range(150):
-                text = "".join(chosen.choices("ab%é😀\u0800\n\r", k=chosen.randrange(40)))
-                document, units = Document(URI, "c", text, 1, encoding), Units(text, encoding)
-                for _ in range(10):
-                    change, start, end = self.change(chosen, units)
-                    document.change(change)
-                    units.data = units.data[:start] + change["text"].encode(units.name) + units.data[end:]
-                    self.assertEqual(document.data.decode(), units.text, (change, encoding))
-                    count += 1
-        self.assertEqual(count, 3000)
-
-    def change(self, chosen, units):
-        """A change between two characters of a text, and where that is in units."""
-        text, lines = units.text, []
-        places = []
-        for number, line in enumerate(re.split("\r\n|\n|\r", text)):
-            lines.append(line)
-            for at in range(len(line) + 1):
-                column = len(line[:at].encode(units.name)) // units.size
-                places.append({"line": number, "character": column})
-        start, end = sorted(chosen.choices(range(len(places)), k=2))
-        new = "".join(chosen.choices("xy\n%😀é", k=chosen.randrange(5)))
-        made = {"range": {"start": places[start], "end": places[end]}, "text": new}
-        return made, units.place(places[start]), units.place(places[end])
-
-    def test_positions(self):
-        """A position after the end of a line is its end, and one within a character its beginning."""
-        document = Document(URI, "c", "a😀b\r\n\r\nend", 1, UTF_16)
-        rows = [((0, 0), 0), ((0, 1), 1), ((0, 2), 1), ((0, 3), 5), ((0, 9), 6), ((1, 0), 8), ((1, 5), 8), ((2, 3), 13), ((7, 0), 13)]
-        for (line, character), offset in rows:
-            self.assertEqual(document.offset({"line": line, "character": character}), offset)
-        for offset, place in [(0, (0, 0)), (1, (0, 1)), (3, (0, 1)), (5, (0, 3)), (8, (1, 0)), (13, (2, 3))]:
-            self.assertEqual(tuple(document.position(offset).values()), place)
-
-    def test_paths(self):
-        rows = [("file:///a%20b/c.c", "/a b/c.c"), ("untitled:x", None), ("file:///a%00b", None), ("http://[", None)]
-        for uri, path in rows:
-            self.assertEqual(Document(uri, "c", "", 1, UTF_8).path, path)
-
-
-class Frames(unittest.TestCase):
-    def test_parts(self):
-        """Messages come in parts of any length."""
-        data = b"".join(framed({"id": it, "method": "é" * it}) for it in range(5))
-        for size in range(1, len(data)):
-            framing, found = Framing(), []
-            for at in range(0, len(data), size):
-                found += framing.feed(data[at : at + size])
-            self.assertEqual([it["id"] for it in found], [0, 1, 2, 3, 4])
-
-    def test_faults(self):
-        bodies = [b"{", b"\xff", b"5", b"null", b"[" * 100_000]
-        for body in bodies:
-            [found] = Framing().feed(b"Content-Length: %d\r\n\r\n%s" % (len(body), body))
-            self.assertIsInstance(found, BadMessage)
-        for header in (b"\r\n\r\n", b"X: 1\r\n\r\n", b"Content-Length: -1\r\n\r\n", b"Content-Length: 999999999999\r\n\r\n", b"x" * 5_000):
-            with self.assertRaises(BadFraming):
-                list(Framing().feed(header))
 
 
 if __name__ == "__main__":

@@ -3,12 +3,14 @@ neovim and Emacs with eglot talk to fmtcanon-lsp.
 """
 
 import json
+import os
+import re
 import subprocess
-import sys
+import threading
 
 from tests.commands.tool import Tool
 from tests.frame.cases import tests_of
-from tests.frame.harness import TIMEOUT
+from tests.frame.harness import TIMEOUT, TOP
 
 # What the commands read: each has a finding with a column, with quotes and numbers in its text.
 FILES = {
@@ -39,6 +41,23 @@ let found = map(filter(getqflist(), 'v:val.valid'), '[bufname(v:val.bufnr), v:va
 call writefile([json_encode(found)], 'found')
 quitall!
 """
+VIM_RECIPE = """\
+set nocompatible
+source recipe.vim
+edit a.c
+set filetype=c
+call cursor(4, 15)
+redir => said
+silent normal K
+redir END
+let lines = filter(split(said, '[\\n\\r]\\+'), {_, it -> it =~ '^argument\\|%lf of'})
+edit de.po
+set filetype=po
+silent make
+let found = map(filter(getqflist(), 'v:val.valid'), '[bufname(v:val.bufnr), v:val.lnum, v:val.col]')
+call writefile([json_encode([lines] + found)], 'found')
+quitall!
+"""
 EMACS = """\
 (require 'compile)
 (require 'json)
@@ -59,28 +78,37 @@ EMACS = """\
     (with-temp-file "found" (insert (json-encode (vconcat (nreverse found)))))))
 """
 # What editors show of these files by the server: lines from 1 and columns from 0 in bytes, levels and kinds; what the first
-# line of a hover says in that place; and the lines after the first action there.
+# line of a hover says in the first place; and the text after the first action there.
 SOURCE = """\
 #include <stdio.h>
-void f(int n, size_t size)
+void f(int n, double x)
 {
-    printf("é %-05d of %zu\\n", n, size);
-    printf("%#x %#d\\n", n, n);
+    printf("é %lf of %d\\n", x, n);
+    printf("%5000d\\n", n);
 }
 """
 SERVED = {
-    "a.c": (SOURCE, [[4, 15, 4, "no-effect"], [5, 16, 2, "AltUndefined"]], [4, 15], "`%-05d` ← `n`: argument 1, int: "),
-    "de.po": (FILES["in/de.po"], [[3, 15, 1, "types"]], [3, 15], "`%s`: argument 1, string: the string"),
+    "a.c": (
+        SOURCE,
+        [[4, 15, 4, "no-effect"], [5, 12, 2, "WidthTooLarge"]],
+        "`%lf` ← `x`: argument 1, double: 6 digits after the decimal point",
+        SOURCE.replace("%lf", "%f"),
+    ),
+    "de.po": (
+        FILES["in/de.po"],
+        [[3, 15, 1, "types"]],
+        "`%s`: argument 1, string: the string",
+        FILES["in/de.po"].replace("%s", "%d"),
+    ),
 }
-FIXED = {
-    "a.c": SOURCE.replace("%-05d", "%-5d"),
-    "de.po": FILES["in/de.po"].replace("%s", "%d"),
-}
+# The recipes of the page, by their languages, and the names of the files that have them here.
+PAGE = TOP / "docs/EDITORS.md"
+RECIPES = {"lua": "recipe.lua", "elisp": "recipe.el", "vim": "recipe.vim", "yaml": "config.yaml"}
 NEOVIM = """\
 local file, line, column = vim.env.SERVED, tonumber(vim.env.LINE), tonumber(vim.env.COLUMN)
+dofile("recipe.lua")
 vim.cmd("edit " .. file)
-local id = vim.lsp.start_client({name = "fmtcanon", cmd = {vim.env.PYTHON, "-m", "fmtcanon.lsp"}, root_dir = vim.fn.getcwd()})
-vim.lsp.buf_attach_client(0, id)
+vim.bo.filetype = file:match("%.po$") and "po" or "c"
 vim.wait(30000, function() return #vim.diagnostic.get(0) > 0 end, 20)
 local found = {}
 for _, it in ipairs(vim.diagnostic.get(0)) do
@@ -105,7 +133,7 @@ EGLOT = """\
 (require 'eglot)
 (define-derived-mode po-mode text-mode "PO")
 (add-to-list 'auto-mode-alist '("\\\\.po\\\\'" . po-mode))
-(add-to-list 'eglot-server-programs `((c-mode po-mode) . (,(getenv "PYTHON") "-m" "fmtcanon.lsp")))
+(load (expand-file-name "recipe.el"))
 (setq eglot-sync-connect 30 eglot-confirm-server-initiated-edits nil)
 (find-file (getenv "SERVED"))
 (apply 'eglot (eglot--guess-contact))
@@ -175,29 +203,103 @@ def test_emacs(lines, tools, trials):
     trials.expect((lines / "lines").read_text(encoding="utf-8"), found, PLACES)
 
 
+def with_commands(folder, work):
+    """The environment in which the commands are on the path, and the recipes of the page in a folder."""
+    for language, name in RECIPES.items():
+        [recipe] = re.findall(
+            rf"^```{language}\n(.*?)^```$", PAGE.read_text(encoding="utf-8"), re.DOTALL | re.MULTILINE
+        )
+        (work / name).write_text(recipe, encoding="utf-8")
+    (work / "bin").mkdir()
+    for name in ("check", "explain", "lsp", "po"):
+        words = " ".join(Tool(name, folder, work).words)
+        (work / f"bin/fmtcanon-{name}").write_text(f'#!/bin/sh\nexec {words} "$@"\n', encoding="utf-8")
+        (work / f"bin/fmtcanon-{name}").chmod(0o755)
+    path = f"{work}/bin{os.pathsep}{os.environ['PATH']}"
+    return {**Tool("lsp", folder, work).environment, "PATH": path, "HOME": str(work), "XDG_CACHE_HOME": str(work)}
+
+
 def served(words, folder, work, trials):
     """Compares what an editor shows by the server with what is expected of each file."""
-    environment = {**Tool("lsp", folder, work).environment, "PYTHON": sys.executable, "HOME": str(work), "XDG_CACHE_HOME": str(work)}
-    for name, (text, places, (line, column), hover) in SERVED.items():
+    environment = with_commands(folder, work)
+    for name, (text, places, hover, fixed) in SERVED.items():
         (work / name).write_text(text, encoding="utf-8")
         (work / "found").unlink(missing_ok=True)
-        found = found_by(words, work, **environment, SERVED=name, LINE=str(line), COLUMN=str(column))
+        line, column = map(str, places[0][:2])
+        found = found_by(words, work, **environment, SERVED=name, LINE=line, COLUMN=column)
         shown = [found[0], found[1][: len(hover)], found[2]] if isinstance(found, list) else found
-        trials.expect(f"{name} in {words[0]}", shown, [places, hover, FIXED[name]])
+        trials.expect(f"{name} in {words[0]}", shown, [places, hover, fixed])
 
 
 def test_neovim(folder, work, tools, trials):
-    """Neovim shows what the server says."""
+    """Neovim shows what the server says, with the recipe of the page."""
     tools.need("nvim", "neovim")
     (work / "serve.lua").write_text(NEOVIM, encoding="utf-8")
     served(["nvim", "-u", "NONE", "-n", "--headless", "-S", "serve.lua", "-c", "cquit"], folder, work, trials)
 
 
 def test_eglot(folder, work, tools, trials):
-    """Emacs with eglot shows what the server says."""
+    """Emacs with eglot shows what the server says, with the recipe of the page."""
     tools.need("emacs", "emacs-nox")
     (work / "serve.el").write_text(EGLOT, encoding="utf-8")
     served(["emacs", "-q", "--batch", "-l", "serve.el"], folder, work, trials)
+
+
+def test_vim_recipe(folder, work, tools, trials):
+    """Without a server, vim explains the format at the cursor and lists findings of a catalog."""
+    tools.need("vim", "vim")
+    environment = with_commands(folder, work)
+    (work / "a.c").write_text(SOURCE, encoding="utf-8")
+    (work / "de.po").write_text(FILES["in/de.po"], encoding="utf-8")
+    (work / "read.vim").write_text(VIM_RECIPE, encoding="utf-8")
+    found = found_by(["vim", "-u", "NONE", "-es", "-S", "read.vim"], work, **environment)
+    wanted = [["é %lf of %d\\n", "argument 1: x", "argument 2: n"], ["de.po", 3, 16]]
+    trials.expect("the recipe for vim", found, wanted)
+
+
+def test_efm(folder, work, tools, trials):
+    """With efm-langserver an editor shows the findings of a catalog."""
+    tools.need("efm-langserver", "efm-langserver")
+    environment = with_commands(folder, work)
+    text = FILES["in/de.po"]
+    (work / "de.po").write_text(text, encoding="utf-8")
+    uri = f"file://{work}/de.po"
+    document = {"uri": uri, "languageId": "po", "version": 1, "text": text}
+    capabilities = {"textDocument": {"publishDiagnostics": {}}}
+    given = {"processId": os.getpid(), "rootUri": f"file://{work}", "capabilities": capabilities}
+    asked = [{"id": 1, "method": "initialize", "params": given}, {"method": "initialized", "params": {}}]
+    asked.append({"method": "textDocument/didOpen", "params": {"textDocument": document}})
+    words = ["efm-langserver", "-c", "config.yaml", "-q"]
+    found = published(words, work, environment, asked)
+    trials.expect(
+        "the recipe for efm",
+        [(it["range"]["start"], it["severity"]) for it in found],
+        [({"line": 2, "character": 15}, 1)],
+    )
+
+
+def published(words, work, environment, asked):
+    """The diagnostics that a server publishes after these messages."""
+    pipes = {"stdin": subprocess.PIPE, "stdout": subprocess.PIPE, "stderr": subprocess.DEVNULL}
+    with subprocess.Popen(words, cwd=work, env=environment, **pipes) as server:
+        clock = threading.Timer(TIMEOUT, server.kill)
+        clock.start()
+        try:
+            for message in asked:
+                body = json.dumps({"jsonrpc": "2.0", **message}).encode()
+                server.stdin.write(b"Content-Length: %d\r\n\r\n%s" % (len(body), body))
+                server.stdin.flush()
+            while True:
+                header = server.stdout.readline()
+                if not header:
+                    return []
+                server.stdout.readline()
+                message = json.loads(server.stdout.read(int(header.split(b":")[1])))
+                if message.get("method") == "textDocument/publishDiagnostics":
+                    return message["params"]["diagnostics"]
+        finally:
+            clock.cancel()
+            server.kill()
 
 
 Tests = tests_of(globals())

@@ -81,14 +81,14 @@ LIMITS = {
     "docs/DEFINITIONS.md": 4750,
     "docs/PERFORMANCE.md": 980,
     # With a walk through one call, tables of files by what they do, and words of the sources.
-    "docs/internals/ARCHITECTURE.md": 3330,
+    "docs/internals/ARCHITECTURE.md": 3340,
     "docs/internals/DECISIONS.md": 2250,
     # With an index by what rt prints.
     "docs/internals/PROOF_NOTES.md": 4000,
     # With what rt prints for an open goal, and what is inlined.
     "docs/CONTRIBUTING.md": 1350,
     "SECURITY.md": 150,
-    "CHANGELOG.md": 1520,
+    "CHANGELOG.md": 1525,
     CALLING: 9300,
 }
 MARGIN = 10

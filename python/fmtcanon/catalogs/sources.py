@@ -148,7 +148,11 @@ def part_around(data: bytes, offset: int) -> Tuple[int, int]:
     """Returns where the part of a catalog is, between lines without text, that has an offset."""
     begin, end = max(0, offset - BYTES), min(len(data), offset + BYTES)
     before, after = list(EMPTY_LINE.finditer(data, begin, offset)), EMPTY_LINE.search(data, offset, end)
-    return before[-1].end() if before else begin and data.find(b"\n", begin, offset) + 1, after.start() if after else end
+    if before:
+        begin = before[-1].end()
+    elif begin:
+        begin = data.find(b"\n", begin, offset) + 1
+    return begin, after.start() if after else end
 
 
 def string_at(data: bytes, offset: int) -> Optional[CatalogString]:

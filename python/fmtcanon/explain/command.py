@@ -113,7 +113,7 @@ def explain_place(options: Any) -> int:
         complain(f"{NAME}: {fault}")
         return USAGE
     known = format.explanation
-    found = reject(format.text, known, model) if isinstance(known, Refused) else known
+    found: Found = reject(format.text, known, model) if isinstance(known, Refused) else known
     if options.output == "json":
         put(sys.stdout, json.dumps({**as_json(found), "given": given}))
         return status_of_found(found)

@@ -32,7 +32,9 @@ def format_at(word: str, model: Model) -> Tuple[WrittenFormat, List[str]]:
     format = None if offset is None else written.at(offset)
     if format is None:
         raise NoFormat(f"{word}: there is no format")
-    given = [" ".join(data[start:end].decode(errors="surrogateescape").split()) for start, end in written.arguments(format)]
+    given = [
+        " ".join(data[start:end].decode(errors="surrogateescape").split()) for start, end in written.arguments(format)
+    ]
     return format, given
 
 

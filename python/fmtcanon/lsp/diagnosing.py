@@ -7,6 +7,7 @@ from ..formats.layout import as_source
 from ..formats.rejections import advice_on, instead_of, instead_span, refused_span
 from ..kinds import Part
 from ..source.written import WrittenDirective, WrittenFormat
+from ..specification import SpelledSpecification
 
 # The levels of the protocol, and its tag for what has no effect.
 ERROR, WARNING, INFORMATION, HINT = 1, 2, 3, 4
@@ -14,6 +15,8 @@ UNNECESSARY = 1
 NO_EFFECT = "no-effect"
 # The only rejections that clang says nothing of.
 NOT_BY_CLANG = (Kind.WIDTH_TOO_LARGE, Kind.PRECISION_TOO_LARGE, Kind.TOO_LONG)
+# The conversions for which clang takes `+` and a space.
+WITH_SIGN = "difFeEgGaA"
 
 
 class SourceFix(NamedTuple):
@@ -84,13 +87,18 @@ def without_effect(directive: WrittenDirective) -> Diagnosis:
     if directive.is_whole and new != part.text:
         fixes = (fix(directive.start, directive.end, new),)
     words = f"{as_source(part.text)}: {'; '.join(part.notes)}"
-    by_clang = is_ignored_by_clang(one.found.parts, one.found.needless)
+    by_clang = is_ignored_by_clang(one)
     return Diagnosis(directive.start, directive.end, HINT, NO_EFFECT, words, fixes, is_by_clang=by_clang)
 
 
-def is_ignored_by_clang(parts: Part, needless: Part) -> bool:
-    """Returns whether clang warns of the parts without effect: a `0` with `-`, and a space with `+`."""
-    said = (Part.ZERO if parts & Part.MINUS else Part(0)) | (Part.SPACE if parts & Part.PLUS else Part(0))
+def is_ignored_by_clang(one: SpelledSpecification) -> bool:
+    """Returns whether clang warns of the parts without effect: a `0` with `-`, a space with `+`, and both signs of a
+    conversion that has none.
+    """
+    parts, needless = one.found.parts, one.found.needless
+    said = Part.ZERO if parts & Part.MINUS else Part(0)
+    said |= Part.SPACE if parts & Part.PLUS else Part(0)
+    said |= Part(0) if one.conversion in WITH_SIGN else Part.PLUS | Part.SPACE
     return not needless & ~said
 
 

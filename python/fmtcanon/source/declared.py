@@ -2,6 +2,7 @@
 says so.
 """
 
+import itertools
 import os
 import re
 from typing import Dict, Iterator, List, Mapping, Optional, Set, Tuple
@@ -19,6 +20,8 @@ ATTRIBUTE = re.compile(rf"(?<!\w)(?:{FORMAT.pattern}|(?P<macro>{MACROS})\s*\()")
 NAME_BEFORE_BRACKET = re.compile(NAME.decode("latin-1") + r"(?=\s*\()")
 # How far from its attribute the name of a function is at most.
 NEAR = 1_000
+# How long the arguments of an attribute are at most, and how many attributes are read of one text.
+LONG, MOST_ATTRIBUTES = 200, 5_000
 INCLUDE = re.compile(rb'(?m)^[ \t]*#[ \t]*include[ \t]*"([^"\n]+)"')
 # How many headers are read for one file, and how large each may be.
 MOST, LARGEST = 200, 1_000_000
@@ -31,7 +34,7 @@ def declared_in(data: bytes) -> Dict[bytes, Shape]:
     """Returns the functions that a text declares with the attribute `format`, which comes after or before the name."""
     text = data.decode("latin-1")
     found: Dict[bytes, Shape] = {}
-    for attribute in ATTRIBUTE.finditer(text):
+    for attribute in itertools.islice(ATTRIBUTE.finditer(text), MOST_ATTRIBUTES):
         shape = shape_of(text, attribute)
         name = declared_at(text, attribute.start(), attribute.end()) if shape else None
         if shape and name:
@@ -42,10 +45,10 @@ def declared_in(data: bytes) -> Dict[bytes, Shape]:
 def shape_of(text: str, attribute: "re.Match[str]") -> Optional[Shape]:
     """Returns where an attribute says that a format is; None if it isn't one of printf."""
     if attribute["macro"]:
-        numbers = [constant_of(it) for it in arguments_in(text[: attribute.end() + NEAR], attribute.end())]
+        numbers = [constant_of(it) for it in arguments_in(text[attribute.end() : attribute.end() + LONG], 0)]
         format, first = numbers if len(numbers) == 2 else (None, None)
     else:
-        format, first = printf_indexes(text[attribute.start() : attribute.end() + NEAR]) or (None, None)
+        format, first = printf_indexes(text[attribute.start() : attribute.end() + LONG]) or (None, None)
     return Shape(format - 1, first - 1 if first else None) if format else None
 
 

@@ -14,8 +14,11 @@ from .places import ANY_COMMENT, SPACE, Place, Source
 from .tokens import CHARACTER, NAME, RAW, STRING
 
 MARKS = re.compile(rb"(?P<mark>[()\[\]{},;])|" + rb"|".join([RAW, STRING, CHARACTER, ANY_COMMENT]) + rb"|[\s\S]")
+PREPROCESSED_LINE = re.compile(rb"\n[ \t]*#")
 # How far a call goes at most, before its format and after it.
 BEFORE, AFTER = 2_000, 20_000
+# How many calls are tried around an offset.
+MOST = 100
 # Of a longer format no directive is looked for in the source.
 LONG = 10_000
 # How much is read before and after an offset.
@@ -72,7 +75,7 @@ class WrittenFormat:
         self.start, self.end = written.offset(place.start), written.end_of(place.end)
         self.stretches: List[Stretch] = list(self.stretches_of_parts()) if len(self.text) <= LONG else []
 
-    @property
+    @functools.cached_property
     def directives(self) -> List[WrittenDirective]:
         found = self.explanation
         listed = found.parts if isinstance(found, Explanation) else ()
@@ -190,22 +193,25 @@ class WrittenSource:
         calls = re.finditer(rb"(?<![\w$])" + re.escape(name) + rb"\s*\(", text[begin : place.start])
         for call in reversed(list(calls)):
             listed = split(text, begin + call.end())
-            index = next((at for at, (a, b) in enumerate(listed) if a <= place.start < b), None)
-            if index == place.call.argument:
-                return [(self.offset(a), self.offset(b)) for a, b in listed[shape.first :]]
+            number = next((at for at, (a, b) in enumerate(listed) if a <= place.start < b), None)
+            if number == place.call.argument:
+                # With an `#if` between them it isn't known which are there.
+                is_known = PREPROCESSED_LINE.search(text, begin + call.end(), listed[-1][1]) is None
+                return [(self.offset(a), self.offset(b)) for a, b in listed[shape.first :]] if is_known else []
         return []
 
     def call_at(self, offset: int) -> Optional[WrittenCall]:
         """Returns the innermost call that has an argument of a format at an offset of the file."""
-        index = bisect.bisect_right(self.starts, offset) - 1
-        while index >= 0 and self.starts[index] > offset - AFTER:
+        last = bisect.bisect_right(self.starts, offset)
+        for index in range(last - 1, max(last - 1 - MOST, -1), -1):
             place = self.source.places[index]
+            if self.starts[index] <= offset - AFTER:
+                break
             format = self.format_of(place) if self.is_called(place) else None
             listed = self.arguments(format) if format else []
             for at, (start, end) in enumerate(listed):
                 if format and start <= offset <= end:
                     return WrittenCall(format, listed, at)
-            index -= 1
         return None
 
 
