@@ -43,6 +43,7 @@ class Documents(unittest.TestCase):
                     document.change(change)
                     units.data = units.data[:start] + change["text"].encode(units.name) + units.data[end:]
                     self.assertEqual(document.data.decode(), units.text, (change, encoding))
+                    self.assertEqual(document.starts, Document(URI, "c", units.text, 1, encoding).starts)
                     count += 1
         self.assertEqual(count, 3000)
 

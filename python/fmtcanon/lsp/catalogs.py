@@ -3,13 +3,14 @@
 from typing import Iterator, List, NamedTuple, Optional, Sequence, Tuple
 
 from .. import Model, Refused
-from ..catalogs.checking import TYPES, Checker, Right
+from ..catalogs.checking import FORMAT, TYPES, Checker, Right
 from ..catalogs.formats import MessageFormat
 from ..catalogs.reading import charset_of, header_of
 from ..catalogs.sources import ends_of, part_around, string_at
 from ..catalogs.tokens import BadCatalog
 from ..formats.explaining import ExplainedDirective, Explanation
 from ..formats.items import MACRO
+from ..formats.rejections import instead_of, instead_span
 from ..frame.excerpts import Excerpt
 from ..frame.findings import ERROR, NOTE, WARNING, Finding
 from ..source.macros import expansion
@@ -51,7 +52,7 @@ def diagnoses_of(document: Document, models: Sequence[Model], right: Right) -> I
         *others, (start, end, words) = spans_of(document, finding)
         related = tuple(Related(*it) for it in others)
         help = f" {finding.help}" if finding.help else ""
-        fixes = tuple(as_the_message(document, finding, related, (start, end)))
+        fixes = (*as_the_message(document, finding, related, (start, end)), *accepted(document, finding, start, models))
         said = f"{finding.message}{help}"
         yield Diagnosis(start, end, LEVELS[finding.level], finding.kind, said, fixes, related)
 
@@ -78,6 +79,23 @@ def as_the_message(
     """Yields the change that writes the message's directive in a translation that has another type."""
     if finding.kind == TYPES and len(related) == 1 and span[0] > related[0].end:
         yield fix(*span, document.data[related[0].start : related[0].end])
+
+
+def accepted(document: Document, finding: Finding, start: int, models: Sequence[Model]) -> Iterator[SourceFix]:
+    """Yields the change that writes what is accepted instead of a directive that is rejected at an offset."""
+    found = string_at(document.data, start) if finding.kind == FORMAT else None
+    if found is None:
+        return
+    format, ends = MessageFormat(found.text, found.is_translation), [0, *ends_of(found.source)]
+    for model in models:
+        try:
+            format.codes(model)
+        except Refused as refusal:
+            new = instead_of(found.text, refusal, model)
+            first, last = (it - found.before for it in instead_span(found.text, refusal))
+            if new is not None and 0 <= first < last < len(ends):
+                yield fix(found.start + ends[first], found.start + ends[last], new)
+            return
 
 
 def helps(document: Document, change: SourceFix, models: Sequence[Model]) -> bool:

@@ -49,8 +49,22 @@ class Document:
         new = bytes_of(change["text"])
         if change.get("range"):
             start, end = (self.offset(change["range"][it]) for it in ("start", "end"))
-            new = self.data[:start] + new + self.data[max(start, end) :]
-        self.set(new)
+            self.replace(start, max(start, end), new)
+        else:
+            self.set(new)
+
+    def replace(self, start: int, end: int, new: bytes) -> None:
+        """Replaces what is between two offsets. Only the lines there are read again."""
+        data = self.data[:start] + new + self.data[end:]
+        if b"\r" in new or b"\r" in self.data[max(0, start - 1) : end + 1]:
+            # A line may end with two characters.
+            self.set(data)
+            return
+        first, last = (bisect.bisect_right(self.starts, it) for it in (start, end))
+        growth = len(new) - (end - start)
+        lines = [start + it.end() for it in END_OF_LINE.finditer(new)]
+        self.starts[first:] = [*lines, *(it + growth for it in self.starts[last:])]
+        self.data = data
 
     def line(self, number: int) -> bytes:
         """Returns a line, counted from 0, without its end; an empty one after the last."""
