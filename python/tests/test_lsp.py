@@ -48,7 +48,6 @@ class Conversations(unittest.TestCase):
             ("%5zu", "`%5zu` ← `size`: argument 2, size_t: unsigned long (unsigned int in ILP32", "right-justified"),
             ("%s", "`%s` ← `name`: argument 3, string: the string", "the string"),
             ("%I64d", "`%I`: `I64` is Microsoft's name of `ll`", "Write %lld."),
-            ("%d is no", "`%d`: argument 1, int: decimal", ""),
         ]
         for words, begin, more in rows:
             with self.subTest(words=words):
@@ -57,6 +56,17 @@ class Conversations(unittest.TestCase):
                 self.assertIn(more, found)
         self.assertIsNone(client.hover("printf"))
         self.assertIsNone(client.hover("size_t size"))
+        # These are no formats of printf.
+        client.change(
+            {"text": 'strftime(b, 9, "%d %H", t); scanf("%d %5s", &n, s); puts("%x"); other("%3d", "%hs");'}, version=2
+        )
+        client.text = 'strftime(b, 9, "%d %H", t); scanf("%d %5s", &n, s); puts("%x"); other("%3d", "%hs");'
+        for words in ("%d %H", "%d %5s", "%x", "%hs"):
+            self.assertIsNone(client.hover(words))
+        # Of a function that isn't known, it is said what a format would do.
+        self.assertTrue(client.hover("%3d").startswith("`%3d`: argument 1, int: decimal, right-justified"))
+        client.change({"text": CASES}, version=3)
+        client.text = CASES
         # Of the whole format between directives: a line for each, and how many bytes are printed.
         lines = client.hover(" of %5").splitlines()
         self.assertEqual(len([it for it in lines if it.startswith("- ")]), 3)
@@ -145,7 +155,6 @@ class Conversations(unittest.TestCase):
             ("size, name", ["%5zu", "size"]),
             ("%*.*f", ["%*.*f", "n", "2", "x"]),
             ("2, x, size", ["%*.*f", "2"]),
-            ("%d is no", ["%d"]),
             ("puts", []),
         ]
         for words, wanted in rows:
@@ -394,6 +403,14 @@ class Catalogs(unittest.TestCase):
                 self.assertTrue(self.client.hover(words).startswith(begin), self.client.hover(words))
         for words in ("#, c-format", "msgid_plural", "nplurals"):
             self.assertIsNone(self.client.hover(words))
+
+    def test_large(self):
+        """Of a catalog of 3 MB, the messages at its beginning are checked, and what is at the cursor is known."""
+        message = '#, c-format\nmsgid "%d file"\nmsgstr "%d Datei"\n\n'
+        text = CATALOG + "\n" + message * 60_000 + message.replace('"%d D', '"%5s D')
+        found = self.client.open(text, "po")
+        self.assertEqual([self.client.spot(it["range"]) for it in found], ["%lu", "%2$#d", "%d"])
+        self.assertTrue(self.client.hover("%5s D").startswith("`%5s`: argument 1, string"))
 
     def test_charsets(self):
         """The editor has the text in UTF-8, whatever the header says of the file."""

@@ -46,9 +46,11 @@ def encoded(data: bytes) -> bytes:
         return data
 
 
-def diagnoses_of(document: Document, models: Sequence[Model], right: Right) -> Iterator[Diagnosis]:
-    """Yields what is wrong with a catalog."""
-    for finding in findings_of(document.path, document.data, models, right):
+def diagnoses_of(document: Document, longest: int, models: Sequence[Model], right: Right) -> Iterator[Diagnosis]:
+    """Yields what is wrong with the messages in the first `longest` bytes of a catalog."""
+    data = document.data
+    data = data if len(data) <= longest else data[: part_around(data, longest)[0]]
+    for finding in findings_of(document.path, data, models, right):
         *others, (start, end, words) = spans_of(document, finding)
         related = tuple(Related(*it) for it in others)
         help = f" {finding.help}" if finding.help else ""

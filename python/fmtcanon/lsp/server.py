@@ -5,6 +5,7 @@ import select
 import sys
 import time
 from collections import deque
+from itertools import islice
 from typing import Any, Callable, Deque, Dict, List, Mapping, Optional, Set, Tuple
 
 from .. import __version__
@@ -32,6 +33,10 @@ TEXT = 1
 QUICK_FIX = "quickfix"
 # How many bytes are read at a time, and how many seconds of work come between two looks at the input.
 PART, SLICE = 1 << 16, 0.005
+# How many quick fixes are offered together: each is tried.
+MOST = 50
+# What an unexpected message or document may raise, which doesn't end the server.
+FAULTS = (KeyError, TypeError, AttributeError, ValueError, IndexError)
 
 Params = Dict[str, Any]
 
@@ -119,8 +124,7 @@ class Server:
         except RequestFault as fault:
             if is_request:
                 self.fail(number, fault.number, str(fault))
-        except (KeyError, TypeError, AttributeError, ValueError, IndexError) as fault:
-            # No message may end the server.
+        except FAULTS as fault:
             if is_request:
                 self.fail(number, INVALID_PARAMS, f"{type(fault).__name__}: {fault}")
             else:
@@ -195,11 +199,19 @@ class Server:
         """Works for a moment on what is due, and publishes what is wrong with a document once all is found."""
         now = time.monotonic()
         for view in self.views.values():
-            if (view.running or (view.due is not None and view.due <= now)) and view.advance(now + SLICE):
-                document = view.document
-                listed = [shown_diagnosis(document, it) for it in view.found]
-                published = {"uri": document.uri, "version": document.version, "diagnostics": listed}
-                self.send(method="textDocument/publishDiagnostics", params=published)
+            try:
+                is_done = view.is_due(now) and view.advance(now + SLICE)
+            except FAULTS as fault:
+                view.running, is_done = None, False
+                self.log(f"{view.document.uri}: {type(fault).__name__}: {fault}")
+            if is_done:
+                self.publish(view)
+
+    def publish(self, view: DocumentView) -> None:
+        document = view.document
+        listed = [shown_diagnosis(document, it) for it in view.found]
+        published = {"uri": document.uri, "version": document.version, "diagnostics": listed}
+        self.send(method="textDocument/publishDiagnostics", params=published)
 
     # Requests about a place.
 
@@ -230,7 +242,7 @@ class Server:
         only = (params.get("context") or {}).get("only")
         if only and not any(QUICK_FIX == it or QUICK_FIX.startswith(f"{it}.") for it in only):
             return []
-        return [shown_action(view.document, *it) for it in view.fixes(start, end)]
+        return [shown_action(view.document, *it) for it in islice(view.fixes(start, end), MOST)]
 
 
 def shown_diagnosis(document: Document, one: Diagnosis) -> Params:

@@ -16,7 +16,7 @@ from .options import Options
 
 # Seconds after the last change until a document is read again, or this many times as long as that took.
 SOON, REST = 0.1, 3
-# Of a longer source, only so much is read from the beginning, and what is around the cursor.
+# Of a longer document, only so much is read from the beginning, and what is around the cursor.
 LONGEST = 1_000_000
 CATALOGS = ("po", "gettext")
 CATALOG_ENDINGS = (".po", ".pot")
@@ -37,6 +37,9 @@ class DocumentView:
         """Notes that the document has another text."""
         self.running = None
         self.due = time.monotonic() + max(SOON, REST * self.took)
+
+    def is_due(self, now: float) -> bool:
+        return self.running is not None or (self.due is not None and self.due <= now)
 
     def advance(self, until: float) -> bool:
         """Goes on up to a time, and returns whether all is found."""
@@ -154,7 +157,7 @@ class CatalogView(DocumentView):
         self.right: Right = set()
 
     def diagnoses(self) -> Iterator[Optional[Diagnosis]]:
-        return catalogs.diagnoses_of(self.document, self.options.models, self.right)
+        return catalogs.diagnoses_of(self.document, LONGEST, self.options.models, self.right)
 
     def hover(self, offset: int) -> Optional[Hover]:
         return catalogs.hover_at(self.document, offset, self.model)

@@ -8,10 +8,9 @@ from typing import Dict, Iterator, List, Mapping, NamedTuple, Optional, Tuple, U
 from .. import Model, Refused, source_offset
 from ..formats.explaining import ExplainedDirective, Explanation, explain
 from .declared import LIBRARY, Shapes, declared_in
-from .known import Shape
 from .macros import PlacePart
-from .places import ANY_COMMENT, SPACE, Place, Source
-from .tokens import CHARACTER, NAME, RAW, STRING
+from .places import ANY_COMMENT, NOT_FORMATS, SPACE, Place, Source
+from .tokens import CHARACTER, RAW, STRING
 
 MARKS = re.compile(rb"(?P<mark>[()\[\]{},;])|" + rb"|".join([RAW, STRING, CHARACTER, ANY_COMMENT]) + rb"|[\s\S]")
 PREPROCESSED_LINE = re.compile(rb"\n[ \t]*#")
@@ -180,15 +179,18 @@ class WrittenSource:
         """Returns the format at an offset of the file. Without a call that is known it has a directive, at least."""
         index = bisect.bisect_right(self.starts, offset) - 1
         place = self.source.places[index] if index >= 0 else None
-        found = self.format_of(place) if place and offset < self.end_of(place.end) else None
+        is_there = place and offset < self.end_of(place.end) and place.call.function not in NOT_FORMATS
+        found = self.format_of(place) if place and is_there else None
         return found if found and (found.directives or self.is_called(found.place)) else None
 
     def arguments(self, format: WrittenFormat) -> List[Tuple[int, int]]:
-        """Returns where the arguments are in the file that a format converts, with the space around them."""
+        """Returns where the arguments are in the file that a format converts, with the space around them; none if they
+        aren't known.
+        """
         place, text = format.place, self.source.plain
         name, begin = place.call.function, max(0, format.place.start - BEFORE)
-        shape = self.shapes.get(name, Shape(place.call.argument, place.call.argument + 1))
-        if not re.fullmatch(NAME, name) or shape.first is None:
+        shape = self.shapes.get(name) if self.is_called(place) else None
+        if shape is None or shape.first is None:
             return []
         calls = re.finditer(rb"(?<![\w$])" + re.escape(name) + rb"\s*\(", text[begin : place.start])
         for call in reversed(list(calls)):
