@@ -13,7 +13,7 @@
 # make try-again         makes the page of docs/try again of words and scripts, with the module that it has
 # make npm               a package of that module for Node and browsers
 # make install PREFIX=   installs what `make` built: the program, the C library, the Python module
-#                        with its five commands, manual pages, completions and documents; below
+#                        with its six commands, manual pages, completions and documents; below
 #                        DESTDIR=, where that is given. It builds nothing
 # make uninstall PREFIX= takes all of that away again
 # make dist              an archive of what `make` built, which installs without the kit

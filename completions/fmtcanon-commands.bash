@@ -1,8 +1,9 @@
-# Completion of fmtcanon-check, fmtcanon-diff, fmtcanon-explain, fmtcanon-po and fmtcanon-replace for bash.
+# Completion of fmtcanon-check, fmtcanon-diff, fmtcanon-explain, fmtcanon-lsp, fmtcanon-po and fmtcanon-replace for bash.
 
 # The values of an option of a command that has a list of them.
 _fmtcanon_values() {
     case ${1##*/}$2 in
+        fmtcanon-lsp*) ;;
         fmtcanon-explain--model) echo 'lp64 ilp32 llp64' ;;
         fmtcanon-explain--output) echo 'text json' ;;
         *--color) echo 'auto always never' ;;
@@ -17,7 +18,8 @@ _fmtcanon_commands() {
     case ${1##*/} in
         fmtcanon-check) options+=' -p --flag --function --exclude --type --rank --sign --composed --git --cached --shard --baseline --update-baseline --no-cache --fail-on --attribute --fix --dry-run --diff -j --jobs' ;;
         fmtcanon-diff) options+=' -p --flag --function --git --cached --exclude --not-printf --verbose --fail-on -j --jobs' ;;
-        fmtcanon-explain) options+=' --literal --kind' ;;
+        fmtcanon-explain) options+=' --literal --kind --at' ;;
+        fmtcanon-lsp) options='-h --help --version --stdio' ;;
         fmtcanon-po) options+=' --c-format --strict -j --jobs' ;;
         fmtcanon-replace)
             options+=' -p --flag --function --exclude --posix-locale --pairs --list --list-functions'
@@ -45,4 +47,4 @@ _fmtcanon_commands() {
     esac
 }
 
-complete -o default -F _fmtcanon_commands fmtcanon-check fmtcanon-diff fmtcanon-explain fmtcanon-po fmtcanon-replace
+complete -o default -F _fmtcanon_commands fmtcanon-check fmtcanon-diff fmtcanon-explain fmtcanon-lsp fmtcanon-po fmtcanon-replace

@@ -1,4 +1,4 @@
-# Completion of fmtcanon-check, fmtcanon-diff, fmtcanon-explain, fmtcanon-po and fmtcanon-replace for fish.
+# Completion of fmtcanon-check, fmtcanon-diff, fmtcanon-explain, fmtcanon-lsp, fmtcanon-po and fmtcanon-replace for fish.
 
 for command in fmtcanon-check fmtcanon-diff fmtcanon-po fmtcanon-replace
     complete -c $command -s h -l help -d 'print a help text'
@@ -43,8 +43,12 @@ complete -c fmtcanon-explain -l version -d 'print the version'
 complete -c fmtcanon-explain -l model -x -a 'lp64 ilp32 llp64' -d 'the data model'
 complete -c fmtcanon-explain -l literal -d 'formats are string literals of C'
 complete -c fmtcanon-explain -l kind -x -d 'explain a kind of rejection'
+complete -c fmtcanon-explain -l at -x -d 'explain the format at a place of a source'
 complete -c fmtcanon-explain -l color -x -a 'auto always never' -d 'when to use colour'
 complete -c fmtcanon-explain -l output -x -a 'text json' -d 'how it is printed'
+complete -c fmtcanon-lsp -s h -l help -d 'print a help text'
+complete -c fmtcanon-lsp -l version -d 'print the version'
+complete -c fmtcanon-lsp -l stdio -d 'use standard input and output, as it always does'
 complete -c fmtcanon-po -l c-format -d 'check every message that has a %, except those with the flag no-c-format'
 complete -c fmtcanon-po -l strict -d 'exit with status 1 also if something could not be judged'
 complete -c fmtcanon-replace -l posix-locale -d 'the program prints in the POSIX locale alone'

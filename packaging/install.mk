@@ -36,7 +36,7 @@ COMMAND = '\#!$(PYTHON)' 'import sys' '' \
 CALLS = sed -n 's/^[a-z0-9_][a-z0-9_ ]* \**\(fmtcanon_[a-z_]*\)(.*/\1/p' include/fmtcanon.h
 MODULES = $(patsubst python/%/__init__.py,%,$(sort $(wildcard python/fmtcanon/__init__.py python/fmtcanon/*/__init__.py)))
 # The commands that are written in Python.
-COMMANDS = check diff explain po replace
+COMMANDS = check diff explain lsp po replace
 # The manual pages of commands. That of the program comes with it.
 PAGES = $(if $(PROGRAM),man/fmtcanon.1) $(COMMANDS:%=man/fmtcanon-%.1)
 

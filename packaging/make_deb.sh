@@ -92,7 +92,7 @@ Description: canonical texts of printf formats
  fmtcanon-po checks message catalogs, fmtcanon-diff says what a change of C
  source does to its formats, fmtcanon-check whether they fit their calls on
  every platform, fmtcanon-explain what a format does, and fmtcanon-replace
- replaces formats.
+ replaces formats. fmtcanon-lsp says in an editor what formats do.
 CONTROL
 echo "libfmtcanon ${release%%.*} fmtcanon (>= $release)" > "$stage/DEBIAN/shlibs"
 # Python's compiled modules come and go with the package.

@@ -16,11 +16,11 @@ from unittest import mock
 
 import fmtcanon
 from fmtcanon import Model
+from fmtcanon.catalogs.charsets import charset_named
+from fmtcanon.catalogs.formats import DEPENDENT, MessageFormat, shape_of
+from fmtcanon.catalogs.reading import PoReader
+from fmtcanon.catalogs.tokens import BadCatalog
 from fmtcanon.formats.rejections import instead_of, refused_span
-from fmtcanon.po.charsets import charset_named
-from fmtcanon.po.formats import DEPENDENT, MessageFormat, shape_of
-from fmtcanon.po.reading import PoReader
-from fmtcanon.po.tokens import BadCatalog
 
 LENGTHS = ["", "hh", "h", "l", "ll", "j", "z", "t", "L"]
 CONVERSIONS = "diouxXbfFeEgGaAcspnCS"

@@ -17,13 +17,13 @@ from fmtcanon.checker import options
 from fmtcanon.compiling.calls import Argument, Call
 from fmtcanon.compiling.formats import Format, Literal
 from fmtcanon.compiling.markers import Marker
-from fmtcanon.compiling.parsing import Shape
 from fmtcanon.compiling.platforms import PLATFORMS
 from fmtcanon.compiling.retargeting import retargeted, write_headers
 from fmtcanon.compiling.stand_ins import Original
 from fmtcanon.diff import compiled
 from fmtcanon.fitting import composing, fixing, proposals, reporting
 from fmtcanon.fitting.judging import Fit, fit_of, judged
+from fmtcanon.source.known import Shape
 from fmtcanon.fitting.locating import Located, Piece, with_markers
 from fmtcanon.frame.findings import Finding
 from fmtcanon.source.respelling import runs_in

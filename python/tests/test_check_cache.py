@@ -16,11 +16,11 @@ from fmtcanon.checker.cache import Cache, cache_folder
 from fmtcanon.checker.states import digest
 from fmtcanon.compiling.compile_commands import CompileCommand
 from fmtcanon.compiling.dependencies import Dependencies, dependencies_of
-from fmtcanon.compiling.parsing import Shape
 from fmtcanon.fitting.checking import Answer, CallLines, Found, Job, Question
 from fmtcanon.fitting.unit import Settings
 from fmtcanon.frame.excerpts import Excerpt
 from fmtcanon.frame.findings import Finding
+from fmtcanon.source.known import Shape
 
 # The nanoseconds after which files are older than what is read.
 LATER = 10**9

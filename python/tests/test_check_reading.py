@@ -9,7 +9,7 @@ from types import SimpleNamespace
 from unittest import mock
 
 from fmtcanon.checker import command, jobs
-from fmtcanon.compiling.attributes import constant_of, printf_indexes, returned_index
+from fmtcanon.source.attributes import constant_of, printf_indexes, returned_index
 from fmtcanon.compiling.formats import MARK_AFTER, TOKEN, type_name_of
 from fmtcanon.compiling.left import Left, own_trouble
 from fmtcanon.compiling.sources import Files

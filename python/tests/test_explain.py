@@ -6,6 +6,7 @@ import os
 import re
 import subprocess
 import sys
+import tempfile
 import time
 import unittest
 from contextlib import redirect_stderr, redirect_stdout
@@ -458,6 +459,62 @@ class Worked(unittest.TestCase):
     def test_worked(self):
         for words, status, text in WORKED:
             self.assertEqual(run(*words), (status, text.splitlines()), words)
+
+
+SOURCE = """\
+#include <stdio.h>
+void note(int level, const char *format, ...) __attribute__((format(printf, 2, 3)));
+void f(int n, size_t size)
+{
+    printf("é%+ d of %5" PRIu64 "\\n", n + 1,
+        (uint64_t) size);
+    note(1, "%#d", n);
+}
+"""
+
+
+class Places(unittest.TestCase):
+    """--at: the format at a place of a source, and what is given to it."""
+
+    def setUp(self):
+        folder = tempfile.TemporaryDirectory()
+        self.addCleanup(folder.cleanup)
+        self.file = Path(folder.name, "a.c")
+        self.file.write_text(SOURCE, encoding="utf-8")
+
+    def test_places(self):
+        """Columns count characters, from the quote to the other one."""
+        quote = SOURCE.splitlines()[4].index('"') + 1
+        for column in (quote, quote + 2, quote + 13, quote + len('"é%+ d of %5" PRIu64 "\\n"') - 1):
+            status, lines = run("--at", f"{self.file}:5:{column}")
+            self.assertEqual((status, lines[0]), (0, "é%+ d of %5lu\\n"), column)
+            self.assertEqual(lines[-2:], ["argument 1: n + 1", "argument 2: (uint64_t) size"])
+        for line, column in [(5, quote - 1), (5, 99), (1, 3), (0, 1), (99, 1), (5, 0)]:
+            self.assertEqual(run("--at", f"{self.file}:{line}:{column}"), (2, []))
+
+    def test_json(self):
+        status, found = asked("--model", "ilp32", "--at", f"{self.file}:5:14")
+        self.assertEqual((status, found["given"]), (0, ["n + 1", "(uint64_t) size"]))
+        types = found["directives"][1]["types"]
+        self.assertEqual(types, {"lp64": "unsigned long", "ilp32": "unsigned long long", "llp64": "unsigned long long"})
+
+    def test_rejected(self):
+        status, lines = run("--at", f"{self.file}:7:14")
+        self.assertEqual((status, lines[:2]), (2, ["refused 13 AltUndefined at byte 2", "%#d"]))
+        self.assertEqual(lines[-1], "argument 1: n")
+
+    def test_input(self):
+        """The source may come from standard input."""
+        command = [sys.executable, "-B", "-m", "fmtcanon.explain", "--at=-:7:14"]
+        done = subprocess.run(command, input=SOURCE.encode(), capture_output=True, check=False)
+        self.assertEqual((done.returncode, done.stdout.decode().splitlines()[1]), (2, "%#d"))
+
+    def test_faults(self):
+        rows = ["a.c", "a.c:x:1", str(self.file.parent / "none.c:1:1"), f"{self.file.parent}:1:1"]
+        for word in rows:
+            self.assertEqual(run("--at", word), (2, []), word)
+        for words in (["%d"], ["--kind", "5"], ["--literal"]):
+            self.assertEqual(run("--at", f"{self.file}:5:14", *words), (2, []), words)
 
 
 class Words(unittest.TestCase):

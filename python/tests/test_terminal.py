@@ -11,10 +11,10 @@ import unittest
 from pathlib import Path
 from unittest import mock
 
+from fmtcanon.catalogs.sources import CatalogSource, Mark
 from fmtcanon.frame import progress
 from fmtcanon.frame.excerpts import Excerpt, excerpt_lines, shown_finding
 from fmtcanon.frame.terminals import Style, columns, style_of
-from fmtcanon.po.sources import CatalogSource, Mark
 
 from .terminal import on_terminal, plain
 
@@ -347,7 +347,7 @@ class Help(unittest.TestCase):
         for name, usage in [
             ("check", ["-p DIR [FILE...]", "FILE...", "--git [REV] [FILE...]"]),
             ("diff", ["OLD NEW", "--git [REV [REV]] [-- PATH...]"]),
-            ("explain", ["FORMAT", "FORMAT FORMAT", "--kind KIND"]),
+            ("explain", ["FORMAT", "FORMAT FORMAT", "--kind KIND", "--at FILE:LINE:COLUMN"]),
             ("po", ["FILE..."]),
             (
                 "replace",

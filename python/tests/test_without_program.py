@@ -1,4 +1,4 @@
-"""Tests that the five commands need the library alone: FMTCANON_PROGRAM names a file that isn't there."""
+"""Tests that the commands need the library alone: FMTCANON_PROGRAM names a file that isn't there."""
 
 import os
 import subprocess

@@ -29,7 +29,10 @@ NO_SIGNATURE = re.compile(r" *(?:(?:pub )?(?:use|mod)|infix\w*) ")
 PROGRAM = "fmtcanon"
 # The floors of the Python module, from its own files up to the commands: a file imports from its package and from lower
 # floors. Those on one floor don't import each other.
-FLOORS = "fmtcanon", "frame", "formats", "source", "compiling", "fitting", "rewriting", "checker diff explain po replace"
+FLOORS = (
+    *("fmtcanon", "frame", "formats", "source", "catalogs", "compiling", "fitting", "rewriting"),
+    "checker diff explain lsp po replace",
+)
 PLANTED_PYTHON = {
     "fmtcanon/models.py": "from .kinds import diff\nfrom . import frame\nclass Twice: pass\n",
     "fmtcanon/source/places.py": "import re\nfrom ..fitting.unit import lost\nfrom .tokens import NAME\nfrom .. import same\n",

@@ -56,15 +56,17 @@ CALLING = "crates/*/CALLING.md"
 # How many words each page may have, and how many percent more are let pass.
 LIMITS = {
     # With the table of questions, the picture, and what other tools answer.
-    "README.md": 1300,
+    "README.md": 1315,
     "docs/INSTALL.md": 460,
     "docs/try/README.md": 140,
     # With tables of types and kinds.
-    "docs/CHEATSHEET.md": 520,
+    "docs/CHEATSHEET.md": 525,
     # With recipes.
     "docs/USING.md": 2380,
     "docs/TRANSLATIONS.md": 1100,
-    "docs/EXPLAINING.md": 440,
+    "docs/EXPLAINING.md": 460,
+    # With settings of editors.
+    "docs/EDITORS.md": 560,
     # With the figures of real sources and of compilers, and what is for every day.
     "docs/PORTING.md": 1900,
     "docs/REFACTORING.md": 1450,
@@ -74,19 +76,19 @@ LIMITS = {
     "docs/C.md": 1450,
     "docs/PYTHON.md": 1000,
     # With the theorem as it is written, the assumptions as a table, and the words of the last line of a check.
-    "docs/VERIFICATION.md": 2800,
+    "docs/VERIFICATION.md": 2820,
     # With one format read through the definitions.
     "docs/DEFINITIONS.md": 4750,
     "docs/PERFORMANCE.md": 980,
     # With a walk through one call, tables of files by what they do, and words of the sources.
-    "docs/internals/ARCHITECTURE.md": 3300,
+    "docs/internals/ARCHITECTURE.md": 3340,
     "docs/internals/DECISIONS.md": 2250,
     # With an index by what rt prints.
     "docs/internals/PROOF_NOTES.md": 4000,
     # With what rt prints for an open goal, and what is inlined.
     "docs/CONTRIBUTING.md": 1350,
     "SECURITY.md": 150,
-    "CHANGELOG.md": 1490,
+    "CHANGELOG.md": 1525,
     CALLING: 9300,
 }
 MARGIN = 10

@@ -20,7 +20,7 @@ from tempfile import TemporaryDirectory
 
 import fmtcanon
 from fmtcanon.frame.findings import as_text
-from fmtcanon.po.checking import Checker
+from fmtcanon.catalogs.checking import Checker
 from tests.commands.more_catalogs import translation_line
 
 ENVIRONMENT = {**os.environ, "LC_ALL": "C", "LANGUAGE": ""}

@@ -17,13 +17,14 @@ from tests.frame.harness import PACKAGES, SONAME, TIMEOUT, TOP, VERSION
 HEADER = TOP / "include/fmtcanon.h"
 MODULE = "lib/python3/dist-packages/fmtcanon"
 # The commands that are written in Python.
-COMMANDS = ["check", "diff", "explain", "po", "replace"]
+COMMANDS = ["check", "diff", "explain", "lsp", "po", "replace"]
 # Without the files whose names a test takes from the header, from docs/ and from the module.
 INSTALLED = {
     "bin/fmtcanon",
     "bin/fmtcanon-check",
     "bin/fmtcanon-diff",
     "bin/fmtcanon-explain",
+    "bin/fmtcanon-lsp",
     "bin/fmtcanon-po",
     "bin/fmtcanon-replace",
     "include/fmtcanon.h",
@@ -57,6 +58,7 @@ INSTALLED = {
     "share/man/man1/fmtcanon-check.1",
     "share/man/man1/fmtcanon-diff.1",
     "share/man/man1/fmtcanon-explain.1",
+    "share/man/man1/fmtcanon-lsp.1",
     "share/man/man1/fmtcanon-po.1",
     "share/man/man1/fmtcanon-replace.1",
     "share/man/man3/fmtcanon.3",

@@ -7,11 +7,12 @@ from typing import Any, Counter, Dict, NamedTuple, Optional, Sequence, Tuple
 
 from ..kinds import Type
 from ..models import Model
+from ..source.known import Shape
 from .compile_commands import CompileCommand
 from .formats import AROUND, Format, Formats
 from .functions import Callee, Callees, Functions, is_system
 from .libclang import cindex
-from .parsing import CALL_EXPR, FUNCTION_DECL, TYPEDEF_DECL, TYPES, UNREADABLE, VISIT_INSIDE, VISIT_NEXT, Parsed, Shape
+from .parsing import CALL_EXPR, FUNCTION_DECL, TYPEDEF_DECL, TYPES, UNREADABLE, VISIT_INSIDE, VISIT_NEXT, Parsed
 from .platforms import Platform
 from .retargeting import TYPE_MARK
 

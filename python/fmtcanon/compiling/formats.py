@@ -4,8 +4,8 @@ import ctypes
 import re
 from typing import Any, Dict, Iterator, List, NamedTuple, Optional, Sequence, Tuple
 
+from ..source.attributes import returned_index
 from ..source.known import GETTEXT
-from .attributes import returned_index
 from .libclang import cindex
 from .parsing import LINE_MARKER, Parsed
 from .retargeting import PRI_MARK

@@ -2,11 +2,11 @@
 
 from typing import Any, Dict, Iterator, List, Mapping, NamedTuple, Optional, Sequence, Tuple
 
-from ..source.known import BUILT_IN, BUILT_IN_PREFIX, KNOWN
-from .attributes import FORMAT
+from ..source.attributes import FORMAT
+from ..source.known import BUILT_IN, BUILT_IN_PREFIX, KNOWN, Shape
 from .formats import AROUND
 from .libclang import cindex
-from .parsing import Parsed, Shape, has_prototype
+from .parsing import Parsed, has_prototype
 
 DECLARED = ("FUNCTION_DECL", "VAR_DECL", "FIELD_DECL", "PARM_DECL")
 REFERENCES = ("DECL_REF_EXPR", "MEMBER_REF_EXPR")

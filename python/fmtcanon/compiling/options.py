@@ -5,7 +5,7 @@ import re
 from typing import Sequence, Tuple
 
 from ..frame.command_line import Parser
-from .parsing import Shape
+from ..source.known import Shape
 
 FUNCTION = re.compile(r"([A-Za-z_]\w*):(\d+)(?::(\d+))?")
 FUNCTION_HELP = """\

@@ -8,8 +8,8 @@ import os
 import re
 from typing import Any, Callable, Dict, List, NamedTuple, Optional, Sequence, Tuple
 
-from ..source.known import Known
-from .attributes import printf_indexes
+from ..source.attributes import printf_indexes
+from ..source.known import Known, Shape
 from .compile_commands import CompileCommand
 from .left import Left
 from .libclang import cindex
@@ -53,13 +53,6 @@ def as_utf8(text: bytes) -> bytes:
         return text
     except UnicodeDecodeError:
         return OTHER_BYTES.sub(b"_", text)
-
-
-class Shape(NamedTuple):
-    """The index of a function's format, and that of the first argument that it converts; None for a `va_list`."""
-
-    format: int
-    first: Optional[int]
 
 
 # That of a function whose attribute has numbers that aren't constants of numbers.

@@ -19,24 +19,28 @@ from ..frame.output import complain, put
 from ..frame.terminals import Style, style_of, wrapped
 from ..kinds import TYPE_NAMES
 from ..models import model_of
+from ..source.files import Unreadable
 from ..source.places import lone_place
 from ..specification import NAMES, SpelledSpecification
+from .written_at import NoFormat, format_at
 
 NAME = "fmtcanon-explain"
 USAGE_LINES = """\
 fmtcanon-explain [OPTION]... FORMAT
        fmtcanon-explain [OPTION]... FORMAT FORMAT
-       fmtcanon-explain [OPTION]... --kind KIND"""
+       fmtcanon-explain [OPTION]... --kind KIND
+       fmtcanon-explain [OPTION]... --at FILE:LINE:COLUMN"""
 DESCRIPTION = """\
 Says in words what a printf format does, how two formats differ, or what a kind of rejection means.
 
 For each directive it prints the number of its argument, counted from 1, the argument's type, what is printed, and \
-which parts have no effect. Formats are those of POSIX fprintf."""
+which parts have no effect. Formats are those of POSIX fprintf. With --at it also prints the arguments of the call."""
 EPILOG = """\
 Examples:
   fmtcanon-explain '%-08.6lf of %5zu%%'
   fmtcanon-explain '%05d' '%.5d'
   fmtcanon-explain --kind AltUndefined
+  fmtcanon-explain --at size.c:12:20
 
 The words may change from version to version: scripts use --output json, or the other commands. If a format starts \
 with -, put -- before it.
@@ -44,7 +48,7 @@ with -, put -- before it.
 Exit status:
   0  the format is accepted, or the two are the same
   1  the two differ
-  2  a format is rejected, or the usage is wrong"""
+  2  a format is rejected, the usage is wrong, or there is no format at FILE"""
 
 
 def parser() -> Parser:
@@ -53,6 +57,8 @@ def parser() -> Parser:
     made.add_model("whose types are named first", default="lp64", choices=[it.name.lower() for it in Model])
     made.add_argument("--literal", action="store_true", help="formats are literals of C, as '\"%%\" PRIu64'")
     made.add_argument("--kind", metavar="KIND", help="explain a kind of rejection, by its number or name")
+    at = "explain the format in a source at a line and a column in characters; --at=-:LINE:COLUMN reads standard input"
+    made.add_argument("--at", metavar="FILE:LINE:COLUMN", help=at)
     made.add_color()
     made.add_argument(
         "--output", choices=["text", "json"], default="text", metavar="FORM", help="text, the default, or json"
@@ -65,10 +71,13 @@ def main(words: Optional[Sequence[str]] = None) -> int:
     made = parser()
     options, more = made.parsed(words)
     formats = [*options.formats, *more]
-    if options.kind is None and len(formats) not in (1, 2):
+    if options.kind is None and options.at is None and len(formats) not in (1, 2):
         made.error("give one format, or two")
-    if options.kind is not None and formats:
-        made.error("--kind takes no formats")
+    for name in ("kind", "at"):
+        if getattr(options, name) is not None and (formats or options.literal):
+            made.error(f"--{name} takes no formats")
+    if options.kind is not None and options.at is not None:
+        made.error("give --kind or --at")
     return status_of(NAME, lambda: run(options, formats))
 
 
@@ -76,6 +85,8 @@ def run(options: Any, formats: Sequence[str]) -> int:
     """Explains what is asked, and returns the exit status."""
     if options.kind is not None:
         return explain_kind(options.kind, style_of(options.color, sys.stdout), options.output == "json")
+    if options.at is not None:
+        return explain_place(options)
     try:
         texts = [texts_of(it, options.literal) for it in formats]
     except BadLiteral as fault:
@@ -90,6 +101,25 @@ def run(options: Any, formats: Sequence[str]) -> int:
     else:
         for line in lines_of(found, model_of(options.model), style_of(options.color, sys.stdout)):
             put(sys.stdout, line)
+    return status_of_found(found)
+
+
+def explain_place(options: Any) -> int:
+    """Explains the format at a place of a source, and prints the arguments that are given to it."""
+    model = model_of(options.model)
+    try:
+        format, given = format_at(options.at, model)
+    except (NoFormat, Unreadable) as fault:
+        complain(f"{NAME}: {fault}")
+        return USAGE
+    known = format.explanation
+    found: Found = reject(format.text, known, model) if isinstance(known, Refused) else known
+    if options.output == "json":
+        put(sys.stdout, json.dumps({**as_json(found), "given": given}))
+        return status_of_found(found)
+    arguments = [f"argument {number}: {text}" for number, text in enumerate(given, 1)]
+    for line in [*lines_of(found, model, style_of(options.color, sys.stdout)), *arguments]:
+        put(sys.stdout, line)
     return status_of_found(found)
 
 

@@ -8,12 +8,13 @@ from ..compiling.compile_commands import CompileCommand
 from ..compiling.dependencies import Dependencies
 from ..compiling.functions import Functions
 from ..compiling.left import Left
-from ..compiling.parsing import Shape, as_utf8
+from ..compiling.parsing import as_utf8
 from ..compiling.platforms import COMPILED, PLATFORMS, Platform
 from ..compiling.retargeting import retargeted
 from ..compiling.stand_ins import Original, original
 from ..compiling.targets import model_in
 from ..models import Model
+from ..source.known import Shape
 from .alike import is_alike
 
 

@@ -104,3 +104,15 @@ def instead_of(text: bytes, refusal: Refused, model: Model) -> Optional[bytes]:
     one = refused_in(text, refusal)
     listed = candidates(refusal.kind, one) if one else ()
     return next((it for it in listed if is_accepted(it, model)), None)
+
+
+def instead_span(text: bytes, refusal: Refused) -> Tuple[int, int]:
+    """Returns where what `instead_of` returns is written: the specification with the byte at which it is rejected, up to
+    the conversion after the name that another system has for a length modifier.
+    """
+    start, end = refused_span(text, refusal)
+    one = refused_in(text, refusal)
+    name = name_in(one, refusal.kind) if one else None
+    if one and name:
+        end = one.found.modifier_at + len(name[1]) + 1
+    return start, min(max(end, one.found.end if one else 0), len(text))

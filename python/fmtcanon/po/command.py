@@ -12,7 +12,7 @@ from ..frame.findings import Finding, Printer, by_place
 from ..frame.output import Unwritable
 from ..frame.processes import in_order
 from ..models import Model
-from .checking import RULES, UNJUDGED, Checker, Right
+from ..catalogs.checking import RULES, UNJUDGED, Checker, Right
 
 NAME = "fmtcanon-po"
 # Up to fewer catalogs than these are read by one process.

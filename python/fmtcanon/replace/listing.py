@@ -4,12 +4,11 @@ import collections
 from typing import Any, Dict, Iterable, Iterator, List, Mapping, NamedTuple, Sequence, Tuple
 
 from .. import Refused
-from ..compiling.parsing import Shape
 from ..formats.verdicts import Library, shown
 from ..frame.command_line import model_names
 from ..frame.findings import NOTE, WARNING, Finding
 from ..models import Model
-from ..source.known import GETTEXT, KNOWN
+from ..source.known import GETTEXT, KNOWN, Shape
 from ..source.places import NOT_FORMATS, Place, Source
 
 FORMAT, FUNCTION, UNJUDGED = "format", "function", "unjudged"

@@ -2,12 +2,19 @@
 
 import re
 from dataclasses import dataclass
-from typing import Dict, Optional, Pattern
+from typing import Dict, NamedTuple, Optional, Pattern
 
 STDIO = r"stdio\.h|bits/stdio(?:2|2-decl|-ldbl)?\.h"
 ERR = r"err\.h|bits/err-ldbl\.h"
 ERROR = r"error\.h|bits/error(?:-ldbl)?\.h"
 SYSLOG = r"(?:sys/)?syslog\.h|bits/syslog(?:-ldbl)?\.h"
+
+
+class Shape(NamedTuple):
+    """The index of a function's format, and that of the first argument that it converts; None for a `va_list`."""
+
+    format: int
+    first: Optional[int]
 
 
 @dataclass(frozen=True)

@@ -3,13 +3,16 @@
 from __future__ import annotations
 
 import re
-from typing import List, NamedTuple, Optional
+from itertools import accumulate
+from typing import Iterator, List, NamedTuple, Optional, Tuple
 
 from ..frame.excerpts import Excerpt, literal_excerpt
-from .tokens import ESCAPE, BadCatalog, Scanner, Token
+from .tokens import ESCAPE, BadCatalog, Scanner, Token, unquoted
 
 # How many lines before a translation its message begins at most, and how many bytes after that are read.
 LINES, BYTES = 1_000, 100_000
+# A line without text is between messages.
+EMPTY_LINE = re.compile(rb"\n[ \t\r]*\n")
 # A place in the program. Marks are around a name with blanks.
 WITHOUT_ISOLATES = {0x2068: None, 0x2069: None}
 REFERENCE = re.compile("\u2068[^\u2069]*\u2069\\S*|\\S+")
@@ -23,6 +26,22 @@ class Mark(NamedTuple):
     start: int
     end: int
     words: str
+
+
+class CatalogString(NamedTuple):
+    """A string of a catalog in UTF-8: its source without quotes, with its offset; the name of the text that it is in, and
+    that text, with how many bytes come before the string.
+    """
+
+    source: bytes
+    start: int
+    name: str
+    text: bytes
+    before: int
+
+    @property
+    def is_translation(self) -> bool:
+        return self.name.startswith("msgstr")
 
 
 class CatalogSource:
@@ -100,19 +119,58 @@ def ends_of(string: bytes) -> List[int]:
     return [*ends, *range(done + 1, len(string) + 1)]
 
 
-def strings_of(text: bytes, name: str) -> List[Token]:
-    """Returns the strings of the first text of this name, such as `msgstr[1]`, in a part of a catalog."""
+def tokens_of(text: bytes) -> Iterator[Tuple[str, Token]]:
+    """Yields the strings in a part of a catalog, each with the name of its text, such as `msgstr[1]`."""
     scanner, current = Scanner(text), ""
-    found: List[Token] = []
     token = scanner.token()
     while token is not None:
         if token.kind == "keyword":
-            if found:
-                break
             current = token.text.decode()
         elif token.kind == "form":
             current += "[" + token.text.strip(b"[] \t").decode() + "]"
-        elif token.kind == "string" and current == name:
-            found.append(token)
+        elif token.kind == "string":
+            yield current, token
         token = scanner.token()
+
+
+def strings_of(text: bytes, name: str) -> List[Token]:
+    """Returns the strings of the first text of this name in a part of a catalog."""
+    found: List[Token] = []
+    for current, token in tokens_of(text):
+        if current == name:
+            found.append(token)
+        elif found:
+            break
     return found
+
+
+def part_around(data: bytes, offset: int) -> Tuple[int, int]:
+    """Returns where the part of a catalog is, between lines without text, that has an offset."""
+    begin, end = max(0, offset - BYTES), min(len(data), offset + BYTES)
+    before, after = list(EMPTY_LINE.finditer(data, begin, offset)), EMPTY_LINE.search(data, offset, end)
+    if before:
+        begin = before[-1].end()
+    elif begin:
+        begin = data.find(b"\n", begin, offset) + 1
+    return begin, after.start() if after else end
+
+
+def string_at(data: bytes, offset: int) -> Optional[CatalogString]:
+    """Returns the string of a catalog in UTF-8 at an offset; None if there is none, or it can't be read."""
+    begin, end = part_around(data, offset)
+    part, found, name, text = data[begin:end], None, "", b""
+    lines = list(accumulate((len(it) + 1 for it in part.split(b"\n")), initial=begin))
+    try:
+        for current, token in tokens_of(part):
+            if current != name:
+                if found:
+                    break
+                name, text = current, b""
+            start = lines[token.line - 1] + token.column
+            if start <= offset <= start + len(token.text):
+                found = CatalogString(token.text, start, name, b"", len(text))
+            text += unquoted(token.text, None, token.line)
+    except BadCatalog:
+        # The part may end within a string, and the rest be right.
+        pass
+    return found._replace(text=text) if found else None

@@ -1,0 +1,173 @@
+"""Documents that are open, with what is said of them: sources of C and C++, and catalogs."""
+
+import time
+from typing import Any, Dict, Iterator, List, Optional, Tuple
+
+from ..catalogs.checking import Right
+from ..formats.layout import as_source
+from ..source.declared import Shapes, declared_for, declared_in
+from ..source.written import WrittenFormat, WrittenSource
+from . import calls, catalogs, diagnosing
+from .catalogs import Hover
+from .diagnosing import Diagnosis, SourceFix
+from .documents import Document
+from .markdown import about_directive, about_format, one_line
+from .options import Options
+
+# Seconds after the last change until a document is read again, or this many times as long as that took.
+SOON, REST = 0.1, 3
+# Of a longer source, only so much is read from the beginning, and what is around the cursor.
+LONGEST = 1_000_000
+CATALOGS = ("po", "gettext")
+CATALOG_ENDINGS = (".po", ".pot")
+
+
+class DocumentView:
+    """A document, and when it is to be read again. `running` does that step by step."""
+
+    def __init__(self, document: Document, options: Options) -> None:
+        self.document, self.options = document, options
+        self.model = options.models[0]
+        self.found: List[Diagnosis] = []
+        self.due: Optional[float] = time.monotonic()
+        self.running: Optional[Iterator[Optional[Diagnosis]]] = None
+        self.took = 0.0
+
+    def changed(self) -> None:
+        """Notes that the document has another text."""
+        self.running = None
+        self.due = time.monotonic() + max(SOON, REST * self.took)
+
+    def advance(self, until: float) -> bool:
+        """Goes on up to a time, and returns whether all is found."""
+        begin = time.monotonic()
+        if self.running is None:
+            self.due, self.running, self.found, self.took = None, self.diagnoses(), [], 0.0
+        for one in self.running:
+            self.found += [one] if one else []
+            if time.monotonic() > until:
+                self.took += time.monotonic() - begin
+                return False
+        self.running = None
+        self.took += time.monotonic() - begin
+        return True
+
+    def diagnoses(self) -> Iterator[Optional[Diagnosis]]:
+        """Yields what is wrong with the document, or None after a step without a fault."""
+        raise NotImplementedError
+
+    def hover(self, offset: int) -> Optional[Hover]:
+        raise NotImplementedError
+
+    def signature(self, offset: int) -> Optional[Dict[str, Any]]:
+        """Returns the format whose argument is typed at an offset; None in a catalog."""
+        return None
+
+    def highlighted(self, offset: int) -> List[Tuple[int, int]]:
+        """Returns what belongs together with what is at an offset; nothing in a catalog."""
+        return []
+
+    def fixes(self, start: int, end: int) -> Iterator[Tuple[Diagnosis, SourceFix]]:
+        """Yields what may be done about the faults between two offsets."""
+        raise NotImplementedError
+
+
+class SourceView(DocumentView):
+    """A source of C or C++."""
+
+    def __init__(self, document: Document, options: Options) -> None:
+        super().__init__(document, options)
+        self.shapes: Optional[Shapes] = None
+        # The text as it is now, once it is read, and as it was.
+        self.written: Optional[WrittenSource] = None
+        self.before: Optional[WrittenSource] = None
+
+    def changed(self) -> None:
+        super().changed()
+        self.written = None
+
+    def diagnoses(self) -> Iterator[Optional[Diagnosis]]:
+        data = self.document.data[:LONGEST]
+        path = self.document.path
+        declared = declared_for(path, data) if path else declared_in(data)
+        self.shapes = {**declared, **self.options.functions}
+        yield None
+        written = WrittenSource(data, self.model, self.shapes)
+        self.before = written
+        if len(data) == len(self.document.data):
+            self.written = written
+        yield None
+        for format in written.formats():
+            yield from self.shown(format)
+            yield None
+
+    def shown(self, format: WrittenFormat) -> Iterator[Diagnosis]:
+        """Yields what is wrong with a format, except what clangd says."""
+        for one in diagnosing.diagnoses_of(format, self.model):
+            if not (one.is_by_clang and self.options.beside_clangd):
+                yield one
+
+    def near(self, offset: int) -> WrittenSource:
+        """Returns the source as it is read, or what is near an offset if it changed since."""
+        if self.written is not None:
+            return self.written
+        macros = self.before.source.macros if self.before else None
+        return WrittenSource(self.document.data, self.model, self.shapes, offset, macros)
+
+    def given(self, written: WrittenSource, format: WrittenFormat) -> List[str]:
+        """Returns the arguments of a format, each in one line."""
+        data = self.document.data
+        return [one_line(data[start:end]) for start, end in written.arguments(format)]
+
+    def hover(self, offset: int) -> Optional[Hover]:
+        written = self.near(offset)
+        format = written.at(offset)
+        if format is None:
+            return None
+        given = self.given(written, format)
+        one = format.directive_at(offset)
+        if one is None:
+            words = about_format(format.text, format.explanation, self.model, given)
+            return Hover(words, (format.start, format.end))
+        source = as_source(one.part.text)
+        return Hover(about_directive(one.part, self.model, given, source), (one.start, one.end))
+
+    def signature(self, offset: int) -> Optional[Dict[str, Any]]:
+        return calls.signature(self.near(offset), offset, self.model)
+
+    def highlighted(self, offset: int) -> List[Tuple[int, int]]:
+        return calls.highlighted(self.near(offset), self.document.data, offset)
+
+    def fixes(self, start: int, end: int) -> Iterator[Tuple[Diagnosis, SourceFix]]:
+        for format in self.near(start).formats():
+            if format.start <= end and start <= format.end:
+                for one in diagnosing.diagnoses_of(format, self.model):
+                    yield from ((one, it) for it in one.fixes if one.start <= end and start <= one.end)
+
+
+class CatalogView(DocumentView):
+    """A message catalog."""
+
+    def __init__(self, document: Document, options: Options) -> None:
+        super().__init__(document, options)
+        # The shapes of pairs of texts without a fault: after a change, most are as they were.
+        self.right: Right = set()
+
+    def diagnoses(self) -> Iterator[Optional[Diagnosis]]:
+        return catalogs.diagnoses_of(self.document, self.options.models, self.right)
+
+    def hover(self, offset: int) -> Optional[Hover]:
+        return catalogs.hover_at(self.document, offset, self.model)
+
+    def fixes(self, start: int, end: int) -> Iterator[Tuple[Diagnosis, SourceFix]]:
+        # After a change the faults are found again first: their offsets are those of the text before it.
+        if self.due is None and self.running is None:
+            for one in self.found:
+                for it in one.fixes if one.start <= end and start <= one.end else ():
+                    if catalogs.helps(self.document, it, self.options.models):
+                        yield one, it
+
+
+def view_of(document: Document, options: Options) -> DocumentView:
+    is_catalog = document.language in CATALOGS or (document.path or "").endswith(CATALOG_ENDINGS)
+    return (CatalogView if is_catalog else SourceView)(document, options)
