@@ -23,7 +23,6 @@ EXCEPTIONS = {
     "fmtcanon::answer::Ending::outcome: digit": "it says something of the definition alone",
     "pf_posix::argument_types::arguments: length": "no body changes the length of a slice that it is given",
     "pf_posix::directive_spans::directives: length": "no body changes the length of a slice that it is given",
-    "pf_posix::specification_spans::specification_list: length": "no body changes the length of a slice that it is given",
     "pf_reduce::results::Normal::directive: normal": "what it reads always has it",
     "pf_values::counted::Counted::into_inner": "the type of its parameter leaves one answer",
     "pf_values::counted::Counted::new: device": "the type of its parameter leaves one answer",
