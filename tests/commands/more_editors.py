@@ -241,6 +241,9 @@ def test_neovim(folder, work, tools, trials):
 def test_eglot(folder, work, tools, trials):
     """Emacs with eglot shows what the server says, with the recipe of the page."""
     tools.need("emacs", "emacs-nox")
+    words = ["emacs", "-q", "--batch", "--eval", "(progn (package-initialize) (require 'eglot))"]
+    done = subprocess.run(words, check=False, timeout=TIMEOUT, stdin=subprocess.DEVNULL, capture_output=True)
+    trials.expect("eglot is there: the package elpa-eglot has it", done.returncode, 0)
     (work / "serve.el").write_text(EGLOT, encoding="utf-8")
     served(["emacs", "-q", "--batch", "-l", "serve.el"], folder, work, trials)
 
