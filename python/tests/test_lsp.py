@@ -71,6 +71,7 @@ class Conversations(unittest.TestCase):
         lines = client.hover(" of %5").splitlines()
         self.assertEqual(len([it for it in lines if it.startswith("- ")]), 3)
         self.assertTrue(lines[1].startswith("- `%5zu` ← `size`: argument 2"), lines)
+        self.assertIn("`key (LP64): %-5d of %5lu: %s\\n`", lines)
 
     def test_macros(self):
         client = self.client()

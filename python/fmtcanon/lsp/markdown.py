@@ -46,6 +46,7 @@ def about_format(text: bytes, found: Union[Explanation, Refused], model: Model, 
     lines = [f"- {'; '.join(it)}" for it in listed]
     if len(found.parts) > MOST:
         lines.append(f"- and {len(found.parts) - MOST} more")
-    more: List[Optional[str]] = [*key_lines(found.canonical, model)]
+    # A star in a format isn't one of Markdown.
+    more: List[Optional[str]] = [code(it) if "%" in it else it for it in key_lines(found.canonical, model)]
     more.append(bounds_words(found.bounds) if found.bounds is not None else None)
     return "\n".join([*lines, *(f"\n{it}" for it in more if it)])
