@@ -2,6 +2,7 @@
 says so.
 """
 
+import functools
 import itertools
 import os
 import re
@@ -25,9 +26,8 @@ LONG, MOST_ATTRIBUTES = 200, 5_000
 INCLUDE = re.compile(rb'(?m)^[ \t]*#[ \t]*include[ \t]*"([^"\n]+)"')
 # How many headers are read for one file, and how large each may be.
 MOST, LARGEST = 200, 1_000_000
-# What was read of a header, by its path and its time: its functions, and what it includes.
-Read = Dict[Tuple[str, int], Tuple[Dict[bytes, Shape], List[bytes]]]
-READ: Read = {}
+# How many headers are kept as they were read.
+KEPT = 2_000
 
 
 def declared_in(data: bytes) -> Dict[bytes, Shape]:
@@ -90,13 +90,12 @@ def headers_named(here: str, name: bytes, folder: str) -> Iterator[Tuple[str, in
             yield path, status.st_mtime_ns
 
 
+@functools.lru_cache(maxsize=KEPT)
 def read_of(path: str, time: int) -> Tuple[Dict[bytes, Shape], List[bytes]]:
-    """Returns the functions of a header and what it includes."""
-    if (path, time) not in READ:
-        try:
-            with open(path, "rb") as stream:
-                data = stream.read(LARGEST)
-        except OSError:
-            data = b""
-        READ[path, time] = declared_in(data), INCLUDE.findall(data)
-    return READ[path, time]
+    """Returns the functions of a header of this time, and what it includes."""
+    try:
+        with open(path, "rb") as stream:
+            data = stream.read(LARGEST)
+    except OSError:
+        data = b""
+    return declared_in(data), INCLUDE.findall(data)
