@@ -12,7 +12,8 @@ use crate::differences::are_equal;
 use pf_reduce::{Core, Reduced, reduce};
 use pf_values::{Directive, Model};
 
-/// Returns whether two directives take an argument of one type, and print the same for each such argument.
+/// Returns whether two directives take an argument of one type, and print the same for each such argument. If two of
+/// one type don't, some candidate of that type tells them apart.
 pub fn print_alike(model: Model, first: &Directive, second: &Directive) -> bool
     ensures alike { IsTrue result ↔ PrintAlike model (item_of first.now ∷ []) (item_of second.now ∷ []) }
     ensures unlike { arg_type model first.now ≡ arg_type model second.now

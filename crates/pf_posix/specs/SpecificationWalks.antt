@@ -14,7 +14,8 @@ use Rattle.pf_posix.specs.DirectivesInText.{IsListedTo}
 use Rattle.pf_posix.specs.Items.{HasArguments, PosixItem, ReadsPosix}
 use Rattle.pf_posix.specs.SpecificationSpans.{HasItsParts}
 
--- a walk over a text within the limit, which is read as items. Of all its specifications, it has gone past these.
+-- A text within the limit is read as items, and `all` are its specifications. A walk over it has gone past those that
+-- are `done`.
 pub record IsAhead (t : Text) (place : SpecificationWalk) (all done : List DirectiveSpan) : Type 0 where
   pub text_is : place.text.now ≡ t
   pub listed : IsListedTo place.model t all place.walk.at place.fetched done

@@ -58,7 +58,7 @@ impl<'a> SpecificationWalk<'a> {
         }
     }
 
-    /// Returns the next specification, or `None` if there is none.
+    /// Returns the next specification, or `None` at the end of the text.
     #[inline(always)]
     pub fn next(&mut self) -> Option<SpecificationSpan>
         requires { (t : Text) × (all : List DirectiveSpanOf) × (done : List DirectiveSpanOf) × IsAhead t self.old all done }

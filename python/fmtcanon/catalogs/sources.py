@@ -156,7 +156,7 @@ def part_around(data: bytes, offset: int) -> Tuple[int, int]:
 
 
 def string_at(data: bytes, offset: int) -> Optional[CatalogString]:
-    """Returns the string of a catalog in UTF-8 at an offset; None if there is none, or it can't be read."""
+    """Returns the string of a catalog in UTF-8 at an offset; None if no string begins there, or it can't be read."""
     begin, end = part_around(data, offset)
     part, found, name, text = data[begin:end], None, "", b""
     lines = list(accumulate((len(it) + 1 for it in part.split(b"\n")), initial=begin))
