@@ -21,8 +21,8 @@
 # make wheel             a wheel of the Python module with the library and the program inside
 #                        All three also write out/SHA256SUMS
 # make tables SOURCES= RELEASES=
-#                        what the commands say of a machine's own catalogs, of source trees with a
-#                        compile_commands.json in these folders, and of releases in pairs of folders
+#                        writes out/tables.md: what the commands say of a machine's own catalogs, of source
+#                        trees with a compile_commands.json in these folders, and of releases in pairs of folders
 
 # The file VERSION has the version; tests/documents/ compares every other copy of it. The major version names the ABI.
 VERSION := $(file < VERSION)
@@ -219,9 +219,10 @@ npm: $(WEB)/fmtcanon.wasm
 $(WEB)/fmtcanon.wasm:
 	@echo "$@ is missing: make page builds it" >&2; exit 1
 
-tables: TABLE = FMTCANON_LIBRARY=$(C)/$(SONAME) python3 -m tests.field
+TABLES = out/tables.md
+TABLE = FMTCANON_LIBRARY=$(C)/$(SONAME) python3 -m tests.field
 tables:
-	$(TABLE).catalogs
-	$(TABLE).mutations
-	$(if $(SOURCES),$(TABLE).sources $(SOURCES))
-	$(if $(RELEASES),$(TABLE).releases $(RELEASES))
+	mkdir -p $(dir $(TABLES))
+	set -e; { $(TABLE).catalogs; echo; $(TABLE).mutations; \
+	    $(if $(SOURCES),echo; $(TABLE).checks $(SOURCES); echo; $(TABLE).sources $(SOURCES);) \
+	    $(if $(RELEASES),echo; $(TABLE).releases $(RELEASES);) } > $(TABLES)

@@ -7,11 +7,12 @@ import math
 import re
 
 from bench import charts, shortcut_edits
-from tests.commands import changes
+from tests.commands import changes, first_screen
 from tests.commands import more_replace as replacing
+from tests.commands.reader import SHOWN
 from tests.documents.test_words import pages
 from tests.frame.cases import tests_of
-from tests.frame.harness import TOP, fences, model_rows, section, usage_texts
+from tests.frame.harness import TOP, examples, fences, model_rows, section, usage_texts
 from tests.library import more_fewer_peers as fewer_peers
 from tests.library import more_sentences
 from tests.library import test_bounds_peers as bounds_peers
@@ -38,6 +39,7 @@ FOREIGN_NAMES = set(
     axiom axioms abort incremental nat trusted
     AllocFailed WHAT strsim dac8208d650f15bf ed8637e01fc3206ec782c5daf8d913b1fcd4ddf4efb850537416d13256281534 the_type write_all
     NAME PATH allow holes lemma is_left_justified echo_of expect assert_eq tidy XDG_CACHE_HOME
+    bear psm2_epid_t win64
     FileType RET buf_attach_client init_options nvim_create_autocmd root_dir start_client
 """.split()
 )
@@ -353,6 +355,8 @@ def test_names(trials):
             span
             for span in named
             if "/out/" not in f"/{span}" and not any(path.endswith("/" + span) for _, path in paths)
+            # Files that the reader makes.
+            and span not in dict(SHOWN.findall(text))
         ]
         trials.expect(f"paths of {document} that are not there", sorted(missing), [])
     trials.expect("foreign names that no document has", sorted(foreign), [])
@@ -474,6 +478,14 @@ def test_charts(trials):
     """The charts of docs/PERFORMANCE.md are drawn from the tables."""
     for path, chart in charts.charts().items():
         trials.expect(f"docs/{path.name} as its table", path.read_text(encoding="utf-8"), chart)
+
+
+def test_picture(trials):
+    """The picture of the README shows what the README does."""
+    lines = first_screen.shown(first_screen.PICTURE.read_text(encoding="utf-8"))
+    for command, output in examples(TOP / "README.md", "A call that is wrong elsewhere"):
+        at = lines.index(f"$ {command}")
+        trials.expect(f"docs/first.svg: {command}", lines[at + 1 : at + 1 + len(output)], output)
 
 
 def test_shortcuts(trials):

@@ -28,7 +28,7 @@ NUMBER = r"(?<![\w.])\d+\.\d+\.\d+(?!\.?\w)"
 # Other numbers of this form: paragraphs of the C standard, and the version of SARIF.
 OTHER = r"[5-7]\.\d+\.\d+|2\.1\.0"
 # Pages with versions of other programs.
-RELEASES = {"docs/REFACTORING.md", "docs/TRANSLATIONS.md"}
+RELEASES = {"docs/FINDINGS.md", "docs/TRANSLATIONS.md", "tests/field/RESULTS.md"}
 
 
 def texts():

@@ -21,7 +21,13 @@ SOURCES = TOP / "crates/fmtcanon_c/src"
 LAWS = TOP / "crates/fmtcanon_c/specs/Header.antt"
 STRICT = ["-Wall", "-Wextra", "-pedantic", "-Werror", f"-I{HEADER.parent}"]
 # The documents, or their parts below a heading, whose examples need the library, the module or the commands installed.
-DOCUMENTS = [("docs/C.md", None), ("docs/PYTHON.md", None), ("docs/EXPLAINING.md", None), ("docs/TRANSLATIONS.md", "Check a catalog")]
+DOCUMENTS = [
+    ("README.md", "A difference that is shown"),
+    ("docs/C.md", None),
+    ("docs/PYTHON.md", None),
+    ("docs/EXPLAINING.md", None),
+    ("docs/TRANSLATIONS.md", "Check a catalog"),
+]
 # The manual pages whose examples need no libclang.
 PAGES = ["fmtcanon.1", "fmtcanon-explain.1", "fmtcanon-po.1", "fmtcanon-diff.1"]
 WRAPPED = ["-Wl,--wrap=malloc,--wrap=realloc,--wrap=free"]

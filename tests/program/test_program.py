@@ -12,7 +12,6 @@ from tests.frame.harness import TIMEOUT, TOP, VERSION, examples, model_rows, run
 
 # The documents, or their parts below a heading, whose examples need the program alone.
 DOCUMENTS = [
-    ("README.md", None),
     ("docs/CHEATSHEET.md", None),
     ("docs/USING.md", None),
     ("docs/REFUSALS.md", None),
@@ -68,10 +67,10 @@ def test_examples(program, trials):
 
 
 def test_first_command(trials):
-    """The first command of the README, which proves nothing, prints what the README says."""
-    readme = (TOP / "README.md").read_text(encoding="utf-8")
+    """The first command of docs/INSTALL.md, which proves nothing, prints what the page says."""
+    page = (TOP / "docs/INSTALL.md").read_text(encoding="utf-8")
     [(command, line)] = re.findall(
-        r"^    (cd \S+ && rt try -- .*)\n\n.*prints `(.*)` in about a minute", readme, re.MULTILINE
+        r"^    (cd \S+ && rt try -- .*)\n\n.*prints `(.*)` in about a minute", page, re.MULTILINE
     )
     done = subprocess.run(
         ["bash", "-c", command], cwd=TOP, capture_output=True, encoding="utf-8", timeout=10 * TIMEOUT, check=False
