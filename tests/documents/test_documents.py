@@ -92,7 +92,7 @@ def pairs_of(count):
 
 
 def tested_counts():
-    """What the table of docs/VERIFICATION.md says is tested: patterns of its numbers, each with the numbers that the
+    """What the table of tests/README.md says is tested: patterns of its numbers, each with the numbers that the
     files give.
     """
     texts = data_count("grid.txt") + data_count("long.txt")
@@ -230,11 +230,11 @@ def with_digits(text):
 
 def test_numbers(trials):
     """The numbers of rows, tests and mutants in the documents are those of the files."""
-    tested = with_digits(section(TOP / "docs/VERIFICATION.md", "What is only tested"))
+    tested = with_digits((TOP / "tests/README.md").read_text(encoding="utf-8"))
     checked = set()
     for pattern, counts in tested_counts():
         found = re.search(pattern, tested)
-        trials.expect(f"docs/VERIFICATION.md: {pattern}", found and [int(number) for number in found.groups()], counts)
+        trials.expect(f"tests/README.md: {pattern}", found and [int(number) for number in found.groups()], counts)
         checked.update(found.start(group) for group in range(1, len(counts) + 1) if found)
     for pattern in PLAIN_NUMBERS:
         for found in re.finditer(pattern, tested):
@@ -244,7 +244,7 @@ def test_numbers(trials):
         for number in re.finditer(r"\d+", tested)
         if number.start() not in checked
     ]
-    trials.expect("numbers of that part of docs/VERIFICATION.md that nothing checks", unchecked, [])
+    trials.expect("numbers of tests/README.md that nothing checks", unchecked, [])
     contributing = (TOP / "docs/CONTRIBUTING.md").read_text(encoding="utf-8")
     for crate in sorted(path.name for path in (TOP / "crates").iterdir()):
         found = re.search(rf"\| `{crate}` \| \d+ \| (\d+) \| (\d+) \|", contributing)
@@ -404,33 +404,17 @@ def test_changes(trials):
 
 
 def test_map(trials):
-    """The part of docs/internals/ARCHITECTURE.md on a crate has each of its source files."""
+    """Each source file says in its first line what it does, and docs/internals/ARCHITECTURE.md has each crate and floor."""
     text = (TOP / "docs/internals/ARCHITECTURE.md").read_text(encoding="utf-8")
-    parts = dict(re.findall(r"^### `(\w+)`\n(.*?)(?=^##)", text, flags=re.DOTALL | re.MULTILINE))
-    for crate in sorted((TOP / "crates").iterdir()):
-        sources = [path.relative_to(crate / "src") for path in (crate / "src").rglob("*.rt")]
-        names = {path.name for path in sources if "tests" not in path.parts} - {"lib.rt", "tests.rt"}
-        missing = [name for name in names if f"`{name}`" not in parts.get(crate.name, "")]
-        trials.expect(f"source files of {crate.name} that the map has not", sorted(missing), [])
-
-
-def crate_rows():
-    """The rows of docs/internals/ARCHITECTURE.md on what crates need, as crates.txt has it."""
-    for line in (TOP / "crates.txt").read_text(encoding="utf-8").splitlines():
-        name, _, needs = line.partition(":")
-        needs = needs.split()
-        ours = [it for it in needs if (TOP / "crates" / it).is_dir()]
-        cells = [
-            ", ".join(f"`{it}`" for it in part) or "nothing" for part in (ours, [it for it in needs if it not in ours])
-        ]
-        yield f"| `{name.split()[0]}` | {cells[0]} | {cells[1]} |"
-
-
-def test_graph(trials):
-    """The table of what crates need is that of crates.txt."""
-    text = (TOP / "docs/internals/ARCHITECTURE.md").read_text(encoding="utf-8")
-    rows = text.split("| Crate | Needs of these | Needs of the kit |\n|---|---|---|\n")[1].split("\n\n")[0].splitlines()
-    trials.expect("what crates need, in docs/internals/ARCHITECTURE.md", rows, list(crate_rows()))
+    for pattern, first in [("crates/*/src/**/*.rt", "//! "), ("python/fmtcanon/**/*.py", '"""')]:
+        files = [it for it in TOP.glob(pattern) if not it.read_text(encoding="utf-8").startswith(first)]
+        silent = [str(it.relative_to(TOP)) for it in files if it.name != "__main__.py"]
+        trials.expect(f"files of {pattern} that don't say what they do", sorted(silent), [])
+    crates = {it.name for it in (TOP / "crates").iterdir()}
+    rows = re.findall(r"^\| (`.*?`) \|", section(TOP / "docs/internals/ARCHITECTURE.md", "The crates"), re.MULTILINE)
+    trials.expect("crates of the map", {it for row in rows for it in re.findall(r"`(\w+)`", row)}, crates)
+    floors = {it.parent.name for it in TOP.glob("python/fmtcanon/*/__init__.py")}
+    trials.expect("floors of the map", sorted(it for it in floors if f"`{it}/`" not in text), [])
 
 
 def test_edits(trials):

@@ -2,13 +2,13 @@
 
 It begins with the names in the contracts of STARTS, and goes from each definition to those that it names. What it
 reaches has to be in FOLDER, and what is there has to be reached. It checks docs/DEFINITIONS.md against that: how many
-lines the folder has, and which types and constants of the code and words of the library the definitions use.
+lines the folder has, and which constants of the code the definitions use.
 
 It does the same for the headline of the whole language, with WHOLE_STARTS and WHOLE_FOLDER. That headline also depends
-on definitions of FOLDER, and on those of other crates that docs/DEFINITIONS.md lists.
+on definitions of FOLDER, and on those of `pf_posix`.
 
-What REFUSALS, those in the whole language, reach, and neither ACCEPTED nor FOLDER has, must be what a table of
-docs/DEFINITIONS.md lists.
+What is reached is listed in reached.md, also what REFUSALS, those in the whole language, reach, and neither ACCEPTED nor
+FOLDER has. `python3 -m tests.documents.test_reach` writes that file.
 """
 
 import re
@@ -18,6 +18,7 @@ from functools import lru_cache
 from tests.frame.cases import tests_of
 from tests.frame.harness import TOP
 
+PAGE = TOP / "tests/documents/reached.md"
 FOLDER = "Rattle.pf_values.specs.meaning"
 # The functions whose contracts are the headline, and what a refusal says.
 STARTS = [("pf_compare/src/laws.rt", "headline"), ("pf_text/src/checking.rt", "check")]
@@ -186,12 +187,6 @@ def in_words(names):
     return sorted(f"{path}.{name}" for path, name in names)
 
 
-def listed(text, words):
-    """The names in backticks of the sentence of a document that begins with these words."""
-    sentence = re.search(rf"{re.escape(words)}([^.]*)\.", text)
-    return set(re.findall(r"`([^`]+)`", sentence[1])) if sentence else None
-
-
 def of_library(others):
     """The words of the library among these names, without operators."""
     return {name for path, name in others if path.startswith("Rattle.std.") and re.fullmatch(r"[a-zA-Z_]\w+", name)}
@@ -203,24 +198,54 @@ def counted(text, words):
     return found and [int(it.replace(",", "")) for it in found.groups()]
 
 
+def by_file(names):
+    """Lines of a list: each file of these definitions, with their names."""
+    files = {}
+    for path, name in sorted(names):
+        files.setdefault(path.removeprefix("Rattle.").replace(".specs.", "/specs/").replace(".", "/"), []).append(name)
+    return [f"- `crates/{file}.antt`: " + ", ".join(f"`{it}`" for it in found) for file, found in files.items()]
+
+
+def in_line(what, names):
+    return f"{what}: " + ", ".join(f"`{it}`" for it in sorted(names)) + "." if names else f"{what}: none."
+
+
+def of_headlines():
+    """What both headlines and the refusals of the whole language depend on: definitions, and names of others."""
+    first, others = reached(STARTS)
+    whole, more = reached(WHOLE_STARTS)
+    (refused, named), (accepted, known) = reached_from(REFUSALS), reached_from(ACCEPTED)
+    own = {(path, name) for path, name in refused - accepted if not path.startswith(FOLDER + ".")}
+    return (first, others), (whole - first, more - others), (own - whole, named - known)
+
+
+def page():
+    """The text of reached.md."""
+    heads = ["The headline and a rejection", "The headline of the whole language, besides", "A rejection in the whole language, besides"]
+    lines = ["# What the headlines depend on", "", "`python3 -m tests.documents.test_reach` writes this file."]
+    for head, (found, others) in zip(heads, of_headlines()):
+        types, constants = of_code(others)
+        lines += ["", f"## {head}", "", *by_file(found), ""]
+        lines += [in_line("Types of the code", types), in_line("Constants of the code", constants), in_line("Words of the library", of_library(others))]
+    return "\n".join(lines) + "\n"
+
+
+def test_page(trials):
+    """reached.md has what is reached."""
+    trials.expect("tests/documents/reached.md", PAGE.read_text(encoding="utf-8"), page())
+
+
 def test_reach(trials):
-    """The folder has what is reached and no more, and docs/DEFINITIONS.md says what that is."""
+    """The folder has what is reached and no more, and docs/DEFINITIONS.md says how large it is."""
     found, others = reached(STARTS)
     there = all_there(FOLDER)
     trials.expect(f"definitions of {FOLDER} that the headline doesn't depend on", in_words(there - found), [])
     trials.expect(f"definitions that the headline depends on, outside of {FOLDER}", in_words(found - there), [])
     text = (TOP / "docs/DEFINITIONS.md").read_text(encoding="utf-8")
-    types, constants = of_code(others)
-    trials.expect("types of the code in docs/DEFINITIONS.md", listed(text, "Of the code they use the types "), types)
-    trials.expect("constants of the code in docs/DEFINITIONS.md", listed(text, "They use the constants "), constants)
-    trials.expect(
-        "words of the library in docs/DEFINITIONS.md", listed(text, "Of the library they use "), of_library(others)
-    )
-    trials.expect(
-        "lines in docs/DEFINITIONS.md",
-        counted(text, "The headline and a rejection depend on"),
-        lines_there(FOLDER),
-    )
+    constants = re.search(r"two constants of the code, `(\w+)`, 4,095, and `(\w+)`, 2\^62", text)
+    trials.expect("constants of the code in docs/DEFINITIONS.md", constants and set(constants.groups()), of_code(others)[1])
+    wanted = lines_there(FOLDER)
+    trials.expect("lines in docs/DEFINITIONS.md", counted(text, "The headline and a rejection depend on"), wanted)
     try_whole(trials, text, others)
 
 
@@ -229,65 +254,32 @@ def try_whole(trials, text, known):
     found, others = reached(WHOLE_STARTS)
     there, below = all_there(WHOLE_FOLDER), all_there(FOLDER)
     lower = {(path, name) for path, name in found if path.startswith(LOWER + ".")}
-    trials.expect(
-        f"definitions of {WHOLE_FOLDER} that the headline of the whole language doesn't depend on",
-        in_words(there - found),
-        [],
-    )
-    trials.expect(
-        f"definitions that it depends on, outside of {WHOLE_FOLDER}, {FOLDER} and {LOWER}",
-        in_words(found - there - below - lower),
-        [],
-    )
-    names = {name for _, name in lower}
-    trials.expect(
-        f"definitions of {LOWER} that it depends on, in docs/DEFINITIONS.md",
-        listed(text, "Of `pf_posix` they use the definitions "),
-        names,
-    )
-    types, constants = of_code(others - known)
-    trials.expect("more types of the code in docs/DEFINITIONS.md", listed(text, "They also use the types "), types)
-    trials.expect("constants of the code that the first headline doesn't use", constants, set())
+    outside = f"definitions that it depends on, outside of {WHOLE_FOLDER}, {FOLDER} and {LOWER}"
+    needless = f"definitions of {WHOLE_FOLDER} that the headline of the whole language doesn't depend on"
+    trials.expect(needless, in_words(there - found), [])
+    trials.expect(outside, in_words(found - there - below - lower), [])
+    trials.expect("constants of the code that the first headline doesn't use", of_code(others - known)[1], set())
     trials.expect("words of the library that the first headline doesn't use", of_library(others - known), set())
-    trials.expect(
-        "lines of the whole language in docs/DEFINITIONS.md",
-        counted(text, "The headline of the whole language depends on"),
-        lines_there(WHOLE_FOLDER),
-    )
-
-
-def table_after(text, heading):
-    """The names of the definitions in the first column of the table that begins so, below a heading."""
-    section = re.search(rf"^### {re.escape(heading)}$(.*?)^##", text, flags=re.DOTALL | re.MULTILINE)
-    table = (
-        re.search(r"^\| Definition \| Says \|\n\|---\|---\|\n((?:\|.*\n)+)", section[1], flags=re.MULTILINE)
-        if section
-        else None
-    )
-    cells = [line.split("|")[1] for line in table[1].splitlines()] if table else []
-    # A name in parentheses is that of a file or of a crate.
-    return [name for cell in cells for name in re.findall(rf"`({NAME})[^`]*`", re.sub(r"\([^)]*\)", "", cell))]
+    wanted = lines_there(WHOLE_FOLDER)
+    at = "The headline of the whole language depends on"
+    trials.expect("lines of the whole language in docs/DEFINITIONS.md", counted(text, at), wanted)
+    verification = (TOP / "docs/VERIFICATION.md").read_text(encoding="utf-8").replace(",", "")
+    sizes = re.search(r"headlines depend on have (\d+) and (\d+) lines and the second headline uses (\d+) definitions of `pf_posix`", verification)
+    counts = [lines_there(FOLDER)[0], wanted[0], len(lower)]
+    trials.expect("lines in docs/VERIFICATION.md", sizes and [int(it) for it in sizes.groups()], counts)
+    read = re.search(r"the (\d+) lines of that folder", verification)
+    trials.expect("lines to read, in docs/VERIFICATION.md", read and int(read[1]), counts[0])
 
 
 def test_refusals(trials):
-    """docs/DEFINITIONS.md lists what a refusal in the whole language depends on, besides what acceptance does."""
-    text = (TOP / "docs/DEFINITIONS.md").read_text(encoding="utf-8")
+    """The contracts of a refusal in the whole language have the words that the list begins with."""
     for word, (file, function) in zip(REFUSALS, REFUSED_BY):
         trials.expect(f"the contract of {function} has {word[1]}", word in contract(file, function), True)
-    (refused, others), (accepted, known) = reached_from(REFUSALS), reached_from(ACCEPTED)
-    own = {(path, name) for path, name in refused - accepted if not path.startswith(FOLDER + ".")}
-    trials.expect(
-        "definitions of a refusal in docs/DEFINITIONS.md",
-        sorted(table_after(text, "Words of a refusal")),
-        sorted(name for _, name in own),
-    )
-    types, constants = of_code(others - known)
-    trials.expect(
-        "types of the code in a refusal",
-        listed(text, "Of the code these definitions use the type "),
-        types - of_code(known)[0],
-    )
-    trials.expect("constants of the code in a refusal that acceptance doesn't use", constants, set())
+    (_, others), (_, known) = reached_from(REFUSALS), reached_from(ACCEPTED)
+    trials.expect("constants of the code in a refusal that acceptance doesn't use", of_code(others - known)[1], set())
 
 
 Tests = tests_of(globals())
+
+if __name__ == "__main__":
+    PAGE.write_text(page(), encoding="utf-8")

@@ -194,7 +194,7 @@ def words_in(paths):
 def limit_of(path):
     """The name of the page in LIMITS, or None for pages that come with another folder."""
     name = str(path.relative_to(TOP))
-    return CALLING if path.name == "CALLING.md" else name if path.parts[-2] not in ("bench", "python", "tests", "field") else None
+    return CALLING if path.name == "CALLING.md" else name if name.split("/")[0] not in ("bench", "python", "tests") else None
 
 
 def test_words(trials):

@@ -278,14 +278,14 @@ def test_devices(program, trials):
 
 
 def test_count(trials):
-    """docs/VERIFICATION.md says how many trials there are, with this one."""
+    """tests/README.md says how many trials there are, with this one."""
     counted = Trials()
     for name, test in list(globals().items()):
         if name.startswith("test_") and test is not test_count:
             Given({}, counted, None).call(test)
-    found = re.search(r"([\d,]+) runs and comparisons", (TOP / "docs/VERIFICATION.md").read_text(encoding="utf-8"))
+    found = re.search(r"([\d,]+) runs and comparisons", (TOP / "tests/README.md").read_text(encoding="utf-8"))
     trials.expect(
-        "trials in docs/VERIFICATION.md",
+        "trials in tests/README.md",
         found and int(found.group(1).replace(",", "")),
         counted.passed + counted.failed + 1,
     )
