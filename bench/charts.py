@@ -1,5 +1,5 @@
 #!/usr/bin/env python3
-"""Draws the charts of docs/PERFORMANCE.md as SVG, from the tables of that page and of bench/RESULTS.md.
+"""Draws the charts of docs/PERFORMANCE.md as SVG, from the tables of bench/RESULTS.md.
 
     bench/charts.py
 
@@ -10,7 +10,7 @@ from html import escape
 from pathlib import Path
 
 TOP = Path(__file__).resolve().parent.parent
-PAGE, RESULTS = TOP / "docs/PERFORMANCE.md", TOP / "bench/RESULTS.md"
+RESULTS = TOP / "bench/RESULTS.md"
 RATIOS, GROWTH = TOP / "docs/ratios.svg", TOP / "docs/growth.svg"
 COLOURS = ["#1b6ca8", "#c8553d", "#2e8b57", "#7b4fa3", "#b8860b", "#444444", "#d1498b", "#5f9ea0"]
 # The height of a bar with the gap below it, the room for names on the left, the width of the ratio 1, and the room for
@@ -45,7 +45,7 @@ def drawing(width, height, parts):
 
 def bars():
     """A bar for the ratio of each call to the GNU C library, and a line at 1."""
-    _, rows = rows_below(PAGE, "How fast is a call?")
+    _, rows = rows_below(RESULTS, "Calls of the C library")
     calls = [(row[0], float(row[2])) for row in rows]
     height = BAR * len(calls) + 50
     parts = []

@@ -53,6 +53,7 @@ KEPT = ["tests/mutants/rattle_functions.py"]
 DOCUMENTED = (ast.Module, ast.ClassDef, ast.FunctionDef, ast.AsyncFunctionDef)
 # All pages on the contracts of crates together.
 CALLING = "crates/*/CALLING.md"
+PROOFS = "crates/*/PROOFS.md"
 # How many words each page may have, and how many percent more are let pass.
 LIMITS = {
     "README.md": 820,
@@ -94,6 +95,8 @@ LIMITS = {
     "SECURITY.md": 150,
     "CHANGELOG.md": 1525,
     CALLING: 9300,
+    # How three crates are proved.
+    PROOFS: 2000,
 }
 MARGIN = 10
 
@@ -105,7 +108,7 @@ def files(*patterns):
 
 def pages():
     """The documents, by their paths below the top."""
-    return files("*.md", "docs/**/*.md", "crates/*/CALLING.md", "bench/*.md", "python/*.md", "tests/**/*.md")
+    return files("*.md", "docs/**/*.md", "crates/*/*.md", "bench/*.md", "python/*.md", "tests/**/*.md")
 
 
 def words_of_string(string):
@@ -194,7 +197,9 @@ def words_in(paths):
 def limit_of(path):
     """The name of the page in LIMITS, or None for pages that come with another folder."""
     name = str(path.relative_to(TOP))
-    return CALLING if path.name == "CALLING.md" else name if name.split("/")[0] not in ("bench", "python", "tests") else None
+    if name.split("/")[0] in ("bench", "python", "tests"):
+        return None
+    return {"CALLING.md": CALLING, "PROOFS.md": PROOFS}.get(path.name, name)
 
 
 def test_words(trials):
