@@ -246,10 +246,10 @@ def test_reach(trials):
     trials.expect("constants of the code in docs/DEFINITIONS.md", constants and set(constants.groups()), of_code(others)[1])
     wanted = lines_there(FOLDER)
     trials.expect("lines in docs/DEFINITIONS.md", counted(text, "The headline and a rejection depend on"), wanted)
-    try_whole(trials, text, others)
+    try_whole(trials, others)
 
 
-def try_whole(trials, text, known):
+def try_whole(trials, known):
     """The same for the headline of the whole language; `known` are the names that the first headline uses, too."""
     found, others = reached(WHOLE_STARTS)
     there, below = all_there(WHOLE_FOLDER), all_there(FOLDER)
@@ -262,7 +262,8 @@ def try_whole(trials, text, known):
     trials.expect("words of the library that the first headline doesn't use", of_library(others - known), set())
     wanted = lines_there(WHOLE_FOLDER)
     at = "The headline of the whole language depends on"
-    trials.expect("lines of the whole language in docs/DEFINITIONS.md", counted(text, at), wanted)
+    page = (TOP / "crates/pf_whole/DEFINITIONS.md").read_text(encoding="utf-8")
+    trials.expect("lines in DEFINITIONS.md of pf_whole", counted(page, at), wanted)
     verification = (TOP / "docs/VERIFICATION.md").read_text(encoding="utf-8").replace(",", "")
     sizes = re.search(r"headlines depend on have (\d+) and (\d+) lines and the second headline uses (\d+) definitions of `pf_posix`", verification)
     counts = [lines_there(FOLDER)[0], wanted[0], len(lower)]

@@ -53,7 +53,7 @@ KEPT = ["tests/mutants/rattle_functions.py"]
 DOCUMENTED = (ast.Module, ast.ClassDef, ast.FunctionDef, ast.AsyncFunctionDef)
 # All pages on the contracts of crates together.
 CALLING = "crates/*/CALLING.md"
-PROOFS = "crates/*/PROOFS.md"
+PROOFS, DEFINITIONS = "crates/*/PROOFS.md", "crates/*/DEFINITIONS.md"
 # How many words each page may have, and how many percent more are let pass.
 LIMITS = {
     "README.md": 820,
@@ -96,7 +96,9 @@ LIMITS = {
     "CHANGELOG.md": 1525,
     CALLING: 9300,
     # How three crates are proved.
-    PROOFS: 2000,
+    PROOFS: 1950,
+    # How the whole language is defined.
+    DEFINITIONS: 1250,
 }
 MARGIN = 10
 
@@ -199,7 +201,7 @@ def limit_of(path):
     name = str(path.relative_to(TOP))
     if name.split("/")[0] in ("bench", "python", "tests"):
         return None
-    return {"CALLING.md": CALLING, "PROOFS.md": PROOFS}.get(path.name, name)
+    return {"CALLING.md": CALLING, "PROOFS.md": PROOFS}.get(path.name, DEFINITIONS if path.match(DEFINITIONS) else name)
 
 
 def test_words(trials):
