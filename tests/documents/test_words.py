@@ -96,7 +96,8 @@ LIMITS = {
     "CHANGELOG.md": 1525,
     CALLING: 9300,
     # How three crates are proved.
-    PROOFS: 1950,
+    # How four crates are proved.
+    PROOFS: 2250,
     # How the whole language is defined.
     DEFINITIONS: 1250,
 }
