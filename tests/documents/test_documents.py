@@ -272,7 +272,7 @@ def test_sizes(trials):
     wrappers = re.findall(
         r"^WITH_OPTIONAL_ERROR\(", (TOP / "library/optional_error.c").read_text(encoding="utf-8"), re.MULTILINE
     )
-    for pattern, count in [(r"has (\d+) callers", len(callers)), (r"the (\d+) C functions of", len(wrappers))]:
+    for pattern, count in [(r"have (\d+) callers", len(callers)), (r"the (\d+) C functions of", len(wrappers))]:
         found = re.search(pattern, text)
         trials.expect(f"docs/VERIFICATION.md: {pattern}", found and int(found.group(1)), count)
     tests = lines_of("crates/uses*/src/tests/**/*.rt", ()) + lines_of("crates/uses*/src/tests.rt", ())
