@@ -6,11 +6,14 @@ import subprocess
 import sys
 import threading
 import unittest
+from pathlib import Path
 
 import fmtcanon
 from fmtcanon import Kind, Model, Part, Refused, Type, Verdict
 
 from . import needs_program
+
+TOP = Path(__file__).resolve().parents[2]
 
 
 class Calls(unittest.TestCase):
@@ -294,6 +297,13 @@ class Calls(unittest.TestCase):
     def test_examples_of_sessions(self):
         self.assertEqual(doctest.testmod(fmtcanon.sessions).failed, 0)
         self.assertGreater(doctest.testmod(fmtcanon.sessions).attempted, 0)
+
+    @needs_program
+    def test_page(self):
+        """The sessions of docs/PYTHON.md and of the page of the module on a package index."""
+        for page in ["docs/PYTHON.md", "python/README.md"]:
+            done = doctest.testfile(str(TOP / page), module_relative=False)
+            self.assertEqual((done.failed, done.attempted > 5), (0, True))
 
 
 class Refusals(unittest.TestCase):

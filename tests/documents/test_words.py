@@ -77,8 +77,8 @@ LIMITS = {
     "docs/REFACTORING.md": 1450,
     # With a part for each kind, the table of flags, and the grammar.
     "docs/REFUSALS.md": 2050,
-    # With an example of each error.
-    "docs/C.md": 1450,
+    # With two programs, and an example of each error.
+    "docs/C.md": 1600,
     "docs/PYTHON.md": 1000,
     # With the theorem as it is written, the assumptions as a table, and the words of the last line of a check.
     "docs/VERIFICATION.md": 2820,
@@ -88,16 +88,15 @@ LIMITS = {
     # With a walk through one call, and words of the sources.
     "docs/internals/ARCHITECTURE.md": 1700,
     "docs/internals/DECISIONS.md": 2250,
-    # With what rt prints for an open goal.
     "docs/CONTRIBUTING.md": 1350,
     "SECURITY.md": 150,
     "CHANGELOG.md": 1525,
     CALLING: 9300,
     # How three crates are proved.
     # What works in proofs, with an index by what rt prints, and how four crates are proved.
-    PROOFS: 4000,
+    PROOFS: 4200,
     # How the whole language is defined.
-    DEFINITIONS: 1250,
+    DEFINITIONS: 1500,
 }
 MARGIN = 10
 

@@ -46,6 +46,7 @@ INSTALLED = {
     "share/doc/fmtcanon/folders",
     "share/doc/fmtcanon/docs/try/SHA256SUMS",
     "share/doc/fmtcanon/docs/try/index.html",
+    "share/doc/fmtcanon/examples/ask.c",
     "share/doc/fmtcanon/examples/buffer.c",
     "share/doc/fmtcanon/examples/render.c",
     "share/doc/fmtcanon/examples/canon.c",
