@@ -9,6 +9,7 @@ from pathlib import Path
 
 from tests.commands.test_catalog_edges import CHANGED, FORMS, STRICTER, UNCHANGED, catalog, checked, forms_text, message, pairs_catalog
 from tests.commands.test_catalogs import CATALOGS, CHECKED
+from tests.commands.test_page_tables import compared
 from tests.frame.cases import tests_of
 from tests.frame.harness import TIMEOUT
 
@@ -71,6 +72,15 @@ def test_msgfmt(folder, msgfmt, trials):
         if not unjudged and theirs and "but the header" not in ours:
             found = set(re.findall(r"found \d+ fatal", ours)) & set(re.findall(r"found \d+ fatal", report))
             trials.expect(f"how many faults msgfmt has in {catalog}", len(found), 1)
+
+
+def test_page(msgfmt, work, trials):
+    """What msgfmt says of each row of docs/TRANSLATIONS.md."""
+    for catalog, pair, wanted, _ in compared():
+        (work / "a.po").write_bytes(catalog)
+        words = ["msgfmt", "--check-format", "-o", os.devnull, "a.po"]
+        status = subprocess.run(words, cwd=work, check=False, timeout=TIMEOUT, capture_output=True).returncode
+        trials.expect(f"{pair} by msgfmt", "fault" if status else "accepted", wanted)
 
 
 def msgfmt_lines(file):

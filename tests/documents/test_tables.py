@@ -1,0 +1,291 @@
+"""Checks tables and numbers of the pages against what they are about: the code, the header, the help, the tables of the
+bench, and those of `make tables`.
+
+What needs the library is in tests/commands/test_page_tables.py.
+"""
+
+import re
+
+from bench import charts, formats
+from fmtcanon.compiling.platforms import PLATFORMS
+from fmtcanon.diff import judging
+from fmtcanon.fitting import reporting
+from fmtcanon.kinds import Kind, LiteralKind, Type
+from fmtcanon.words import WORDS
+from tests.frame.cases import tests_of
+from tests.frame.harness import TOP, section, usage_texts
+
+DOCS = TOP / "docs"
+RESULTS = TOP / "tests/field/RESULTS.md"
+HEADER = (TOP / "include/fmtcanon.h").read_text(encoding="utf-8")
+MODELS = ["Lp64", "Ilp32", "Llp64"]
+
+
+def read(path):
+    return path.read_text(encoding="utf-8")
+
+
+def tables(text):
+    """The tables of a text, each as its rows of cells, without the line below the first."""
+    for block in re.findall(r"(?:^\|.*\n?)+", text, re.MULTILINE):
+        rows = [[cell.strip() for cell in line.strip().strip("|").split("|")] for line in block.splitlines()]
+        yield [row for row in rows if not all(re.fullmatch(r"-+", it) for it in row)]
+
+
+def table_of(page, heading, number=0):
+    """The rows of a table below a heading of a page, after the first."""
+    return list(tables(section(page, heading)))[number][1:]
+
+
+def name_of(member):
+    return member.name.title().replace("_", "")
+
+
+def statuses():
+    """What the help says of each status."""
+    help_text = next(text for words, text in usage_texts() if words == ["--help"])
+    return dict(re.findall(r"^  (\d)  (.*)$", help_text.split("Exit status:\n")[1], re.MULTILINE))
+
+
+def without_ticks(text):
+    return text.replace("`", "")
+
+
+def test_numbers_of_kinds(trials):
+    """The cheat sheet has each type, each kind and each option, with the number of the library."""
+    page = read(DOCS / "CHEATSHEET.md")
+    cells = [it for row in list(tables(section(DOCS / "CHEATSHEET.md", "Types")))[0] for it in row if it]
+    words = [f"{it.value} `{WORDS['types'][str(it.value)]}`" for it in Type]
+    trials.expect("types", sorted(cells, key=lambda it: int(it.split()[0])), words)
+    cells = [it for row in list(tables(section(DOCS / "CHEATSHEET.md", "Kinds of refusals")))[0] for it in row if it]
+    words = [f"[{it.value} {name_of(it)}](REFUSALS.md#{it.value}-{name_of(it).lower()})" for it in Kind]
+    trials.expect("kinds", sorted(cells, key=lambda it: int(re.search(r"\d+", it)[0])), words)
+    words = ", ".join(f"{it.value - 200} {name_of(it)}" for it in LiteralKind)
+    trials.expect("kinds of literals", re.search(r"^String literals: (.*)$", page, re.MULTILINE)[1], words)
+    parts = re.findall(r"(\d) ([^,.]+)", re.search(r"^Status: (0 success.*?)\.", page, re.MULTILINE)[1])
+    known = {**statuses(), "4": statuses()["4"] + ": an I/O error"}
+    found = [(number, [it for it in re.findall(r"\w{5,}", text) if it not in known[number]]) for number, text in parts]
+    trials.expect("statuses", found, [(it, []) for it in "01234"])
+    calls = {it.removeprefix("fmtcanon_") for it in re.findall(r"^\w[\w *]*\b(fmtcanon_\w+)\(", HEADER, re.MULTILINE)}
+    named = set(re.findall(r"`(\w+)`", section(DOCS / "CHEATSHEET.md", "Calls")))
+    trials.expect("calls that the cheat sheet lacks", sorted(calls - named), [])
+
+
+def helps():
+    return {words[0]: text for words, text in usage_texts() if words[1:] == ["--help"]}
+
+
+def test_commands(trials):
+    """The cheat sheet has each command of the program, and says for which an option isn't."""
+    given = helps()
+    rows = table_of(DOCS / "CHEATSHEET.md", "The program")
+    trials.expect("commands", sorted(re.match(r"`(\w+)", it[0])[1] for it in rows), sorted(given))
+    for cell, effect in table_of(DOCS / "CHEATSHEET.md", "The program", 1):
+        option = re.search(r"--[a-z]+", cell)
+        if option:
+            has = {name for name, text in given.items() if re.search(rf"{option[0]}\b", text.split("Options:")[1])}
+            without = re.search(r"not for (.*)", effect)
+            only = re.search(r"whole language; (.*)", effect)
+            if without:
+                trials.expect(f"not for {option[0]}", sorted(set(given) - has), sorted(re.findall(r"`(\w+)`", without[1])))
+            if only:
+                trials.expect(f"only for {option[0]}", sorted(has), sorted(re.findall(r"`(\w+)`", only[1])))
+
+
+def rows_of_models():
+    """The bits of a long, and the ranks of size_t and intmax_t, by data model, as the code has them."""
+    code = read(TOP / "crates/pf_values/src/models.rt")
+    for model in MODELS:
+        values = []
+        for call in ["long_bits", "size_rank", "greatest_rank"]:
+            body = re.search(rf"fn {call}\b.*?match self \{{(.*?)\}}", code, re.DOTALL)[1]
+            values.append(re.search(rf"Model::{model}\b[^=]*=> (?:Rank::)?(\w+)", body)[1])
+        yield model, values
+
+
+def test_data_models(trials):
+    """The tables of data models have the rows of the code."""
+    ranks = {"Int": "`int`", "Long": "`long`", "LongLong": "`long long`"}
+    systems = ["64-bit Unix", "32-bit systems", "64-bit Windows"]
+    rows = [
+        [f"`{model.lower()}`", f"{bits} bits", ranks[size], ranks[greatest], system]
+        for (model, (bits, size, greatest)), system in zip(rows_of_models(), systems)
+    ]
+    found = [[row[0].replace(", the default", ""), *row[1:]] for row in table_of(DOCS / "USING.md", "Choose the data model")]
+    trials.expect("data models in docs/USING.md", found, rows)
+    trials.expect("data models in help", all(it in helps()["same"] for it in ["64-bit Unix", "64-bit Windows"]), True)
+    kept = {"Int": "none", "Long": "`l`", "LongLong": "`ll`"}
+    values = dict(rows_of_models())
+    modifiers = {row[0]: row[1:3] for row in table_of(DOCS / "DEFINITIONS.md", "DataModel")}
+    longs = [values[it][0] for it in MODELS]
+    trials.expect("bits of `l`", modifiers["`l`"][1], f"{longs[0]}; {longs[1]} in `Ilp32`, `Llp64`")
+    sizes = ", ".join(f"{kept[values[it][1]]} in `{it}`" for it in MODELS)
+    trials.expect("what `z` and `t` are", modifiers["`z`, `t`"][0], sizes)
+    trials.expect("what `j` is", modifiers["`j`"][0], f"{kept[values['Lp64'][2]]} in `Lp64`, otherwise {kept[values['Ilp32'][2]]}")
+    trials.expect("bits of others", [modifiers[it][1] for it in ["`hh`, `h`", "none", "`ll`"]], ["8, 16", "32", "64"])
+
+
+def test_statuses(trials):
+    """docs/USING.md says of each status what the help does."""
+    rows = table_of(DOCS / "USING.md", "Exit status")
+    found = {row[0]: without_ticks(row[1]) for row in rows}
+    trials.expect("statuses", sorted(found), sorted(statuses()))
+    for number, text in statuses().items():
+        first = re.split(r"[;,] |or unpaired", text)[0].strip()
+        trials.expect(f"status {number}", found.get(number, "").startswith(first), True)
+    trials.expect("status 1", found["1"], statuses()["1"])
+
+
+def test_candidates(trials):
+    """docs/DEFINITIONS.md has the candidates and the bases of the code."""
+    code = read(TOP / "crates/pf_probes/src/candidate_rows.rt")
+    rows = dict(table_of(DOCS / "DEFINITIONS.md", "Candidates"))
+
+    def of_code(name):
+        return re.findall(r"Number\((.*?)\)", re.search(rf"const {name}: .*?\n\];", code, re.DOTALL)[0])
+
+    trials.expect("of int", rows["int"].split(", "), of_code("INTS"))
+    words = {"u64::MAX as i128": "the largest", "i64::MIN as i128": "the smallest", "i64::MAX as i128": "the largest"}
+    for row, name in [("unsigned types", "UNSIGNED_64"), ("long, long long", "SIGNED_64")]:
+        trials.expect(f"of {row}", rows[row].split(", "), [words.get(it, it) for it in of_code(name)])
+    counts = re.findall(r"count: (\d+)", re.search(r"const STRINGS: .*?\n\];", code, re.DOTALL)[0])
+    shown = "the empty string; `A`; 4,096 times `A`; 4,096 times `B`"
+    trials.expect("of strings", rows["string"], shown)
+    trials.expect("counts of strings", counts, ["0", "1", "4096", "4096"])
+    for name, number, *_, digits in table_of(DOCS / "DEFINITIONS.md", "Bits, Bases"):
+        most = [0] * 4
+        for at, bits in enumerate((8, 16, 32, 64)):
+            rest = 2**bits - 1
+            while rest:
+                rest, most[at] = rest // int(number), most[at] + 1
+        trials.expect(f"digits of {name}", digits, ", ".join(map(str, most)))
+
+
+def test_numbers_of_c(trials):
+    """docs/C.md has the numbers of the header."""
+    page = read(DOCS / "C.md")
+    values = {name: int(number) for name, number in re.findall(r"^#define (FMTCANON_ERROR_\w+) \((-\d+)\)", HEADER, re.MULTILINE)}
+    table = {without_ticks(row[0]): row for row in table_of(DOCS / "C.md", "Errors")}
+    trials.expect("errors of the table", {it for it in table if it.startswith("FMTCANON")}, set(values))
+    last = re.search(r"-1 to -(\d+) \|.*\n\| -(\d+) to -(\d+) \|", page).groups()
+    kinds = [max(Kind).value, min(LiteralKind).value, max(LiteralKind).value]
+    trials.expect("kinds of errors", [int(it) for it in last], kinds)
+    free = re.search(r"New kinds of refusals are -(\d+) to -99, other errors -(\d+) to -199, and kinds of literals -(\d+) to", page)
+    wanted = [max(Kind).value + 1, 1 - min(values.values()), max(LiteralKind).value + 1]
+    trials.expect("free numbers", free and [int(it) for it in free.groups()], wanted)
+    sets = dict(re.findall(r"FMTCANON_IN_(\w+) = (\d+)", HEADER))
+    trials.expect("sets of data models", [sets[it] for it in ("NEITHER", "BOTH", "ALL")], ["0", "3", "7"])
+    words = "`FMTCANON_IN_NEITHER` is 0, `FMTCANON_IN_BOTH` is LP64 and ILP32, and `FMTCANON_IN_ALL` is all three"
+    trials.expect("their words", words in page, True)
+    trials.expect("kinds of the header", re.search(r"-1 to -(\d+): .*\n?.*-201 to -(\d+)", HEADER).groups(), ("22", "206"))
+    rooms = re.search(r"STACK_ROOM: usize = (\d+)", read(TOP / "crates/pf_canon/src/canonical_texts.rt"))[1]
+    trials.expect("bytes without an allocation", f"than {rooms} bytes." in HEADER, True)
+    most = re.search(r"considered, from 1 to (\d+);", HEADER)[1]
+    ints = re.search(r"INTS: \[Candidate; (\d+)\]", read(TOP / "crates/pf_probes/src/candidate_rows.rt"))[1]
+    trials.expect("renderings", most, ints)
+
+
+def numbers_in(text):
+    return re.findall(r"\d[\d,]*\d|\d", text)
+
+
+def test_results(trials):
+    """docs/FINDINGS.md and the README have the numbers of tests/field/RESULTS.md."""
+    page = DOCS / "FINDINGS.md"
+    trials.expect("programs", table_of(page, "How much was read"), table_of(RESULTS, "Programs"))
+    catalogs = {row[0]: row[1] for row in table_of(RESULTS, "Catalogs")}
+    for name, number in list(tables(section(page, "How much was read")))[1][1:]:
+        trials.expect(f"catalogs: {name}", number, catalogs.get(name))
+    text = section(page, "How much was read")
+    compared = text.split("### Compared with the compilers\n")[1].split("###")[0]
+    cases = [it for row in table_of(RESULTS, "Compilers") for it in (row[4], row[3])]
+    words = section(RESULTS, "Compilers")
+    trials.expect("expressions", numbers_in(compared.split("directives")[0]), re.findall(r"533|92|66", words))
+    for same, all_of_it in zip(cases[::2], cases[1::2]):
+        trials.expect(f"{same} of {all_of_it}", re.search(rf"{same}(?: cases)? of {all_of_it}\b", compared) is not None, True)
+    counts = {}
+    for who, _, number in table_of(RESULTS, "Messages with random edits"):
+        counts[who] = counts.get(who, 0) + int(number.replace(",", ""))
+    edits = text.split("### Compared with `msgfmt -c`\n")[1].split("###")[0]
+    wanted = [f"{it:,}" for it in (sum(counts.values()), *map(counts.get, ("both", "neither", "fmtcanon-po", "msgfmt")))]
+    trials.expect("messages with random edits", re.findall(r"\d+,\d+", edits), wanted)
+    replaced = {row[0]: row[1] for row in table_of(RESULTS, "Formats that are replaced")}
+    found = numbers_in(text.split("### Formats that were replaced\n")[1].split("###")[0])
+    names = ["Places with a `%`", "Files", "Of these replaced", "Skipped: keys for translators", "Skipped: parts of expressions"]
+    trials.expect("replaced", found[2:7], [replaced[it] for it in names])
+    respelled = re.search(r"respells (\d+), .*of the (\d+),", section(RESULTS, "Formats that are replaced"))
+    trials.expect("respelled", found[7:9], list(respelled.groups()))
+    changed = text.split("### Formats that changed\n")[1]
+    trials.expect("releases", numbers_in(changed)[2:], [it for it in numbers_in(section(RESULTS, "Releases"))[2:]])
+    errors = {row[0].split(" ")[0]: row[4] for row in table_of(RESULTS, "Programs")}
+    errors["iproute2"] = re.search(r"In iproute2 6.1, 4 files have (\d) errors", read(RESULTS))[1]
+    readme = section(TOP / "README.md", "What it found")
+    named = dict((name, number) for number, name in re.findall(r"(\d+) (?:wrong calls )?in (\w+)", readme))
+    trials.expect("findings of the README", named, {it: errors[it] for it in ("bcal", "redis", "libpsm2", "iproute2")})
+    alone = catalogs["Messages with a fault by `fmtcanon-po` alone"]
+    trials.expect("translations of the README", re.search(r"And (\d+) translations", readme)[1], alone)
+    trials.expect("translations of the findings", re.findall(r"^The (\d+) are those above", text, re.MULTILINE), [alone])
+
+
+def test_kinds_of_findings(trials):
+    """The tables of kinds have those of the commands, and say which are errors."""
+    rows = table_of(DOCS / "PORTING.md", "Find the calls")
+    found = {name: row[2] for row in rows for name in re.findall(r"`(\w+)`", row[0])}
+    trials.expect("kinds of fmtcanon-check", set(found), set(reporting.RULES) - {reporting.FIXED})
+    trials.expect("errors", {it for it in found if found[it] == "as an error"}, set(reporting.ERRORS))
+    added = {reporting.RANK, reporting.SIGN, reporting.COMPOSED}
+    trials.expect("with options", {it: found[it] for it in added}, {it: f"with `--{it}`, as a note" for it in added})
+    rows = table_of(DOCS / "REFACTORING.md", "What a change does")
+    names = [name for row in rows for name in re.findall(r"`(\w+)`", row[0])]
+    wanted = {*judging.RULES, reporting.SIZE, reporting.KIND} - {"same"}
+    trials.expect("kinds of fmtcanon-diff", set(names), wanted)
+    faults = [*judging.FAULTS, reporting.SIZE, reporting.KIND]
+    page = " ".join(section(DOCS / "REFACTORING.md", "What a change does").split())
+    trials.expect("faults come first", set(names[: len(faults)]), set(faults))
+    trials.expect("how many", "if there is one of the first six kinds" in page and len(faults), 6)
+
+
+def test_types_of_platforms(trials):
+    """docs/PORTING.md has the type of each typedef on each platform."""
+    plain = {"unsigned long": "long", "unsigned int": "int", "unsigned long long": "long long"}
+    by_model = {it.name: it for it in PLATFORMS}
+    for names, *cells, _ in table_of(DOCS / "PORTING.md", "Which types change"):
+        for name in re.findall(r"`(\w+_t)`", names):
+            found = []
+            for model in ("LP64", "ILP32", "LLP64"):
+                there = {plain.get(it, it) for it in (it.types.get(name) for key, it in by_model.items() if key.startswith(model)) if it}
+                there |= {plain.get(it.wider.get(name), it.wider.get(name)) for key, it in by_model.items() if key.startswith(model) if it.wider.get(name)}
+                found.append(there)
+            shown = [set(re.findall(r"`([a-z ]+)`", it)) for it in cells[:3]]
+            trials.expect(f"{name} on each platform", shown, found)
+
+
+def test_figures(trials):
+    """docs/PERFORMANCE.md has the numbers of formats of the bench, and the ranges of its tables."""
+    page = read(DOCS / "PERFORMANCE.md")
+    shapes, whole = formats.shapes(), formats.whole_shapes()
+    mean = f"{sum(map(len, shapes)) / len(shapes):.1f}"
+    trials.expect("formats", re.search(r"over ([\d,]+) formats of real programs, ([\d.]+) bytes", page).groups(), (f"{len(shapes):,}", mean))
+    every = section(charts.RESULTS, "Calls of the C library")
+    trials.expect("formats of the whole language", re.search(r"over ([\d,]+) formats with one", every)[1], f"{len(whole):,}")
+    first, second, _, last = tables(every)
+    for what, words, ratios in [
+        ("the 509", r"the ratios are ([\d.]+) to ([\d.]+)", [row[4] for row in first[1:]]),
+        ("the whole language", r"that the profile lacks, (\d\.\d) to (\d\.\d)", [row[2] for row in second[1:]]),
+        ("printing", r"takes ([\d.]+) to ([\d.]+) of", [row[3] for row in last[1:]]),
+    ]:
+        numbers = [float(it) for it in ratios]
+        wanted = tuple(f"{it:.1f}" for it in (min(numbers), max(numbers)))
+        found = re.search(words, page)
+        trials.expect(f"ratios of {what}", found and found.groups(), wanted)
+
+
+def test_versions_of_python(trials):
+    """The pages name the Python that the module needs."""
+    needed = re.search(r'requires-python = ">=([\d.]+)"', read(TOP / "python/pyproject.toml"))[1]
+    for page in [TOP / "README.md", DOCS / "INSTALL.md", DOCS / "PYTHON.md"]:
+        found = set(re.findall(r"Python (\d\.\d+)", read(page)))
+        trials.expect(f"Python in {page.name}", found, {needed})
+
+
+Tests = tests_of(globals())
