@@ -180,9 +180,21 @@ def test_numbers_of_c(trials):
     trials.expect("kinds of the header", re.search(r"-1 to -(\d+): .*\n?.*-201 to -(\d+)", HEADER).groups(), ("22", "206"))
     rooms = re.search(r"STACK_ROOM: usize = (\d+)", read(TOP / "crates/pf_canon/src/canonical_texts.rt"))[1]
     trials.expect("bytes without an allocation", f"than {rooms} bytes." in HEADER, True)
+    room = re.search(r"const ROOM: usize = (\d+)", read(TOP / "crates/fmtcanon_c/src/directives.rt"))[1]
+    trials.expect("specifications without an allocation", f"Allocates only for more than {room}," in HEADER, True)
     most = re.search(r"considered, from 1 to (\d+);", HEADER)[1]
     ints = re.search(r"INTS: \[Candidate; (\d+)\]", read(TOP / "crates/pf_probes/src/candidate_rows.rt"))[1]
     trials.expect("renderings", most, ints)
+
+
+def test_limits(trials):
+    """Each limit of numbers that a page or a manual page names is that of the code."""
+    limit = re.search(r"MAX_NUMBER: u16 = (\d+)", read(TOP / "crates/pf_values/src/limits.rt"))[1]
+    words = r"(?:at most|up to|above|pass|passes|limit of|limits? is|number.? is) (4,?0\d\d)\b"
+    paths = [*DOCS.rglob("*.md"), TOP / "README.md", *(TOP / "man").iterdir(), TOP / "include/fmtcanon.h"]
+    found = {(it.name, number.replace(",", "")) for it in paths for number in re.findall(words, read(it))}
+    trials.expect("limits", {number for _, number in found}, {limit})
+    trials.expect("pages with limits", len(found) > 4, True)
 
 
 def numbers_in(text):
