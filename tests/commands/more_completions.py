@@ -1,5 +1,7 @@
 """Tries the completions with the other shells, and the manual pages with groff and mandoc."""
 
+import re
+
 from tests.frame.cases import tests_of
 from tests.frame.harness import TOP
 from tests.library.test_library import lines_of
@@ -42,6 +44,9 @@ def test_shells(tools, trials):
     if tools.has("groff", "groff"):
         for page in sorted((TOP / "man").iterdir()):
             trials.expect(f"groff reads {page.name}", lines_of(["groff", "-man", "-ww", "-z", page]), (0, ""))
+            _, text = lines_of(["groff", "-man", "-Tutf8", "-P-bcou", "-rLL=80n", page])
+            broken = [it for it in text.splitlines() if re.search(r"\w[-\u2010]$", it)]
+            trials.expect(f"words that are broken in {page.name}", broken, [])
     if tools.has("mandoc", "mandoc"):
         for page in sorted((TOP / "man").iterdir()):
             trials.expect(f"mandoc finds nothing in {page.name}", lines_of(["mandoc", "-Tlint", page]), (0, ""))
