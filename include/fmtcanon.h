@@ -2,7 +2,8 @@
  *
  * A format is `len` bytes at `text`. No byte after them is read, so it needs no NUL at its end, and a
  * NUL inside it is rejected. What a call returns and writes, as its comment says, is proved; when it
- * allocates is tested. docs/C.md explains that, and has examples.
+ * allocates, and fmtcanon_fmtcheck(), which is C code here, are tested. docs/C.md explains that, and has
+ * examples.
  *
  * The profile and the whole language. fmtcanon_arguments(), fmtcanon_directives(), and the calls whose
  * names begin with fmtcanon_fits or fmtcanon_whole accept the whole language of POSIX `fprintf`: numbered
@@ -61,7 +62,7 @@ extern "C" {
 /* There is no such byte, or the text is not string literals. */
 #define FMTCANON_ERROR_NOPLACE (-102)
 
-/* fmtcanon_render(): the format takes another number of arguments, which `error->at` is. */
+/* fmtcanon_render(): the format takes a different number of arguments, which `error->at` is. */
 #define FMTCANON_ERROR_COUNT (-103)
 
 /* fmtcanon_render(): the argument with the index `error->at` is the first one that is not of the type that
@@ -88,7 +89,7 @@ enum fmtcanon_model {
 #endif
 #endif
 
-/* A set of data models: the sum of their bits. */
+/* A set of data models: a bit mask. */
 enum fmtcanon_models {
     FMTCANON_IN_NEITHER = 0, /* in no data model */
     FMTCANON_IN_LP64 = 1,
@@ -114,9 +115,9 @@ enum fmtcanon_kind {
     FMTCANON_POINTER = 10,             /* `%p` */
     FMTCANON_COUNT = 11,               /* `%n` */
     FMTCANON_WIDE = 12,                /* `%C`, `%S`, `%lc`, `%ls` */
-    FMTCANON_ALT_UNDEFINED = 13,       /* `#` with another conversion than `o x X b` or a floating one */
+    FMTCANON_ALT_UNDEFINED = 13,       /* `#` with a conversion other than `o x X b` or a floating one */
     FMTCANON_ZERO_UNDEFINED = 14,      /* `0` with a conversion that prints no number */
-    FMTCANON_GROUP_UNDEFINED = 15,     /* `'` with another conversion than `d i u`, or `f F g G` */
+    FMTCANON_GROUP_UNDEFINED = 15,     /* `'` with a conversion other than `d i u`, or `f F g G` */
     FMTCANON_PRECISION_UNDEFINED = 16, /* a precision with `c`, `C`, `lc`, `p` or `n` */
     FMTCANON_LENGTH_UNDEFINED = 17,    /* a length modifier that the conversion doesn't take */
     FMTCANON_TOO_LONG = 18,            /* more than 2^62 bytes */
@@ -171,7 +172,7 @@ typedef struct fmtcanon_directive {
     uint64_t kind;               /* the type of the argument that it converts, an enum fmtcanon_type */
 } fmtcanon_directive;
 
-/* A part that a conversion specification can be without. A set of parts is the sum of theirs. */
+/* A part that a conversion specification can be without. A set of parts is a bit mask. */
 enum fmtcanon_part {
     FMTCANON_PART_MINUS = 1,       /* the flag `-` */
     FMTCANON_PART_PLUS = 2,        /* the flag `+` */
@@ -291,18 +292,18 @@ int64_t fmtcanon_bounds(int model, const char *text, size_t len, struct fmtcanon
 /* Returns the number of bytes that the format prints for the arguments, and writes them into `out` with a
  * NUL after them. They fit if the number is below `cap`. The bytes are those of `snprintf` in the data
  * model `model`, but no argument is read that isn't there: FMTCANON_ERROR_COUNT if there are more or fewer
- * arguments than the format takes, and FMTCANON_ERROR_TYPE if one has another type, is a number out of the
+ * arguments than the format takes, and FMTCANON_ERROR_TYPE if one has a different type, is a number out of the
  * range of its type, or a string with a NUL. FMTCANON_ERROR_NOMEMORY if the number is 2^63 or more.
  * Allocates nothing. */
 int64_t fmtcanon_render(int model, const char *text, size_t len, const fmtcanon_argument *args,
                         size_t count, char *out, size_t cap, fmtcanon_error *error);
 
 /* Returns 1 if both formats take arguments of the same types and print the same bytes for all of them, 0
- * otherwise. They have the same canonical text exactly if it is 1. Allocates nothing. */
+ * otherwise. They have the same canonical text if and only if it is 1. Allocates nothing. */
 int64_t fmtcanon_same(int model, const char *first, size_t first_len, const char *second,
                       size_t second_len, fmtcanon_error *error);
 
-/* Returns the set of data models in which fmtcanon_same() is 1, a sum of enum fmtcanon_models. Before a
+/* Returns the set of data models in which fmtcanon_same() is 1, a bit mask of enum fmtcanon_models. Before a
  * rewrite of source that is built everywhere, it must be FMTCANON_IN_ALL. Allocates nothing. */
 int64_t fmtcanon_same_models(const char *first, size_t first_len, const char *second,
                              size_t second_len, fmtcanon_error *error);
@@ -323,23 +324,22 @@ int64_t fmtcanon_arguments(int model, const char *text, size_t len, unsigned cha
                            fmtcanon_error *error);
 
 /* Returns 1 if the second of two formats of the whole language takes arguments of exactly the types of the
- * first, 0 otherwise. Ask this of a translation. Allocates nothing. */
+ * first, 0 otherwise. For translations. Allocates nothing. */
 int64_t fmtcanon_fits(int model, const char *first, size_t first_len, const char *second,
                       size_t second_len, fmtcanon_error *error);
 
-/* Returns the set of data models in which fmtcanon_fits() is 1, a sum of enum fmtcanon_models. If a format
+/* Returns the set of data models in which fmtcanon_fits() is 1, a bit mask of enum fmtcanon_models. If a format
  * is rejected in one of them, the result is the error in the first such data model. Allocates nothing. */
 int64_t fmtcanon_fits_models(const char *first, size_t first_len, const char *second,
                              size_t second_len, fmtcanon_error *error);
 
 /* Returns 1 if the types of the second of two formats of the whole language are those of the first, or a
- * beginning of them, 0 otherwise. Then the second may be used with the arguments of the first: `printf`
- * ignores arguments that are left over (C11 7.21.6.1p2). Ask this of a format from outside. Allocates
- * nothing. */
+ * prefix of them, 0 otherwise. Then the second may be used with the arguments of the first: `printf` ignores
+ * arguments that are left over (C11 7.21.6.1p2). For untrusted formats. Allocates nothing. */
 int64_t fmtcanon_fits_fewer(int model, const char *first, size_t first_len, const char *second,
                             size_t second_len, fmtcanon_error *error);
 
-/* Returns the set of data models in which fmtcanon_fits_fewer() is 1, a sum of enum fmtcanon_models. If a
+/* Returns the set of data models in which fmtcanon_fits_fewer() is 1, a bit mask of enum fmtcanon_models. If a
  * format is rejected in one of them, the result is the error in the first such data model. Allocates
  * nothing. */
 int64_t fmtcanon_fits_fewer_models(const char *first, size_t first_len, const char *second,

@@ -308,7 +308,7 @@ def is_canonical(format: Format, *, model: DataModel = Model.LP64) -> bool:
 def canonical(format: _Text, *, model: DataModel = Model.LP64, whole: bool = False) -> _Text:
     """Returns the canonical text: a `str` if the format is one, otherwise bytes.
 
-    Two formats have the same canonical text exactly if they take arguments of the same types and print the same
+    Two formats have the same canonical text if and only if they take arguments of the same types and print the same
     bytes for all of them. With `whole`, the format may be of the whole language without numbered arguments.
     """
     text, error, number = _bytes(format), CError(), model_of(model)

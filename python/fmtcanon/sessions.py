@@ -165,7 +165,7 @@ def _record(format: Format) -> bytes:
 
 
 def _check_options(words: List[str], timeout: Optional[float]) -> None:
-    """Runs the command without records. It succeeds and writes nothing exactly if it accepts its options."""
+    """Runs the command without records. It succeeds and writes nothing if and only if it accepts its options."""
     limit = None if timeout is None or timeout > threading.TIMEOUT_MAX else timeout
     try:
         done = subprocess.run(

@@ -1,6 +1,6 @@
 """Checks the words of what people read: phrases that this project doesn't use, and the length of each page.
 
-It reads the documents, the manual pages, the header, the help of the program, the comments of the crates' sources,
+It reads the documents, the manual pages, the header, the examples, the help of the program, the comments of the crates' sources,
 definitions and proofs, the comments, docstrings, texts and words of the Python module, the page and the comments of its
 sources, and the comments and docstrings of the tests.
 """
@@ -47,6 +47,15 @@ PHRASES = {
     "otherwise": r"(?<!nothing )(?<!anything )(?<!something )(?<!everything )(?<!somebody )(?<!what )(?<!or )(?<!one )else"
     r"(?! if)",
 }
+# The same for what people read first: pages, manual pages, the header, help texts and examples.
+FIRST = {
+    "if and only if": r"exactly if",
+    "different, wrong, other than": r"(?:is|are|be|has|have|take|takes|with|whose type is) another"
+    r"(?= (?:type|kind|size|sign|number|order|conversion|encoding)s?\b|[.,;:)]| elsewhere)|of another kind|alone is another",
+    "skipped": r"(?:places?|files?|formats?|calls?) (?:is|are|was|were) left(?! (?:out|over))|(?:is|was) left as it is",
+    "literal": r"places? (?:is|are|was|were) (?:not )?(?:replaced|skipped|verified|judged|reported)|each place",
+}
+READ_FIRST = re.compile(r"[^/]*\.md|docs/.*|man/.*|include/.*|tests/usage\.txt|examples/.*|python/fmtcanon/\w+/options\.py|web/.*html")
 # Files whose docstrings are part of the mutants' keys: an edit would make all of them be tried again.
 KEPT = ["tests/mutants/rattle_functions.py"]
 # What may have a docstring.
@@ -143,6 +152,11 @@ def comments_of_c(text):
     return "\n".join(re.findall(r"/\*.*?\*/", text, re.DOTALL))
 
 
+def comments_of_scripts(text):
+    """The comments and the texts of a script or a workflow."""
+    return "\n".join(re.findall(r"(?:#|echo|name:) *(.*)$", text, re.MULTILINE))
+
+
 def words_of_page(text):
     """The words of a document, without its code."""
     return re.sub(r"^(?:```[^`]*```| {4}.*)$", "", text, flags=re.MULTILINE)
@@ -164,7 +178,9 @@ def texts():
     for paths, reads in [
         (pages(), words_of_page),
         (files("man/*", "tests/usage.txt"), str),
-        (files("include/*"), comments_of_c),
+        (files("include/*", "examples/*.c"), comments_of_c),
+        (files("examples/*.py"), words_of_python),
+        (files("examples/ci/*"), comments_of_scripts),
         (files("crates/*/src/**/*.rt", "crates/*/specs/**/*.antt", "crates/*/proofs/**/*.antt"), comments_of_rattle),
         (files("python/fmtcanon/**/*.py"), words_of_python),
         (files("python/fmtcanon/**/*.json"), str),
@@ -181,9 +197,10 @@ def texts():
 def phrases_in(name, text):
     """The phrases that the text of a file has, each with what is written for it, in the order of PHRASES."""
     line = plain(text)
+    phrases = {**PHRASES, **(FIRST if READ_FIRST.fullmatch(name) else {})}
     return [
         f"{found[0]} ({instead})"
-        for instead, phrase in PHRASES.items()
+        for instead, phrase in phrases.items()
         if name not in KEPT
         # What comes before `=` is the name of an argument.
         for found in re.finditer(rf"(?<![\w-])(?:{phrase})(?![\w=])", line, re.IGNORECASE)

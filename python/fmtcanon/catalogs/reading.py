@@ -221,7 +221,7 @@ class PoReader:
             message.plural = text
         else:
             if (self.form is None) != (message.plural is None) or (self.form or 0) in message.forms:
-                raise BadCatalog(self.line, "msgstr has a number exactly if there is a msgid_plural, each another")
+                raise BadCatalog(self.line, "msgstr has a number if and only if there is a msgid_plural, each another")
             if not message.forms:
                 message.line, message.column = self.line, self.column
             message.forms[self.form or 0] = text

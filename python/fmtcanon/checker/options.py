@@ -58,8 +58,8 @@ def parser() -> Parser:
     type = "the typedef NAME is TYPE, an integer type or one of the C library, whatever #if chose"
     made.add_argument("--type", action="append", default=[], type=type_of, metavar="NAME=TYPE", help=type)
     for option, text in [
-        ("--rank", "also report arguments of the right size whose type is another, as long and long long"),
-        ("--sign", "also report arguments whose sign alone is another"),
+        ("--rank", "also report arguments of the right size and the wrong type, as long and long long"),
+        ("--sign", "also report arguments that differ only in signedness"),
         ("--composed", "also report directives of several literals, once for each file and type"),
     ]:
         made.add_argument(option, action="store_true", help=text)

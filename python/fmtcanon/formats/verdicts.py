@@ -94,7 +94,7 @@ def shared_back(first: bytes, second: bytes, front: int) -> int:
 
 def narrowed(old: bytes, new: bytes) -> Tuple[int, int]:
     """Returns the lengths of a front and of a back that two accepted formats share. Neither ends within a specification.
-    Without them the formats are the same exactly if they are with them.
+    Without them the formats are the same if and only if they are with them.
     """
     shared = shared_front(old, new)
     cut = fmtcanon._refused_specification(old[:shared])

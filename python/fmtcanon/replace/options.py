@@ -11,7 +11,7 @@ NAME = "fmtcanon-replace"
 REPLACED, SKIPPED = "replaced", "skipped"
 RULES = {
     REPLACED: "A format was replaced by another of the same meaning.",
-    SKIPPED: "A format was left as it is, or a file wasn't judged.",
+    SKIPPED: "A format was skipped, or a file wasn't judged.",
 }
 USAGE = """\
 fmtcanon-replace [OPTION]... OLD NEW [FILE...]
@@ -22,7 +22,7 @@ DESCRIPTION = """\
 Replaces printf formats by others in C source. Nothing is replaced unless both take the same arguments and print the \
 same bytes for all of them.
 
-OLD and NEW are formats as C has them between the quotes, so '%i\\n' ends in a newline. A place is one or more adjacent \
+OLD and NEW are formats as C has them between the quotes, so '%i\\n' ends in a newline. A literal is one or more adjacent \
 string literals that make up OLD. It is replaced if it is the format of a call of the C library's printf family, of a \
 function given by --function, or, with --attribute, of one that is declared with the attribute format(printf, m, n). \
 The file's own compiler preprocesses it, and libclang (the package python3-clang) finds the calls in that text. The \
@@ -37,15 +37,15 @@ Examples:
   fmtcanon-replace -p build --diff '%5.5d' '%.5d'
   fmtcanon-replace --list src
 
-It reports each place, and says whether it was replaced and, if not, why. It also reports each place that means the \
-same as OLD and is spelled in another way, except for one that is already NEW. Arguments are counted from 1, as in \
+It reports each literal, and says whether it was replaced and, if not, why. It also reports each literal that means the \
+same as OLD and is spelled differently, except for one that is already NEW. Arguments are counted from 1, as in \
 %1$d.
 
 The kinds of findings are {', '.join(RULES)}.
 
 Exit status:
   0  no finding has a kind that --fail-on names
-  1  a finding has one: a place was skipped
+  1  a finding has one: a literal was skipped
   2  usage error, a rejected format, a file that wasn't judged, or an output
      that can't be written"""
 # What isn't a pair of formats and files.
@@ -70,7 +70,7 @@ def parser() -> Parser:
 def add_modes(made: Parser) -> None:
     """Adds the options that say what is done."""
     for option, text in [
-        ("--posix-locale", "the program prints in the POSIX locale only; otherwise a format with the flag ' is left"),
+        ("--posix-locale", "the program prints in the POSIX locale only; otherwise a format with the flag ' is skipped"),
         ("--list", "print all formats of the files, grouped by their meaning, and change no file"),
         (
             "--list-functions",
