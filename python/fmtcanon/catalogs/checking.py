@@ -273,6 +273,8 @@ class Checker:
         if catalog.hidden:
             self.unjudged += catalog.hidden
             text = f"{catalog.hidden} strings depend on the machine, and aren't checked"
+            if catalog.hidden == 1:
+                text = "1 string depends on the machine, and isn't checked"
             self.add(Finding(file, 0, None, UNJUDGED, WARNING, text))
         fault = fault_of(catalog.header, rule)
         if fault:

@@ -16,8 +16,8 @@ fmtcanon-check [OPTION]... -p DIR [FILE...]
        fmtcanon-check [OPTION]... FILE...
        fmtcanon-check [OPTION]... --git [REV] [FILE...]"""
 DESCRIPTION = """\
-Says of each call of a printf function in C source whether its arguments have the types that its format takes: where it \
-is compiled, on 32-bit systems, also with a 64-bit time_t, and on 64-bit Windows. It proposes a directive that is right \
+For each call of a printf function in C source, it reports whether the arguments match the format: where it is \
+compiled, on 32-bit systems, also with a 64-bit time_t, and on 64-bit Windows. It proposes a directive that is right \
 on all of them.
 
 Each file is preprocessed by its own compiler, for 64-bit Unix. In that text, the types of the C library get those of \
