@@ -43,7 +43,8 @@ PAGES = $(if $(PROGRAM),man/fmtcanon.1) $(COMMANDS:%=man/fmtcanon-%.1)
 install: places built
 	python3 packaging/folders.py make "$(DESTDIR)" $(MADE) $(BINDIR) $(INCLUDEDIR) $(LIBDIR)/pkgconfig $(PYTHONDIR) \
 	    $(addprefix $(PYTHONDIR)/,$(MODULES)) $(MANDIR)/man1 $(MANDIR)/man3 $(BASHDIR) $(ZSHDIR) $(FISHDIR) \
-	    $(DOCDIR)/docs $(DOCDIR)/docs/internals $(DOCDIR)/docs/try $(DOCDIR)/examples $(DOCDIR)/examples/ci
+	    $(DOCDIR)/docs $(DOCDIR)/docs/internals $(DOCDIR)/docs/try $(DOCDIR)/examples $(DOCDIR)/examples/ci \
+	    $(DOCDIR)/examples/first
 	install -m 644 include/fmtcanon.h $(DESTDIR)$(INCLUDEDIR)
 	install -m 644 $(C)/libfmtcanon.a $(DESTDIR)$(LIBDIR)
 	install -m 644 $(SHARED) $(DESTDIR)$(LIBDIR)
@@ -71,6 +72,7 @@ install: places built
 	install -m 644 docs/try/* $(DESTDIR)$(DOCDIR)/docs/try
 	install -m 644 examples/*.c $(DESTDIR)$(DOCDIR)/examples
 	install -m 644 examples/ci/* $(DESTDIR)$(DOCDIR)/examples/ci
+	install -m 644 examples/first/* $(DESTDIR)$(DOCDIR)/examples/first
 ifneq ($(PROGRAM),)
 	install -m 755 $(PROGRAM) $(DESTDIR)$(BINDIR)/fmtcanon
 	ln -sfr $(DESTDIR)$(BINDIR)/fmtcanon $(DESTDIR)$(PYTHONDIR)/fmtcanon/program

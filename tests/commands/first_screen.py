@@ -16,22 +16,7 @@ from tests.frame.fixtures import folder, python_with
 from tests.frame.harness import TOP
 
 PICTURE = TOP / "docs/first.svg"
-FILES = {
-    "names.c": """\
-#include <stdio.h>
-#include <string.h>
-#include <time.h>
-void f(const char *name, time_t when) {
-  printf("%lu bytes\\n", strlen(name));
-  printf("%d: %ld\\n", 1, when);
-}
-""",
-    "de.po": """\
-#, c-format
-msgid "%s: %d files"
-msgstr "%d Dateien in %s"
-""",
-}
+FILES = {it.name: it.read_text(encoding="utf-8") for it in (TOP / "examples/first").iterdir()}
 COMMANDS = ["fmtcanon-check names.c", "fmtcanon-po de.po"]
 # The height of a line, the size of its letters, the width of one, and the room around the lines.
 LINE, SIZE, LETTER, MARGIN, COLUMNS = 19, 14, 8.43, 14, 80

@@ -141,7 +141,7 @@ def wanted_files():
         | {f"{MODULE}/{name}" for name in module}
         | {f"share/doc/fmtcanon/{path.relative_to(TOP)}" for path in (TOP / "docs").rglob("*.md")}
         | {f"share/doc/fmtcanon/docs/{path.name}" for path in (TOP / "docs").glob("*.svg")}
-        | {f"share/doc/fmtcanon/examples/ci/{path.name}" for path in (TOP / "examples/ci").iterdir()}
+        | {f"share/doc/fmtcanon/{it.relative_to(TOP)}" for it in (TOP / "examples").glob("*/*")}
         | {f"share/man/man3/{name}.3" for name in calls()}
     )
 
