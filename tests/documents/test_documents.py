@@ -444,6 +444,26 @@ def test_callers(trials):
                 trials.expect(f"{document}: the code has this: {item[:60]}", found, True)
 
 
+def test_crates_of_callers(trials):
+    """A page that shows a caller names the crate that has it."""
+    homes = {
+        name: path.parts[-3]
+        for path in TOP.glob("crates/uses*/src/*.rt")
+        for name in re.findall(r"^pub fn (\w+)", path.read_text(encoding="utf-8"), re.MULTILINE)
+    }
+    shown = [
+        (document, text, homes[name])
+        for document, text in documents()
+        for language, block in fences(text)
+        if language == "rust"
+        for name in re.findall(r"^pub fn (\w+)", block, re.MULTILINE)
+        if name in homes
+    ]
+    for document, text, crate in shown:
+        trials.expect(f"{document} names crates/{crate}", re.search(rf"`crates/{crate}[`/]", text) is not None, True)
+    trials.expect("callers that pages show", len(shown) > 8, True)
+
+
 def test_quoted(trials):
     """A file of specs/ has each definition that a document shows in antt, as it is shown."""
     sources = [path.read_text(encoding="utf-8") for path in TOP.glob("crates/*/specs/**/*.antt")]
