@@ -180,6 +180,8 @@ def test_numbers_of_c(trials):
     trials.expect("kinds of the header", re.search(r"-1 to -(\d+): .*\n?.*-201 to -(\d+)", HEADER).groups(), ("22", "206"))
     rooms = re.search(r"STACK_ROOM: usize = (\d+)", read(TOP / "crates/pf_canon/src/canonical_texts.rt"))[1]
     trials.expect("bytes without an allocation", f"than {rooms} bytes." in HEADER, True)
+    words = "65536 times the major one, 256 times the minor one, plus the patch"
+    trials.expect("the number of the version", words in " ".join(HEADER.replace("\n *", "").split()), True)
     room = re.search(r"const ROOM: usize = (\d+)", read(TOP / "crates/fmtcanon_c/src/directives.rt"))[1]
     trials.expect("specifications without an allocation", f"Allocates only for more than {room}," in HEADER, True)
     most = re.search(r"considered, from 1 to (\d+);", HEADER)[1]
