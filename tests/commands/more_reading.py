@@ -3,11 +3,13 @@ terminal. They need libclang and git.
 """
 
 import re
+import subprocess
 
 from tests.commands import first_screen
+from tests.commands.more_check import LARGE
 from tests.commands.reader import Reader
 from tests.frame.cases import tests_of
-from tests.frame.harness import TOP, fences, section
+from tests.frame.harness import TIMEOUT, TOP, fences, section
 
 # What the lines of docs/FINDINGS.md need: the declarations of each, as the program has them.
 DECLARED = """\
@@ -54,7 +56,9 @@ def test_picture(reader, trials):
 
 
 def test_findings(reader, trials):
-    """Each line of docs/FINDINGS.md is reported, and what is written instead isn't."""
+    """Each line of docs/FINDINGS.md is reported, and what is written instead isn't: by the command where it is compiled,
+    and by gcc for 32 bits alone.
+    """
     lines = [it for _, it in fences(section(TOP / "docs/FINDINGS.md", "Calls"))]
     trials.expect("lines, each with what is written instead", (len(lines) % 2, len(lines) > 10), (0, True))
     for number, line in enumerate(lines):
@@ -65,6 +69,11 @@ def test_findings(reader, trials):
         kinds = re.findall(r'"kind": "(\w+)"', found)
         trials.expect(f"{line} {found}", bool(kinds), number % 2 == 0)
         trials.expect(f"{line}: the kinds", set(kinds) - {"size"}, set())
+        for words, is_warned in [(["-Wall"], False), (["-m32", *LARGE, "-Wformat"], number % 2 == 0)]:
+            words = ["gcc", *words, "-fsyntax-only", "a.c"]
+            done = subprocess.run(words, cwd=reader.work, capture_output=True, encoding="utf-8", timeout=TIMEOUT, check=False)
+            got = (done.returncode, "-Wformat=" in done.stderr)
+            trials.expect(f"{words} of {line}", got, (0, is_warned))
 
 
 Tests = tests_of(globals())
