@@ -149,6 +149,21 @@ def test_reduction(module, trials):
     trials.expect("the smallest int", int(least), -(2**31))
 
 
+def test_kinds_of_the_profile(module, trials):
+    """docs/REFUSALS.md says which kinds are of the profile alone."""
+    rows = re.findall(r"^\| `(.*?)` \| (\d+) at \d+ \|", section(DOCS / "REFUSALS.md", "What people write"), re.MULTILINE)
+    accepted = set()
+    for format, kind in rows:
+        try:
+            module.arguments(format)
+            accepted |= {int(kind)} if format != "%m" else set()
+        except module.Refused:
+            pass
+    singles, first, last = re.search(r"what ([\d, ]+) and (\d+) to (\d+) reject above", read("docs/REFUSALS.md")).groups()
+    named = {*map(int, singles.split(", ")), *range(int(first), int(last) + 1)}
+    trials.expect("kinds that the whole language accepts", named, accepted)
+
+
 def test_errors(module, trials):
     """docs/C.md has an error for each example."""
     page = read("docs/C.md")

@@ -13,7 +13,7 @@ from fmtcanon.fitting import reporting
 from fmtcanon.kinds import Kind, LiteralKind, Type
 from fmtcanon.words import WORDS
 from tests.frame.cases import tests_of
-from tests.frame.harness import TOP, section, usage_texts
+from tests.frame.harness import TOP, model_rows, section, usage_texts
 
 DOCS = TOP / "docs"
 RESULTS = TOP / "tests/field/RESULTS.md"
@@ -181,6 +181,11 @@ def test_numbers_of_c(trials):
     rooms = re.search(r"STACK_ROOM: usize = (\d+)", read(TOP / "crates/pf_canon/src/canonical_texts.rt"))[1]
     trials.expect("bytes without an allocation", f"than {rooms} bytes." in HEADER, True)
     words = "65536 times the major one, 256 times the minor one, plus the patch"
+    more = re.search(r"which is (\d+) more than the number", page)[1]
+    trials.expect("numbers of literal kinds", int(more), min(LiteralKind).value - 1)
+    numbers = re.search(r"an enum fmtcanon_literal_kind; (\d+) or (\d+) \*/", HEADER).groups()
+    errors = [-values[f"FMTCANON_ERROR_{it}"] for it in ("COUNT", "TYPE")]
+    trials.expect("numbers of errors of fmtcanon_render()", [int(it) for it in numbers], errors)
     trials.expect("the number of the version", words in " ".join(HEADER.replace("\n *", "").split()), True)
     room = re.search(r"const ROOM: usize = (\d+)", read(TOP / "crates/fmtcanon_c/src/directives.rt"))[1]
     trials.expect("specifications without an allocation", f"Allocates only for more than {room}," in HEADER, True)
@@ -292,6 +297,12 @@ def test_figures(trials):
         wanted = tuple(f"{it:.1f}" for it in (min(numbers), max(numbers)))
         found = re.search(words, page)
         trials.expect(f"ratios of {what}", found and found.groups(), wanted)
+
+
+def test_rows_of_the_model(trials):
+    """docs/VERIFICATION.md says how many rows the model of the program has, in hundreds."""
+    count = int(re.search(r"more than (\d+) rows of a model of the program", read(DOCS / "VERIFICATION.md"))[1])
+    trials.expect("rows of the model", count, len(model_rows()) // 100 * 100)
 
 
 def test_versions_of_python(trials):
