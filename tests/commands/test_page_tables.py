@@ -162,6 +162,10 @@ def test_kinds_of_the_profile(module, trials):
     singles, first, last = re.search(r"what ([\d, ]+) and (\d+) to (\d+) reject above", read("docs/REFUSALS.md")).groups()
     named = {*map(int, singles.split(", ")), *range(int(first), int(last) + 1)}
     trials.expect("kinds that the whole language accepts", named, accepted)
+    header = read("include/fmtcanon.h")
+    never = re.search(r"the whole language never (\d+) and (\d+) to (\d+)\.", header).groups()
+    # Without numbered arguments it has 6, too.
+    trials.expect("kinds that it never has, in the header", {int(never[0]), *range(int(never[1]), int(never[2]) + 1)}, accepted - {6})
 
 
 def test_errors(module, trials):
