@@ -136,6 +136,18 @@ def test_statuses(trials):
     trials.expect("status 1", found["1"], statuses()["1"])
 
 
+def test_statuses_of_commands(trials):
+    """Pages that say when the status is 0, 1 and 2 say so in this order, as the help of the commands does."""
+    found = []
+    for page in sorted(DOCS.glob("*.md")):
+        for sentence in re.findall(r"The status is (\d (?:if|for) [^.]*(?:\.[^.\s][^.]*)*)\.", read(page)):
+            numbers = re.findall(r"(?:^|, |and )(\d) (?:if|for)", sentence)
+            trials.expect(f"statuses in {page.name}: {sentence[:60]}", numbers, ["0", "1", "2"] if len(numbers) > 1 else ["1"])
+            found.append(page.name)
+    pages = ["EXPLAINING.md", "PORTING.md", "REFACTORING.md", "TRANSLATIONS.md", "TUTORIAL.md"]
+    trials.expect("pages with statuses", sorted(set(found)), pages)
+
+
 def test_candidates(trials):
     """docs/DEFINITIONS.md has the candidates and the bases of the code."""
     code = read(TOP / "crates/pf_probes/src/candidate_rows.rt")
