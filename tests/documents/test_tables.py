@@ -251,7 +251,7 @@ def test_results(trials):
     errors = {row[0].split(" ")[0]: row[4] for row in table_of(RESULTS, "Programs")}
     errors["iproute2"] = re.search(r"In iproute2 6.1, 4 files have (\d) errors", read(RESULTS))[1]
     readme = section(TOP / "README.md", "What it found")
-    named = dict((name, number) for number, name in re.findall(r"(\d+) (?:wrong calls )?in (\w+)", readme))
+    named = dict((name, number) for number, name in re.findall(r"(\d+) (?:wrong arguments )?in (\w+)", readme))
     trials.expect("findings of the README", named, {it: errors[it] for it in ("bcal", "redis", "libpsm2", "iproute2")})
     alone = catalogs["Messages with a fault by `fmtcanon-po` alone"]
     trials.expect("translations of the README", re.search(r"And (\d+) translations", readme)[1], alone)
