@@ -151,9 +151,9 @@ module _ (t : Text) (walk : Walk) (h : HasAccepted t walk) where
   pub accepted_whole : walk.at ≡ length t → IsWholeAccepted t
   accepted_whole e = subst IsWholeAccepted (take_all walk.at t (omega (arith, e))) h.front
 
-  module _ (passes : Item → Type 0) (new : Walk) where
-    pub accepted_passed : HasPassed passes walk new → HasAccepted t new
-    accepted_passed g =
+  module _ (new : Walk) where
+    pub accepted_passed : (passes : Item → Type 0) → HasPassed passes walk new → HasAccepted t new
+    accepted_passed passes g =
         let same : new.text.now ≡ take MAX_TEXT_LEN t = g.text ∙ h.over.text_is in
         let low : walk.at ≤ length new.text.now = subst (λ u. walk.at ≤ length u) (sym g.text) h.within in
         let most : new.at ≤ length new.text.now = omega (arith, g.within, low) in
@@ -165,9 +165,9 @@ module _ (t : Text) (walk : Walk) (h : HasAccepted t walk) where
         }
 
     -- and where it stops, if there is no directive
-    pub none_there : (leaves : ℕ → Type 0) (found : Bool) → Finds passes leaves walk new found → ((byte : ℕ) → leaves byte → byte ≢ percent)
+    pub none_there : (passes : Text → Type 0) (leaves : ℕ → Type 0) (found : Bool) → Finds passes leaves walk new found → ((byte : ℕ) → leaves byte → byte ≢ percent)
         → BeginsNoDirective (drop new.at new.text.now) → BeginsNoItem (drop new.at (take MAX_TEXT_LEN t))
-    none_there leaves found g other none =
+    none_there passes leaves found g other none =
         subst (λ u. BeginsNoItem (drop new.at u)) (g.passed.text ∙ h.over.text_is) (go found g.stopped g.ended) where
           go : (b : Bool) → (IsTrue b → HasPercent new.text.now new.at × leaves (get_or new.text.now (new.at + 1) 0))
               → (IsFalse b → BeginsNothing new.text.now new.at) → BeginsNoItem (drop new.at new.text.now)

@@ -30,7 +30,7 @@ mod state;
 mod walk;
 
 pub use argument_types::signature;
-pub use checking::{check, is_known_accepted, items_end, items_end_from, refusal_at};
+pub use checking::{check, items_end, items_end_from, refusal_at};
 pub use known_argument_types::known_types;
 pub use letters::{conv_of, flag_of, modifier_of};
 pub use passed::{Bare, Canonical, Nothing, Passed, Percents};

@@ -6,12 +6,12 @@ use pf_text::{Refusal, directive_at, spell};
 use pf_values::{Model, RefusalKind};
 
 fn is_verbatim(format: &[u8]) -> bool {
-    VerbatimFront::of(Model::Lp64, format).is_all(format)
+    VerbatimFront::of::<Profile>(Model::Lp64, format).is_all::<Profile>(format)
 }
 
 // Whether all of a format's canonical text has room, and is this.
 fn is_put(format: &[u8], wanted: &[u8]) -> Result<bool, Refusal> {
-    let front = VerbatimFront::of(Model::Lp64, format);
+    let front = VerbatimFront::of::<Profile>(Model::Lp64, format);
     let mut text = ShortText::new();
     let room = text.put::<Profile>(&front, format)?;
     Ok(room == Room::Enough && text.as_slice() == wanted)
