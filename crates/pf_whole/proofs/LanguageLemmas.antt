@@ -27,30 +27,10 @@ use Rattle.pf_whole.specs.meaning.NormalSpellings.{normal_spelling}
 use Rattle.pf_whole.specs.meaning.WholeCanonical.{IsPutTogether, IsWholeCanonicalOf}
 use Rattle.pf_whole.proofs.AnswerLemmas.{are_same, canonical_for}
 use Rattle.pf_whole.proofs.Completeness.{alike_have_one_canonical}
-use Rattle.pf_whole.proofs.Loops.{stretch_of}
+use Rattle.pf_whole.specs.FrontLaws.{past_opaque, stretch_of}
 use Rattle.pf_whole.proofs.OneCanonical.{one_canonical_is_alike}
 
 module _ (model : Model) where
-  -- after a front a stretch comes, and what the profile lacks
-  past_opaque : (front out last own middle : Text) (items : List Item) (s : OpaqueItem) → IsWholeFront model front out → Reads last items
-      → IsCanonicalOf model last own → SpellsOpaqueItem middle s
-      → IsWholeFront model ((front ++ last) ++ middle) ((out ++ own) ++ normal_spelling model s)
-  past_opaque front out last own middle items s h reads is spells = record {
-    continues = λ rest left later.
-        let (whole, all, together) = h.continues ((last ++ middle) ++ rest) (Before items s left) (last, middle, rest, reads, spells, later, refl) in
-        let text : front ++ ((last ++ middle) ++ rest) ≡ ((front ++ last) ++ middle) ++ rest =
-        sym (append_assoc front (last ++ middle) rest) ∙ ap (λ u. u ++ rest) (sym (append_assoc front last middle)) in (
-          whole,
-          rw (← text) all,
-          λ back k.
-              let normal = normal_spelling model s in
-              let put : out ++ ((own ++ normal) ++ back) ≡ ((out ++ own) ++ normal) ++ back =
-              sym (append_assoc out (own ++ normal) back) ∙ ap (λ u. u ++ back) (sym (append_assoc out own normal)) in
-              subst (IsPutTogether model whole) put
-              (together ((own ++ normal) ++ back) (own, back, stretch_of model last own items reads is, k, refl)),
-        );
-  }
-
   module _ (t : Text) where
     -- the engine's canonical text is the canonical text
     pub whole_accepted : (c : Text) → HasCanonicalIn IsWholeFront model t c → IsWholeAccepted t
@@ -79,7 +59,7 @@ module _ (model : Model) where
         ap (λ u. u ++ normal_spelling model (item_of_opaque found.0)) (sym h.whole) ∙ ap (λ u. c ++ u) (sym is) in
         subst (λ u. IsWholeFront model u (c ++ spelling)) text
         (subst (IsWholeFront model ((h.front ++ h.last) ++ middle)) put
-        (past_opaque h.front h.out h.last h.own middle h.ends.items (item_of_opaque found.0) h.begins h.ends.accepted.reads h.ends.canonical_is there.spelled))
+        (past_opaque model h.front h.out h.last h.own middle h.ends.items (item_of_opaque found.0) h.begins h.ends.accepted.reads h.ends.canonical_is there.spelled))
 
 module _ (model : Model) (t : Text) where
   pub fault_of_whole : (fault : TextFault) → FaultIn IsWholeFront IsWholeRefusedAt model t fault → FaultForWholeCanonical model t fault

@@ -105,23 +105,24 @@ fn given_precision(conversion: Conversion, n: u16) -> Option<OpaqueAmount>
     if is_meant(conversion, n) {
         return None;
     }
-    if n == 0 {
-        return zero_precision(conversion);
+    if n == 0 && is_general(conversion) {
+        return Some(OpaqueAmount::Number(1));
     }
     Some(OpaqueAmount::Number(n))
 }
 
-fn zero_precision(conversion: Conversion) -> Option<OpaqueAmount>
-    ensures { amount_of result ≡ (if is_general conversion then Some (Given 1) else Some (Given 0)) }
+/// Whether the conversion is `g` or `G`, which take a precision of 0 as 1.
+pub(crate) fn is_general(conversion: Conversion) -> bool
+    ensures { result ≡ is_general conversion }
 {
-    match conversion {
-        Conversion::Float(Floating::G | Floating::UpperG) => Some(OpaqueAmount::Number(1)),
-        _ => Some(OpaqueAmount::Number(0)),
-    }
+    matches!(
+        conversion,
+        Conversion::Float(Floating::G | Floating::UpperG)
+    )
 }
 
-// Whether a precision is the default one of the conversion.
-fn is_meant(conversion: Conversion, n: u16) -> bool
+/// Whether a precision is the default one of the conversion.
+pub(crate) fn is_meant(conversion: Conversion, n: u16) -> bool
     ensures { result ≡ is_amount (meant_precision conversion) n }
 {
     match conversion {

@@ -14,6 +14,7 @@ pub mod laws;
 mod needless;
 mod parts;
 mod spelling;
+mod verbatim_directives;
 mod verdicts;
 
 pub use canonical_texts::{canonical, canonical_len, canonical_with_room, is_canonical};
