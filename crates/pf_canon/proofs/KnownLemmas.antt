@@ -20,7 +20,6 @@ use Rattle.pf_text.proofs.WalkLemmas.{by_pieces, literals_passed, run_is_canonic
 use Rattle.pf_probes.proofs.Unique.{own_canonical}
 use Rattle.pf_canon.specs.ChangedDirectives.{between}
 use Rattle.pf_canon.specs.Languages.{ComesVerbatim, DecidesIn, Front}
-use Rattle.pf_canon.specs.declared.limits.TheConstants.{MAX_DIRECTIVE_LEN}
 use Rattle.pf_canon.proofs.CanonicalItems.{canonical-back}
 use Rattle.pf_canon.proofs.SomeCanonical.{accepted_canonical}
 use Rattle.pf_canon.proofs.WrittenLemmas.{verbatim_canonical}

@@ -21,7 +21,7 @@ use Rattle.pf_text.specs.declared.refusals.TextFault.TheVariants.{Refused, Memor
 use Rattle.pf_canon.specs.Answers.{FaultForCanonical, IsCanonicalFor}
 use Rattle.pf_canon.specs.ChangedDirectives.{between}
 use Rattle.pf_canon.specs.Comparison.{AreTextsSame, TextStops}
-use Rattle.pf_canon.specs.Languages.{AreSameIn, ComesVerbatim, CompletesIn, DecidesIn, FaultIn, Front, HasCanonicalIn, IsWrittenIn, Refuses, StopsIn}
+use Rattle.pf_canon.specs.Languages.{AreSameIn, ComesVerbatim, CompletesIn, DecidesIn, FaultIn, Front, HasCanonicalIn, IsAcceptedIn, IsWrittenIn, Refuses, StopsIn}
 use Rattle.pf_canon.specs.Making.{IsVerbatimAfter, IsWritten}
 use Rattle.pf_canon.specs.declared.limits.TheConstants.{MAX_DIRECTIVE_LEN}
 use Rattle.pf_probes.proofs.Unique.{equivalent_formats_one}
@@ -227,6 +227,13 @@ module _ (has_front : Front) (model : Model) where
           let whole = up_to t start at low in
           subst (λ u. HasCanonicalIn has_front model u (out ++ more)) (sym whole)
           (completes (take start t) out h (omega (arith, within_limit t at limit, ap length whole)))
+
+-- a text that goes on so is accepted
+pub some_accepted : (has_front : Front) (refuses : Refuses) (model : Model) (t : Text) (r : Result (Unit {0}) Refusal)
+    → MatchResult r (λ done. (more : Text) × HasCanonicalIn has_front model t more) (λ refusal. refuses model t refusal.kind refusal.at)
+    → MatchResult r (λ done. IsAcceptedIn has_front model t) (λ refusal. refuses model t refusal.kind refusal.at)
+some_accepted has_front refuses model t (Ok done) h = h
+some_accepted has_front refuses model t (Err refusal) h = h
 
 -- there may be no memory for a text of some bytes
 pub hindered : (has_front : Front) (refuses : Refuses) (model : Model) (t c : Text) → HasCanonicalIn has_front model t c

@@ -1,32 +1,24 @@
 -- What the items of a language settle where they are read, not put.
-use Rattle.std.proofs.Common.{◌≡◌, ℕ, ◌+◌, ◌*◌, ◌≤◌, List, [], ◌∷◌, ◌++◌, length, take, refl, sym, ap, ◌∙◌, subst, arith, inl, inr}
-use Rattle.std.specs.List.{AllByRecursion}
+use Rattle.std.proofs.Common.{◌≡◌, ℕ, ◌*◌, ◌≤◌, [], ◌∷◌, ◌++◌, length, take, refl, sym, ap, ◌∙◌, subst, arith, inl, inr}
 use Rattle.std.specs.Prelude.{flat_map, map}
 use Rattle.std.proofs.lemmas.List.{append-nil, append_assoc, length-append}
 use Rattle.pf_values.specs.declared.limits.TheConstants.{MAX_TEXT_LEN}
 use Rattle.pf_values.specs.declared.models.Model.{Model}
-use Rattle.pf_values.specs.meaning.Canonical.{IsCanonicalOf, item_spelling}
-use Rattle.pf_values.specs.meaning.Items.{Item, Byte, Reads}
+use Rattle.pf_values.specs.meaning.Canonical.{item_spelling}
+use Rattle.pf_values.specs.meaning.Items.{Byte}
 use Rattle.pf_values.specs.meaning.Text.{Text}
-use Rattle.pf_values.proofs.Alike.{alike_before, alike_refl}
 use Rattle.pf_text.specs.CanonicalRuns.{silents}
 use Rattle.pf_text.specs.History.{IsLiteral}
 use Rattle.pf_text.specs.Walks.{AreRead, Either, IsMadeOf, IsPiece}
-use Rattle.pf_text.proofs.CanonicalRunLemmas.{Reads-append, run_written}
 use Rattle.pf_text.proofs.LiteralLemmas.{Reads-literals}
 use Rattle.pf_text.proofs.WalkLemmas.{by_pieces}
-use Rattle.pf_probes.proofs.Unique.{one_canonical, own_canonical}
-use Rattle.pf_canon.specs.Answers.{IsCanonicalFor, most_len}
 use Rattle.pf_canon.specs.ChangedDirectives.{between}
 use Rattle.pf_canon.specs.Languages.{ComesVerbatim, Front, HasCanonicalIn, IsWrittenIn}
-use Rattle.pf_canon.specs.Making.{IsWritten}
 use Rattle.pf_canon.specs.declared.limits.TheConstants.{MAX_DIRECTIVE_LEN}
-use Rattle.pf_canon.proofs.MakingLemmas.{made_byte, made_canonical, made_more}
 use Rattle.pf_canon.proofs.LanguageLemmas.{up_to, within_limit}
 use Rattle.pf_canon.proofs.OutputLemmas.{length-silents}
-use Rattle.pf_canon.proofs.RestLemmas.{IsSettling}
 use Rattle.pf_canon.proofs.SomeCanonical.{IsSettled, start_settled, settled_byte, settled_canonical, settled_more, settled_of, settled_whole}
-use Rattle.pf_canon.proofs.TextLemmas.{items_few, most_len-append}
+use Rattle.pf_canon.proofs.TextLemmas.{items_few}
 use Rattle.pf_canon.proofs.TransducerLemmas.{most_items}
 
 module _ (has_front : Front) (model : Model) where
@@ -149,27 +141,31 @@ module _ (has_front : Front) (model : Model) where
     -- all of them
     pub in_made : (t out : Text) (held : ℕ) (u : Text) → IsSettledIn t out held → IsMadeOf (Either AreRead passes) u
         → (more : Text) × (still : ℕ) × IsSettledIn (t ++ u) (out ++ more) still
-    in_made t out held u h made = by_pieces (Either AreRead passes) Holds step [] u ([], held, subst (λ v. IsSettledIn v (out ++ []) held) (sym (append-nil t))
-        (subst (λ v. IsSettledIn t v held) (sym (append-nil out)) h)) made where
-          Holds : Text → Type 0
-          Holds v = (more : Text) × (still : ℕ) × IsSettledIn (t ++ v) (out ++ more) still
+    in_made t out held u h made = by_pieces (Either AreRead passes) Holds step [] u (
+      [],
+      held,
+      subst (λ v. IsSettledIn v (out ++ []) held) (sym (append-nil t))
+          (subst (λ v. IsSettledIn t v held) (sym (append-nil out)) h),
+    ) made where
+      Holds : Text → Type 0
+      Holds v = (more : Text) × (still : ℕ) × IsSettledIn (t ++ v) (out ++ more) still
 
-          together : (before piece more next : Text) (still : ℕ) → IsSettledIn ((t ++ before) ++ piece) ((out ++ more) ++ next) still → Holds (before ++ piece)
-          together before piece more next still g = (
-            more ++ next,
-            still,
-            subst (λ v. IsSettledIn v (out ++ (more ++ next)) still) (append_assoc t before piece)
-                (subst (λ v. IsSettledIn ((t ++ before) ++ piece) v still) (append_assoc out more next) g),
-          )
+      together : (before piece more next : Text) (still : ℕ) → IsSettledIn ((t ++ before) ++ piece) ((out ++ more) ++ next) still → Holds (before ++ piece)
+      together before piece more next still g = (
+        more ++ next,
+        still,
+        subst (λ v. IsSettledIn v (out ++ (more ++ next)) still) (append_assoc t before piece)
+            (subst (λ v. IsSettledIn ((t ++ before) ++ piece) v still) (append_assoc out more next) g),
+      )
 
-          step : (before piece : Text) → Holds before → IsPiece (Either AreRead passes) piece → Holds (before ++ piece)
-          step before piece (more, held, g) (inl literal) =
-              let (next, still, k) = in_read (t ++ before) (out ++ more) held piece g (map Byte piece, Reads-literals piece [] [] refl literal) in
-              together before piece more next still k
-          step before piece (more, held, g) (inr (begins, inl read)) =
-              let (next, still, k) = in_read (t ++ before) (out ++ more) held piece g read in together before piece more next still k
-          step before piece (more, held, g) (inr (begins, inr p)) =
-              let (next, still, k) = in_passed (t ++ before) (out ++ more) held piece g p in together before piece more next still k
+      step : (before piece : Text) → Holds before → IsPiece (Either AreRead passes) piece → Holds (before ++ piece)
+      step before piece (more, held, g) (inl literal) =
+          let (next, still, k) = in_read (t ++ before) (out ++ more) held piece g (map Byte piece, Reads-literals piece [] [] refl literal) in
+          together before piece more next still k
+      step before piece (more, held, g) (inr (begins, inl read)) =
+          let (next, still, k) = in_read (t ++ before) (out ++ more) held piece g read in together before piece more next still k
+      step before piece (more, held, g) (inr (begins, inr p)) =
+          let (next, still, k) = in_passed (t ++ before) (out ++ more) held piece g p in together before piece more next still k
 
     -- so a text that is written goes on
     pub goes_on : (t out : Text) (held : ℕ) (u : Text) → IsWrittenIn has_front model t out held → IsMadeOf (Either AreRead passes) u

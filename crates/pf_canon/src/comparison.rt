@@ -13,7 +13,7 @@ use crate::canonical_slices::{CanonicalSlices, place_in};
 use crate::common_prefix::common_prefix_len;
 use crate::early_difference::differ_after;
 use crate::faults::{SideFault, StreamFault};
-use crate::languages::{Language, Profile, check_from};
+use crate::languages::{Language, Profile, check_in};
 use pf_text::{Refusal, Side, Walk, items_end_from};
 use pf_values::{Counted, Model};
 use std::io::Read;
@@ -94,7 +94,7 @@ fn same_if_accepted<L: Language>(model: Model, text: &[u8]) -> Result<bool, (Sid
     ensures { MatchResult result (AreSameIn L.has_front model text.now text.now)
         (StopsIn L.has_front L.refuses model text.now text.now) }
 {
-    match check_from::<L>(model, text, Walk::new(text)) {
+    match check_in::<L>(model, text) {
         Ok(()) => Ok(true),
         Err(refusal) => Err((Side::First, refusal)),
     }

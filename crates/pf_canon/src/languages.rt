@@ -80,6 +80,14 @@ pub(crate) fn put_others<L: Language, S: Sink>(
     Ok(())
 }
 
+/// Checks whether a text is accepted in a language. `Err` if it is refused. Allocates nothing.
+pub fn check_in<L: Language>(model: Model, text: &[u8]) -> Result<(), Refusal>
+    ensures { MatchResult result (λ _. IsAcceptedIn L.has_front model text.now)
+        (λ refusal. L.refuses model text.now refusal.kind refusal.at) }
+{
+    check_from::<L>(model, text, Walk::new(text))
+}
+
 /// Checks whether a text is accepted. What comes before a walk over it is.
 pub(crate) fn check_from<L: Language>(
     model: Model,

@@ -41,7 +41,7 @@ pub use refused_specifications::{RefusedSpecification, WholeSpecification, refus
 pub use specification_spans::{PartOffsets, SpecificationSpan};
 pub use specification_walk::SpecificationWalk;
 pub use specifications::{conversion_at, modifier_at};
-pub use undefined_combinations::undefined_as;
 pub use stretches::{Stretch, next_stretch};
 pub use types::ArgumentType;
-pub use unnumbered::{check_unnumbered, opaque_at};
+pub use undefined_combinations::undefined_as;
+pub use unnumbered::opaque_at;

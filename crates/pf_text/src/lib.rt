@@ -42,5 +42,5 @@ pub use signatures::Signature;
 pub use specification::{
     FoundDirective, digits_at, directive_at, flags_at, modifier_at, number_at, spelled_at,
 };
-pub use spelling::{Spelling, push_flags, spell};
+pub use spelling::{Spelling, push_flags, push_number, spell};
 pub use walk::{Walk, within_limit};

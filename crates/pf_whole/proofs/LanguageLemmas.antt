@@ -1,30 +1,25 @@
 -- Canonical texts of the whole language, as the engine of `pf_canon` puts them together.
-use Rattle.std.proofs.Common.{◌≡◌, ℕ, ◌+◌, ◌-◌, Bool, List, ◌++◌, drop, length, take, refl, sym, ap, ◌∙◌, subst, arith}
+use Rattle.std.proofs.Common.{◌≡◌, ℕ, ◌+◌, ◌-◌, Bool, ◌++◌, drop, length, take, sym, ap, ◌∙◌, subst, arith}
 use Rattle.std.specs.Prelude.{IsTrue, MatchResult, Result, Ok, Err, ◌↔◌}
 use Rattle.std.proofs.Math.Seq.{take-add}
-use Rattle.std.proofs.lemmas.List.{append_assoc}
 use Rattle.pf_values.specs.declared.models.Model.{Model}
-use Rattle.pf_values.specs.meaning.Canonical.{IsCanonicalOf}
-use Rattle.pf_values.specs.meaning.Items.{Item, Reads}
 use Rattle.pf_values.specs.meaning.Text.{Text}
 use Rattle.pf_text.specs.declared.refusals.Refusal.{Refusal}
 use Rattle.pf_text.specs.declared.refusals.Side.{Side}
 use Rattle.pf_text.specs.declared.refusals.Side.TheVariants.{First, Second}
 use Rattle.pf_text.specs.declared.refusals.TextFault.{TextFault}
 use Rattle.pf_text.specs.declared.refusals.TextFault.TheVariants.{Refused, Memory}
-use Rattle.pf_canon.specs.Languages.{AreSameIn, DecidesIn, FaultIn, HasCanonicalIn, StopsIn}
+use Rattle.pf_canon.specs.Languages.{AreSameIn, DecidesIn, FaultIn, HasCanonicalIn, IsAcceptedIn, StopsIn}
 use Rattle.pf_posix.specs.Heads.{IsOpaqueAt}
 use Rattle.pf_posix.specs.declared.opaque_directives.Opaque.{Opaque}
 use Rattle.pf_posix.specs.OpaqueParts.{item_of_opaque}
-use Rattle.pf_posix.specs.Opaque.{SpellsOpaqueItem}
-use Rattle.pf_posix.specs.Opaque.{OpaqueItem}
-use Rattle.pf_posix.specs.Stretches.{Last, Before, IsWholeAccepted}
+use Rattle.pf_posix.specs.Stretches.{Last, IsWholeAccepted}
 use Rattle.pf_posix.specs.Unnumbered.{IsWholeRefusedAt}
 use Rattle.pf_whole.specs.Answers.{IsWholeCanonicalFor}
 use Rattle.pf_whole.specs.Faults.{AreWholeSame, FaultForWholeCanonical, FaultForWholeSame}
 use Rattle.pf_whole.specs.Fronts.{IsWholeFront}
 use Rattle.pf_whole.specs.meaning.NormalSpellings.{normal_spelling}
-use Rattle.pf_whole.specs.meaning.WholeCanonical.{IsPutTogether, IsWholeCanonicalOf}
+use Rattle.pf_whole.specs.meaning.WholeCanonical.{IsWholeCanonicalOf}
 use Rattle.pf_whole.proofs.AnswerLemmas.{are_same, canonical_for}
 use Rattle.pf_whole.proofs.Completeness.{alike_have_one_canonical}
 use Rattle.pf_whole.specs.FrontLaws.{past_opaque, stretch_of}
@@ -65,6 +60,12 @@ module _ (model : Model) (t : Text) where
   pub fault_of_whole : (fault : TextFault) → FaultIn IsWholeFront IsWholeRefusedAt model t fault → FaultForWholeCanonical model t fault
   fault_of_whole (Refused refusal) h = h
   fault_of_whole Memory h = (h.0, whole_canonical model t h.0 h.1, h.2)
+
+  pub checked_of_whole : (r : Result (Unit {0}) Refusal)
+      → MatchResult r (λ done. IsAcceptedIn IsWholeFront model t) (λ refusal. IsWholeRefusedAt model t refusal.kind refusal.at)
+      → MatchResult r (λ done. IsWholeAccepted t) (λ refusal. IsWholeRefusedAt model t refusal.kind refusal.at)
+  checked_of_whole (Ok done) h = whole_accepted model t h.0 h.1
+  checked_of_whole (Err refusal) h = h
 
   pub answer_of_whole : {V : Type 0} (of : V → Text) (r : Result V TextFault)
       → MatchResult r (λ c. HasCanonicalIn IsWholeFront model t (of c)) (FaultIn IsWholeFront IsWholeRefusedAt model t)

@@ -1,9 +1,8 @@
 -- A normal spelling spells the normal parts.
-use Rattle.std.proofs.Common.{◌≡◌, ℕ, ◌≤◌, false, [], ◌∷◌, ◌++◌, map, refl, sym, ap, ◌∙◌, arith, subst}
+use Rattle.std.proofs.Common.{◌≡◌, ℕ, false, [], ◌∷◌, ◌++◌, map, refl, sym, ap, ◌∙◌, arith, subst}
 use Rattle.std.specs.Prelude.{Option, Some, None, is_some, not, ◌&&◌, ◌||◌, filter}
 use Rattle.std.specs.Int.Digits.{digits_of}
 use Rattle.pf_values.specs.declared.flags.Flag.TheVariants.{Minus, Alt, Zero}
-use Rattle.pf_values.specs.declared.limits.TheConstants.{MAX_NUMBER}
 use Rattle.pf_values.specs.declared.models.Model.{Model}
 use Rattle.pf_values.specs.meaning.Flags.{all_flags, flag_byte, has}
 use Rattle.pf_values.specs.meaning.Text.{Text}

@@ -1,7 +1,5 @@
 -- What the profile lacks and is its own normal spelling.
-use Rattle.std.proofs.Common.{◌≡◌, ℕ, ◌+◌, ◌-◌, [], ◌∷◌, ◌++◌, None, get_or, take, drop, refl, sym, ap, subst, arith, inl}
-use Rattle.pf_values.specs.declared.lengths.Length.TheVariants as lengths
-use Rattle.pf_values.specs.meaning.Flags.{no_flags}
+use Rattle.std.proofs.Common.{◌≡◌, ℕ, ◌+◌, ◌-◌, [], ◌∷◌, take, drop, refl, sym, ap, subst, arith, inl}
 use Rattle.pf_values.specs.meaning.Text.{Text, percent}
 use Rattle.pf_text.specs.Offsets.{HasBytes}
 use Rattle.pf_text.specs.Walks.{HasPercent}
@@ -11,9 +9,6 @@ use Rattle.pf_posix.specs.Opaque.{OpaqueSpecification}
 use Rattle.pf_posix.specs.OpaqueParts.{parts_of_opaque}
 use Rattle.pf_posix.specs.Specifications.{conversion_letter}
 use Rattle.pf_posix.specs.declared.conversions.Conversion.{Conversion}
-use Rattle.pf_posix.specs.declared.conversions.Conversion.TheVariants.{Float, Pointer, Count}
-use Rattle.pf_posix.specs.declared.conversions.Floating.{Floating}
-use Rattle.pf_posix.specs.declared.conversions.Modifier.TheVariants.{Integer}
 use Rattle.pf_posix.specs.declared.opaque_directives.OpaqueDirective.{OpaqueDirective}
 use Rattle.pf_whole.specs.Verbatim.{bare, HasNormalParts, IsPlainAt, IsVerbatim}
 use Rattle.pf_whole.specs.meaning.NormalSpellings.{posix_spelling_of}

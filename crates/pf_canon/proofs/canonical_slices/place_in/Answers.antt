@@ -30,9 +30,11 @@ pub other_at-requires-clause-front : goal.other_at-requires-clause-front
 other_at-requires-clause-front g c =
     let put = c.put_items-at in
     let place = place_put g.L.Language.has_front c.args.model c.args.text.now c.new-walk.result c.new-walk.ensures.over c.loop-other.from put.result.0 put.result.1
-    (omega (arith, c.run_end.ensures.within.0, put.ensures.within.0)) put.ensures.within.1 c.loop-other.invariant.front put.ensures.put.0 put.ensures.put.2 in
-    (_, all_put g.L.Language.has_front c.args.model (take put.result.0 c.args.text.now) place.0 put.result.1
-        (within_limit c.args.text.now put.result.0 place.1.limit) place.1.written)
+    (omega (arith, c.run_end.ensures.within.0, put.ensures.within.0)) put.ensures.within.1 c.loop-other.invariant.front put.ensures.put.0 put.ensures.put.2 in (
+      _,
+      all_put g.L.Language.has_front c.args.model (take put.result.0 c.args.text.now) place.0 put.result.1
+          (within_limit c.args.text.now put.result.0 place.1.limit) place.1.written,
+    )
 
 pub other_at-requires-clause-none : goal.other_at-requires-clause-none
 other_at-requires-clause-none g c = subst (λ t. BeginsNoItem (drop c.put_items-at.result.0 t)) c.new-walk.ensures.over.text_is c.put_items-at.ensures.stopped

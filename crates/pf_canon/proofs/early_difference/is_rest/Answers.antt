@@ -1,6 +1,4 @@
-use Rattle.std.proofs.Common.{inr}
 use Rattle.pf_text.specs.Walks.{AreRead, Either}
-use Rattle.pf_text.proofs.WalkLemmas.{made_of_none}
 use Rattle.pf_canon.proofs.EarlyLemmas.{literal_made}
 use Rattle.pf_canon.proofs.early_difference.is_rest.Goals as goal
 

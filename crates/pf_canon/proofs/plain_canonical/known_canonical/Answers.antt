@@ -1,4 +1,4 @@
-use Rattle.std.proofs.Common.{[], ◌≤◌, ap, arith, drop, false, length, subst, sym, take}
+use Rattle.std.proofs.Common.{[], ◌≤◌, ap, arith, drop, false, length, subst, take}
 use Rattle.std.proofs.lemmas.List.{take_all, take_rest}
 use Rattle.pf_values.specs.declared.limits.TheConstants.{MAX_TEXT_LEN}
 use Rattle.pf_text.specs.Walks.{AreItems, Either, IsMadeOf, IsNormalInEach}
@@ -41,8 +41,8 @@ returns-then-not-is_kept g c =
     let has_front = g.L.Language.has_front in
     other_known has_front model text (drop stop text) c.known_other.result
     (λ rest. subst (λ t. DecidesIn has_front model t false) whole
-        (other_kept has_front model (take at text) (between at stop text) (drop stop text) front.directive c.loop-at.invariant.kept front.read other.0 other.1
-        (omega (arith, ap length whole, c.if-text-gt-MAX_TEXT_LEN.false)) rest))
+    (other_kept has_front model (take at text) (between at stop text) (drop stop text) front.directive c.loop-at.invariant.kept front.read other.0 other.1
+    (omega (arith, ap length whole, c.if-text-gt-MAX_TEXT_LEN.false)) rest))
     (rw take_rest at c.known_other.ensures)
 
 pub loop-at-preserved : goal.loop-at-preserved

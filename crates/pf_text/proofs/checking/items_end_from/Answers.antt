@@ -1,7 +1,7 @@
 use Rattle.std.proofs.Common.{◌≡◌, ◌∙◌, ◌≤◌, ◌-◌, arith, drop, inl, inr, length, subst, sym, take}
 use Rattle.std.specs.Prelude.{⊤}
 use Rattle.pf_text.specs.FoundDirectives.{BeginsNoDirective}
-use Rattle.pf_text.specs.Walks.{AreRead, BeginsPercent, Either, EndsItems, IsMadeOf}
+use Rattle.pf_text.specs.Walks.{AreRead, BeginsPercent, Either, EndsItems}
 use Rattle.pf_text.proofs.NoItemLemmas.{no_item, none_at_percent}
 use Rattle.pf_text.proofs.ReadingLemmas.{ends_items, passed_from, read_from, read_nothing}
 use Rattle.pf_text.proofs.WalkLemmas.{made_of_one, percent_begins}

@@ -45,8 +45,11 @@ loop-self-preserved g c =
     let now = walked_to g.P.Passed.passes c.args.self.now c.loop-self.self c.loop-self.invariant c.in-Some.offset c.in-Some.ensures in
     let len = c.len-len in
     walked_more g.P.Passed.passes c.args.self.now _ now len.result len.ensures.within (made_of_one g.P.Passed.passes _
-    (inr (percent_begins c.loop-self.self.text.now c.in-Some.offset len.result (omega (arith, c.if-offset-self.false), c.if-self-offset-ne37.false)
-    (omega (arith, c.if-len-eq0.false)), len.ensures.passed (omega (arith, c.if-len-eq0.false)))))
+    (inr (
+      percent_begins c.loop-self.self.text.now c.in-Some.offset len.result (omega (arith, c.if-offset-self.false), c.if-self-offset-ne37.false)
+          (omega (arith, c.if-len-eq0.false)),
+      len.ensures.passed (omega (arith, c.if-len-eq0.false)),
+    )))
 
 pub returns : goal.returns
 returns g c = record {
