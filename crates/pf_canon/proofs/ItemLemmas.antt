@@ -184,7 +184,3 @@ pub next_run : (leaves : ℕ → Type 0) (t : Text) (at : ℕ)
     → BeginsNoItem (drop at t) ⊎ (HasPercent t at × ((get_or t (at + 1) 0 ≢ percent) × leaves (get_or t (at + 1) 0))) → IsBetweenRuns t at
 next_run leaves t at (inl none) = inl none
 next_run leaves t at (inr (there, other)) = inr (there, other.0)
-
--- a part of a text isn't too long if that isn't
-pub between_short : (t : Text) (start stop : ℕ) → length t ≤ MAX_TEXT_LEN → length (between start stop t) ≤ MAX_TEXT_LEN
-between_short t start stop few = omega (arith, few, length-take (stop - start) (drop start t), length-drop start t)

@@ -15,8 +15,8 @@ use pf_values::{Model, RefusalKind};
 
 /// Returns the opaque directive or `%m` at an offset of a text, and where it ends: the text up to there is accepted, and
 /// no item of the profile begins there that ends within the limit. `None` at the end of the text. `Err` if the
-/// text is refused there if no argument may have a number: as by `arguments`, at the same byte, but for a `$` directly
-/// after the first number of a specification, which is refused as `Numbered`. Allocates nothing.
+/// text is refused there if no argument may have a number: a `$` directly after the first number of a
+/// specification as `Numbered`, and everything else as by `arguments`, at the same byte. Allocates nothing.
 #[inline(always)]
 pub fn opaque_at(model: Model, text: &[u8], at: usize) -> Result<Option<(Opaque, usize)>, Refusal>
     requires within { at ≤ length text.now }

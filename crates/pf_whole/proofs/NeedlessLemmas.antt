@@ -40,7 +40,7 @@ use Rattle.pf_whole.specs.Laws.{Correspond}
 use Rattle.pf_whole.proofs.Corresponding.{alike_is_corresponding}
 use Rattle.pf_whole.proofs.OneCanonical.{print_refl}
 use Rattle.pf_whole.proofs.SpelledNormally.{few_of, spelled_parts, width_few}
-use Rattle.pf_whole.specs.Verbatim.{IsPrecision, IsWidth}
+use Rattle.pf_whole.specs.Verbatim.{CanBePrecision, CanBeWidth}
 
 -- the items of a text that is a specification alone
 abbrev items_alone : PosixSpecification → List PosixItem
@@ -60,18 +60,18 @@ module _ (model : Model) (s : PosixSpecification) (unnumbered : s.position ≡ N
   parts : HasParts text s
   parts = parts_of text s h.0 unnumbered
 
-  width : IsWidth s.width
+  width : CanBeWidth s.width
   width = width_few parts.width s.width parts.width_is
 
-  few : IsPrecision s.precision
+  few : CanBePrecision s.precision
   few = few_of parts.precision s.precision parts.precision_is
 
   whole_spelled : SpellsPosix (posix_spelling_of s) s
   whole_spelled = spelled_parts s unnumbered width few
 
   rest_spelled : SpellsPosix (posix_spelling_of (without s set)) (without s set)
-  rest_spelled = spelled_parts (without s set) unnumbered (part_left IsWidth set.width s.width tt width)
-      (part_left IsPrecision set.precision s.precision tt few)
+  rest_spelled = spelled_parts (without s set) unnumbered (part_left CanBeWidth set.width s.width tt width)
+      (part_left CanBePrecision set.precision s.precision tt few)
 
 -- a defined specification is defined without any of its parts
 defined_without : (s : PosixSpecification) (set : PartSet) → IsPosixDefined s → IsPosixDefined (without s set)
@@ -329,13 +329,13 @@ all_asked part = grind arith
 
 -- a specification of a text, alone, is one that some text is
 module _ (t : Text) (span : SpecificationSpan) (h : HasItsParts t span) where
-  own_width : (bytes : Text) (position : Option ℕ) (width : Option Amount) → SpellsPosixWidth bytes position width → IsWidth (without_number width)
+  own_width : (bytes : Text) (position : Option ℕ) (width : Option Amount) → SpellsPosixWidth bytes position width → CanBeWidth (without_number width)
   own_width bytes position None w = tt
   own_width bytes position (Some (Given n)) w = (w.some, w.within)
   own_width bytes position (Some (Fetched number)) w = refl
 
   own_few : (bytes : Text) (position : Option ℕ) (precision : Option Amount) → SpellsPosixPrecision bytes position precision
-      → IsPrecision (without_number precision)
+      → CanBePrecision (without_number precision)
   own_few bytes position None p = tt
   own_few bytes position (Some (Given n)) p = p.1
   own_few bytes position (Some (Fetched number)) p = refl

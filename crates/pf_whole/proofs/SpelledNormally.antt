@@ -14,7 +14,7 @@ use Rattle.pf_posix.specs.Specifications.{Amount, Given, Fetched, PosixSpecifica
 use Rattle.pf_posix.specs.Spelling.{SpellsPosition, SpellsPosix, SpellsPosixPrecision, SpellsPosixWidth, SpellsUpToPrecision}
 use Rattle.pf_posix.specs.Opaque.{OpaqueErrno, OpaqueItem, OpaqueSpecification, SpellsOpaque, SpellsOpaqueItem}
 use Rattle.pf_posix.proofs.SpecificationsOnce.{is_defined, no_reason, HasParts, no_number, parts_of}
-use Rattle.pf_whole.specs.Verbatim.{IsPrecision, IsWidth}
+use Rattle.pf_whole.specs.Verbatim.{CanBePrecision, CanBeWidth}
 use Rattle.pf_whole.specs.meaning.NormalSpellings.{directive_spelling, is_given, is_integer, kept_conversion, kept_flags, kept_modifier, normal_precision, normal_parts, normal_spelling}
 use Rattle.pf_whole.specs.meaning.NormalSpellings.{posix_precision_spelled, posix_spelling_of, posix_width_spelled}
 use Rattle.pf_whole.proofs.NormalLemmas.{fewer_some, less, modifier_stands, normal_item, opaque_again, precision_same, same_conversion}
@@ -24,21 +24,21 @@ none_placed None e = refl
 none_placed (Some n) e = cc
 
 -- what is spelled can be spelled
-pub width_few : (t : Text) (width : Option Amount) → SpellsPosixWidth t None width → IsWidth width
+pub width_few : (t : Text) (width : Option Amount) → SpellsPosixWidth t None width → CanBeWidth width
 width_few t None h = tt
 width_few t (Some (Given n)) h = (h.some, h.within)
 width_few t (Some (Fetched number)) h = no_number number h.numbering
 
-pub few_of : (t : Text) (precision : Option Amount) → SpellsPosixPrecision t None precision → IsPrecision precision
+pub few_of : (t : Text) (precision : Option Amount) → SpellsPosixPrecision t None precision → CanBePrecision precision
 few_of t None h = tt
 few_of t (Some (Given n)) h = h.1
 few_of t (Some (Fetched number)) h = no_number number h.1.numbering
 
-few_kept : (conversion : Conversion) (precision : Option Amount) → IsPrecision precision → IsPrecision (normal_precision conversion precision)
+few_kept : (conversion : Conversion) (precision : Option Amount) → CanBePrecision precision → CanBePrecision (normal_precision conversion precision)
 few_kept conversion precision h = grind arith
 
 -- and is so in the one way
-width_here : (width : Option Amount) → IsWidth width → SpellsPosixWidth (posix_width_spelled width) None width
+width_here : (width : Option Amount) → CanBeWidth width → SpellsPosixWidth (posix_width_spelled width) None width
 width_here None h = refl
 width_here (Some (Given n)) h = record {
   some = h.0;
@@ -52,14 +52,14 @@ width_here (Some (Fetched number)) h = record {
   whole = refl;
 }
 
-precision_here : (precision : Option Amount) → IsPrecision precision → SpellsPosixPrecision (posix_precision_spelled precision) None precision
+precision_here : (precision : Option Amount) → CanBePrecision precision → SpellsPosixPrecision (posix_precision_spelled precision) None precision
 precision_here None h = refl
 precision_here (Some (Given n)) h = (precision_read (Some n) (small n h), h)
 precision_here (Some (Fetched number)) h =
     (42 ∷ [], record { digits = []; digits_are = none_placed number h; numbering = ap is_some h; whole = refl }, refl)
 
 -- the one spelling of parts that can be spelled
-pub spelled_parts : (s : PosixSpecification) → s.position ≡ None → IsWidth s.width → IsPrecision s.precision → SpellsPosix (posix_spelling_of s) s
+pub spelled_parts : (s : PosixSpecification) → s.position ≡ None → CanBeWidth s.width → CanBePrecision s.precision → SpellsPosix (posix_spelling_of s) s
 spelled_parts s unnumbered width few =
     let flags = filter (has s.flags) all_flags in
     let before = (37 ∷ map flag_byte flags ++ posix_width_spelled s.width) ++ posix_precision_spelled s.precision in

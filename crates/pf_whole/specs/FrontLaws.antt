@@ -10,7 +10,7 @@ use Rattle.pf_canon.specs.Languages.{ComesVerbatim}
 use Rattle.pf_posix.specs.Opaque.{OpaqueItem, SpellsOpaqueItem}
 use Rattle.pf_posix.specs.Stretches.{Before}
 use Rattle.pf_whole.specs.Fronts.{IsWholeFront}
-use Rattle.pf_whole.specs.Verbatim.{IsVerbatim}
+use Rattle.pf_whole.specs.Verbatim.{IsOwnSpelling}
 use Rattle.pf_whole.specs.meaning.NormalSpellings.{normal_spelling}
 use Rattle.pf_whole.specs.meaning.WholeCanonical.{IsCanonicalStretch, IsPutTogether}
 
@@ -43,7 +43,7 @@ module _ (model : Model) where
   }
 
   -- which comes as it is if that is its normal spelling
-  pub past_verbatim : ComesVerbatim IsWholeFront IsVerbatim model
+  pub past_verbatim : ComesVerbatim IsWholeFront IsOwnSpelling model
   past_verbatim front out last own passed items begins reads is (other, spells, normal) =
       subst (λ u. IsWholeFront model ((front ++ last) ++ passed) ((out ++ own) ++ u)) (normal model)
       (past_opaque front out last own passed items other begins reads is spells)

@@ -18,19 +18,19 @@ use Rattle.pf_posix.specs.declared.opaque_directives.OpaqueDirective.{OpaqueDire
 use Rattle.pf_whole.specs.meaning.NormalSpellings.{normal_parts, normal_spelling, posix_spelling_of}
 
 -- the text spells it, and is its normal spelling in each data model
-abbrev pub IsVerbatim : Text → Type 0
-IsVerbatim t = (other : OpaqueItem) × SpellsOpaqueItem t other × ((model : Model) → normal_spelling model other ≡ t)
+abbrev pub IsOwnSpelling : Text → Type 0
+IsOwnSpelling t = (other : OpaqueItem) × SpellsOpaqueItem t other × ((model : Model) → normal_spelling model other ≡ t)
 
 -- a width and a precision that can be spelled without the number of an argument
-abbrev pub IsWidth : Option Amount → Type 0
-IsWidth None = ⊤
-IsWidth (Some (Given n)) = (0 < n) × (n ≤ MAX_NUMBER)
-IsWidth (Some (Fetched number)) = number ≡ None
+abbrev pub CanBeWidth : Option Amount → Type 0
+CanBeWidth None = ⊤
+CanBeWidth (Some (Given n)) = (0 < n) × (n ≤ MAX_NUMBER)
+CanBeWidth (Some (Fetched number)) = number ≡ None
 
-abbrev pub IsPrecision : Option Amount → Type 0
-IsPrecision None = ⊤
-IsPrecision (Some (Given n)) = n ≤ MAX_NUMBER
-IsPrecision (Some (Fetched number)) = number ≡ None
+abbrev pub CanBePrecision : Option Amount → Type 0
+CanBePrecision None = ⊤
+CanBePrecision (Some (Given n)) = n ≤ MAX_NUMBER
+CanBePrecision (Some (Fetched number)) = number ≡ None
 
 -- no flag but `-`
 abbrev pub HasFewFlags : FlagSet → Type 0
@@ -40,11 +40,11 @@ HasFewFlags flags = (flags ≡ no_flags) ⊎ (flags ≡ with_flag no_flags Minus
 pub record IsPlainAt (t : Text) (at : ℕ) (directive : OpaqueDirective) (stop : ℕ) : Type 0 where
   pub bytes : HasBytes t at stop (posix_spelling_of (parts_of_opaque directive))
   pub flags : HasFewFlags directive.flags
-  pub width : IsWidth (parts_of_opaque directive).width
-  pub precision : IsPrecision (parts_of_opaque directive).precision
+  pub width : CanBeWidth (parts_of_opaque directive).width
+  pub precision : CanBePrecision (parts_of_opaque directive).precision
 
 -- the profile lacks it, the standards define it, and its parts are normal in each data model
-pub record HasNormalParts (s : PosixSpecification) : Type 0 where
+pub record IsOwnNormalForm (s : PosixSpecification) : Type 0 where
   pub opaque : is_opaque s ≡ true
   pub defined : IsPosixDefined s
   pub normal : (model : Model) → normal_parts model s ≡ s

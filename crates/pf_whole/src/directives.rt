@@ -1,7 +1,6 @@
 //! The parts of the normal spelling of an opaque directive.
-ghost use Rattle.std.specs.Prelude.{◌≡◌, ◌&&◌, if◌then◌else◌, Some};
+ghost use Rattle.std.specs.Prelude.{◌≡◌, ◌&&◌, if◌then◌else◌};
 ghost use Rattle.pf_values.specs.declared.flags.Flag.TheVariants.{Zero};
-ghost use Rattle.pf_posix.specs.Specifications.{Given};
 ghost use Rattle.pf_values.specs.meaning.Flags.{has, with_flag};
 ghost use Rattle.pf_whole.specs.meaning.NormalSpellings.{floating_modifier, given_precision, integer_modifier, is_amount, is_general, is_given, is_integer, keeps_sign, keeps_zero, kept_conversion, kept_flags, kept_modifier, normal_precision, meant_precision, normal_parts};
 ghost use Rattle.pf_posix.specs.OpaqueParts.{amount_of, parts_of_opaque};

@@ -3,7 +3,7 @@ ghost use Rattle.std.specs.Prelude.{⊤};
 ghost use Rattle.pf_posix.specs.Unnumbered.{IsWholeRefusedAt};
 ghost use Rattle.pf_whole.specs.FrontLaws.{past_verbatim};
 ghost use Rattle.pf_whole.specs.Fronts.{IsWholeFront, no_front};
-ghost use Rattle.pf_whole.specs.Verbatim.{IsVerbatim};
+ghost use Rattle.pf_whole.specs.Verbatim.{IsOwnSpelling};
 
 use crate::spelling::normal_spelling;
 use crate::verbatim_directives::{bare_len, verbatim_len};
@@ -17,7 +17,7 @@ use pf_values::Model;
 pub struct Whole;
 
 impl Passed for Whole {
-    ghost passes = { IsVerbatim };
+    ghost passes = { IsOwnSpelling };
 
     ghost leaves = { λ byte. ⊤ };
 

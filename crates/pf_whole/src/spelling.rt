@@ -1,5 +1,5 @@
 //! How what the profile lacks is spelled.
-ghost use Rattle.std.specs.Prelude.{◌≡◌, ◌≤◌, ◌+◌, ◌++◌, decimal, false};
+ghost use Rattle.std.specs.Prelude.{◌≡◌, ◌≤◌, ◌+◌, ◌++◌, false};
 ghost use Rattle.arrayvec.specs.ArrayVec.{array_vec_len};
 ghost use Rattle.pf_values.specs.declared.flags.Flag.TheVariants.{Group};
 ghost use Rattle.pf_values.specs.meaning.Flags.{has};

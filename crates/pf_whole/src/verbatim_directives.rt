@@ -5,7 +5,7 @@ ghost use Rattle.pf_values.specs.meaning.Spelling.{flags_spelled};
 ghost use Rattle.pf_text.specs.Offsets.{HasBytes};
 ghost use Rattle.pf_text.specs.Walks.{HasPercent};
 ghost use Rattle.pf_posix.specs.OpaqueParts.{amount_of, parts_of_opaque};
-ghost use Rattle.pf_whole.specs.Verbatim.{bare, HasFewFlags, HasNormalParts, IsPlainAt, IsPrecision, IsVerbatim, IsWidth};
+ghost use Rattle.pf_whole.specs.Verbatim.{bare, HasFewFlags, IsOwnNormalForm, IsPlainAt, CanBePrecision, IsOwnSpelling, CanBeWidth};
 ghost use Rattle.pf_whole.specs.meaning.NormalSpellings.{integer_modifier, kept_conversion, kept_flags, kept_modifier, normal_precision, posix_precision_spelled, posix_width_spelled};
 
 use crate::directives::{is_general, is_meant};
@@ -22,7 +22,7 @@ use pf_values::{Conv, Flag, FlagSet, Length};
 pub(crate) fn bare_len(text: &[u8], at: usize) -> usize
     requires { HasPercent text.now at }
     ensures within { at + result ≤ length text.now }
-    ensures verbatim { 0 < result → IsVerbatim (take result (drop at text.now)) }
+    ensures verbatim { 0 < result → IsOwnSpelling (take result (drop at text.now)) }
 {
     match conversion_at(text, at + 1) {
         Ok(conversion) => {
@@ -38,7 +38,7 @@ pub(crate) fn bare_len(text: &[u8], at: usize) -> usize
 // Whether the profile lacks a conversion alone, and it is normal in each data model.
 #[inline(always)]
 fn is_verbatim_alone(conversion: Conversion) -> bool
-    ensures { IsTrue result → HasNormalParts (parts_of_opaque (bare conversion)) }
+    ensures { IsTrue result → IsOwnNormalForm (parts_of_opaque (bare conversion)) }
 {
     match conversion {
         Conversion::Float(_) => true,
@@ -54,7 +54,7 @@ fn is_verbatim_alone(conversion: Conversion) -> bool
 pub(crate) fn verbatim_len(text: &[u8], at: usize) -> usize
     requires { HasPercent text.now at }
     ensures within { at + result ≤ length text.now }
-    ensures verbatim { 0 < result → IsVerbatim (take result (drop at text.now)) }
+    ensures verbatim { 0 < result → IsOwnSpelling (take result (drop at text.now)) }
 {
     match plain_at(text, at) {
         Some((directive, stop)) => {
@@ -110,7 +110,7 @@ fn minus_at(text: &[u8], start: usize) -> (FlagSet, usize)
 fn width_at(text: &[u8], start: usize) -> (Option<OpaqueAmount>, usize)
     requires { start ≤ length text.now }
     ensures bytes { HasBytes text.now start result.1 (posix_width_spelled (amount_of result.0)) }
-    ensures width { IsWidth (amount_of result.0) }
+    ensures width { CanBeWidth (amount_of result.0) }
 {
     if start >= text.len() {
         return (None, start);
@@ -129,7 +129,7 @@ fn width_at(text: &[u8], start: usize) -> (Option<OpaqueAmount>, usize)
 fn precision_at(text: &[u8], start: usize) -> Option<(Option<OpaqueAmount>, usize)>
     requires { start ≤ length text.now }
     ensures { IfSome result (λ read. HasBytes text.now start read.1 (posix_precision_spelled (amount_of read.0))
-        × IsPrecision (amount_of read.0)) }
+        × CanBePrecision (amount_of read.0)) }
 {
     if start >= text.len() {
         return Some((None, start));
@@ -148,7 +148,7 @@ fn precision_at(text: &[u8], start: usize) -> Option<(Option<OpaqueAmount>, usiz
 fn amount_at(text: &[u8], start: usize) -> Option<(OpaqueAmount, usize)>
     requires { start ≤ length text.now }
     ensures { IfSome result (λ read. HasBytes text.now start read.1 (posix_width_spelled (amount_of (Some read.0)))
-        × IsPrecision (amount_of (Some read.0))) }
+        × CanBePrecision (amount_of (Some read.0))) }
 {
     if start >= text.len() {
         return None;
@@ -167,7 +167,7 @@ fn amount_at(text: &[u8], start: usize) -> Option<(OpaqueAmount, usize)>
 #[inline(always)]
 fn is_verbatim(directive: OpaqueDirective) -> bool
     requires { HasFewFlags directive.flags }
-    ensures { IsTrue result → HasNormalParts (parts_of_opaque directive) }
+    ensures { IsTrue result → IsOwnNormalForm (parts_of_opaque directive) }
 {
     if !is_opaque(directive) {
         return false;
