@@ -32,7 +32,7 @@ LOWER = "Rattle.pf_posix.specs"
 REFUSALS = [(f"{LOWER}.Refusals", "IsPosixRefusedAt"), (f"{LOWER}.Unnumbered", "IsWholeRefusedAt")]
 REFUSED_BY = [
     ("pf_posix/src/argument_types.rt", "arguments"),
-    ("pf_posix/src/unnumbered.rt", "check_unnumbered"),
+    ("pf_whole/src/canonical_texts.rt", "check"),
 ]
 ACCEPTED = [(f"{LOWER}.Items", "HasArguments"), (f"{LOWER}.Stretches", "IsWholeAccepted")]
 NAME = r"[^\W\d]\w*"

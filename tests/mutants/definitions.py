@@ -1,8 +1,8 @@
 """Finds what a text of a crate means by the names in it: definitions of `specs/`, and types and constants of `src/`.
 
-A definition is found by the `use` lines of the file that names it, as the prover finds it. A type, a trait or a
-constant is found by its name alone, in the crate and in those below. With a type come its `impl` blocks that give ghost
-members a meaning, without the bodies of their functions.
+Each is found by the `use` lines of the file that names it, as the prover and the compiler find it, or in the file. Where
+a crate hands out a type, a trait or a constant of another one, it is found by its name, in the crate and in those below.
+With a type come its `impl` blocks that give ghost members a meaning, without the bodies of their functions.
 """
 
 import re
@@ -25,6 +25,9 @@ ITEM = re.compile(
     re.MULTILINE,
 )
 GHOST = re.compile(r"\bghost \w+ =")
+# A `use` line of a source file, and a path in its text.
+USE = re.compile(r"(?<!ghost )\buse ([^;]+);")
+PATH = re.compile(r"\b\w+(?:::\w+)+")
 
 
 @dataclass(frozen=True)
@@ -51,6 +54,22 @@ def imports_of(text):
     """Yields the module, the names and the other name of each `use` line of the text, which has no comments."""
     for module, names, other in IMPORT.findall(text):
         yield module.split("."), [it.strip() for it in names.split(",") if it.strip()], other
+
+
+def paths_in(tree, before=()):
+    """Yields the path of each name that the tree of a `use` line brings in, and the name that it gets."""
+    head, brace, rest = tree.partition("{")
+    *path, last = head.strip().split("::")
+    if brace:
+        depth, begin = 0, 0
+        for at, letter in enumerate(rest):
+            depth += {"{": 1, "}": -1}.get(letter, 0)
+            if (letter == "," and depth == 0) or depth < 0:
+                yield from paths_in(rest[begin:at], (*before, *path)) if rest[begin:at].strip() else ()
+                begin = at + 1
+    else:
+        name, _, other = last.partition(" as ")
+        yield (*before, *path, name), other or name
 
 
 def is_named(name, words):
@@ -171,6 +190,23 @@ class Definitions:
         # It hands out what it imports, too.
         return self.imported(crate, file).get(name) or list(here.values())
 
+    def at_path(self, crate, path):
+        """Returns the types, traits and constants that a path in a source file of a crate names on its way."""
+        home = path[0] if path[0] in self.crates.lines else crate
+        here = [it for name in path for it in self.items(home).get(name, [])]
+        return here or [it for each in self.crates.below(home) for it in self.items(each).get(path[-1], [])]
+
+    @lru_cache(maxsize=None)
+    def used(self, crate, file):
+        """Returns the units of each name that the `use` lines of a source file bring in, or that the file has."""
+        found = {}
+        for tree in USE.findall(blanked(self.text(crate, file))):
+            for path, name in paths_in(" ".join(tree.split())):
+                found.setdefault(name, []).extend(self.at_path(crate, path))
+        for name, units in self.items(crate).items():
+            found.setdefault(name, []).extend(it for it in units if it.file == file)
+        return found
+
     @lru_cache(maxsize=None)
     def named_in(self, unit):
         """Returns the units that a unit names."""
@@ -178,9 +214,9 @@ class Definitions:
         if unit.file.endswith(".antt"):
             found += [it for name, it in self.definitions(unit.crate, unit.file).items() if is_named(name, words)]
         else:
-            for crate in [*self.crates.below(unit.crate), unit.crate]:
-                for name in words & self.items(crate).keys():
-                    found += self.items(crate)[name]
+            used = self.used(unit.crate, unit.file)
+            found += [it for name in words & used.keys() for it in used[name]]
+            found += [it for path in PATH.findall(unit.text) for it in self.at_path(unit.crate, path.split("::"))]
         for name, units in self.imported(unit.crate, unit.file).items():
             found += units if is_named(name, words) else []
         return found

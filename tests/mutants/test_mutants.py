@@ -238,7 +238,8 @@ only=3 holes=0
 class KeysOfMutants(unittest.TestCase):
     """What the key of a mutant depends on: all that decides whether it is refused, and nothing else."""
 
-    # A function of the crate in the middle, which names a definition, an operator, a module and a type.
+    # A function of the crate in the middle, which names a definition, an operator, a module and types. Another type of
+    # the lowest crate has the name of a variant.
     MIDDLE = """
 ghost use Rattle.low.specs.Doubles.{
     doubled,
@@ -246,11 +247,17 @@ ghost use Rattle.low.specs.Doubles.{
 ghost use Rattle.low.specs.Signs.{◌⊕◌};
 ghost use Rattle.low.specs.Names as names;
 
+use low::{SIZES, Size};
+
+enum Side {
+    First,
+}
+
 /// Returns something.
 pub fn made(n: Size) -> u32
     ensures { result ≡ doubled n ⊕ names.named }
 {
-    called(n) + SIZES[0]
+    called(n) + SIZES[Side::First as usize]
 }
 
 fn called(n: Size) -> u32
@@ -287,6 +294,7 @@ impl Model for Size {
     ghost Value = { ℕ };
 }
 """,
+        "crates/low/src/others.rt": "pub struct First { size: u32 }\n",
         "crates/middle/src/made.rt": MIDDLE,
     }
     MUTANT = Mutant("m", [Pair("src/made.rt", "called(n)", "called(n) + 1")], frozenset(["made::made"]))
@@ -299,6 +307,7 @@ impl Model for Size {
         ("crates/low/specs/Names.antt", "unnamed = 2", "unnamed = 4"),
         ("crates/low/specs/Parts.antt", "part = 3", "part = 4"),
         ("crates/low/src/sizes.rt", "size: u32", "size: u64"),
+        ("crates/middle/src/made.rt", "    First,", "    Second, First,"),
         ("crates/low/src/sizes.rt", "{ ℕ }", "{ ℤ }"),
         ("crates/low/src/sizes.rt", "size ≡ n", "n ≡ n"),
         ("crates/low/src/sizes.rt", "size: 2", "size: 3"),
@@ -311,6 +320,7 @@ impl Model for Size {
         ("crates/low/proofs/twice/Answers.antt", "refl", "sym"),
         ("crates/low/src/lib.rt", "let kept = n;", "let other = n;"),
         ("crates/low/src/sizes.rt", "size: *n", "size: 1"),
+        ("crates/low/src/others.rt", "size: u32", "size: u64"),
         ("crates/fmtcanon_c/src/lib.rt", "Returns twice", "Returns two times"),
     ]
 

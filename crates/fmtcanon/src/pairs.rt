@@ -13,7 +13,7 @@ use crate::lines::{Output, push_line};
 use crate::models::{Models, name_of};
 use crate::outcome::Outcome;
 use crate::questions::PairQuestion;
-use pf_posix::{arguments, check_unnumbered};
+use pf_posix::arguments;
 use pf_text::{Side, check};
 use pf_values::Model;
 use std::alloc::{AllocError, Global};
@@ -96,7 +96,7 @@ pub fn refusal_of_first(question: PairQuestion, model: Model, bytes: &[u8]) -> O
             Ok(()) => None,
             Err(refusal) => Some(Outcome::refused(Some(Side::First), refusal)),
         },
-        PairQuestion::WholeSame => match check_unnumbered(model, bytes) {
+        PairQuestion::WholeSame => match pf_whole::check(model, bytes) {
             Ok(()) => None,
             Err(refusal) => Some(Outcome::refused(Some(Side::First), refusal)),
         },

@@ -79,8 +79,8 @@ fn put_canonical<L: Language>(
 ) -> i64
     ensures { PutsCanonicalIn L.has_front L.refuses model text.now out.old error.old result out.new error.new }
 {
-    let front = VerbatimFront::of(model, text);
-    if front.is_all(text) {
+    let front = VerbatimFront::of::<L>(model, text);
+    if front.is_all::<L>(text) {
         put_string(out, text);
         return text.len() as i64;
     }
@@ -99,7 +99,7 @@ fn put_other_canonical<L: Language>(
     error: &mut CError,
 ) -> i64
     requires model { front_model front.now ≡ model }
-    requires taken { IsVerbatimFront text.now front.now }
+    requires taken { IsVerbatimFront L.has_front text.now front.now }
     ensures { PutsCanonicalIn L.has_front L.refuses model text.now out.old error.old result out.new error.new }
 {
     let mut short = ShortText::new();
@@ -129,7 +129,7 @@ fn put_counted_canonical<L: Language>(
     error: &mut CError,
 ) -> i64
     requires model { front_model front.now ≡ model }
-    requires taken { IsVerbatimFront text.now front.now }
+    requires taken { IsVerbatimFront L.has_front text.now front.now }
     requires len { (c : Text) × HasCanonicalIn L.has_front (front_model front.now) text.now c
         × (len ≡ length c) }
     ensures { PutsCanonicalIn L.has_front L.refuses model text.now out.old error.old result out.new error.new }

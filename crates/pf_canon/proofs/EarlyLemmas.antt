@@ -1,17 +1,22 @@
 -- Texts that are known to differ without their canonical texts.
-use Rattle.std.proofs.Common.{◌≡◌, ◌≢◌, ◌≤◌, ◌<◌, Bool, true, false, not, ◌&&◌, List, [], ◌∷◌, length, get_or, refl, sym, ap, ◌∙◌, arith}
+use Rattle.std.proofs.Common.{◌≡◌, ◌≢◌, ℕ, ◌≤◌, ◌<◌, Bool, true, false, not, ◌&&◌, List, [], ◌∷◌, length, get_or, refl, sym, ap, ◌∙◌, subst, arith, inl}
 use Rattle.std.specs.Prelude.{IsTrue}
 use Rattle.std.specs.Cmp.Lexicographic.{pointwise}
+use Rattle.pf_values.specs.declared.limits.TheConstants.{MAX_TEXT_LEN}
 use Rattle.pf_values.specs.declared.models.Model.{Model}
 use Rattle.pf_values.specs.declared.types.ArgType.{ArgType}
-use Rattle.pf_values.specs.meaning.Items.{Byte, IsAccepted, types}
+use Rattle.pf_values.specs.meaning.Items.{types}
 use Rattle.pf_values.specs.meaning.Text.{Text}
 use Rattle.pf_text.specs.History.{IsLiteral}
+use Rattle.pf_text.specs.Walks.{AreRead, Either, EndsItems, IsMadeOf, IsWalkOver}
+use Rattle.pf_text.specs.declared.walk.Walk.{Walk}
 use Rattle.pf_values.specs.meaning.Printing.{AreEquivalent}
 use Rattle.pf_text.specs.Signatures.{TakesTypes}
-use Rattle.pf_text.proofs.LiteralLemmas.{Reads-literals}
+use Rattle.pf_text.proofs.WalkLemmas.{made_of_one}
 use Rattle.pf_text.proofs.Texts.{Reads-unique}
+use Rattle.pf_canon.specs.ChangedDirectives.{between}
 use Rattle.pf_canon.specs.Comparison.{AreTextsSame}
+use Rattle.pf_canon.proofs.ItemLemmas.{all_of_walk}
 use Rattle.pf_canon.proofs.OneCanonical.{are_same}
 use Rattle.pf_canon.proofs.SomeCanonical.{some_canonical}
 
@@ -38,7 +43,14 @@ module _ (eq : ArgType → ArgType → Bool) (reflexive : (a : ArgType) → eq a
       absurd (cc)
 
 -- a text of one literal byte
-pub literal_accepted : (t : Text) → 1 ≤ length t → length t < 2 → IsLiteral (get_or t 0 0) → IsAccepted t
-literal_accepted [] some few h = absurd (omega arith)
-literal_accepted (byte ∷ []) some few h = (Byte byte ∷ [], record { reads = Reads-literals (byte ∷ []) [] [] refl (h, tt); limit = omega arith })
-literal_accepted (byte ∷ other ∷ t) some few h = absurd (omega arith)
+pub literal_made : (passes : Text → Type 0) (t : Text) → 1 ≤ length t → length t < 2 → IsLiteral (get_or t 0 0) → IsMadeOf passes t
+literal_made passes [] some few h = absurd (omega arith)
+literal_made passes (byte ∷ []) some few h = made_of_one passes (byte ∷ []) (inl (h, tt))
+literal_made passes (byte ∷ other ∷ t) some few h = absurd (omega arith)
+
+-- a text whose items end at its end
+pub all_made : (passes : Text → Type 0) (text : Text) (walk : Walk) (stop : ℕ) → IsWalkOver text walk → walk.at ≡ 0 → EndsItems passes walk stop
+    → stop ≡ length text → IsMadeOf (Either AreRead passes) text × (length text ≤ MAX_TEXT_LEN)
+all_made passes text walk stop over at h e =
+    let (whole, limit) = all_of_walk text walk over stop h.within.1 (omega (arith, e)) in
+    (subst (IsMadeOf (Either AreRead passes)) (ap (λ k. between k stop walk.text.now) at ∙ whole) h.read, limit)

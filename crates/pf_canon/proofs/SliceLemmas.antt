@@ -21,14 +21,14 @@ use Rattle.pf_canon.specs.ChangedDirectives.{between}
 use Rattle.pf_canon.specs.CanonicalSlices.{AreSlices, IsMidway, IsPlaceIn, IsTakenWhole, SlicesHaveGiven, SlicesHaveGivenBy, pending_of}
 use Rattle.pf_canon.specs.Comparison.{AreCommon}
 use Rattle.pf_canon.specs.Languages.{Front, HasCanonicalIn, IsWrittenIn, Refuses}
-use Rattle.pf_canon.specs.Making.{IsMaking, IsVerbatimAfter, IsWritten}
+use Rattle.pf_canon.specs.Making.{IsMaking, IsVerbatimAfter}
 use Rattle.pf_canon.specs.Output.{pending_text}
 use Rattle.pf_canon.specs.declared.canonical_slices.CanonicalSlices.{CanonicalSlices}
 use Rattle.pf_canon.specs.declared.canonical_slices.Place.{Place}
 use Rattle.pf_canon.specs.declared.output.PendingOutput.{PendingOutput}
 use Rattle.pf_canon.specs.declared.limits.TheConstants.{MAX_DIRECTIVE_LEN}
 use Rattle.pf_canon.proofs.ItemLemmas.{front_of_walk, walk_between}
-use Rattle.pf_canon.proofs.LanguageLemmas.{IsFrontTo, all_put, front_written, item_to, more_in, written_in}
+use Rattle.pf_canon.proofs.LanguageLemmas.{all_put, extends_in, item_in, more_in, within_limit}
 use Rattle.pf_canon.proofs.WrittenLemmas.{directive_written}
 
 pub some_given : (given pending : Text) (count : ℕ) → given ++ pending ≡ (given ++ take count pending) ++ drop count pending
@@ -99,23 +99,30 @@ module _ (has_front : Front) (refuses : Refuses) (model : Model) (w : CanonicalS
   ended_now (Err refusal) still h = h
 
 module _ (has_front : Front) (model : Model) where
-  -- a place after a front and items of the profile
-  pub place_put : (text : Text) (walk : Walk) → IsWalkOver text walk → (from at held : ℕ) (out more : Text) → from ≤ at → at ≤ length walk.text.now
-      → IsFrontTo has_front model text from out → IsWritten model (between from at walk.text.now) more held
-      → IsPlaceIn has_front model text (record { at = at; held = held }) (out ++ more)
-  place_put text walk over from at held out more low within to h =
+  -- a place after more items
+  pub place_put : (text : Text) (walk : Walk) → IsWalkOver text walk → (from at held : ℕ) → from ≤ at
+      → at ≤ length walk.text.now → (out : Text) × IsWrittenIn has_front model (take from text) out 0
+      → (more : Text) → ((before own : Text) → IsWrittenIn has_front model before own 0
+      → IsWrittenIn has_front model (before ++ between from at walk.text.now) (own ++ more) held)
+      → (out : Text) × IsPlaceIn has_front model text (record { at = at; held = held }) out
+  place_put text walk over from at held low within (out, h) more step =
       let place = front_of_walk text walk over at within in
-      record {
-        within = place.1;
-        written = written_in has_front model text from at low place.1 place.2 out to more held
-            (subst (λ t. IsWritten model t more held) (walk_between text walk over from at low within) h);
-      }
+      let same = walk_between text walk over from at low within in (
+        out ++ more,
+        record {
+          within = place.1;
+          limit = place.2;
+          written = more_in has_front model text from at low out more 0 held h
+              (λ before own w. subst (λ t. IsWrittenIn has_front model (before ++ t) (own ++ more) held) same (step before own w));
+        },
+      )
 
   -- a place in a front of a text is one in the text
   place_longer : (t : Text) (common : ℕ) (place : Place) (out : Text) → common ≤ length t → IsPlaceIn has_front model (take common t) place out
       → IsPlaceIn has_front model t place out
   place_longer t common place out within h = record {
     within = omega (arith, h.within, within, length-take-le common t within);
+    limit = h.limit;
     written = subst (λ u. IsWrittenIn has_front model u out place.held) (take_front place.at common t h.within) h.written;
   }
 
@@ -132,10 +139,9 @@ module _ (has_front : Front) (model : Model) where
     pub midway_at : (walk : Walk) (place : Place) (out : Text) → IsWalkOver text walk → IsPlaceIn has_front model text place out
         → IsMidway has_front model (record walk { at = place.at }) place.held text out
     midway_at walk place out over h =
-        let limit : place.at ≤ MAX_TEXT_LEN = omega (arith, h.written.limit, length-take-le place.at text h.within) in
         record {
           over = moved_over text walk place.at over;
-          within = subst (λ t. place.at ≤ length t) (sym over.text_is) (omega (arith, limit, h.within, length-take MAX_TEXT_LEN text));
+          within = subst (λ t. place.at ≤ length t) (sym over.text_is) (omega (arith, h.limit, h.within, length-take MAX_TEXT_LEN text));
           written = h.written;
         }
 
@@ -148,10 +154,11 @@ module _ (has_front : Front) (model : Model) where
       pub few_held : held ≤ MAX_TEXT_LEN
       few_held =
           let w = h.written in
-          omega (arith, w.limit, w.ends.few, ap length w.split, length-append w.front w.last)
+          let place = midway_within walk.at h.within in
+          omega (arith, place.1, w.ends.few, length-take walk.at text, ap length w.split, length-append w.front w.last)
 
       -- verbatim bytes come
-      pub verbatim_taken : (stop : ℕ) → walk.at ≤ stop → stop ≤ length walk.text.now → IsVerbatimAfter model held (between walk.at stop walk.text.now)
+      pub verbatim_taken : (stop : ℕ) → walk.at ≤ stop → stop ≤ length walk.text.now → IsVerbatimAfter (IsWrittenIn has_front model) held (between walk.at stop walk.text.now)
           → IsMidway has_front model (record walk { at = stop }) held text (out ++ between walk.at stop walk.text.now)
       verbatim_taken stop low within verbatim =
           let place = midway_within stop within in
@@ -160,8 +167,8 @@ module _ (has_front : Front) (model : Model) where
             over = moved_over text walk stop h.over;
             within = within;
             written = subst (λ u. IsWrittenIn has_front model (take stop text) (out ++ u) held) (sym same)
-                (more_in has_front model text walk.at stop low place.0 place.1 out held h.written (between walk.at stop text) held
-                (subst (IsVerbatimAfter model held) same verbatim));
+                (more_in has_front model text walk.at stop low out (between walk.at stop text) held held h.written
+                (subst (IsVerbatimAfter (IsWrittenIn has_front model) held) same verbatim));
           }
 
       -- a directive comes
@@ -179,15 +186,15 @@ module _ (has_front : Front) (model : Model) where
           record {
             over = moved_over text walk found.stop h.over;
             within = there.within;
-            written = more_in has_front model text walk.at found.stop low place.0 place.1 out held h.written settled still
-                (λ before own w. directive_written model before own (between walk.at found.stop text) settled held still found.directive w
+            written = more_in has_front model text walk.at found.stop low out settled held still h.written
+                (extends_in has_front model (between walk.at found.stop text) settled held still (λ before own w. directive_written model before own (between walk.at found.stop text) settled held still found.directive w
                 (subst (λ t. IsReadAs t (Directive found.directive)) same there.read) (omega (arith, one, long)) short
-                (λ items. settles own items [] (omega (arith, few_held))));
+                (λ items. settles own items [] (omega (arith, few_held)))));
           }
 
       -- what is held is put
       pub here : HasCanonicalIn has_front model (take walk.at text) (out ++ flat_map item_spelling (silents held))
-      here = all_put has_front model (take walk.at text) out held h.written
+      here = all_put has_front model (take walk.at text) out held (within_limit text walk.at (midway_within walk.at h.within).1) h.written
 
       pub at_end : walk.at ≡ length text → HasCanonicalIn has_front model text (out ++ flat_map item_spelling (silents held))
       at_end e = subst (λ t. HasCanonicalIn has_front model t (out ++ flat_map item_spelling (silents held)))
@@ -199,11 +206,10 @@ module _ (has_front : Front) (model : Model) where
           → IsMidway has_front model (record walk { at = stop }) 0 text (out ++ (flat_map item_spelling (silents held) ++ spelling))
       other_taken stop spelling front some within limit short =
           let c = out ++ flat_map item_spelling (silents held) in
-          let to : IsFrontTo has_front model text stop (c ++ spelling) =
-          item_to has_front model text walk.at stop c spelling here front some within limit short in
+          let to = item_in has_front model text walk.at stop c spelling here front some within short in
           record {
             over = moved_over text walk stop h.over;
             within = subst (λ t. stop ≤ length t) (sym h.over.text_is) (omega (arith, within, limit, length-take MAX_TEXT_LEN text));
             written = subst (λ u. IsWrittenIn has_front model (take stop text) u 0) (append_assoc out (flat_map item_spelling (silents held)) spelling)
-                (front_written has_front model text stop (c ++ spelling) to);
+                to;
           }

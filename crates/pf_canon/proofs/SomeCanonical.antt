@@ -1,5 +1,5 @@
 -- Each accepted text has a canonical text.
-use Rattle.std.proofs.Common.{◌≡◌, ◌≢◌, ℕ, ◌≤◌, Bool, true, false, List, [], ◌∷◌, ◌++◌, length, refl, sym, ap, ◌∙◌, subst, arith}
+use Rattle.std.proofs.Common.{◌≡◌, ◌≢◌, ℕ, ◌+◌, ◌*◌, ◌≤◌, Bool, true, false, List, [], ◌∷◌, ◌++◌, length, refl, sym, ap, ◌∙◌, subst, arith}
 use Rattle.std.specs.Prelude.{MatchBool, ◌==◌, flat_map}
 use Rattle.std.proofs.lemmas.List.{append-nil, append_assoc, length-append}
 use Rattle.pf_values.specs.declared.models.Model.{Model}
@@ -8,13 +8,15 @@ use Rattle.pf_values.specs.meaning.Canonical.{IsCanonicalOf, item_spelling}
 use Rattle.pf_values.specs.meaning.Items.{Item, Byte, Directive, IsAccepted, IsReadAs, Reads}
 use Rattle.pf_values.specs.meaning.Normal.{silent}
 use Rattle.pf_values.specs.meaning.Text.{Text}
-use Rattle.pf_values.proofs.Alike.{alike_refl, alike-printed}
+use Rattle.pf_values.proofs.Alike.{alike_before, alike_refl, alike-printed}
 use Rattle.pf_text.specs.CanonicalRuns.{silents}
-use Rattle.pf_text.proofs.CanonicalRunLemmas.{Reads-append}
+use Rattle.pf_text.specs.History.{IsLiteral}
+use Rattle.pf_text.proofs.CanonicalRunLemmas.{Reads-append, run_written}
+use Rattle.pf_text.proofs.LiteralLemmas.{Reads-literals}
 use Rattle.pf_probes.proofs.Unique.{one_canonical, own_canonical}
-use Rattle.pf_canon.specs.Answers.{IsCanonicalFor}
+use Rattle.pf_canon.specs.Answers.{IsCanonicalFor, most_len}
 use Rattle.pf_canon.specs.Making.{IsWritten}
-use Rattle.pf_canon.proofs.MakingLemmas.{made_canonical, made_settled}
+use Rattle.pf_canon.proofs.MakingLemmas.{made_byte, made_canonical, made_more, made_settled}
 use Rattle.pf_canon.proofs.OutputLemmas.{length-silents}
 use Rattle.pf_canon.proofs.RestLemmas.{IsSettling, Settles, byte_settled, directive_settled}
 use Rattle.pf_canon.proofs.TextLemmas.{most_len-append}
@@ -86,36 +88,77 @@ some_canonical model t items reads =
     let all = settle model [] 0 [] items t reads (nothing_made model) in
     (_, (made_settled model _ all.still all.made.others all.made.making t items reads all.made.alike).canonical_is)
 
--- if a text goes on with items, then its canonical text goes on
-pub continued : (model : Model) (t out : Text) (held : ℕ) (rest : Text) (items : List Item) → IsWritten model t out held → Reads rest items
-    → length (t ++ rest) ≤ MAX_TEXT_LEN → (more : Text) × IsCanonicalFor model (t ++ rest) (out ++ more)
-continued model t out held rest items h reads short =
-    let start : IsSettling model out held h.items [] = record { others = h.items; alike = alike_refl model h.items; making = h.made } in
-    let all = settle model out held h.items items rest reads start in
-    let both = Reads-append t rest h.items items h.reads reads in
-    let last = flat_map item_spelling (silents all.still) in
-    let more = all.more ++ last in
-    let is : IsCanonicalOf model (t ++ rest) (out ++ more) = subst (IsCanonicalOf model (t ++ rest)) (append_assoc out all.more last)
-    (made_canonical model (out ++ all.more) all.still all.made.others all.made.making (t ++ rest) (h.items ++ items) both all.made.alike) in
-    let few = all.few in (
-      more,
-      record {
-        items = h.items ++ items;
-        accepted = record { reads = both; limit = short };
-        canonical_is = is;
-        kept = λ own. one_canonical model (t ++ rest) (out ++ more) (t ++ rest) is (own_canonical model (t ++ rest) own);
-        few = omega (
-          arith,
-          few,
-          h.short,
-          most_len-append h.items items,
-          length-append out more,
-          length-append all.more last,
-          length-silents all.still,
-        );
-      },
-    )
+-- what the items of a text settle, which print as others that are written
+pub record IsSettled (model : Model) (t out : Text) (held : ℕ) : Type 0 where
+  pub items : List Item
+  pub reads : Reads t items
+  pub made : IsSettling model out held items []
+  pub short : length out + 4 * held ≤ most_len items
 
--- and so has an accepted text
+module _ (model : Model) where
+  pub settled_of : (t out : Text) (held : ℕ) → IsWritten model t out held → IsSettled model t out held
+  settled_of t out held h = record {
+    items = h.items;
+    reads = h.reads;
+    made = record { others = h.items; alike = alike_refl model h.items; making = h.made };
+    short = h.short;
+  }
+
+  pub start_settled : IsSettled model [] [] 0
+  start_settled = settled_of [] [] 0 (none_written model)
+
+  -- more items
+  pub settled_more : (t out : Text) (held : ℕ) (u : Text) (items : List Item) → IsSettled model t out held → Reads u items
+      → (more : Text) × (still : ℕ) × IsSettled model (t ++ u) (out ++ more) still
+  settled_more t out held u items h reads =
+      let all = settle model out held h.items items u reads h.made in
+      let few = all.few in (
+        all.more,
+        all.still,
+        record {
+          items = h.items ++ items;
+          reads = Reads-append t u h.items items h.reads reads;
+          made = all.made;
+          short = omega (arith, h.short, few, length-append out all.more, most_len-append h.items items);
+        },
+      )
+
+  -- an ordinary character
+  pub settled_byte : (t out : Text) (held byte : ℕ) → IsSettled model t out held → IsLiteral byte → IsSettled model (t ++ byte ∷ []) (out ++ byte ∷ []) held
+  settled_byte t out held byte h literal =
+      let more = Byte byte ∷ [] in
+      let with = made_more model out held h.made.others [] more h.made.making in
+      let making = made_byte model out held byte (h.made.others ++ more) [] literal.1 with in
+      record {
+        items = h.items ++ more;
+        reads = Reads-literals (byte ∷ []) t h.items h.reads (literal, tt);
+        made = record {
+          others = h.made.others ++ more;
+          alike = alike_before model h.items h.made.others more h.made.alike;
+          making = rw (run_written byte literal) at making;
+        };
+        short = omega (arith, h.short, length-append out (byte ∷ []), most_len-append h.items more);
+      }
+
+  -- all of a text
+  pub settled_canonical : (t out : Text) (held : ℕ) → IsSettled model t out held → IsCanonicalOf model t (out ++ flat_map item_spelling (silents held))
+  settled_canonical t out held h = made_canonical model out held h.made.others h.made.making t h.items h.reads h.made.alike
+
+  pub settled_whole : (t out : Text) (held : ℕ) → length t ≤ MAX_TEXT_LEN → IsSettled model t out held
+      → IsCanonicalFor model t (out ++ flat_map item_spelling (silents held))
+  settled_whole t out held limit h =
+      let last = flat_map item_spelling (silents held) in
+      let is = settled_canonical t out held h in
+      record {
+        items = h.items;
+        accepted = record { reads = h.reads; limit = limit };
+        canonical_is = is;
+        kept = λ own. one_canonical model t (out ++ last) t is (own_canonical model t own);
+        few = omega (arith, h.short, length-append out last, length-silents held);
+      }
+
+-- an accepted text has a canonical text
 pub accepted_canonical : (model : Model) (t : Text) → IsAccepted t → (c : Text) × IsCanonicalFor model t c
-accepted_canonical model t h = continued model [] [] 0 t h.0 (none_written model) h.1.reads h.1.limit
+accepted_canonical model t (items, accepted) =
+    let (out, held, all) = settled_more model [] [] 0 t items (start_settled model) accepted.reads in
+    (_, settled_whole model t out held accepted.limit all)

@@ -11,13 +11,14 @@ use Rattle.pf_values.specs.meaning.Normal.{silent}
 use Rattle.pf_values.specs.meaning.Specification.{Specification}
 use Rattle.pf_values.specs.meaning.Text.{Text}
 use Rattle.pf_text.specs.CanonicalRuns.{IsCanonicalItem, IsCanonicalRun, silents}
-use Rattle.pf_text.specs.Walks.{IsPassed, IsPassedRun, IsPercent}
+use Rattle.pf_text.specs.Walks.{AreItems, IsMadeOf, IsPassed, IsPassedRun, IsPercent}
 use Rattle.pf_text.proofs.CanonicalRunLemmas.{Reads-append, Reads-canonical}
 use Rattle.pf_text.proofs.Texts.{Reads-unique}
+use Rattle.pf_text.proofs.WalkLemmas.{items_made}
 use Rattle.pf_canon.specs.Answers.{IsCanonicalFor, most_len}
 use Rattle.pf_values.specs.meaning.Canonical.{item_spelling}
 use Rattle.pf_text.specs.History.{IsAfter}
-use Rattle.pf_canon.specs.Making.{IsMaking, IsWritten}
+use Rattle.pf_canon.specs.Making.{IsMaking, IsVerbatimAfter, IsWritten}
 use Rattle.pf_canon.specs.Transducer.{IsThrough}
 use Rattle.pf_canon.specs.declared.transducer.Transducer.{Transducer}
 use Rattle.pf_canon.specs.declared.limits.TheConstants.{MAX_DIRECTIVE_LEN}
@@ -86,6 +87,9 @@ percents_written model t out run held more h g =
       few = omega (arith, h.few, length-append t run);
       short = omega (arith, h.short, length-append out run, ap length g.whole, run_is_short model more canonical, most_len-append h.items more);
     }
+
+pub percents_verbatim : (model : Model) (held : ℕ) (run : Text) → IsMadeOf (AreItems IsPercent) run → IsVerbatimAfter (IsWritten model) held run
+percents_verbatim model held run made before out h = let items = items_made IsPercent run made in percents_written model before out run held items.0 h items.1
 
 -- a directive is written as what it settles
 pub directive_written : (model : Model) (t out bytes settled : Text) (held still : ℕ) (d : Specification) → IsWritten model t out held

@@ -1,5 +1,6 @@
 -- What was given of the canonical text of a format in memory, slice by slice. This project's own.
 use Rattle.std.specs.Prelude.{◌≡◌, ◌≢◌, ℕ, ◌+◌, ◌-◌, ◌*◌, ◌≤◌, [], ◌++◌, length, take, Bool, MatchBool, Option, Some, None, Result, Ok, Err}
+use Rattle.pf_values.specs.declared.limits.TheConstants.{MAX_TEXT_LEN}
 use Rattle.pf_values.specs.declared.models.Model.{Model}
 use Rattle.pf_values.specs.meaning.Text.{Text}
 use Rattle.pf_text.specs.Walks.{IsWalkOver}
@@ -14,6 +15,7 @@ use Rattle.pf_canon.specs.Output.{pending_text}
 -- a text up to a place is whole items, and all but those that are held are written in `out`
 pub record IsPlaceIn (has_front : Front) (model : Model) (t : Text) (place : Place) (out : Text) : Type 0 where
   pub within : place.at ≤ length t
+  pub limit : place.at ≤ MAX_TEXT_LEN
   pub written : IsWrittenIn has_front model (take place.at t) out place.held
 
 -- the bytes that are pending

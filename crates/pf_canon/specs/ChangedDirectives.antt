@@ -26,12 +26,17 @@ between start stop text = take (stop - start) (drop start text)
 abbrev pub letters_kept : Model → Specification → Text
 letters_kept model s = length_letters (kept_length model s.length) ++ conv_letter (kept_conv s.conv) ∷ []
 
--- The bytes from `start` up to `at` were written, but not yet put. Now those up to `stop` are written, and the
--- bytes from `next` on are not yet put.
+-- The bytes from `start` up to `at` are written as they are, but not yet put. Then comes a directive, up to `stop`.
+-- Now all is put but the bytes from `next` on, which are written as they are.
+abbrev pub IsWrittenWith : Model → Text → ℕ → ℕ → Text → ℕ → ℕ → Type 0
+IsWrittenWith model text start at more next stop = (spelled : Text)
+    × (between start at text ++ spelled ≡ more ++ between next stop text)
+    × ((before out : Text) → IsWritten model before out 0
+    → IsWritten model (before ++ between at stop text) (out ++ spelled) 0)
+
 abbrev pub PutsFront : {A : Type 0} → (A → A → Text → Type 0) → Model → Text → ℕ → ℕ → A → A → ℕ → ℕ → Type 0
-PutsFront given model text start at old new next stop = (more : Text) × given old new more
-    × ((before out : Text) → IsWritten model before (out ++ between start at text) 0
-    → IsWritten model (before ++ between at stop text) ((out ++ more) ++ between next stop text) 0)
+PutsFront given model text start at old new next stop =
+    (more : Text) × given old new more × IsWrittenWith model text start at more next stop
 
 -- A directive is there, up to `stop`; `is` says whether it is a canonical item.
 pub record IsKnownAt (model : Model) (text : Text) (at : ℕ) (is : Bool) (stop : ℕ) : Type 0 where

@@ -1,8 +1,10 @@
 -- Texts of a language that has more items than the profile. This project's own.
-use Rattle.std.specs.Prelude.{◌≡◌, ◌↔◌, ℕ, Bool, ◌*◌, ◌≤◌, [], ◌++◌, ◌≢◌, length, IsTrue}
+use Rattle.std.specs.Prelude.{◌≡◌, ◌↔◌, ℕ, Bool, ◌*◌, ◌≤◌, List, [], ◌++◌, ◌≢◌, length, IsTrue}
 use Rattle.pf_values.specs.declared.limits.TheConstants.{MAX_TEXT_LEN}
 use Rattle.pf_values.specs.declared.models.Model.{Model}
 use Rattle.pf_values.specs.declared.refusals.RefusalKind.{RefusalKind}
+use Rattle.pf_values.specs.meaning.Canonical.{IsCanonicalOf}
+use Rattle.pf_values.specs.meaning.Items.{Item, Reads}
 use Rattle.pf_values.specs.meaning.Text.{Text}
 use Rattle.pf_text.specs.Refusals.{RefusesOne}
 use Rattle.pf_text.specs.declared.refusals.Refusal.{Refusal}
@@ -35,7 +37,7 @@ pub record HasCanonicalIn (has_front : Front) (model : Model) (t c : Text) : Typ
   pub limit : length t ≤ MAX_TEXT_LEN
   pub few : length out ≤ MAX_DIRECTIVE_LEN * length front
 
--- the same, where the last `held` silent directives of the stretch aren't written yet
+-- The same, where the last `held` silent directives of the stretch aren't written yet. The text may go on.
 pub record IsWrittenIn (has_front : Front) (model : Model) (t out : Text) (held : ℕ) : Type 0 where
   pub front : Text
   pub last : Text
@@ -45,8 +47,18 @@ pub record IsWrittenIn (has_front : Front) (model : Model) (t out : Text) (held 
   pub begins : has_front model front before
   pub ends : IsWritten model last own held
   pub whole : out ≡ before ++ own
-  pub limit : length t ≤ MAX_TEXT_LEN
   pub few : length before ≤ MAX_DIRECTIVE_LEN * length front
+
+-- a stretch comes after a text that is written, and these bytes complete the canonical text
+abbrev pub CompletesIn : Front → Model → Text → Text → Type 0
+CompletesIn has_front model t more = (before out : Text) → IsWrittenIn has_front model before out 0
+    → length (before ++ t) ≤ MAX_TEXT_LEN → HasCanonicalIn has_front model (before ++ t) (out ++ more)
+
+-- what passes comes as it is after a front and a stretch
+abbrev pub ComesVerbatim : Front → (Text → Type 0) → Model → Type 0
+ComesVerbatim has_front passes model = (front out last own passed : Text) (items : List Item) → has_front model front out
+    → Reads last items → IsCanonicalOf model last own → passes passed
+    → has_front model ((front ++ last) ++ passed) ((out ++ own) ++ passed)
 
 -- a text has a canonical text
 abbrev pub IsAcceptedIn : Front → Model → Text → Type 0

@@ -6,6 +6,7 @@ ghost use Rattle.pf_text.specs.FoundDirectives.{BeginsNoItem, IsFoundAt};
 ghost use Rattle.pf_text.specs.Walks.{IsWalk};
 ghost use Rattle.pf_canon.specs.Making.{IsBetweenRuns, IsVerbatimAfter};
 ghost use Rattle.pf_canon.specs.ChangedDirectives.{between};
+ghost use Rattle.pf_canon.specs.Languages.{IsWrittenIn};
 ghost use Rattle.pf_canon.specs.Output.{IsFrontOf};
 ghost use Rattle.pf_canon.specs.CanonicalSlices.{AreSlices, IsPlaceIn, IsTakenWhole, SlicesHaveGiven, to_come, to_take, pending_of};
 
@@ -35,8 +36,8 @@ pub(crate) fn place_in<L: Language>(model: Model, text: &[u8]) -> Place
     let mut from = 0;
     loop {
         let mut rest = walk;
-        rest.at = run_end::<Canonical>(walk, from);
-        let (at, held) = put_items(model, rest, from, &mut count);
+        rest.at = run_end::<(Canonical, L)>(walk, from);
+        let (at, held) = put_items::<L, _>(model, rest, from, &mut count);
         match L::other_at(model, text, at) {
             Ok(Some(other)) => from = other.stop,
             Ok(None) => return Place { at, held },
@@ -171,7 +172,7 @@ impl<'a> CanonicalSlices<'a> {
         ensures fewer { to_come self.new ≤ to_come self.old }
     {
         let from = self.walk.at;
-        let stop = self.verbatim_end();
+        let stop = self.verbatim_end::<L>();
         if stop == from {
             return false;
         }
@@ -184,17 +185,17 @@ impl<'a> CanonicalSlices<'a> {
     // Returns where the next verbatim bytes end: after silent directives that are held these are literal bytes
     // and `%%` alone.
     #[inline(always)]
-    fn verbatim_end(&self) -> usize
+    fn verbatim_end<L: Language>(&self) -> usize
         requires walk { IsWalk self.now.walk }
         requires within { self.now.walk.at ≤ length self.now.walk.text.now }
         ensures within { (self.now.walk.at ≤ result) × (result ≤ length self.now.walk.text.now) }
         ensures next { IsBetweenRuns self.now.walk.text.now result }
-        ensures written { IsVerbatimAfter self.now.model self.now.held (between self.now.walk.at result self.now.walk.text.now) }
+        ensures written { IsVerbatimAfter (IsWrittenIn L.has_front self.now.model) self.now.held (between self.now.walk.at result self.now.walk.text.now) }
     {
         if self.held > 0 {
             return run_end::<Percents>(self.walk, self.walk.at);
         }
-        run_end::<Canonical>(self.walk, self.walk.at)
+        run_end::<(Canonical, L)>(self.walk, self.walk.at)
     }
 
     // Takes a directive of the profile.

@@ -13,8 +13,8 @@ use crate::canonical_slices::{CanonicalSlices, place_in};
 use crate::common_prefix::common_prefix_len;
 use crate::early_difference::differ_after;
 use crate::faults::{SideFault, StreamFault};
-use crate::languages::{Language, Profile, check_from};
-use pf_text::{Refusal, Side, Walk, is_known_accepted};
+use crate::languages::{Language, Profile, check_in};
+use pf_text::{Refusal, Side, Walk, items_end_from};
 use pf_values::{Counted, Model};
 use std::io::Read;
 
@@ -61,7 +61,7 @@ pub fn same_text_in<L: Language>(
     if are_all(first, second, common) {
         return same_itself::<L>(model, first);
     }
-    if differ_after(model, first, second, common) {
+    if differ_after::<L>(model, first, second, common) {
         return Ok(false);
     }
     same_after_common::<L>(model, first, second, common)
@@ -82,19 +82,19 @@ fn same_itself<L: Language>(model: Model, text: &[u8]) -> Result<bool, (Side, Re
     ensures { MatchResult result (AreSameIn L.has_front model text.now text.now)
         (StopsIn L.has_front L.refuses model text.now text.now) }
 {
-    if is_known_accepted(text) {
+    if items_end_from::<L>(Walk::new(text)) == text.len() {
         return Ok(true);
     }
     same_if_accepted::<L>(model, text)
 }
 
-// Compares a text that isn't known to be one of the profile with itself. Never inlined, since few texts come here.
+// Compares a text that isn't known to be accepted with itself. Never inlined, since few texts come here.
 #[inline(never)]
 fn same_if_accepted<L: Language>(model: Model, text: &[u8]) -> Result<bool, (Side, Refusal)>
     ensures { MatchResult result (AreSameIn L.has_front model text.now text.now)
         (StopsIn L.has_front L.refuses model text.now text.now) }
 {
-    match check_from::<L>(model, text, Walk::new(text)) {
+    match check_in::<L>(model, text) {
         Ok(()) => Ok(true),
         Err(refusal) => Err((Side::First, refusal)),
     }

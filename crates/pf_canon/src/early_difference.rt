@@ -1,12 +1,14 @@
 //! Texts that are known to differ without their canonical texts.
 ghost use Rattle.std.specs.Prelude.{◌≡◌, ◌≢◌, ◌⊎◌, ◌<◌, ◌≤◌, get_or, length, take, IsTrue, false};
 ghost use Rattle.pf_values.specs.declared.limits.TheConstants.{MAX_TEXT_LEN as LIMIT};
-ghost use Rattle.pf_values.specs.meaning.Items.{IsAccepted};
 ghost use Rattle.pf_values.specs.meaning.Text.{percent};
 ghost use Rattle.pf_text.specs.History.{IsLiteral};
+ghost use Rattle.pf_text.specs.Walks.{AreRead, Either, IsMadeOf};
 ghost use Rattle.pf_canon.specs.Comparison.{AreCommon, AreTextsSame, BeginApart};
+ghost use Rattle.pf_canon.specs.Languages.{AreSameIn};
 
-use pf_text::{items_end, known_types};
+use crate::languages::Language;
+use pf_text::{Walk, items_end_from, known_types};
 use pf_values::limits::MAX_TEXT_LEN;
 use pf_values::{ArgType, Model};
 
@@ -15,9 +17,14 @@ use pf_values::{ArgType, Model};
 /// for all arguments. Or one goes on with `%`, and they take arguments of different types. False if
 /// neither is so, if they differ in a directive, or if a text is refused.
 #[inline(always)]
-pub(crate) fn differ_after(model: Model, first: &[u8], second: &[u8], common: usize) -> bool
+pub(crate) fn differ_after<L: Language>(
+    model: Model,
+    first: &[u8],
+    second: &[u8],
+    common: usize,
+) -> bool
     requires { AreCommon first.now second.now common }
-    ensures { IsTrue result → AreTextsSame model first.now second.now false }
+    ensures { IsTrue result → AreSameIn L.has_front model first.now second.now false }
 {
     let first_rest = &first[common..];
     let second_rest = &second[common..];
@@ -27,13 +34,13 @@ pub(crate) fn differ_after(model: Model, first: &[u8], second: &[u8], common: us
     if !begin_apart(first_rest, second_rest) {
         return take_other_types(model, first, second);
     }
-    if !is_short(first) || !is_short(second) || !are_items(first, common) {
+    if !is_short(first) || !is_short(second) || !are_items::<L>(first, common) {
         return false;
     }
-    if !is_rest(first_rest) {
+    if !is_rest::<L>(first_rest) {
         return false;
     }
-    is_rest(second_rest)
+    is_rest::<L>(second_rest)
 }
 
 /// Returns the offset of the directive that has an offset inside it, or that offset if none seems to have it:
@@ -109,25 +116,25 @@ fn are_unequal(first: &[ArgType], second: &[ArgType]) -> bool
 
 // Whether the first `len` bytes of a text are whole items. 0 bytes are, without a look.
 #[inline(always)]
-fn are_items(text: &[u8], len: usize) -> bool
+fn are_items<L: Language>(text: &[u8], len: usize) -> bool
     requires { len ≤ length text.now }
-    ensures { IsTrue result → IsAccepted (take len text.now) }
+    ensures { IsTrue result → IsMadeOf (Either AreRead L.passes) (take len text.now) }
 {
     if len == 0 {
         return true;
     }
-    is_format(&text[..len])
+    is_format::<L>(&text[..len])
 }
 
 // Whether a text that doesn't begin with `%` is accepted. Most often it is one byte, or none.
 #[inline(always)]
-fn is_rest(text: &[u8]) -> bool
-    ensures { IsTrue result → IsAccepted text.now }
+fn is_rest<L: Language>(text: &[u8]) -> bool
+    ensures { IsTrue result → IsMadeOf (Either AreRead L.passes) text.now }
 {
     match text {
         [] => true,
         [byte] => is_literal(*byte),
-        _ => is_format(text),
+        _ => is_format::<L>(text),
     }
 }
 
@@ -141,10 +148,10 @@ fn is_literal(byte: u8) -> bool
 // Whether a text is known to be accepted.
 // Never inlined, since three texts are checked.
 #[inline(never)]
-fn is_format(text: &[u8]) -> bool
-    ensures { IsTrue result → IsAccepted text.now }
+fn is_format<L: Language>(text: &[u8]) -> bool
+    ensures { IsTrue result → IsMadeOf (Either AreRead L.passes) text.now }
 {
-    items_end(text) == text.len()
+    items_end_from::<L>(Walk::new(text)) == text.len()
 }
 
 // Whether two texts begin with different ordinary characters, or one does and the other is empty.

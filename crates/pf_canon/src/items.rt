@@ -1,18 +1,17 @@
-//! The canonical text of items of the profile: it is put together from runs that need no change and from
-//! reduced directives.
-ghost use Rattle.std.specs.Prelude.{◌≡◌, ◌⊎◌, ◌+◌, ◌<◌, ◌≤◌, List, [], ◌∷◌, ◌++◌, decimal, drop, get_or, length};
-ghost use Rattle.pf_values.specs.meaning.Items.{Item};
-ghost use Rattle.pf_text.specs.CanonicalRuns.{IsCanonicalRun};
+//! The canonical text of items: it is put together from runs that need no change and from reduced directives of
+//! the profile.
+ghost use Rattle.std.specs.Prelude.{◌≡◌, ◌⊎◌, ◌+◌, ◌<◌, ◌≤◌, [], ◌∷◌, ◌++◌, decimal, drop, get_or, length};
 ghost use Rattle.pf_text.specs.FoundDirectives.{BeginsNoItem, IsSpelledAt};
-ghost use Rattle.pf_text.specs.Walks.{HasPercent, IsPassedRun, IsWalk};
+ghost use Rattle.pf_text.specs.Walks.{HasPercent, IsMadeOf, IsWalk};
 ghost use Rattle.pf_reduce.specs.Changes.{IsChange};
 ghost use Rattle.pf_reduce.specs.declared.changes.Change.TheVariants.{Filled, Padded};
 ghost use Rattle.pf_values.specs.meaning.Text.{Text};
-ghost use Rattle.pf_canon.specs.Answers.{IsCanonicalFor};
 ghost use Rattle.pf_canon.specs.ChangedDirectives.{IsChangedAt, PutsFront, between, letters_kept};
-ghost use Rattle.pf_canon.specs.Making.{IsBetweenRuns, PutsItems};
+ghost use Rattle.pf_canon.specs.Languages.{CompletesIn, IsWrittenIn};
+ghost use Rattle.pf_canon.specs.Making.{IsBetweenRuns, IsVerbatimAfter, IsWritten, PutsItems};
 
 use crate::changed_directives::{ChangedDirective, keeps_letters};
+use crate::languages::Language;
 use crate::output::settle;
 use crate::sink::{Sink, put_repeated, put_silents};
 use pf_reduce::Change;
@@ -21,31 +20,35 @@ use pf_values::padding::MAX_RUN;
 use pf_values::{Directive, Flag, Model, padding};
 use std::slice;
 
-/// Puts the canonical text of a stretch, that is, of the items of the profile from an offset on. Those up
-/// to the offset of a walk are verbatim. Returns where it ends: mostly at the end, and earlier
-/// where the text is refused or has an item that the profile lacks.
+/// Puts the canonical text of a stretch, that is, of the items from an offset on which are of the profile or
+/// which the language passes. Those up to the offset of a walk are verbatim. Returns where it ends: mostly at
+/// the end, and earlier where the text is refused or has another item that the profile lacks.
 #[inline(always)]
-pub(crate) fn put_stretch<S: Sink>(model: Model, walk: Walk<'_>, from: usize, sink: &mut S) -> usize
+pub(crate) fn put_stretch<L: Language, S: Sink>(
+    model: Model,
+    walk: Walk<'_>,
+    from: usize,
+    sink: &mut S,
+) -> usize
     requires walk { IsWalk walk }
     requires within { (from ≤ walk.at) × (walk.at ≤ length walk.text.now) }
-    requires verbatim { (items : List Item)
-        × IsCanonicalRun model (between from walk.at walk.text.now) items }
+    requires verbatim { IsVerbatimAfter (IsWrittenIn L.has_front model) 0 (between from walk.at walk.text.now) }
     requires next { IsBetweenRuns walk.text.now walk.at }
     ensures within { (walk.entry.at ≤ result) × (result ≤ length walk.entry.text.now) }
     ensures stopped { BeginsNoItem (drop result walk.entry.text.now) }
-    ensures put { (c : Text) × S.given sink.old sink.new c
-        × IsCanonicalFor model (between from result walk.entry.text.now) c }
+    ensures put { (more : Text) × S.given sink.old sink.new more
+        × CompletesIn L.has_front model (between from result walk.entry.text.now) more }
 {
-    let (stop, held) = put_items(model, walk, from, sink);
+    let (stop, held) = put_items::<L, _>(model, walk, from, sink);
     put_silents(sink, held);
     stop
 }
 
-/// Puts the canonical text of the items of the profile from the one on at which a walk is, and of the bytes
-/// before it from `from` on, which are verbatim. Returns where the items end, and how many silent
+/// Puts the canonical text of such items from the one on at which a walk is, and of the bytes before it from
+/// `from` on, which are verbatim. Returns where the items end, and how many silent
 /// directives `%.0s` are not yet put.
 #[inline(always)]
-pub(crate) fn put_items<S: Sink>(
+pub(crate) fn put_items<L: Language, S: Sink>(
     model: Model,
     walk: Walk<'_>,
     from: usize,
@@ -53,13 +56,12 @@ pub(crate) fn put_items<S: Sink>(
 ) -> (usize, u64)
     requires walk { IsWalk walk }
     requires within { (from ≤ walk.at) × (walk.at ≤ length walk.text.now) }
-    requires verbatim { (items : List Item)
-        × IsCanonicalRun model (between from walk.at walk.text.now) items }
+    requires verbatim { IsVerbatimAfter (IsWrittenIn L.has_front model) 0 (between from walk.at walk.text.now) }
     requires next { IsBetweenRuns walk.text.now walk.at }
     ensures within { (walk.entry.at ≤ result.0) × (result.0 ≤ length walk.entry.text.now) }
     ensures stopped { BeginsNoItem (drop result.0 walk.entry.text.now) }
-    ensures put { PutsItems S.given model sink.old sink.new (between from result.0 walk.entry.text.now)
-        0 result.1 }
+    ensures put { PutsItems S.given (IsWrittenIn L.has_front model) sink.old sink.new
+        (between from result.0 walk.entry.text.now) 0 result.1 }
 {
     let text = walk.text();
     let mut from = from;
@@ -68,7 +70,7 @@ pub(crate) fn put_items<S: Sink>(
         match ChangedDirective::at(model, text, at) {
             Some(directive) => {
                 from = put_changed(model, text, from, at, &directive, sink);
-                at = run_end::<Canonical>(walk, directive.found.stop);
+                at = run_end::<(Canonical, L)>(walk, directive.found.stop);
             }
             None => {
                 sink.put(&text[from..at]);
@@ -80,7 +82,7 @@ pub(crate) fn put_items<S: Sink>(
                     return (stop, held);
                 }
                 from = stop;
-                at = run_end::<Canonical>(walk, stop);
+                at = run_end::<(Canonical, L)>(walk, stop);
             }
         }
     }
@@ -99,8 +101,8 @@ fn put_reduced<S: Sink>(model: Model, walk: Walk<'_>, from: usize, sink: &mut S)
     ensures within { (from ≤ result.0) × (result.0 ≤ length walk.entry.text.now) }
     ensures none { result.0 ≡ from → BeginsNoItem (drop result.0 walk.entry.text.now) }
     ensures held { 0 < result.1 → BeginsNoItem (drop result.0 walk.entry.text.now) }
-    ensures put { PutsItems S.given model sink.old sink.new (between from result.0 walk.entry.text.now)
-        0 result.1 }
+    ensures put { PutsItems S.given (IsWritten model) sink.old sink.new
+        (between from result.0 walk.entry.text.now) 0 result.1 }
 {
     let text = walk.text();
     let mut at = from;
@@ -122,8 +124,7 @@ pub(crate) fn run_end<P: Passed>(walk: Walk<'_>, from: usize) -> usize
     requires walk { IsWalk walk }
     requires within { from ≤ length walk.text.now }
     ensures within { (from ≤ result) × (result ≤ length walk.entry.text.now) }
-    ensures passed { (items : List Item)
-        × IsPassedRun P.passes (between from result walk.entry.text.now) items }
+    ensures passed { IsMadeOf P.passes (between from result walk.entry.text.now) }
     ensures next { BeginsNoItem (drop result walk.entry.text.now) ⊎ (HasPercent walk.entry.text.now result
         × P.leaves (get_or walk.entry.text.now (result + 1) 0)) }
 {

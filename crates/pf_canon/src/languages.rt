@@ -1,5 +1,5 @@
 //! The languages of formats: what each has that the profile lacks.
-ghost use Rattle.std.specs.Prelude.{ℕ, ◌≡◌, ◌<◌, ◌≤◌, ◌++◌, [], drop, length, take, refl, IfOk, IfSome, MatchOption, MatchResult};
+ghost use Rattle.std.specs.Prelude.{ℕ, ◌≡◌, ◌<◌, ◌≤◌, ◌++◌, [], drop, length, take, refl, IfOk, IfSome, MatchOption, MatchResult, ⊤};
 ghost use Rattle.arrayvec.specs.ArrayVec.{array_vec_len};
 ghost use Rattle.pf_values.specs.declared.limits.TheConstants.{MAX_TEXT_LEN};
 ghost use Rattle.pf_values.specs.declared.models.Model.{Model};
@@ -7,12 +7,11 @@ ghost use Rattle.pf_values.specs.meaning.Refusals.{IsRefusedAt};
 ghost use Rattle.pf_values.specs.meaning.Text.{Text};
 ghost use Rattle.pf_text.specs.FoundDirectives.{BeginsNoItem};
 ghost use Rattle.pf_text.specs.Walks.{IsWalkOver};
-ghost use Rattle.pf_canon.specs.Answers.{IsCanonicalFor};
-ghost use Rattle.pf_canon.specs.Languages.{Front, HasCanonicalIn, IsAcceptedIn, IsWrittenIn, Refuses};
+ghost use Rattle.pf_canon.specs.Languages.{ComesVerbatim, Front, HasCanonicalIn, IsAcceptedIn, IsWrittenIn, Refuses};
 
 use crate::items::{put_stretch, run_end};
 use crate::sink::Sink;
-use pf_text::{Canonical, Refusal, Spelling, Walk, items_end_from, refusal_at};
+use pf_text::{Canonical, Passed, Refusal, Spelling, Walk, items_end_from, refusal_at};
 use pf_values::Model;
 
 /// An item that the profile lacks.
@@ -24,8 +23,8 @@ pub struct OtherItem {
     pub stop: usize,
 }
 
-/// A language of formats: the profile, and items of its own.
-pub trait Language {
+/// A language of formats: the profile, and items of its own. Those that it passes are their own canonical text.
+pub trait Language: Passed {
     // a front of a text that is empty or ends with an item of its own has this canonical text
     ghost has_front: { Front };
 
@@ -48,6 +47,9 @@ pub trait Language {
             × (array_vec_len other.spelling ≤ 20))) };
 
     ghost has_none: { (model : Model) → has_front model [] [] };
+
+    // what it passes is of its own, and comes as it is
+    ghost has_passed: { (model : Model) → ComesVerbatim has_front Self.passes model };
 }
 
 /// Puts the canonical text of what comes after the first stretch of a text.
@@ -62,8 +64,8 @@ pub(crate) fn put_others<L: Language, S: Sink>(
     requires over { IsWalkOver text.now walk }
     requires within { first ≤ length walk.text.now }
     requires none { BeginsNoItem (drop first walk.text.now) }
-    requires front { (c : Text) × IsCanonicalFor model (take first text.now) c }
-    ensures { (c : Text) → IsCanonicalFor model (take first text.now) c
+    requires front { IsAcceptedIn L.has_front model (take first text.now) }
+    ensures { (c : Text) → HasCanonicalIn L.has_front model (take first text.now) c
         → MatchResult result (λ _. (more : Text) × S.given sink.old sink.new more
         × HasCanonicalIn L.has_front model text.now (c ++ more))
         (λ refusal. L.refuses model text.now refusal.kind refusal.at) }
@@ -72,10 +74,18 @@ pub(crate) fn put_others<L: Language, S: Sink>(
     while let Some(other) = L::other_at(model, text, at)? {
         sink.put(&other.spelling);
         let mut rest = walk;
-        rest.at = run_end::<Canonical>(walk, other.stop);
-        at = put_stretch(model, rest, other.stop, sink);
+        rest.at = run_end::<(Canonical, L)>(walk, other.stop);
+        at = put_stretch::<L, _>(model, rest, other.stop, sink);
     }
     Ok(())
+}
+
+/// Checks whether a text is accepted in a language. `Err` if it is refused. Allocates nothing.
+pub fn check_in<L: Language>(model: Model, text: &[u8]) -> Result<(), Refusal>
+    ensures { MatchResult result (λ _. IsAcceptedIn L.has_front model text.now)
+        (λ refusal. L.refuses model text.now refusal.kind refusal.at) }
+{
+    check_from::<L>(model, text, Walk::new(text))
 }
 
 /// Checks whether a text is accepted. What comes before a walk over it is.
@@ -91,11 +101,11 @@ pub(crate) fn check_from<L: Language>(
         → MatchResult result (λ _. (more : Text) × HasCanonicalIn L.has_front model text.now (out ++ more))
         (λ refusal. L.refuses model text.now refusal.kind refusal.at) }
 {
-    let mut at = items_end_from(walk);
+    let mut at = items_end_from::<L>(walk);
     while let Some(other) = L::other_at(model, text, at)? {
         let mut rest = walk;
         rest.at = other.stop;
-        at = items_end_from(rest);
+        at = items_end_from::<L>(rest);
     }
     Ok(())
 }
@@ -104,12 +114,25 @@ pub(crate) fn check_from<L: Language>(
 #[derive(Clone, Copy, Debug)]
 pub struct Profile;
 
+impl Passed for Profile {
+    ghost passes = { λ item. ⊥ };
+
+    ghost leaves = { λ byte. ⊤ };
+
+    #[inline(always)]
+    fn len(_: &[u8], _: usize) -> usize {
+        0
+    }
+}
+
 impl Language for Profile {
     ghost has_front = { λ model front out. (front ≡ []) × (out ≡ []) };
 
     ghost refuses = { λ model. IsRefusedAt };
 
     ghost has_none = { λ model. (refl, refl) };
+
+    ghost has_passed = { λ model front out last own passed items begins reads is none. absurd none };
 
     #[inline(always)]
     fn other_at(_: Model, text: &[u8], at: usize) -> Result<Option<OtherItem>, Refusal> {

@@ -1,8 +1,8 @@
 //! Canonical texts: the one spelling to which each printf format is brought.
 //!
-//! The one road is `items`, which puts the canonical text of items of the profile into a `sink`: of a text in
-//! memory, up to where a language has an item of its own (`languages`), and of the whole items in a block of a
-//! stream (`transducer`). The shortcuts, and what a call costs with one and without, in instructions over 4,000
+//! The one road is `items`, which puts the canonical text of items into a `sink`: of a text in memory, up to where
+//! a language has an item of its own whose spelling changes (`languages`; others it passes), and of the whole
+//! items in a block of a stream (`transducer`). The shortcuts, and what a call costs with one and without, in instructions over 4,000
 //! formats: `verbatim_front` sees bytes that need no change (`canonical`: 227 and 312), `changed_directives` knows
 //! directives that change little (227 and 287), `short_texts` needs no vector (227 and 269), `plain_canonical`
 //! decides most texts (`is_canonical`: 185 and 251), the buffer on the stack in `canonical_texts` saves counting
@@ -41,7 +41,7 @@ pub use comparison::{same_stream, same_text, same_text_in};
 pub use copy::{canonical_stream, copy_canonical};
 pub use early_difference::item_start;
 pub use faults::{CopyFault, SideFault, StreamFault};
-pub use languages::{Language, OtherItem, Profile};
+pub use languages::{Language, OtherItem, Profile, check_in};
 pub use pf_text::{Side, TextFault as CanonFault};
 pub use short_texts::{Room, ShortText};
 pub use verbatim_front::VerbatimFront;

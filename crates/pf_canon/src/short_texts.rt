@@ -58,7 +58,7 @@ impl ShortText {
         text: &[u8],
     ) -> Result<Room, Refusal>
         requires unused { IsUnused self.old }
-        requires front { IsVerbatimFront text.now front.now }
+        requires front { IsVerbatimFront L.has_front text.now front.now }
         ensures { MatchResult result
             (HasRoom (HasCanonicalIn L.has_front (front_model front.now) text.now) text.now self.new)
             (λ refusal. L.refuses (front_model front.now) text.now refusal.kind refusal.at) }

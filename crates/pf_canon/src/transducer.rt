@@ -7,11 +7,12 @@ ghost use Rattle.pf_text.specs.History.{offset_of};
 ghost use Rattle.pf_canon.specs.Answers.{most_len};
 ghost use Rattle.pf_canon.specs.declared.limits.TheConstants.{MAX_DIRECTIVE_LEN};
 ghost use Rattle.pf_text.specs.Walks.{IsWalk};
-ghost use Rattle.pf_canon.specs.Making.{PutsItems};
+ghost use Rattle.pf_canon.specs.Making.{IsWritten, PutsItems};
 ghost use Rattle.pf_canon.specs.Output.{output_text};
 ghost use Rattle.pf_canon.specs.Transducer.{SettlesEnd, IsThrough, PutsBytes, RefusesBlock, TakesBlock, Settles, TakesByte, SettlesDirective, byte_output_text, data_model_of, more_of, scanner_of, held_silents_of};
 
 use crate::items::{put_items, run_end};
+use crate::languages::Profile;
 use crate::output::{Output, StepOutput, settle};
 use crate::sink::Sink;
 use pf_text::{Canonical, Percents, Refusal, Scanner, Spelling, Step, Walk};
@@ -77,7 +78,7 @@ impl Transducer {
     #[inline(always)]
     fn put_items<S: Sink>(&mut self, walk: Walk<'_>, sink: &mut S) -> usize
         requires { IsWalk walk }
-        ensures put { PutsItems S.given (data_model_of self.old) sink.old sink.new
+        ensures put { PutsItems S.given (IsWritten (data_model_of self.old)) sink.old sink.new
             (take result walk.entry.text.now) (held_silents_of self.old) (held_silents_of self.new) }
         ensures reads { (items : List Item) × Reads (take result walk.entry.text.now) items }
         ensures within { result ≤ length walk.entry.text.now }
@@ -90,8 +91,8 @@ impl Transducer {
             return len;
         }
         let mut rest = walk;
-        rest.at = run_end::<Canonical>(walk, 0);
-        let (len, held) = put_items(self.model, rest, 0, sink);
+        rest.at = run_end::<(Canonical, Profile)>(walk, 0);
+        let (len, held) = put_items::<Profile, _>(self.model, rest, 0, sink);
         self.silents = held;
         len
     }

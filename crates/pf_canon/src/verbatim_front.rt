@@ -1,7 +1,6 @@
 //! The bytes at the front of a format that need no change.
 ghost use Rattle.std.specs.Prelude.{IsTrue, MatchResult, ◌≡◌};
 ghost use Rattle.pf_values.specs.meaning.Text.{Text};
-ghost use Rattle.pf_canon.specs.Answers.{IsCanonicalFor};
 ghost use Rattle.pf_canon.specs.Languages.{HasCanonicalIn};
 ghost use Rattle.pf_canon.specs.VerbatimFronts.{IsVerbatimFront, front_model};
 
@@ -21,14 +20,14 @@ pub struct VerbatimFront<'a> {
 }
 
 impl<'a> VerbatimFront<'a> {
-    /// Returns the verbatim bytes at the front of a format.
+    /// Returns the verbatim bytes at the front of a format, in a language.
     #[inline(always)]
-    pub fn of(model: Model, text: &'a [u8]) -> VerbatimFront<'a>
+    pub fn of<L: Language>(model: Model, text: &'a [u8]) -> VerbatimFront<'a>
         ensures model { front_model result ≡ model }
-        ensures front { IsVerbatimFront text.now result }
+        ensures front { IsVerbatimFront L.has_front text.now result }
     {
         let mut walk = Walk::new(text);
-        walk.at = run_end::<Canonical>(walk, 0);
+        walk.at = run_end::<(Canonical, L)>(walk, 0);
         VerbatimFront { model, walk }
     }
 
@@ -36,9 +35,9 @@ impl<'a> VerbatimFront<'a> {
     /// and its own canonical text. False for a refused text, and for some formats that are canonical,
     /// too.
     #[inline(always)]
-    pub fn is_all(&self, text: &[u8]) -> bool
-        requires { IsVerbatimFront text.now self.now }
-        ensures { IsTrue result → IsCanonicalFor (front_model self.now) text.now text.now }
+    pub fn is_all<L: Language>(&self, text: &[u8]) -> bool
+        requires { IsVerbatimFront L.has_front text.now self.now }
+        ensures { IsTrue result → HasCanonicalIn L.has_front (front_model self.now) text.now text.now }
     {
         self.walk.at == text.len()
     }
@@ -46,12 +45,12 @@ impl<'a> VerbatimFront<'a> {
     /// Puts all of the canonical text of the format, in a language.
     #[inline(always)]
     pub(crate) fn put<L: Language, S: Sink>(&self, text: &[u8], sink: &mut S) -> Result<(), Refusal>
-        requires { IsVerbatimFront text.now self.now }
+        requires { IsVerbatimFront L.has_front text.now self.now }
         ensures { MatchResult result (λ _. (c : Text) × S.given sink.old sink.new c
             × HasCanonicalIn L.has_front (front_model self.now) text.now c)
             (λ refusal. L.refuses (front_model self.now) text.now refusal.kind refusal.at) }
     {
-        let stop = put_stretch(self.model, self.walk, 0, sink);
+        let stop = put_stretch::<L, _>(self.model, self.walk, 0, sink);
         if stop == text.len() {
             return Ok(());
         }

@@ -410,9 +410,9 @@ fn has_digit(text: &[u8], at: usize) -> bool
     text[at].is_ascii_digit()
 }
 
-// The length modifier at an offset, and where it ends (C11 7.21.6.1, paragraph 7).
+/// Returns the length modifier at an offset, and where it ends (C11 7.21.6.1, paragraph 7).
 #[inline(always)]
-fn modifier_at(text: &[u8], start: usize) -> (Modifier, usize)
+pub fn modifier_at(text: &[u8], start: usize) -> (Modifier, usize)
     requires { start ≤ length text.now }
     ensures letters { HasBytes text.now start result.1 (modifier_letters result.0) }
     ensures ended { ModifierEnds text.now result.1 result.0 }
@@ -461,9 +461,9 @@ fn second_modifier(first: Modifier, byte: u8) -> Option<Modifier>
     }
 }
 
-// The conversion at an offset (C11 7.21.6.1, paragraph 8).
+/// Returns the conversion at an offset (C11 7.21.6.1, paragraph 8). `Err` if there is none.
 #[inline(always)]
-fn conversion_at(text: &[u8], at: usize) -> Result<Conversion, Refusal>
+pub fn conversion_at(text: &[u8], at: usize) -> Result<Conversion, Refusal>
     requires { at ≤ length text.now }
     ensures letter { IfOk result (λ conversion. HasBytes text.now at (at + 1) (conversion_letter conversion ∷ [])) }
     ensures none { IfErr result (λ refusal. conversion_of (get_or text.now at 0) ≡ None) }

@@ -30,7 +30,7 @@ enum Found {
 }
 
 /// Returns the first stretch of a text from the offset `from` on, and the opaque directive or `%m` after it
-/// (C11 7.21.6.1, paragraphs 3 and 4; POSIX syslog). The text has to be one that `check_unnumbered` accepts,
+/// (C11 7.21.6.1, paragraphs 3 and 4; POSIX syslog). The text has to be accepted without numbered arguments,
 /// and `from` is 0 or an `after` of an earlier result. For other texts the result may be `None`, and nothing
 /// is said of it except that its offsets lie in the text. It reads nothing after that offset, and allocates
 /// nothing.

@@ -8,9 +8,10 @@ use crate::conversions::{Conversion, Floating, Modifier};
 use crate::opaque_directives::OpaqueDirective;
 use pf_values::{Conv, Flag, FlagSet, Length, RefusalKind};
 
-/// The first kind, in the order of numbers, for which a specification is undefined, if it is.
+/// Returns the first kind, in the order of numbers, for which a specification is undefined. `None` if the standards
+/// define it.
 #[inline(always)]
-pub(crate) fn undefined_as(parts: &OpaqueDirective) -> Option<RefusalKind>
+pub fn undefined_as(parts: &OpaqueDirective) -> Option<RefusalKind>
     ensures { result ≡ undefined_of (parts_of_opaque parts.now) }
 {
     let flags = parts.flags;

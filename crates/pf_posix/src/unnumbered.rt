@@ -1,4 +1,4 @@
-//! Whether a format of the whole language is accepted where arguments may have no numbers.
+//! What the profile lacks, where arguments may have no numbers.
 ghost use Rattle.std.specs.Prelude.{◌≡◌, ◌≤◌, drop, length, take, MatchOption, MatchResult};
 ghost use Rattle.pf_values.specs.declared.limits.TheConstants.{MAX_TEXT_LEN as LIMIT};
 ghost use Rattle.pf_text.specs.FoundDirectives.{BeginsNoItem};
@@ -10,33 +10,13 @@ ghost use Rattle.pf_posix.specs.Endings.{numbered_instead};
 use crate::long_texts::{of_long, too_long};
 use crate::opaque_directives::Opaque;
 use crate::specifications::{Numbering, defined_at, has_errno, refusal};
-use pf_text::{Bare, Refusal, Walk, directive_at, within_limit};
+use pf_text::{Refusal, within_limit};
 use pf_values::{Model, RefusalKind};
-
-/// Checks whether a format of the whole language is accepted in a data model if no argument may have a
-/// number (C11 7.21.6.1, paragraphs 3 to 9; POSIX fprintf). `Err` if it isn't: a `$` directly after
-/// the first number of a specification is refused as `Numbered`, and everything else as by
-/// `arguments`, at the same byte. Allocates nothing.
-pub fn check_unnumbered(model: Model, text: &[u8]) -> Result<(), Refusal>
-    ensures { MatchResult result (λ _. IsWholeAccepted text.now)
-        (λ refusal. IsWholeRefusedAt model text.now refusal.kind refusal.at) }
-{
-    let mut walk = Walk::new(text);
-    loop {
-        walk.find::<Bare>();
-        match directive_at(walk.text(), walk.at) {
-            Some(found) => walk.at = found.stop,
-            None => match opaque_at(model, text, walk.at)? {
-                Some((_, stop)) => walk.at = stop,
-                None => return Ok(()),
-            },
-        }
-    }
-}
 
 /// Returns the opaque directive or `%m` at an offset of a text, and where it ends: the text up to there is accepted, and
 /// no item of the profile begins there that ends within the limit. `None` at the end of the text. `Err` if the
-/// text is refused there, as by `check_unnumbered`. Allocates nothing.
+/// text is refused there if no argument may have a number: a `$` directly after the first number of a
+/// specification as `Numbered`, and everything else as by `arguments`, at the same byte. Allocates nothing.
 #[inline(always)]
 pub fn opaque_at(model: Model, text: &[u8], at: usize) -> Result<Option<(Opaque, usize)>, Refusal>
     requires within { at ≤ length text.now }

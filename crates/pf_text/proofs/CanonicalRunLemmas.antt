@@ -1,9 +1,8 @@
 -- Items that are spelled as the canonical text spells them.
-use Rattle.std.proofs.Common.{◌≡◌, ◌≢◌, ℕ, zero, suc, ◌+◌, ◌≤◌, true, false, Bool, List, [], ◌∷◌, ◌++◌, length, map, take, drop, None}
+use Rattle.std.proofs.Common.{◌≡◌, ◌≢◌, ℕ, zero, suc, ◌≤◌, true, false, Bool, List, [], ◌∷◌, ◌++◌, length, map, take, drop, None}
 use Rattle.std.proofs.Common.{refl, sym, ap, ap₂, ◌∙◌, subst, arith, get_or}
 use Rattle.std.specs.Prelude.{flat_map, IsFalse, MatchBool, ◌==◌, if◌then◌else◌}
 use Rattle.std.specs.List.{AllByRecursion}
-use Rattle.std.proofs.Math.Seq.{take-add}
 use Rattle.std.proofs.lemmas.Bool.Decides.{nat_tests}
 use Rattle.std.proofs.lemmas.Grind.{flat_map-append}
 use Rattle.std.proofs.lemmas.List.{append_assoc, append-nil}
@@ -222,12 +221,6 @@ run_append model t u a b h g = record {
   whole = ap₂ (λ (x y : Text). x ++ y) h.whole g.whole
       ∙ sym (flat_map-append item_spelling a b);
 }
-
--- more bytes of a text are such items
-pub run_more : (model : Model) (text : Text) (at more : ℕ) (a b : List Item) → IsCanonicalRun model (take at text) a
-    → IsCanonicalRun model (take more (drop at text)) b → IsCanonicalRun model (take (at + more) text) (a ++ b)
-run_more model text at more a b h g = subst (λ u. IsCanonicalRun model u (a ++ b)) (sym (take-add at more text))
-    (run_append model (take at text) (take more (drop at text)) a b h g)
 
 is_read_byte : (byte : ℕ) (b : Bool) → byte ≢ 0 → MatchBool b ((if b then percent ∷ percent ∷ [] else byte ∷ []) ≡ percent ∷ percent ∷ [])
     ((byte ≢ 0) × ((if b then percent ∷ percent ∷ [] else byte ∷ []) ≡ byte ∷ []))

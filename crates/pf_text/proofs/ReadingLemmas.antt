@@ -1,24 +1,26 @@
 -- What is read where a walk has come to an offset.
-use Rattle.std.proofs.Common.{◌≡◌, ℕ, ◌+◌, ◌-◌, ◌≤◌, max, List, [], ◌∷◌, ◌++◌, length, get_or, take, drop, Some, refl, sym, ap, ap₂, ◌∙◌, subst, arith}
+use Rattle.std.proofs.Common.{◌≡◌, ℕ, ◌+◌, ◌-◌, ◌≤◌, max, List, [], ◌∷◌, ◌++◌, length, get_or, map, take, drop, Some, refl, sym, ap, ap₂, ◌∙◌, subst, arith, inl, inr}
 use Rattle.std.specs.Prelude.{⊤}
-use Rattle.std.proofs.lemmas.List.{append-nil, drop-drop, drop-take, length-drop, length-take, take_all}
+use Rattle.std.specs.List.{AllByRecursion}
+use Rattle.std.proofs.lemmas.List.{append-nil, drop-take, length-drop, length-take, take_all}
 use Rattle.pf_values.specs.declared.limits.TheConstants.{MAX_TEXT_LEN}
 use Rattle.pf_values.specs.declared.conversions.Conv.{Conv}
 use Rattle.pf_values.specs.declared.models.Model.{Model}
 use Rattle.pf_values.specs.declared.types.ArgType.{ArgType}
 use Rattle.pf_values.specs.meaning.DataModel.{arg_type}
-use Rattle.pf_values.specs.meaning.Items.{Directive, IsAccepted, IsReadAs, Item, Reads, types}
+use Rattle.pf_values.specs.meaning.Items.{Byte, Directive, IsAccepted, IsReadAs, Item, Reads, types}
 use Rattle.pf_values.specs.meaning.Specification.{Specification}
 use Rattle.pf_values.specs.meaning.Text.{Text}
 use Rattle.pf_values.proofs.ItemTypes.{types-append}
 use Rattle.pf_text.specs.FoundDirectives.{BeginsNoItem}
 use Rattle.pf_text.specs.Letters.{conv_of}
 use Rattle.pf_text.specs.Signatures.{ReadsTyped, TakesTypes}
-use Rattle.pf_text.specs.Walks.{EndsItems, HasPassed, HasPercent, IsItemsEnd, IsPassedRun, IsPercent, IsWalk, IsWalkOver}
+use Rattle.pf_text.specs.Walks.{AreItems, AreRead, Either, EndsItems, HasPassed, HasPercent, HasWalked, IsItemsEnd, IsMadeOf, IsPercent, IsPiece, IsWalk, IsWalkOver}
 use Rattle.pf_text.specs.declared.walk.Walk.{Walk}
-use Rattle.pf_text.proofs.CanonicalRunLemmas.{bare, take_front}
+use Rattle.pf_text.proofs.CanonicalRunLemmas.{Reads-append, bare, take_front}
+use Rattle.pf_text.proofs.LiteralLemmas.{Reads-literals}
 use Rattle.pf_text.proofs.ItemLemmas.{one_read, read_more}
-use Rattle.pf_text.proofs.WalkLemmas.{conv_run, run_is_read, run_takes_none}
+use Rattle.pf_text.proofs.WalkLemmas.{by_pieces, conv_run, made_between, made_of_none, run_is_read, run_takes_none}
 
 -- a walk over a text, and what was read before its offset
 pub record HasRead (text : Text) (walk : Walk) : Type 0 where
@@ -63,60 +65,81 @@ read_item text walk stop more h up within g =
           (read_more walk.text.now walk.at (stop - walk.at) h.items more h.reads g);
     }
 
--- a walk has come from another one over whole items
-pub record HasReadFrom (start walk : Walk) : Type 0 where
-  pub is : IsWalk walk
-  pub text : walk.text.now ≡ start.text.now
-  pub low : start.at ≤ walk.at
-  pub within : walk.at ≤ length start.text.now
-  pub items : List Item
-  pub reads : Reads (take (walk.at - start.at) (drop start.at start.text.now)) items
+-- what is made of pieces is made of others
+pub made_as : (P Q : Text → Type 0) → ((t : Text) → P t → Q t) → (t : Text) → IsMadeOf P t → IsMadeOf Q t
+made_as P Q turn t made = record { pieces = made.pieces; each = go made.pieces made.each; whole = made.whole } where
+  piece_as : (piece : Text) → IsPiece P piece → IsPiece Q piece
+  piece_as piece (inl literal) = inl literal
+  piece_as piece (inr h) = inr (h.0, turn piece h.1)
 
--- at first over none
-pub read_nothing : (walk : Walk) → IsWalk walk → walk.at ≤ length walk.text.now → HasReadFrom walk walk
-read_nothing walk h within =
-    let none : 0 ≡ walk.at - walk.at = omega arith in
-    record {
-      is = h;
-      text = refl;
-      low = omega arith;
-      within = within;
-      items = [];
-      reads = subst (λ k. Reads (take k (drop walk.at walk.text.now)) []) none refl;
-    }
+  go : (pieces : List Text) → AllByRecursion (IsPiece P) pieces → AllByRecursion (IsPiece Q) pieces
+  go [] h = tt
+  go (piece ∷ pieces) h = (piece_as piece h.0, go pieces h.1)
 
--- then over more of them
-pub read_from : (start walk to : Walk) (more : List Item) → HasReadFrom start walk → IsWalk to → to.text.now ≡ start.text.now → walk.at ≤ to.at
-    → to.at ≤ length start.text.now → Reads (take (to.at - walk.at) (drop walk.at start.text.now)) more → HasReadFrom start to
-read_from start walk to more h is text up within g =
-    let t = start.text.now in
-    let place : start.at + (walk.at - start.at) ≡ walk.at = omega (arith, h.low) in
-    let whole : (walk.at - start.at) + (to.at - walk.at) ≡ to.at - start.at = omega (arith, h.low, up) in
-    let behind : drop (walk.at - start.at) (drop start.at t) ≡ drop walk.at t = drop-drop (walk.at - start.at) start.at t ∙ ap (λ k. drop k t) place in
-    record {
-      is = is;
-      text = text;
-      low = omega (arith, h.low, up);
-      within = within;
-      items = h.items ++ more;
-      reads = subst (λ k. Reads (take k (drop start.at t)) (h.items ++ more)) whole
-          (read_more (drop start.at t) (walk.at - start.at) (to.at - walk.at) h.items more h.reads
-          (subst (λ u. Reads (take (to.at - walk.at) u) more) (sym behind) g));
-    }
+-- items that are read, one text after another
+pub read_made : (passes : Item → Type 0) (t : Text) → IsMadeOf (Either AreRead (AreItems passes)) t → AreRead t
+read_made passes t made = by_pieces (Either AreRead (AreItems passes)) AreRead step [] t ([], refl) made where
+  joined : (before piece : Text) → AreRead before → AreRead piece → AreRead (before ++ piece)
+  joined before piece h g = (h.0 ++ g.0, Reads-append before piece h.0 g.0 h.1 g.1)
 
--- by what a walk passes
-pub passed_from : (passes : Item → Type 0) (start old new : Walk) → HasReadFrom start old → HasPassed passes old new → HasReadFrom start new
-passed_from passes start old new h g =
-    let t = start.text.now in
-    let text_is : new.text.now ≡ t = g.text ∙ h.text in
-    let most : new.at ≤ max old.at (length t) = subst (λ u. new.at ≤ max old.at (length u)) text_is g.within in
-    read_from start old new g.items h g.walk text_is g.from (omega (arith, most, h.within))
-    (run_is_read passes _ g.items (subst (λ u. IsPassedRun passes (take (new.at - old.at) (drop old.at u)) g.items) text_is g.run))
+  step : (before piece : Text) → AreRead before → IsPiece (Either AreRead (AreItems passes)) piece → AreRead (before ++ piece)
+  step before piece h (inl literal) = joined before piece h (map Byte piece, Reads-literals piece [] [] refl literal)
+  step before piece h (inr (begins, inl read)) = joined before piece h read
+  step before piece h (inr (begins, inr run)) = joined before piece h (run.0, run_is_read passes piece run.0 run.1)
 
--- up to where no item begins
-pub ends_items : (start walk : Walk) → HasReadFrom start walk → BeginsNoItem (drop walk.at walk.text.now) → EndsItems start walk.at
-ends_items start walk h none =
-    record { within = (h.low, h.within); read = (h.items, h.reads); stopped = subst (λ t. BeginsNoItem (drop walk.at t)) h.text none }
+module _ (passes : Text → Type 0) where
+  -- a walk has come from another one over whole items
+  pub record HasReadFrom (start walk : Walk) : Type 0 where
+    pub is : IsWalk walk
+    pub text : walk.text.now ≡ start.text.now
+    pub low : start.at ≤ walk.at
+    pub within : walk.at ≤ length start.text.now
+    pub read : IsMadeOf (Either AreRead passes) (take (walk.at - start.at) (drop start.at start.text.now))
+
+  -- at first over none
+  pub read_nothing : (walk : Walk) → IsWalk walk → walk.at ≤ length walk.text.now → HasReadFrom walk walk
+  read_nothing walk h within =
+      let none : 0 ≡ walk.at - walk.at = omega arith in
+      record {
+        is = h;
+        text = refl;
+        low = omega arith;
+        within = within;
+        read = subst (λ k. IsMadeOf (Either AreRead passes) (take k (drop walk.at walk.text.now))) none (made_of_none (Either AreRead passes));
+      }
+
+  -- then over more of them
+  pub read_from : (start walk to : Walk) → HasReadFrom start walk → IsWalk to → to.text.now ≡ start.text.now → walk.at ≤ to.at
+      → to.at ≤ length start.text.now → IsMadeOf (Either AreRead passes) (take (to.at - walk.at) (drop walk.at start.text.now)) → HasReadFrom start to
+  read_from start walk to h is text up within g =
+      let place : walk.at + (to.at - walk.at) ≡ to.at = omega (arith, up) in
+      record {
+        is = is;
+        text = text;
+        low = omega (arith, h.low, up);
+        within = within;
+        read = subst (λ k. IsMadeOf (Either AreRead passes) (take (k - start.at) (drop start.at start.text.now))) place
+            (made_between (Either AreRead passes) start.text.now start.at walk.at (to.at - walk.at) h.low h.read g);
+      }
+
+  -- by what a walk passes
+  pub passed_from : (bare : Item → Type 0) (start old new : Walk) → HasReadFrom start old → HasWalked (Either (AreItems bare) passes) old new
+      → HasReadFrom start new
+  passed_from bare start old new h g =
+      let t = start.text.now in
+      let text_is : new.text.now ≡ t = g.text ∙ h.text in
+      let most : new.at ≤ max old.at (length t) = subst (λ u. new.at ≤ max old.at (length u)) text_is g.within in
+      let run = subst (λ u. IsMadeOf (Either (AreItems bare) passes) (take (new.at - old.at) (drop old.at u))) text_is g.run in
+      read_from start old new h g.walk text_is g.from (omega (arith, most, h.within))
+      (made_as (Either (AreItems bare) passes) (Either AreRead passes) as_read (take (new.at - old.at) (drop old.at t)) run) where
+        as_read : (u : Text) → Either (AreItems bare) passes u → Either AreRead passes u
+        as_read u (inl run) = inl (run.0, run_is_read bare u run.0 run.1)
+        as_read u (inr other) = inr other
+
+  -- up to where no item begins
+  pub ends_items : (start walk : Walk) → HasReadFrom start walk → BeginsNoItem (drop walk.at walk.text.now) → EndsItems passes start walk.at
+  ends_items start walk h none =
+      record { within = (h.low, h.within); read = h.read; stopped = subst (λ t. BeginsNoItem (drop walk.at t)) h.text none }
 
 -- so the text up to the offset is whole items, and that is all if no item begins there
 pub items_up_to : (text : Text) (walk : Walk) → HasRead text walk → BeginsNoItem (drop walk.at walk.text.now) → IsItemsEnd text walk.at
@@ -219,14 +242,16 @@ typed_all model text walk found h none e =
     record { items = all.0; accepted = all.1; types_are = h.types_are }
 
 -- whole items from the beginning of a text on, up to where no item begins
-pub items_to : (text : Text) (walk : Walk) → IsWalkOver text walk → walk.at ≡ 0 → (stop : ℕ) → EndsItems walk stop → IsItemsEnd text stop
+pub items_to : (text : Text) (walk : Walk) → IsWalkOver text walk → walk.at ≡ 0 → (stop : ℕ) → EndsItems (AreItems (λ item. ⊥)) walk stop
+    → IsItemsEnd text stop
 items_to text walk over at stop h =
+    let read = read_made (λ item. ⊥) _ h.read in
     let whole : stop - 0 ≡ stop = omega arith in
     let bytes : take (stop - walk.at) (drop walk.at walk.text.now) ≡ take stop walk.text.now =
     ap (λ k. take (stop - k) (drop k walk.text.now)) at ∙ ap (λ k. take k walk.text.now) whole in
     items_up_to text (record walk { at = stop }) (record {
       over = moved_over text walk stop over;
       within = h.within.1;
-      items = h.read.0;
-      reads = subst (λ u. Reads u h.read.0) bytes h.read.1;
+      items = read.0;
+      reads = subst (λ u. Reads u read.0) bytes read.1;
     }) h.stopped

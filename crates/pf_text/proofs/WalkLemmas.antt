@@ -1,10 +1,10 @@
 -- The walk over the items of a text.
-use Rattle.std.proofs.Common.{◌≡◌, ℕ, ◌+◌, ◌-◌, ◌<◌, ◌≤◌, List, [], ◌∷◌, ◌++◌, length, get_or, map, take, drop, flat_map, Option, Some, None, refl, sym, ap, ap₂, ◌∙◌, subst, arith}
+use Rattle.std.proofs.Common.{◌≡◌, ℕ, ◌+◌, ◌-◌, ◌<◌, ◌≤◌, List, [], ◌∷◌, ◌++◌, length, get_or, map, take, drop, flat_map, Option, Some, None, refl, sym, ap, ap₂, ◌∙◌, subst, arith, inl, inr}
 use Rattle.std.specs.Prelude.{Bool, IfSome, MatchOption, true, is_some, ◌≢◌}
 use Rattle.std.specs.List.{AllByRecursion}
 use Rattle.std.proofs.Math.Seq.{take-add}
 use Rattle.std.proofs.lemmas.Grind.{flat_map-append}
-use Rattle.std.proofs.lemmas.List.{append_cancel_left, drop-drop, get_or-drop, length-drop}
+use Rattle.std.proofs.lemmas.List.{append_assoc, append_cancel_left, append-nil, drop-drop, get_or-drop, length-drop}
 use Rattle.memchr.specs.Find.{Nowhere, Passes, is_byte2}
 use Rattle.pf_values.specs.declared.conversions.Conv.{Conv}
 use Rattle.pf_values.specs.declared.lengths.Length.{Length}
@@ -21,7 +21,7 @@ use Rattle.pf_text.specs.History.{IsLiteral}
 use Rattle.pf_text.specs.Letters.{conv_of}
 use Rattle.pf_text.specs.Marks.{AreMarksOf, HasMark, HasNoMark}
 use Rattle.pf_text.specs.Offsets.{HasBytes}
-use Rattle.pf_text.specs.Walks.{AreRunsOf, HasPassed, HasPercent, IsNextEnd, IsNormalInEach, IsPassed, IsPassedRun, IsPercent, IsWalk}
+use Rattle.pf_text.specs.Walks.{AreItems, AreRunsOf, BeginsPercent, HasPassed, HasPercent, HasWalked, IsMadeOf, IsPiece, IsNextEnd, IsNormalInEach, IsPassed, IsPassedRun, IsPercent, IsWalk}
 use Rattle.pf_text.specs.declared.walk.Walk.{Walk}
 use Rattle.pf_text.specs.declared.literal_runs.LiteralRuns.{LiteralRuns}
 use Rattle.pf_text.specs.declared.marks.Marks.{Marks}
@@ -114,71 +114,108 @@ module _ (passes : Item → Type 0) where
   pub run_is_read : (t : Text) (items : List Item) → IsPassedRun passes t items → Reads t items
   run_is_read t items h = subst (λ u. Reads u items) (sym h.whole) (read_passed items h.passed)
 
-  -- the bytes from one offset up to another, and more of them
-  abbrev Between : Text → ℕ → ℕ → List Item → Type 0
-  Between text start stop items = IsPassedRun passes (take (stop - start) (drop start text)) items
+-- the bytes from one offset up to another, and more of them
+joined_between : (text : Text) (start at len : ℕ) → start ≤ at
+    → take (at - start) (drop start text) ++ take len (drop at text) ≡ take (at + len - start) (drop start text)
+joined_between text start at len low =
+    let place : start + (at - start) ≡ at = omega (arith, low) in
+    let rest : drop (at - start) (drop start text) ≡ drop at text = drop-drop (at - start) start text ∙ ap (λ k. drop k text) place in
+    let front = drop start text in
+    ap (λ u. take (at - start) front ++ take len u) (sym rest) ∙ sym (take-add (at - start) len front) ∙ ap (λ k. take k front) (omega (arith, low))
 
-  pub none_between : (text : Text) (start : ℕ) → Between text start start []
-  none_between text start = let none : start - start ≡ 0 = omega arith in subst (λ k. IsPassedRun passes (take k (drop start text)) []) (sym none) no_run
+-- texts of pieces
+module _ (passes : Text → Type 0) where
+  each_both : (a b : List Text) → AllByRecursion (IsPiece passes) a → AllByRecursion (IsPiece passes) b → AllByRecursion (IsPiece passes) (a ++ b)
+  each_both [] b h g = g
+  each_both (piece ∷ a) b h g = (h.0, each_both a b h.1 g)
 
-  pub more_between : (text : Text) (start at len : ℕ) (items more : List Item) → start ≤ at → Between text start at items
-      → IsPassedRun passes (take len (drop at text)) more → Between text start (at + len) (items ++ more)
-  more_between text start at len items more low h g =
-      let place : start + (at - start) ≡ at = omega (arith, low) in
-      let rest : drop (at - start) (drop start text) ≡ drop at text = drop-drop (at - start) start text ∙ ap (λ k. drop k text) place in
-      let front = drop start text in
-      let whole : take (at - start) front ++ take len (drop at text) ≡ take (at + len - start) front =
-      ap (λ u. take (at - start) front ++ take len u) (sym rest) ∙ sym (take-add (at - start) len front) ∙ ap (λ k. take k front) (omega (arith, low)) in
-      subst (λ u. IsPassedRun passes u (items ++ more)) whole (runs_passed (take (at - start) front) (take len (drop at text)) items more h g)
+  -- none, one, and one text after another
+  pub made_of_none : IsMadeOf passes []
+  made_of_none = record { pieces = []; each = tt; whole = refl }
 
-  pub literals_between : (text : Text) (start at stop : ℕ) (items : List Item) → start ≤ at → at ≤ stop → stop ≤ length text
-      → Nowhere (Passes (is_byte2 37 0) text) at stop → Between text start at items
-      → Between text start stop (items ++ map Byte (take (stop - at) (drop at text)))
-  literals_between text start at stop items low up within none h =
-      let n = stop - at in
-      let place : at + n ≡ stop = omega (arith, up) in
-      subst (λ k. Between text start k (items ++ map Byte (take n (drop at text)))) place
-      (more_between text start at n items (map Byte (take n (drop at text))) low h
-      (literals_passed (take n (drop at text)) (literal_between text at stop up within none)))
+  pub made_of_one : (t : Text) → IsPiece passes t → IsMadeOf passes t
+  made_of_one t h = record { pieces = t ∷ []; each = (h, tt); whole = sym (append-nil t) }
 
--- A walk comes from one offset to another.
-module _ (passes : Item → Type 0) (old now : Walk) where
-  pub passed_none : IsWalk now → now.text.now ≡ old.text.now → now.at ≡ old.at → HasPassed passes old now
-  passed_none walk text at = record {
-    walk = walk;
-    text = text;
-    from = omega (arith, at);
-    within = omega (arith, at);
-    items = [];
-    run = subst (λ k. IsPassedRun passes (take (k - old.at) (drop old.at now.text.now)) []) (sym at) (none_between passes now.text.now old.at);
+  pub made_of_both : (t u : Text) → IsMadeOf passes t → IsMadeOf passes u → IsMadeOf passes (t ++ u)
+  made_of_both t u h g = record {
+    pieces = h.pieces ++ g.pieces;
+    each = each_both h.pieces g.pieces h.each g.each;
+    whole = ap₂ (λ (x y : Text). x ++ y) h.whole g.whole ∙ sym (flat_map-append (λ piece. piece) h.pieces g.pieces);
   }
 
-  module _ (h : HasPassed passes old now) where
-    pub passed_more : (len : ℕ) (more : List Item) → now.at + len ≤ length now.text.now → IsPassedRun passes (take len (drop now.at now.text.now)) more
-        → HasPassed passes old (record now { at = now.at + len })
-    passed_more len more within g = record {
+  -- the bytes from one offset up to another, and more of them
+  pub made_between : (text : Text) (start at len : ℕ) → start ≤ at → IsMadeOf passes (take (at - start) (drop start text))
+      → IsMadeOf passes (take len (drop at text)) → IsMadeOf passes (take (at + len - start) (drop start text))
+  made_between text start at len low h g = subst (IsMadeOf passes) (joined_between text start at len low)
+      (made_of_both (take (at - start) (drop start text)) (take len (drop at text)) h g)
+
+  -- What holds of no text, and after a piece if it holds before it, holds of all.
+  pub by_pieces : (Holds : Text → Type 0) → ((before piece : Text) → Holds before → IsPiece passes piece → Holds (before ++ piece))
+      → (before t : Text) → Holds before → IsMadeOf passes t → Holds (before ++ t)
+  by_pieces Holds step before t h made = subst (λ u. Holds (before ++ u)) (sym made.whole) (go made.pieces before h made.each) where
+    go : (pieces : List Text) (before : Text) → Holds before → AllByRecursion (IsPiece passes) pieces → Holds (before ++ flat_map (λ piece. piece) pieces)
+    go [] before h each = subst Holds (sym (append-nil before)) h
+    go (piece ∷ pieces) before h each =
+        subst Holds (append_assoc before piece (flat_map (λ piece. piece) pieces)) (go pieces (before ++ piece) (step before piece h each.0) each.1)
+
+-- the bytes from a `%` on begin with it
+pub percent_begins : (text : Text) (at len : ℕ) → HasPercent text at → 0 < len → BeginsPercent (take len (drop at text))
+percent_begins text at len h some =
+    let one : 1 + (len - 1) ≡ len = omega (arith, some) in
+    let rest = take (len - 1) (drop 1 (drop at text)) in (
+      rest,
+      ap (λ n. take n (drop at text)) (sym one) ∙ take-add 1 (len - 1) (drop at text)
+          ∙ ap (λ u. u ++ rest) (first_bytes 1 (drop at text) (omega (arith, length-drop at text, h.0)) ∙ ap (λ b. b ∷ [])
+          (get_or-drop at text 0 0 ∙ ap (λ k. get_or text k 0) (omega arith) ∙ h.1)),
+    )
+
+-- runs of items, one after another, are such a run
+pub items_made : (passes : Item → Type 0) (t : Text) → IsMadeOf (AreItems passes) t → AreItems passes t
+items_made passes t made = by_pieces (AreItems passes) (AreItems passes) step [] t ([], no_run passes) made where
+  step : (before piece : Text) → AreItems passes before → IsPiece (AreItems passes) piece → AreItems passes (before ++ piece)
+  step before piece h (inl literal) = (h.0 ++ map Byte piece, runs_passed passes before piece h.0 (map Byte piece) h.1 (literals_passed passes piece literal))
+  step before piece h (inr (begins, g)) = (h.0 ++ g.0, runs_passed passes before piece h.0 g.0 h.1 g.1)
+
+pub items_walked : (passes : Item → Type 0) (old new : Walk) → HasWalked (AreItems passes) old new → HasPassed passes old new
+items_walked passes old new h =
+    let run = items_made passes (take (new.at - old.at) (drop old.at new.text.now)) h.run in
+    record { walk = h.walk; text = h.text; from = h.from; within = h.within; items = run.0; run = run.1 }
+
+-- A walk comes from one offset to another.
+module _ (passes : Text → Type 0) (old now : Walk) where
+  pub walked_none : IsWalk now → now.text.now ≡ old.text.now → now.at ≡ old.at → HasWalked passes old now
+  walked_none walk text at =
+      let none : now.at - old.at ≡ 0 = omega (arith, at) in
+      record {
+        walk = walk;
+        text = text;
+        from = omega (arith, at);
+        within = omega (arith, at);
+        run = subst (λ k. IsMadeOf passes (take k (drop old.at now.text.now))) (sym none) (made_of_none passes);
+      }
+
+  module _ (h : HasWalked passes old now) where
+    pub walked_more : (len : ℕ) → now.at + len ≤ length now.text.now → IsMadeOf passes (take len (drop now.at now.text.now))
+        → HasWalked passes old (record now { at = now.at + len })
+    walked_more len within g = record {
       walk = record { few = h.walk.few; runs = h.walk.runs };
       text = h.text;
       from = omega (arith, h.from);
       within = omega (arith, within);
-      items = h.items ++ more;
-      run = more_between passes now.text.now old.at now.at len h.items more h.from h.run g;
+      run = made_between passes now.text.now old.at now.at len h.from h.run g;
     }
 
-    pub passed_literals : (stop : ℕ) → now.at ≤ stop → stop ≤ length now.text.now → Nowhere (Passes (is_byte2 37 0) now.text.now) now.at stop
-        → HasPassed passes old (record now { at = stop })
-    passed_literals stop up within none = record {
-      walk = record { few = h.walk.few; runs = h.walk.runs };
-      text = h.text;
-      from = omega (arith, h.from, up);
-      within = omega (arith, within);
-      items = h.items ++ map Byte (take (stop - now.at) (drop now.at now.text.now));
-      run = literals_between passes now.text.now old.at now.at stop h.items h.from up within none h.run;
-    }
+    pub walked_literals : (stop : ℕ) → now.at ≤ stop → stop ≤ length now.text.now → Nowhere (Passes (is_byte2 37 0) now.text.now) now.at stop
+        → HasWalked passes old (record now { at = stop })
+    walked_literals stop up within none =
+        let n = stop - now.at in
+        let place : now.at + n ≡ stop = omega (arith, up) in
+        subst (λ k. HasWalked passes old (record now { at = k })) place (walked_more n (omega (arith, place, within))
+        (made_of_one passes (take n (drop now.at now.text.now)) (inl (literal_between now.text.now now.at stop up within none))))
 
     -- up to the byte that ends a run
-    pub passed_to : (stop : ℕ) → IsNextEnd now.text.now now.at (Some stop) → HasPassed passes old (record now { at = stop })
-    passed_to stop next = passed_literals stop next.0 (omega (arith, next.1)) next.2
+    pub walked_to : (stop : ℕ) → IsNextEnd now.text.now now.at (Some stop) → HasWalked passes old (record now { at = stop })
+    walked_to stop next = walked_literals stop next.0 (omega (arith, next.1)) next.2
 
 -- a run of directives that are normal in each data model is canonical
 canonical_items : (model : Model) (items : List Item) → AllByRecursion (IsPassed IsNormalInEach) items → AllByRecursion (IsCanonicalItem model) items

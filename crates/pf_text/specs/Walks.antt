@@ -1,5 +1,5 @@
 -- The walk over the items of a text in memory. This project's own.
-use Rattle.std.specs.Prelude.{◌≡◌, ◌≢◌, ℕ, Bool, ◌+◌, ◌-◌, ◌<◌, ◌≤◌, List, drop, flat_map, get_or, length, max, take, Option, Some, None, IfSome, IsFalse, IsTrue, ⊤, ◌⊎◌}
+use Rattle.std.specs.Prelude.{◌≡◌, ◌≢◌, ℕ, Bool, ◌+◌, ◌-◌, ◌<◌, ◌≤◌, List, ◌∷◌, drop, flat_map, get_or, length, max, take, Option, Some, None, IfSome, IsFalse, IsTrue, ⊤, ◌⊎◌}
 use Rattle.std.specs.List.{AllByRecursion}
 use Rattle.memchr.specs.Find.{Nowhere, Passes, is_byte2}
 use Rattle.pf_values.specs.declared.limits.TheConstants.{MAX_TEXT_LEN}
@@ -13,6 +13,7 @@ use Rattle.pf_text.specs.declared.literal_runs.LiteralRuns.{LiteralRuns}
 use Rattle.pf_text.specs.declared.marks.TheConstants.{MAX_MARKED}
 use Rattle.pf_text.specs.declared.walk.Walk.{Walk}
 use Rattle.pf_text.specs.FoundDirectives.{BeginsNoItem}
+use Rattle.pf_text.specs.History.{IsLiteral}
 use Rattle.pf_text.specs.Marks.{AreMarksOf}
 
 -- the runs are this text's
@@ -34,6 +35,28 @@ IsPassed passes (Directive s) = IsDefined s × passes (Directive s)
 pub record IsPassedRun (passes : Item → Type 0) (t : Text) (items : List Item) : Type 0 where
   pub passed : AllByRecursion (IsPassed passes) items
   pub whole : t ≡ flat_map item_spelling items
+
+-- such items, one after another
+abbrev pub AreItems : (Item → Type 0) → Text → Type 0
+AreItems passes t = (items : List Item) × IsPassedRun passes t items
+
+-- a text begins with a `%`
+abbrev pub BeginsPercent : Text → Type 0
+BeginsPercent t = (rest : Text) × (t ≡ percent ∷ rest)
+
+-- literal bytes, or what passes, from a `%` on
+abbrev pub IsPiece : (Text → Type 0) → Text → Type 0
+IsPiece passes piece = AllByRecursion IsLiteral piece ⊎ (BeginsPercent piece × passes piece)
+
+-- a text of such pieces
+pub record IsMadeOf (passes : Text → Type 0) (t : Text) : Type 0 where
+  pub pieces : List Text
+  pub each : AllByRecursion (IsPiece passes) pieces
+  pub whole : t ≡ flat_map (λ piece. piece) pieces
+
+-- this or that
+abbrev pub Either : (Text → Type 0) → (Text → Type 0) → Text → Type 0
+Either one other t = one t ⊎ other t
 
 -- no directive
 abbrev pub IsPercent : Item → Type 0
@@ -64,7 +87,15 @@ pub record IsWalkOver (text : Text) (walk : Walk) : Type 0 where
   pub walk_is : IsWalk walk
   pub text_is : walk.text.now ≡ take MAX_TEXT_LEN text
 
--- a walk has come from one offset to another, over items that it passes
+-- a walk has come from one offset to another, over literal bytes and what passes
+pub record HasWalked (passes : Text → Type 0) (old new : Walk) : Type 0 where
+  pub walk : IsWalk new
+  pub text : new.text.now ≡ old.text.now
+  pub from : old.at ≤ new.at
+  pub within : new.at ≤ max old.at (length new.text.now)
+  pub run : IsMadeOf passes (take (new.at - old.at) (drop old.at new.text.now))
+
+-- the same, where items of the profile pass
 pub record HasPassed (passes : Item → Type 0) (old new : Walk) : Type 0 where
   pub walk : IsWalk new
   pub text : new.text.now ≡ old.text.now
@@ -74,9 +105,9 @@ pub record HasPassed (passes : Item → Type 0) (old new : Walk) : Type 0 where
   pub run : IsPassedRun passes (take (new.at - old.at) (drop old.at new.text.now)) items
 
 -- and has found a `%` that begins something else, before such a byte; or where no item begins
-pub record Finds (passes : Item → Type 0) (leaves : ℕ → Type 0) (old new : Walk)
+pub record Finds (passes : Text → Type 0) (leaves : ℕ → Type 0) (old new : Walk)
     (found : Bool) : Type 0 where
-  pub passed : HasPassed passes old new
+  pub passed : HasWalked passes old new
   pub stopped : IsTrue found → HasPercent new.text.now new.at × leaves (get_or new.text.now (new.at + 1) 0)
   pub ended : IsFalse found → BeginsNothing new.text.now new.at
 
@@ -89,8 +120,13 @@ pub record IsItemsEnd (t : Text) (stop : ℕ) : Type 0 where
   pub reads : Reads (take stop t) items
   pub last : BeginsNoItem (drop stop (take MAX_TEXT_LEN t))
 
--- the bytes of a walk's text between its offset and another are whole items, and no item begins there
-pub record EndsItems (walk : Walk) (stop : ℕ) : Type 0 where
+-- whole items of the profile
+abbrev pub AreRead : Text → Type 0
+AreRead t = (items : List Item) × Reads t items
+
+-- The bytes of a walk's text between its offset and another are whole items of the profile, and others that
+-- pass. No item of the profile begins there.
+pub record EndsItems (passes : Text → Type 0) (walk : Walk) (stop : ℕ) : Type 0 where
   pub within : (walk.at ≤ stop) × (stop ≤ length walk.text.now)
-  pub read : (items : List Item) × Reads (take (stop - walk.at) (drop walk.at walk.text.now)) items
+  pub read : IsMadeOf (Either AreRead passes) (take (stop - walk.at) (drop walk.at walk.text.now))
   pub stopped : BeginsNoItem (drop stop walk.text.now)

@@ -30,7 +30,7 @@ mod state;
 mod walk;
 
 pub use argument_types::signature;
-pub use checking::{check, is_known_accepted, items_end, items_end_from, refusal_at};
+pub use checking::{check, items_end, items_end_from, refusal_at};
 pub use known_argument_types::known_types;
 pub use letters::{conv_of, flag_of, modifier_of};
 pub use passed::{Bare, Canonical, Nothing, Passed, Percents};
@@ -42,5 +42,5 @@ pub use signatures::Signature;
 pub use specification::{
     FoundDirective, digits_at, directive_at, flags_at, modifier_at, number_at, spelled_at,
 };
-pub use spelling::{Spelling, push_flags, spell};
+pub use spelling::{Spelling, push_flags, push_number, spell};
 pub use walk::{Walk, within_limit};

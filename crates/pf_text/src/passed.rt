@@ -1,10 +1,9 @@
 //! The items that a walk passes.
-ghost use Rattle.std.specs.Prelude.{◌≡◌, ◌≢◌, ℕ, ◌+◌, ◌≤◌, List, [], ◌∷◌, drop, get_or, length, take, IsFalse, IsTrue, ⊤};
-ghost use Rattle.pf_values.specs.meaning.Items.{Item};
-ghost use Rattle.pf_values.specs.meaning.Text.{percent};
+ghost use Rattle.std.specs.Prelude.{◌≡◌, ◌≢◌, ℕ, ◌+◌, ◌<◌, ◌≤◌, [], ◌∷◌, drop, get_or, length, take, IsFalse, IsTrue, ⊤};
+ghost use Rattle.pf_values.specs.meaning.Text.{Text, percent};
 ghost use Rattle.pf_text.specs.CanonicalRuns.{alternative_bytes, has_canonical_parts, is_kept_modifier};
 ghost use Rattle.pf_text.specs.Offsets.{HasBytes};
-ghost use Rattle.pf_text.specs.Walks.{HasPercent, IsNormalInEach, IsPassedRun, IsPercent};
+ghost use Rattle.pf_text.specs.Walks.{AreItems, Either, HasPercent, IsNormalInEach, IsPercent};
 
 use crate::letters::conv_of;
 use crate::specification::{conv_at, modifier_at};
@@ -12,8 +11,8 @@ use pf_values::{Conv, Length};
 
 /// Items that a walk passes as it does literal bytes, without a look at their parts.
 pub trait Passed {
-    // these items
-    ghost passes: { Item → Type 0 };
+    // the bytes of these items
+    ghost passes: { Text → Type 0 };
 
     // what is known of the byte after the `%` of another item
     ghost leaves: { ℕ → Type 0 };
@@ -23,7 +22,7 @@ pub trait Passed {
         requires { HasPercent text.now at }
         ensures within { at + result ≤ length text.now }
         ensures left { result ≡ 0 → leaves (get_or text.now (at + 1) 0) }
-        ensures passed { (items : List Item) × IsPassedRun passes (take result (drop at text.now)) items };
+        ensures passed { 0 < result → passes (take result (drop at text.now)) };
 }
 
 /// None.
@@ -44,7 +43,7 @@ pub struct Bare;
 pub struct Canonical;
 
 impl Passed for Nothing {
-    ghost passes = { λ item. ⊥ };
+    ghost passes = { AreItems (λ item. ⊥) };
 
     ghost leaves = { λ byte. ⊤ };
 
@@ -55,7 +54,7 @@ impl Passed for Nothing {
 }
 
 impl Passed for Percents {
-    ghost passes = { IsPercent };
+    ghost passes = { AreItems IsPercent };
 
     ghost leaves = { λ byte. byte ≢ percent };
 
@@ -69,7 +68,7 @@ impl Passed for Percents {
 }
 
 impl Passed for Bare {
-    ghost passes = { λ item. ⊤ };
+    ghost passes = { AreItems (λ item. ⊤) };
 
     ghost leaves = { λ byte. byte ≢ percent };
 
@@ -87,7 +86,7 @@ impl Passed for Bare {
 }
 
 impl Passed for Canonical {
-    ghost passes = { IsNormalInEach };
+    ghost passes = { AreItems IsNormalInEach };
 
     ghost leaves = { λ byte. byte ≢ percent };
 
@@ -100,11 +99,27 @@ impl Passed for Canonical {
     }
 }
 
+/// What the one passes, or else the other.
+impl<P: Passed, Q: Passed> Passed for (P, Q) {
+    ghost passes = { Either P.passes Q.passes };
+
+    ghost leaves = { λ byte. P.leaves byte × Q.leaves byte };
+
+    #[inline(always)]
+    fn len(text: &[u8], at: usize) -> usize {
+        let len = P::len(text, at);
+        if len > 0 {
+            return len;
+        }
+        Q::len(text, at)
+    }
+}
+
 // Whether a byte after `%` ends a canonical item: `%`, or a conversion, but not `i`, since `%d` is the
 // normal one.
 #[inline(always)]
 fn ends_canonical_item(letter: u8) -> bool
-    ensures passed { IsTrue result → (items : List Item) × IsPassedRun IsNormalInEach (percent ∷ letter ∷ []) items }
+    ensures passed { IsTrue result → AreItems IsNormalInEach (percent ∷ letter ∷ []) }
     ensures left { IsFalse result → letter ≢ percent }
 {
     if letter == b'%' {
@@ -122,7 +137,7 @@ fn ends_canonical_item(letter: u8) -> bool
 fn canonical_parts_len(text: &[u8], at: usize) -> usize
     requires { HasPercent text.now at }
     ensures within { at + result ≤ length text.now }
-    ensures passed { (items : List Item) × IsPassedRun IsNormalInEach (take result (drop at text.now)) items }
+    ensures passed { 0 < result → AreItems IsNormalInEach (take result (drop at text.now)) }
 {
     let (alternative, modifier_from) = alternative_at(text, at + 1);
     let (modifier, stop) = modifier_at(text, modifier_from);

@@ -72,7 +72,8 @@ fn push_precision(out: &mut Spelling, precision: Option<u16>)
     }
 }
 
-fn push_number(out: &mut Spelling, number: u16)
+/// Appends the digits of a number in base ten, without zeros in front.
+pub fn push_number(out: &mut Spelling, number: u16)
     requires { array_vec_len out.old + length (decimal number) ≤ 20 }
     ensures { out.new.items ≡ out.old.items ++ decimal number }
 {

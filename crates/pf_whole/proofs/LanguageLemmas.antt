@@ -1,56 +1,31 @@
 -- Canonical texts of the whole language, as the engine of `pf_canon` puts them together.
-use Rattle.std.proofs.Common.{◌≡◌, ℕ, ◌+◌, ◌-◌, Bool, List, ◌++◌, drop, length, take, refl, sym, ap, ◌∙◌, subst, arith}
+use Rattle.std.proofs.Common.{◌≡◌, ℕ, ◌+◌, ◌-◌, Bool, ◌++◌, drop, length, take, sym, ap, ◌∙◌, subst, arith}
 use Rattle.std.specs.Prelude.{IsTrue, MatchResult, Result, Ok, Err, ◌↔◌}
 use Rattle.std.proofs.Math.Seq.{take-add}
-use Rattle.std.proofs.lemmas.List.{append_assoc}
 use Rattle.pf_values.specs.declared.models.Model.{Model}
-use Rattle.pf_values.specs.meaning.Canonical.{IsCanonicalOf}
-use Rattle.pf_values.specs.meaning.Items.{Item, Reads}
 use Rattle.pf_values.specs.meaning.Text.{Text}
 use Rattle.pf_text.specs.declared.refusals.Refusal.{Refusal}
 use Rattle.pf_text.specs.declared.refusals.Side.{Side}
 use Rattle.pf_text.specs.declared.refusals.Side.TheVariants.{First, Second}
 use Rattle.pf_text.specs.declared.refusals.TextFault.{TextFault}
 use Rattle.pf_text.specs.declared.refusals.TextFault.TheVariants.{Refused, Memory}
-use Rattle.pf_canon.specs.Languages.{AreSameIn, DecidesIn, FaultIn, HasCanonicalIn, StopsIn}
+use Rattle.pf_canon.specs.Languages.{AreSameIn, DecidesIn, FaultIn, HasCanonicalIn, IsAcceptedIn, StopsIn}
 use Rattle.pf_posix.specs.Heads.{IsOpaqueAt}
 use Rattle.pf_posix.specs.declared.opaque_directives.Opaque.{Opaque}
 use Rattle.pf_posix.specs.OpaqueParts.{item_of_opaque}
-use Rattle.pf_posix.specs.Opaque.{SpellsOpaqueItem}
-use Rattle.pf_posix.specs.Opaque.{OpaqueItem}
-use Rattle.pf_posix.specs.Stretches.{Last, Before, IsWholeAccepted}
+use Rattle.pf_posix.specs.Stretches.{Last, IsWholeAccepted}
 use Rattle.pf_posix.specs.Unnumbered.{IsWholeRefusedAt}
 use Rattle.pf_whole.specs.Answers.{IsWholeCanonicalFor}
 use Rattle.pf_whole.specs.Faults.{AreWholeSame, FaultForWholeCanonical, FaultForWholeSame}
 use Rattle.pf_whole.specs.Fronts.{IsWholeFront}
 use Rattle.pf_whole.specs.meaning.NormalSpellings.{normal_spelling}
-use Rattle.pf_whole.specs.meaning.WholeCanonical.{IsPutTogether, IsWholeCanonicalOf}
+use Rattle.pf_whole.specs.meaning.WholeCanonical.{IsWholeCanonicalOf}
 use Rattle.pf_whole.proofs.AnswerLemmas.{are_same, canonical_for}
 use Rattle.pf_whole.proofs.Completeness.{alike_have_one_canonical}
-use Rattle.pf_whole.proofs.Loops.{stretch_of}
+use Rattle.pf_whole.specs.FrontLaws.{past_opaque, stretch_of}
 use Rattle.pf_whole.proofs.OneCanonical.{one_canonical_is_alike}
 
 module _ (model : Model) where
-  -- after a front a stretch comes, and what the profile lacks
-  past_opaque : (front out last own middle : Text) (items : List Item) (s : OpaqueItem) → IsWholeFront model front out → Reads last items
-      → IsCanonicalOf model last own → SpellsOpaqueItem middle s
-      → IsWholeFront model ((front ++ last) ++ middle) ((out ++ own) ++ normal_spelling model s)
-  past_opaque front out last own middle items s h reads is spells = record {
-    continues = λ rest left later.
-        let (whole, all, together) = h.continues ((last ++ middle) ++ rest) (Before items s left) (last, middle, rest, reads, spells, later, refl) in
-        let text : front ++ ((last ++ middle) ++ rest) ≡ ((front ++ last) ++ middle) ++ rest =
-        sym (append_assoc front (last ++ middle) rest) ∙ ap (λ u. u ++ rest) (sym (append_assoc front last middle)) in (
-          whole,
-          rw (← text) all,
-          λ back k.
-              let normal = normal_spelling model s in
-              let put : out ++ ((own ++ normal) ++ back) ≡ ((out ++ own) ++ normal) ++ back =
-              sym (append_assoc out (own ++ normal) back) ∙ ap (λ u. u ++ back) (sym (append_assoc out own normal)) in
-              subst (IsPutTogether model whole) put
-              (together ((own ++ normal) ++ back) (own, back, stretch_of model last own items reads is, k, refl)),
-        );
-  }
-
   module _ (t : Text) where
     -- the engine's canonical text is the canonical text
     pub whole_accepted : (c : Text) → HasCanonicalIn IsWholeFront model t c → IsWholeAccepted t
@@ -79,12 +54,18 @@ module _ (model : Model) where
         ap (λ u. u ++ normal_spelling model (item_of_opaque found.0)) (sym h.whole) ∙ ap (λ u. c ++ u) (sym is) in
         subst (λ u. IsWholeFront model u (c ++ spelling)) text
         (subst (IsWholeFront model ((h.front ++ h.last) ++ middle)) put
-        (past_opaque h.front h.out h.last h.own middle h.ends.items (item_of_opaque found.0) h.begins h.ends.accepted.reads h.ends.canonical_is there.spelled))
+        (past_opaque model h.front h.out h.last h.own middle h.ends.items (item_of_opaque found.0) h.begins h.ends.accepted.reads h.ends.canonical_is there.spelled))
 
 module _ (model : Model) (t : Text) where
   pub fault_of_whole : (fault : TextFault) → FaultIn IsWholeFront IsWholeRefusedAt model t fault → FaultForWholeCanonical model t fault
   fault_of_whole (Refused refusal) h = h
   fault_of_whole Memory h = (h.0, whole_canonical model t h.0 h.1, h.2)
+
+  pub checked_of_whole : (r : Result (Unit {0}) Refusal)
+      → MatchResult r (λ done. IsAcceptedIn IsWholeFront model t) (λ refusal. IsWholeRefusedAt model t refusal.kind refusal.at)
+      → MatchResult r (λ done. IsWholeAccepted t) (λ refusal. IsWholeRefusedAt model t refusal.kind refusal.at)
+  checked_of_whole (Ok done) h = whole_accepted model t h.0 h.1
+  checked_of_whole (Err refusal) h = h
 
   pub answer_of_whole : {V : Type 0} (of : V → Text) (r : Result V TextFault)
       → MatchResult r (λ c. HasCanonicalIn IsWholeFront model t (of c)) (FaultIn IsWholeFront IsWholeRefusedAt model t)

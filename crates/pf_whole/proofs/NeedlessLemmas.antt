@@ -39,7 +39,8 @@ use Rattle.pf_whole.specs.meaning.Traces.{AreWholeAlike}
 use Rattle.pf_whole.specs.Laws.{Correspond}
 use Rattle.pf_whole.proofs.Corresponding.{alike_is_corresponding}
 use Rattle.pf_whole.proofs.OneCanonical.{print_refl}
-use Rattle.pf_whole.proofs.SpelledNormally.{IsFew, few_of, spelled_parts}
+use Rattle.pf_whole.proofs.SpelledNormally.{few_of, spelled_parts, width_few}
+use Rattle.pf_whole.specs.Verbatim.{CanBePrecision, CanBeWidth}
 
 -- the items of a text that is a specification alone
 abbrev items_alone : PosixSpecification → List PosixItem
@@ -49,30 +50,28 @@ reads_alone : (t : Text) (s : PosixSpecification) → SpellsPosix t s → IsPosi
 reads_alone t s h defined unnumbered =
     reads_whole t (items_alone s) (t, [], (h, defined), refl, sym (append-nil t)) (unnumbered, tt)
 
--- whether what is left out is spelled, or something
-width_left : (out : Bool) (t : Text) (width : Option Amount) → SpellsPosixWidth t None width → (u : Text) × SpellsPosixWidth u None (left_out out width)
-width_left true t width h = ([], refl)
-width_left false t width h = (t, h)
-
-few_left : (out : Bool) (precision : Option Amount) → IsFew precision → IsFew (left_out out precision)
-few_left true precision h = tt
-few_left false precision h = h
+-- a part can be spelled where it isn't left out
+part_left : (CanBe : Option Amount → Type 0) (out : Bool) (amount : Option Amount) → CanBe None → CanBe amount → CanBe (left_out out amount)
+part_left CanBe true amount none h = none
+part_left CanBe false amount none h = h
 
 -- a text that is the specification
 module _ (model : Model) (s : PosixSpecification) (unnumbered : s.position ≡ None) (text : Text) (h : SpellsPosixItem text (Specification s)) (set : PartSet) where
   parts : HasParts text s
   parts = parts_of text s h.0 unnumbered
 
-  few : IsFew s.precision
+  width : CanBeWidth s.width
+  width = width_few parts.width s.width parts.width_is
+
+  few : CanBePrecision s.precision
   few = few_of parts.precision s.precision parts.precision_is
 
   whole_spelled : SpellsPosix (posix_spelling_of s) s
-  whole_spelled = spelled_parts s unnumbered parts.width parts.width_is few
+  whole_spelled = spelled_parts s unnumbered width few
 
   rest_spelled : SpellsPosix (posix_spelling_of (without s set)) (without s set)
-  rest_spelled =
-      let width = width_left set.width parts.width s.width parts.width_is in
-      spelled_parts (without s set) unnumbered width.0 width.1 (few_left set.precision s.precision few)
+  rest_spelled = spelled_parts (without s set) unnumbered (part_left CanBeWidth set.width s.width tt width)
+      (part_left CanBePrecision set.precision s.precision tt few)
 
 -- a defined specification is defined without any of its parts
 defined_without : (s : PosixSpecification) (set : PartSet) → IsPosixDefined s → IsPosixDefined (without s set)
@@ -330,14 +329,13 @@ all_asked part = grind arith
 
 -- a specification of a text, alone, is one that some text is
 module _ (t : Text) (span : SpecificationSpan) (h : HasItsParts t span) where
-  own_width : (bytes : Text) (position : Option ℕ) (width : Option Amount) → SpellsPosixWidth bytes position width
-      → (own : Text) × SpellsPosixWidth own None (without_number width)
-  own_width bytes position None w = ([], refl)
-  own_width bytes position (Some (Given n)) w = (bytes, w)
-  own_width bytes position (Some (Fetched number)) w = (42 ∷ [], record { digits = []; digits_are = refl; numbering = refl; whole = refl })
+  own_width : (bytes : Text) (position : Option ℕ) (width : Option Amount) → SpellsPosixWidth bytes position width → CanBeWidth (without_number width)
+  own_width bytes position None w = tt
+  own_width bytes position (Some (Given n)) w = (w.some, w.within)
+  own_width bytes position (Some (Fetched number)) w = refl
 
   own_few : (bytes : Text) (position : Option ℕ) (precision : Option Amount) → SpellsPosixPrecision bytes position precision
-      → IsFew (without_number precision)
+      → CanBePrecision (without_number precision)
   own_few bytes position None p = tt
   own_few bytes position (Some (Given n)) p = p.1
   own_few bytes position (Some (Fetched number)) p = refl
@@ -355,4 +353,4 @@ module _ (t : Text) (span : SpecificationSpan) (h : HasItsParts t span) where
       let width = own_width h.places.width.0 h.s.position h.s.width h.places.width.1 in
       let few = own_few h.places.precision.0 h.s.position h.s.precision h.places.precision.1 in
       let own = posix_spelling_of (alone h.s) in
-      (own, subst (λ s. SpellsPosixItem own (Specification s)) (sym h.parts_are) (spelled_parts (alone h.s) refl width.0 width.1 few, defined_alone))
+      (own, subst (λ s. SpellsPosixItem own (Specification s)) (sym h.parts_are) (spelled_parts (alone h.s) refl width few, defined_alone))

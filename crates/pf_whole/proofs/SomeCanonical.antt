@@ -10,7 +10,7 @@ use Rattle.pf_whole.specs.meaning.NormalSpellings.{normal_spelling}
 use Rattle.pf_whole.specs.meaning.Traces.{AreWholeAlike}
 use Rattle.pf_whole.specs.meaning.WholeCanonical.{IsCanonicalStretch, IsPutTogether, IsWholeCanonicalOf}
 use Rattle.pf_whole.proofs.Completeness.{alike_have_one_canonical}
-use Rattle.pf_whole.proofs.Loops.{stretch_of}
+use Rattle.pf_whole.specs.FrontLaws.{stretch_of}
 use Rattle.pf_whole.proofs.OneCanonical.{alike_to_it, its_own, one_canonical_is_alike}
 
 some_stretch : (model : Model) (t : Text) (items : List Item) → Reads t items → (c : Text) × IsCanonicalStretch model items c

@@ -1,9 +1,8 @@
 -- A normal spelling spells the normal parts.
-use Rattle.std.proofs.Common.{◌≡◌, ℕ, ◌≤◌, false, [], ◌∷◌, ◌++◌, map, refl, sym, ap, ◌∙◌, arith, subst}
-use Rattle.std.specs.Prelude.{Option, Some, None, is_some, not, ◌&&◌, ◌||◌, filter, ⊤}
+use Rattle.std.proofs.Common.{◌≡◌, ℕ, false, [], ◌∷◌, ◌++◌, map, refl, sym, ap, ◌∙◌, arith, subst}
+use Rattle.std.specs.Prelude.{Option, Some, None, is_some, not, ◌&&◌, ◌||◌, filter}
 use Rattle.std.specs.Int.Digits.{digits_of}
 use Rattle.pf_values.specs.declared.flags.Flag.TheVariants.{Minus, Alt, Zero}
-use Rattle.pf_values.specs.declared.limits.TheConstants.{MAX_NUMBER}
 use Rattle.pf_values.specs.declared.models.Model.{Model}
 use Rattle.pf_values.specs.meaning.Flags.{all_flags, flag_byte, has}
 use Rattle.pf_values.specs.meaning.Text.{Text}
@@ -15,6 +14,7 @@ use Rattle.pf_posix.specs.Specifications.{Amount, Given, Fetched, PosixSpecifica
 use Rattle.pf_posix.specs.Spelling.{SpellsPosition, SpellsPosix, SpellsPosixPrecision, SpellsPosixWidth, SpellsUpToPrecision}
 use Rattle.pf_posix.specs.Opaque.{OpaqueErrno, OpaqueItem, OpaqueSpecification, SpellsOpaque, SpellsOpaqueItem}
 use Rattle.pf_posix.proofs.SpecificationsOnce.{is_defined, no_reason, HasParts, no_number, parts_of}
+use Rattle.pf_whole.specs.Verbatim.{CanBePrecision, CanBeWidth}
 use Rattle.pf_whole.specs.meaning.NormalSpellings.{directive_spelling, is_given, is_integer, kept_conversion, kept_flags, kept_modifier, normal_precision, normal_parts, normal_spelling}
 use Rattle.pf_whole.specs.meaning.NormalSpellings.{posix_precision_spelled, posix_spelling_of, posix_width_spelled}
 use Rattle.pf_whole.proofs.NormalLemmas.{fewer_some, less, modifier_stands, normal_item, opaque_again, precision_same, same_conversion}
@@ -23,44 +23,44 @@ none_placed : (number : Option ℕ) → number ≡ None → SpellsPosition [] nu
 none_placed None e = refl
 none_placed (Some n) e = cc
 
-width_here : (t : Text) (width : Option Amount) → SpellsPosixWidth t None width → SpellsPosixWidth (posix_width_spelled width) None width
-width_here t None h = refl
-width_here t (Some (Given n)) h = record {
-  some = h.some;
-  numeral = (digits_of 10 n, least_digits_are n h.some, decimal_is n h.some (omega (arith, h.within)));
-  within = h.within;
+-- what is spelled can be spelled
+pub width_few : (t : Text) (width : Option Amount) → SpellsPosixWidth t None width → CanBeWidth width
+width_few t None h = tt
+width_few t (Some (Given n)) h = (h.some, h.within)
+width_few t (Some (Fetched number)) h = no_number number h.numbering
+
+pub few_of : (t : Text) (precision : Option Amount) → SpellsPosixPrecision t None precision → CanBePrecision precision
+few_of t None h = tt
+few_of t (Some (Given n)) h = h.1
+few_of t (Some (Fetched number)) h = no_number number h.1.numbering
+
+few_kept : (conversion : Conversion) (precision : Option Amount) → CanBePrecision precision → CanBePrecision (normal_precision conversion precision)
+few_kept conversion precision h = grind arith
+
+-- and is so in the one way
+width_here : (width : Option Amount) → CanBeWidth width → SpellsPosixWidth (posix_width_spelled width) None width
+width_here None h = refl
+width_here (Some (Given n)) h = record {
+  some = h.0;
+  numeral = (digits_of 10 n, least_digits_are n h.0, decimal_is n h.0 (omega (arith, h.1)));
+  within = h.1;
 }
-width_here t (Some (Fetched number)) h = record {
+width_here (Some (Fetched number)) h = record {
   digits = [];
-  digits_are = none_placed number (no_number number h.numbering);
-  numbering = h.numbering;
+  digits_are = none_placed number h;
+  numbering = ap is_some h;
   whole = refl;
 }
 
--- the precision is one that can be spelled
-abbrev pub IsFew : Option Amount → Type 0
-IsFew None = ⊤
-IsFew (Some (Given n)) = n ≤ MAX_NUMBER
-IsFew (Some (Fetched number)) = is_some number ≡ false
-
-pub few_of : (t : Text) (precision : Option Amount) → SpellsPosixPrecision t None precision → IsFew precision
-few_of t None h = tt
-few_of t (Some (Given n)) h = h.1
-few_of t (Some (Fetched number)) h = h.1.numbering
-
-few_kept : (conversion : Conversion) (precision : Option Amount) → IsFew precision → IsFew (normal_precision conversion precision)
-few_kept conversion precision h = grind arith
-
-precision_here : (precision : Option Amount) → IsFew precision → SpellsPosixPrecision (posix_precision_spelled precision) None precision
+precision_here : (precision : Option Amount) → CanBePrecision precision → SpellsPosixPrecision (posix_precision_spelled precision) None precision
 precision_here None h = refl
 precision_here (Some (Given n)) h = (precision_read (Some n) (small n h), h)
 precision_here (Some (Fetched number)) h =
-    (42 ∷ [], record { digits = []; digits_are = none_placed number (no_number number h); numbering = h; whole = refl }, refl)
+    (42 ∷ [], record { digits = []; digits_are = none_placed number h; numbering = ap is_some h; whole = refl }, refl)
 
 -- the one spelling of parts that can be spelled
-pub spelled_parts : (s : PosixSpecification) → s.position ≡ None → (width : Text) → SpellsPosixWidth width None s.width → IsFew s.precision
-    → SpellsPosix (posix_spelling_of s) s
-spelled_parts s unnumbered width width_is few =
+pub spelled_parts : (s : PosixSpecification) → s.position ≡ None → CanBeWidth s.width → CanBePrecision s.precision → SpellsPosix (posix_spelling_of s) s
+spelled_parts s unnumbered width few =
     let flags = filter (has s.flags) all_flags in
     let before = (37 ∷ map flag_byte flags ++ posix_width_spelled s.width) ++ posix_precision_spelled s.precision in
     record {
@@ -72,7 +72,7 @@ spelled_parts s unnumbered width width_is few =
           before = 37 ∷ map flag_byte flags;
           text = posix_width_spelled s.width;
           before_is = record { number = []; flags = flags; number_is = refl; set_is = sym (set_kept s.flags); whole = refl };
-          width_is = width_here width s.width width_is;
+          width_is = width_here s.width width;
           whole = refl;
         };
         precision_is = precision_here s.precision few;
@@ -82,7 +82,7 @@ spelled_parts s unnumbered width width_is few =
     }
 
 spelled_normally : (model : Model) (t : Text) (s : PosixSpecification) → HasParts t s → SpellsPosix (directive_spelling model s) (normal_parts model s)
-spelled_normally model t s h = spelled_parts (normal_parts model s) h.unnumbered h.width h.width_is
+spelled_normally model t s h = spelled_parts (normal_parts model s) h.unnumbered (width_few h.width s.width h.width_is)
     (few_kept s.conversion s.precision (few_of h.precision s.precision h.precision_is))
 
 counted : (model : Model) (s : PosixSpecification) → (is_count s.conversion && (has_any_flag s.flags || is_some s.width || is_some s.precision)) ≡ false

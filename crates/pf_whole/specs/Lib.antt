@@ -9,3 +9,5 @@ pub mod Languages
 pub mod Fronts
 pub mod Parts
 pub mod Needless
+pub mod Verbatim
+pub mod FrontLaws

@@ -1,4 +1,4 @@
-//! The canonical text of a format of the whole language: each stretch before, between and after the
+//! Whether a format of the whole language is accepted, and its canonical text: each stretch before, between and after the
 //! directives that the profile lacks is replaced by the canonical text that it has as a format of its own,
 //! and each of these directives by its normal spelling.
 ghost use Rattle.std.specs.Prelude.{◌≡◌, ◌≢◌, ◌≤◌, ◌+◌, ◌↔◌, [], IfOk, IsTrue, MatchResult, length};
@@ -11,10 +11,20 @@ ghost use Rattle.pf_whole.specs.Faults.{FaultForWholeCanonical};
 ghost use Rattle.pf_whole.specs.meaning.WholeCanonical.{IsWholeCanonicalOf};
 
 use crate::languages::Whole;
-use pf_canon::{canonical_in, canonical_len_in, is_canonical_in};
+use pf_canon::{canonical_in, canonical_len_in, check_in, is_canonical_in};
 use pf_text::{Refusal, TextFault};
 use pf_values::Model;
 use std::alloc::Global;
+
+/// Checks whether a format is accepted in a data model if no argument may have a number (C11 7.21.6.1, paragraphs 3
+/// to 9; POSIX fprintf). `Err` if it isn't: a `$` directly after the first number of a specification is refused as
+/// `Numbered`, and everything else as by `arguments` of pf_posix, at the same byte. Allocates nothing.
+pub fn check(model: Model, text: &[u8]) -> Result<(), Refusal>
+    ensures { MatchResult result (λ _. IsWholeAccepted text.now)
+        (λ refusal. IsWholeRefusedAt model text.now refusal.kind refusal.at) }
+{
+    check_in::<Whole>(model, text)
+}
 
 /// Returns the canonical text of a format. `Err` if the format or memory is refused. It allocates once, and
 /// not at all if the text is refused or empty.

@@ -1,7 +1,6 @@
 //! The parts of the normal spelling of an opaque directive.
-ghost use Rattle.std.specs.Prelude.{◌≡◌, ◌&&◌, if◌then◌else◌, Some};
+ghost use Rattle.std.specs.Prelude.{◌≡◌, ◌&&◌, if◌then◌else◌};
 ghost use Rattle.pf_values.specs.declared.flags.Flag.TheVariants.{Zero};
-ghost use Rattle.pf_posix.specs.Specifications.{Given};
 ghost use Rattle.pf_values.specs.meaning.Flags.{has, with_flag};
 ghost use Rattle.pf_whole.specs.meaning.NormalSpellings.{floating_modifier, given_precision, integer_modifier, is_amount, is_general, is_given, is_integer, keeps_sign, keeps_zero, kept_conversion, kept_flags, kept_modifier, normal_precision, meant_precision, normal_parts};
 ghost use Rattle.pf_posix.specs.OpaqueParts.{amount_of, parts_of_opaque};
@@ -105,23 +104,24 @@ fn given_precision(conversion: Conversion, n: u16) -> Option<OpaqueAmount>
     if is_meant(conversion, n) {
         return None;
     }
-    if n == 0 {
-        return zero_precision(conversion);
+    if n == 0 && is_general(conversion) {
+        return Some(OpaqueAmount::Number(1));
     }
     Some(OpaqueAmount::Number(n))
 }
 
-fn zero_precision(conversion: Conversion) -> Option<OpaqueAmount>
-    ensures { amount_of result ≡ (if is_general conversion then Some (Given 1) else Some (Given 0)) }
+/// Whether the conversion is `g` or `G`, which take a precision of 0 as 1.
+pub(crate) fn is_general(conversion: Conversion) -> bool
+    ensures { result ≡ is_general conversion }
 {
-    match conversion {
-        Conversion::Float(Floating::G | Floating::UpperG) => Some(OpaqueAmount::Number(1)),
-        _ => Some(OpaqueAmount::Number(0)),
-    }
+    matches!(
+        conversion,
+        Conversion::Float(Floating::G | Floating::UpperG)
+    )
 }
 
-// Whether a precision is the default one of the conversion.
-fn is_meant(conversion: Conversion, n: u16) -> bool
+/// Whether a precision is the default one of the conversion.
+pub(crate) fn is_meant(conversion: Conversion, n: u16) -> bool
     ensures { result ≡ is_amount (meant_precision conversion) n }
 {
     match conversion {

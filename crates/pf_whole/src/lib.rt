@@ -14,9 +14,10 @@ pub mod laws;
 mod needless;
 mod parts;
 mod spelling;
+mod verbatim_directives;
 mod verdicts;
 
-pub use canonical_texts::{canonical, canonical_len, canonical_with_room, is_canonical};
+pub use canonical_texts::{canonical, canonical_len, canonical_with_room, check, is_canonical};
 pub use comparison::same_text;
 pub use directives::normal_directive;
 pub use languages::Whole;

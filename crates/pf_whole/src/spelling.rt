@@ -1,5 +1,5 @@
 //! How what the profile lacks is spelled.
-ghost use Rattle.std.specs.Prelude.{◌≡◌, ◌≤◌, ◌+◌, ◌++◌, decimal, false};
+ghost use Rattle.std.specs.Prelude.{◌≡◌, ◌≤◌, ◌+◌, ◌++◌, false};
 ghost use Rattle.arrayvec.specs.ArrayVec.{array_vec_len};
 ghost use Rattle.pf_values.specs.declared.flags.Flag.TheVariants.{Group};
 ghost use Rattle.pf_values.specs.meaning.Flags.{has};
@@ -11,9 +11,8 @@ ghost use Rattle.pf_whole.specs.meaning.NormalSpellings.{normal_spelling, posix_
 
 use crate::directives::normal_directive;
 use arrayvec::ArrayVec;
-use itoa::Buffer;
 use pf_posix::{Modifier, Opaque, OpaqueAmount, OpaqueDirective};
-use pf_text::{Spelling, push_flags};
+use pf_text::{Spelling, push_flags, push_number};
 use pf_values::{FlagSet, Model};
 
 /// Returns the normal spelling of a directive in a data model, or `%m`.
@@ -63,8 +62,8 @@ fn push_kept_flags(out: &mut Spelling, flags: FlagSet)
     push_flags(out, flags);
 }
 
-fn push_width<const N: usize>(out: &mut ArrayVec<u8, N>, width: Option<OpaqueAmount>)
-    requires { array_vec_len out.old + 5 ≤ N }
+fn push_width(out: &mut Spelling, width: Option<OpaqueAmount>)
+    requires { array_vec_len out.old + 5 ≤ 20 }
     ensures bytes { out.new.items ≡ out.old.items ++ posix_width_spelled (amount_of width) }
     ensures len { array_vec_len out.new ≤ array_vec_len out.old + 5 }
 {
@@ -73,8 +72,8 @@ fn push_width<const N: usize>(out: &mut ArrayVec<u8, N>, width: Option<OpaqueAmo
     }
 }
 
-fn push_precision<const N: usize>(out: &mut ArrayVec<u8, N>, precision: Option<OpaqueAmount>)
-    requires { array_vec_len out.old + 6 ≤ N }
+fn push_precision(out: &mut Spelling, precision: Option<OpaqueAmount>)
+    requires { array_vec_len out.old + 6 ≤ 20 }
     ensures bytes { out.new.items ≡ out.old.items ++ posix_precision_spelled (amount_of precision) }
     ensures len { array_vec_len out.new ≤ array_vec_len out.old + 6 }
 {
@@ -85,8 +84,8 @@ fn push_precision<const N: usize>(out: &mut ArrayVec<u8, N>, precision: Option<O
 }
 
 // A number, or `*`.
-fn push_amount<const N: usize>(out: &mut ArrayVec<u8, N>, amount: OpaqueAmount)
-    requires { array_vec_len out.old + 5 ≤ N }
+fn push_amount(out: &mut Spelling, amount: OpaqueAmount)
+    requires { array_vec_len out.old + 5 ≤ 20 }
     ensures bytes { out.new.items ≡ out.old.items ++ posix_width_spelled (amount_of (Some amount)) }
     ensures len { array_vec_len out.new ≤ array_vec_len out.old + 5 }
 {
@@ -96,18 +95,8 @@ fn push_amount<const N: usize>(out: &mut ArrayVec<u8, N>, amount: OpaqueAmount)
     }
 }
 
-fn push_number<const N: usize>(out: &mut ArrayVec<u8, N>, number: u16)
-    requires { array_vec_len out.old + 5 ≤ N }
-    ensures bytes { out.new.items ≡ out.old.items ++ decimal number }
-    ensures len { array_vec_len out.new ≤ array_vec_len out.old + 5 }
-{
-    let mut digits = Buffer::new();
-    out.try_extend_from_slice(digits.format(number).as_bytes())
-        .unwrap();
-}
-
-fn push_letters<const N: usize>(out: &mut ArrayVec<u8, N>, modifier: Modifier)
-    requires { array_vec_len out.old + 2 ≤ N }
+fn push_letters(out: &mut Spelling, modifier: Modifier)
+    requires { array_vec_len out.old + 2 ≤ 20 }
     ensures bytes { out.new.items ≡ out.old.items ++ modifier_letters modifier }
     ensures len { array_vec_len out.new ≤ array_vec_len out.old + 2 }
 {

@@ -7,7 +7,7 @@ use pf_whole::{WholeVerdict, canonical, canonical_len, compare, is_canonical, sa
 use std::alloc::Global;
 
 // A format, and its canonical text in LP64.
-static CANONICAL: [(&[u8], &[u8]); 9] = [
+static CANONICAL: [(&[u8], &[u8]); 12] = [
     (b"%i: %-08.6lf (%5c)", b"%d: %-8f (    %c)"),
     (b"%.0s%5d%.0s%p%.0s", b"%.0s%5d%.0s%p%.0s"),
     (b"%+ .01Lf", b"%+.1Lf"),
@@ -15,6 +15,9 @@ static CANONICAL: [(&[u8], &[u8]); 9] = [
     (b"%C%S%zn", b"%lc%ls%ln"),
     (b"%.6a%.6e%.0g", b"%.6a%e%.1g"),
     (b"%.0s%m%.0s%i", b"%.0s%m%.0s%d"),
+    (b"%p%5.2f%-*s%i%.*s%Lg%m%n", b"%p%5.2f%-*s%d%.*s%Lg%m%n"),
+    (b"%.0s%f%.6f%2.f%-f", b"%.0s%f%f%2.0f%f"),
+    (b"%*hhd%*jd%.0g%.00f", b"%*hhd%*ld%.1g%.0f"),
     (b"100%%", b"100%%"),
     (b"", b""),
 ];

@@ -9,5 +9,5 @@ returns-in-FitsFewer c = rw (c.in-FitsFewer.is) c.numbered_refusal-in-FitsFewer.
 pub returns-in-Err : goal.returns-in-Err
 returns-in-Err c = rw (c.in-Same.is, c.refused.ensures) c.in-Err.ensures
 
-pub returns-in-Ok-check_unnumbered : goal.returns-in-Ok-check_unnumbered
-returns-in-Ok-check_unnumbered c = rw (c.in-WholeSame.is) c.in-Ok-check_unnumbered.ensures
+pub returns-in-Ok-check : goal.returns-in-Ok-check
+returns-in-Ok-check c = rw (c.in-WholeSame.is) c.in-Ok-check.ensures

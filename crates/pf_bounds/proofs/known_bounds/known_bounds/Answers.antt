@@ -4,6 +4,7 @@ use Rattle.pf_values.specs.declared.limits.TheConstants.{MAX_TEXT_LEN}
 use Rattle.pf_text.proofs.ReadingLemmas.{moved_over, still_over, still_within, text_is}
 use Rattle.pf_bounds.specs.Tallies.{IsTallied}
 use Rattle.pf_bounds.proofs.TallyLemmas.{none_tallied, passed_tallied, small_tally, tallied_more, whole_tallied}
+use Rattle.pf_text.proofs.WalkLemmas.{items_walked}
 use Rattle.pf_bounds.proofs.known_bounds.known_bounds.Goals as goal
 
 pub loop-model-init : goal.loop-model-init
@@ -20,7 +21,7 @@ pub plus-requires-clause-few_more : goal.plus-requires-clause-few_more
 plus-requires-clause-few_more c =
     let text = c.args.text.now in
     let i = c.loop-model.invariant in
-    let within = still_within _ text (omega (arith, c.if-text-gt-MAX_TALLIED.false)) c.loop-model.walk c.find.new.self i.over c.find.ensures.passed
+    let within = still_within _ text (omega (arith, c.if-text-gt-MAX_TALLIED.false)) c.loop-model.walk c.find.new.self i.over (items_walked _ _ _ c.find.ensures.passed)
     (omega (arith, i.at, i.within)) in
     (omega (arith, c.exactly.ensures.least, within, c.if-text-gt-MAX_TALLIED.false), omega (arith, c.exactly.ensures.spread))
 
@@ -29,7 +30,7 @@ plus-sum-requires-clause-few c =
     let text = c.args.text.now in
     let i = c.loop-model.invariant in
     let few : length text ≤ 2 ^ 32 = omega (arith, c.if-text-gt-MAX_TALLIED.false) in
-    let within = still_within _ text (omega (arith, few)) c.loop-model.walk c.find.new.self i.over c.find.ensures.passed (omega (arith, i.at, i.within)) in
+    let within = still_within _ text (omega (arith, few)) c.loop-model.walk c.find.new.self i.over (items_walked _ _ _ c.find.ensures.passed) (omega (arith, i.at, i.within)) in
     let old = small_tally c.args.model (take c.loop-model.from text) c.loop-model.sum (omega (arith, few, i.within, length-take-le c.loop-model.from text i.within)) i.tallied in
     (omega (arith, c.plus.ensures.least, c.exactly.ensures.least, within, few, old.0), omega (arith, c.plus.ensures.spread, c.exactly.ensures.spread, old.1))
 
@@ -40,7 +41,7 @@ plus-sum-requires-clause-few_more c =
     let item = c.in_ok-item in
     let here = c.find.new.self in
     let few : length text ≤ 2 ^ 32 = omega (arith, c.if-text-gt-MAX_TALLIED.false) in
-    let same : c.text.result.now ≡ text = c.text.ensures ∙ text_is _ text (omega (arith, few)) c.loop-model.walk here i.over c.find.ensures.passed in
+    let same : c.text.result.now ≡ text = c.text.ensures ∙ text_is _ text (omega (arith, few)) c.loop-model.walk here i.over (items_walked _ _ _ c.find.ensures.passed) in
     let within : item.stop ≤ length text = subst (λ t. item.stop ≤ length t) same item.ensures.1 in
     let part = take (item.stop - here.at) (drop here.at c.text.result.now) in
     let small = small_tally c.args.model part item.item
@@ -54,7 +55,7 @@ loop-model-preserved c =
     let i = c.loop-model.invariant in
     let old = c.loop-model.walk in
     let here = c.find.new.self in
-    let passed = c.find.ensures.passed in
+    let passed = items_walked _ _ _ c.find.ensures.passed in
     let few : length text ≤ 2 ^ 32 = omega (arith, c.if-text-gt-MAX_TALLIED.false) in
     let short : length text ≤ MAX_TEXT_LEN = omega (arith, few) in
     let low : old.at ≤ length text = omega (arith, i.at, i.within) in
@@ -86,7 +87,7 @@ returns c =
     let i = c.loop-model.invariant in
     let old = c.loop-model.walk in
     let here = c.find.new.self in
-    let passed = c.find.ensures.passed in
+    let passed = items_walked _ _ _ c.find.ensures.passed in
     let few : length text ≤ 2 ^ 32 = omega (arith, c.if-text-gt-MAX_TALLIED.false) in
     let short : length text ≤ MAX_TEXT_LEN = omega (arith, few) in
     let run = c.exactly-2.ensures in

@@ -8,14 +8,14 @@ returns-then-is_kept-clause-written g c =
     let own = rw c.if-is_kept.true at c.is_kept.ensures in (
       [],
       g.met.S.Sink.laws.none c.args.sink.now,
-      λ before out h. kept_put c.args.model c.args.text.now before c.args.at d.found c.requires.front.0 c.args.from out c.requires.within.0
-          (rw own.0 at c.requires.front.1) own.1 h,
+      kept_put c.args.model c.args.text.now c.args.at d.found c.requires.front.0 c.args.from c.requires.within.0
+          (rw own.0 at c.requires.front.1) own.1,
     )
 
 pub returns-in-Letters-clause-written : goal.returns-in-Letters-clause-written
 returns-in-Letters-clause-written g c = (
   _,
   c.put_letters.ensures,
-  λ before out h. letters_put c.args.model c.args.text.now before c.args.at c.args.directive.now.found c.requires.front.0 c.args.from out c.requires.within.0
-      (rw c.in-Letters.is at c.requires.front.1) h,
+  letters_put c.args.model c.args.text.now c.args.at c.args.directive.now.found c.requires.front.0 c.args.from c.requires.within.0
+      (rw c.in-Letters.is at c.requires.front.1),
 )

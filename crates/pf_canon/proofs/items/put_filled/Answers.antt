@@ -13,7 +13,7 @@ returns-then-keeps_letters-clause-written g c =
     let own = rw c.if-keeps_letters.true at c.keeps_letters.ensures in (
       between c.args.from (at + 1) text ++ point ∷ [],
       g.met.S.Sink.laws.both c.args.sink.now c.put.new.self c.put-2.new.self (between c.args.from (at + 1) text) (point ∷ []) c.put.ensures c.put-2.ensures,
-      λ before out written. filled_put c.args.model text before at d c.requires.front h.0 h.1 h.2 h.3 c.args.from out c.requires.within.0 own written,
+      filled_put c.args.model text at d c.requires.front h.0 h.1 h.2 h.3 c.args.from c.requires.within.0 own,
     )
 
 pub put_letters-requires : goal.put_letters-requires
@@ -22,7 +22,7 @@ put_letters-requires g c =
     let at = c.args.at in
     let d = c.args.found.now in
     let h = c.requires.change in
-    let two = modifier_is c.args.model text [] at d c.requires.front h.0 h.1 h.2 h.3 in
+    let two = modifier_is c.args.model text at d c.requires.front h.0 h.1 h.2 h.3 in
     let modifier = c.requires.front.modifier in
     let few = c.requires.front.within in
     record { within = (two, omega (arith, modifier, few)) }
@@ -39,5 +39,5 @@ returns-clause-written g c =
       (head ++ point ∷ []) ++ letters,
       both c.args.sink.now c.put-2.new.self c.put_letters.new.sink (head ++ point ∷ []) letters
           (both c.args.sink.now c.put.new.self c.put-2.new.self head (point ∷ []) c.put.ensures c.put-2.ensures) c.put_letters.ensures,
-      λ before out written. filled_letters_put c.args.model text before at d c.requires.front h.0 h.1 h.2 h.3 c.args.from out c.requires.within.0 written,
+      filled_letters_put c.args.model text at d c.requires.front h.0 h.1 h.2 h.3 c.args.from c.requires.within.0,
     )

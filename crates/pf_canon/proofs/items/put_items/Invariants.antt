@@ -1,4 +1,5 @@
 use Rattle.std.proofs.Common.{◌-◌, ◌≤◌, length}
+use Rattle.pf_canon.specs.Languages.{IsWrittenIn}
 use Rattle.pf_canon.specs.Making.{IsBetweenRuns}
 use Rattle.pf_canon.proofs.ItemLemmas.{PutsUpTo}
 use Rattle.pf_canon.proofs.items.put_items.Given as goal
@@ -10,7 +11,7 @@ invariant-loop-at g l = record {
   low : l.from ≤ l.at;
   within : l.at ≤ length l.fn.walk.text.now;
   next : IsBetweenRuns l.fn.walk.text.now l.at;
-  put : PutsUpTo g.S.Sink.given l.fn.model l.fn.walk.text.now l.fn.from l.fn.sink l.sink l.from l.at;
+  put : PutsUpTo g.S.Sink.given (IsWrittenIn g.L.Language.has_front l.fn.model) l.fn.walk.text.now l.fn.from l.fn.sink l.sink l.from l.at;
 }
 
 abbrev pub decreases-loop-at : goal.decreases-loop-at

@@ -22,7 +22,7 @@ returns-then-has g c =
       both c.args.sink.now c.put_core.new.sink c.put_repeated.new.sink (head ++ core) beyond
           (both c.args.sink.now c.put.new.self c.put_core.new.sink head core c.put.ensures c.put_core.ensures)
           (rw (c.unwrap_or.ensures, c.width.ensures.value) at (c.put_repeated.ensures space c.spaces.ensures)),
-      λ before out h. left_put model text before at d c.requires.front c.args.width c.requires.change left c.args.from out c.requires.within.0 h,
+      left_put model text at d c.requires.front c.args.width c.requires.change left c.args.from c.requires.within.0,
     )
 
 pub returns : goal.returns
@@ -42,5 +42,5 @@ returns g c =
           (both start c.put_repeated-2.new.sink c.put-3.new.self (head ++ beyond) (percent ∷ [])
           (both start c.put-2.new.self c.put_repeated-2.new.sink head beyond c.put-2.ensures
           (rw (c.unwrap_or.ensures, c.width.ensures.value) at (c.put_repeated-2.ensures space c.spaces-2.ensures))) c.put-3.ensures) c.put_core-2.ensures,
-      λ before out h. right_put model text before at d c.requires.front c.args.width c.requires.change right c.args.from out h,
+      right_put model text at d c.requires.front c.args.width c.requires.change right c.args.from,
     )

@@ -1,20 +1,17 @@
-use Rattle.std.proofs.Common.{◌++◌, []}
+use Rattle.std.proofs.Common.{◌++◌}
 use Rattle.std.specs.Prelude.{flat_map}
 use Rattle.pf_values.specs.meaning.Canonical.{item_spelling}
 use Rattle.pf_text.specs.CanonicalRuns.{silents}
 use Rattle.pf_canon.specs.ChangedDirectives.{between}
-use Rattle.pf_canon.proofs.ItemLemmas.{between_short}
-use Rattle.pf_canon.proofs.WrittenLemmas.{all_written, none_written}
+use Rattle.pf_canon.proofs.LanguageLemmas.{completed}
 use Rattle.pf_canon.proofs.items.put_stretch.Goals as goal
 
 pub returns-clause-put : goal.returns-clause-put
 returns-clause-put g c =
-    let text = c.args.walk.text.now in
     let items = c.put_items-stop in
     let (out, given, written) = items.ensures.put in
     let last = flat_map item_spelling (silents items.result.1) in (
       out ++ last,
       g.met.S.Sink.laws.both c.args.sink.now items.new.sink c.put_silents.new.sink out last given c.put_silents.ensures,
-      all_written c.args.model (between c.args.from items.result.0 text) out items.result.1 (between_short text c.args.from items.result.0 c.requires.walk.few)
-          (written [] [] (none_written c.args.model)),
+      completed g.L.Language.has_front c.args.model (between c.args.from items.result.0 c.args.walk.text.now) out items.result.1 written,
     )

@@ -2,11 +2,12 @@ use Rattle.std.proofs.Common.{◌≡◌, ◌≤◌, ◌++◌, ap, arith, drop, l
 use Rattle.std.proofs.lemmas.List.{append_assoc, length-take, take_all}
 use Rattle.std.proofs.lemmas.Result.{err_from_is_err_and}
 use Rattle.pf_values.specs.declared.limits.TheConstants.{MAX_TEXT_LEN}
-use Rattle.pf_values.specs.meaning.Items.{Reads}
 use Rattle.pf_text.specs.FoundDirectives.{BeginsNoItem}
+use Rattle.pf_text.specs.Walks.{AreRead, Either, IsMadeOf}
 use Rattle.pf_canon.specs.Languages.{HasCanonicalIn}
 use Rattle.pf_canon.proofs.ItemLemmas.{front_of_walk, walk_between}
-use Rattle.pf_canon.proofs.LanguageLemmas.{goes_on, item_to, some_in}
+use Rattle.pf_canon.proofs.LanguageLemmas.{item_in}
+use Rattle.pf_canon.proofs.SettledLemmas.{goes_on_to}
 use Rattle.pf_canon.proofs.languages.check_from.Goals as goal
 
 pub loop-other-init : goal.loop-other-init
@@ -17,12 +18,11 @@ loop-other-init g c =
     let low = pass.ensures.within.0 in
     let place = front_of_walk text c.args.walk c.requires.over pass.result pass.ensures.within.1 in
     let same = walk_between text c.args.walk c.requires.over start pass.result low pass.ensures.within.1 in
-    let (items, reads) = pass.ensures.read in
     record {
       within = pass.ensures.within.1;
       none = pass.ensures.stopped;
-      read = λ out held h. goes_on g.L.Language.has_front c.args.model text start pass.result low place.1 place.2 out held h items
-          (subst (λ t. Reads t items) same reads);
+      read = λ out held h. goes_on_to g.L.Language.has_front c.args.model g.L.Passed.passes (g.met.L.Language.has_passed c.args.model) text start pass.result low
+          place.2 out held h (subst (IsMadeOf (Either AreRead g.L.Passed.passes)) same pass.ensures.read);
     }
 
 pub other_at-requires-clause-within : goal.other_at-requires-clause-within
@@ -61,7 +61,7 @@ loop-other-preserved g c =
     let placed = rw c.in-Some.is at c.in_ok-other.ensures.placed in
     let place = front_of_walk text c.args.walk c.requires.over pass.result pass.ensures.within.1 in
     let same = walk_between text c.args.walk c.requires.over other.stop pass.result low pass.ensures.within.1 in
-    let (items, reads) = pass.ensures.read in
+    let made = subst (IsMadeOf (Either AreRead g.L.Passed.passes)) same pass.ensures.read in
     record {
       within = pass.ensures.within.1;
       none = pass.ensures.stopped;
@@ -69,9 +69,9 @@ loop-other-preserved g c =
           let (more, before) = c.loop-other.invariant.read out held h in
           let next = rw c.in-Some.is at c.in_ok-other.ensures.next in
           let front = (out ++ more) ++ spelling in
-          let to = item_to has_front model text c.loop-other.at other.stop (out ++ more) spelling before (next (out ++ more) before) placed.0 placed.1 placed.2
+          let to = item_in has_front model text c.loop-other.at other.stop (out ++ more) spelling before (next (out ++ more) before) placed.0 placed.1
           placed.3 in
-          let (own, all) = some_in has_front model text other.stop pass.result low place.1 place.2 front to items (subst (λ t. Reads t items) same reads) in
+          let (own, all) = goes_on_to has_front model g.L.Passed.passes (g.met.L.Language.has_passed model) text other.stop pass.result low place.2 front 0 to made in
           let whole : front ++ own ≡ out ++ ((more ++ spelling) ++ own) =
           ap (λ t. t ++ own) (append_assoc out more spelling) ∙ append_assoc out (more ++ spelling) own in
           ((more ++ spelling) ++ own, subst (HasCanonicalIn has_front model (take pass.result text)) whole all);

@@ -3,12 +3,10 @@ use Rattle.std.proofs.lemmas.List.{append-nil, append_assoc, length-take, take_a
 use Rattle.std.proofs.lemmas.Result.{err_from_is_err_and}
 use Rattle.pf_values.specs.declared.limits.TheConstants.{MAX_TEXT_LEN}
 use Rattle.pf_text.specs.FoundDirectives.{BeginsNoItem}
-use Rattle.pf_text.proofs.WalkLemmas.{run_is_canonical}
-use Rattle.pf_canon.specs.Answers.{IsCanonicalFor}
 use Rattle.pf_canon.specs.ChangedDirectives.{between}
-use Rattle.pf_canon.specs.Languages.{HasCanonicalIn}
-use Rattle.pf_canon.proofs.ItemLemmas.{front_of_walk, walk_between}
-use Rattle.pf_canon.proofs.LanguageLemmas.{item_to, one_stretch, stretch_in}
+use Rattle.pf_canon.specs.Languages.{CompletesIn, HasCanonicalIn}
+use Rattle.pf_canon.proofs.ItemLemmas.{front_of_walk, next_run, walk_between}
+use Rattle.pf_canon.proofs.LanguageLemmas.{complete_in, item_in, run_verbatim}
 use Rattle.pf_canon.proofs.languages.put_others.Goals as goal
 
 pub loop-other-init : goal.loop-other-init
@@ -18,8 +16,7 @@ loop-other-init g c = record {
   put = λ front h. (
     [],
     g.met.S.Sink.laws.none c.args.sink.now,
-    subst (HasCanonicalIn g.L.Language.has_front c.args.model (take c.args.first c.args.text.now)) (sym (append-nil front))
-        (one_stretch g.L.Language.has_front c.args.model (g.met.L.Language.has_none c.args.model) (take c.args.first c.args.text.now) front h),
+    subst (HasCanonicalIn g.L.Language.has_front c.args.model (take c.args.first c.args.text.now)) (sym (append-nil front)) h,
   );
 }
 
@@ -48,16 +45,18 @@ run_end-requires-clause-within g c =
 
 pub put_stretch-at-requires-clause-verbatim : goal.put_stretch-at-requires-clause-verbatim
 put_stretch-at-requires-clause-verbatim g c =
-    let run = c.run_end.ensures.passed in
-    (run.0, run_is_canonical c.args.model (between c.in-Some.other.stop c.run_end.result c.args.walk.text.now) run.0 run.1)
+    run_verbatim g.L.Language.has_front c.args.model g.L.Passed.passes (g.met.L.Language.has_passed c.args.model)
+    (between c.in-Some.other.stop c.run_end.result c.args.walk.text.now) c.run_end.ensures.passed
+
+pub put_stretch-at-requires-clause-next : goal.put_stretch-at-requires-clause-next
+put_stretch-at-requires-clause-next g c = next_run g.L.Passed.leaves c.args.walk.text.now c.run_end.result c.run_end.ensures.next
 
 pub loop-other-preserved : goal.loop-other-preserved
 loop-other-preserved g c =
     let text = c.args.text.now in
-    let i = c.loop-other.invariant in
     let other = c.in-Some.other in
     let end = c.put_stretch-at in
-    let (own, given, last) = end.ensures.put in
+    let (own, given, completes) = end.ensures.put in
     let spelling = other.spelling.items in
     let laws = g.met.S.Sink.laws in
     let has_front = g.L.Language.has_front in
@@ -70,9 +69,9 @@ loop-other-preserved g c =
       within = end.ensures.within.1;
       none = end.ensures.stopped;
       put = λ front h.
-          let (more, put, before) = i.put front h in
+          let (more, put, before) = c.loop-other.invariant.put front h in
           let next = rw c.in-Some.is at c.in_ok-other.ensures.next in
-          let to = item_to has_front model text c.loop-other.at other.stop (front ++ more) spelling before (next (front ++ more) before) placed.0 placed.1 placed.2
+          let to = item_in has_front model text c.loop-other.at other.stop (front ++ more) spelling before (next (front ++ more) before) placed.0 placed.1
           placed.3 in
           let whole : (((front ++ more) ++ spelling) ++ own) ≡ front ++ ((more ++ spelling) ++ own) =
           ap (λ t. t ++ own) (append_assoc front more spelling) ∙ append_assoc front (more ++ spelling) own in (
@@ -80,8 +79,8 @@ loop-other-preserved g c =
             laws.both c.args.sink.now c.put.new.self end.new.sink (more ++ spelling) own
                 (laws.both c.args.sink.now c.loop-other.sink c.put.new.self more spelling put (rw c.deref.ensures.0 at c.put.ensures)) given,
             subst (HasCanonicalIn has_front model (take end.result text)) whole
-                (stretch_in has_front model text other.stop end.result low place.1 place.2 ((front ++ more) ++ spelling) to own
-                (subst (λ t. IsCanonicalFor model t own) same last)),
+                (complete_in has_front model text other.stop end.result low place.2 ((front ++ more) ++ spelling) own to
+                (subst (λ t. CompletesIn has_front model t own) same completes)),
           );
     }
 

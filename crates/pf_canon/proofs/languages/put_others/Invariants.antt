@@ -1,7 +1,6 @@
 use Rattle.std.proofs.Common.{◌-◌, ◌≤◌, ◌++◌, drop, length, take}
 use Rattle.pf_values.specs.meaning.Text.{Text}
 use Rattle.pf_text.specs.FoundDirectives.{BeginsNoItem}
-use Rattle.pf_canon.specs.Answers.{IsCanonicalFor}
 use Rattle.pf_canon.specs.Languages.{HasCanonicalIn}
 use Rattle.pf_canon.proofs.languages.put_others.Given as goal
 
@@ -9,7 +8,7 @@ abbrev pub invariant-loop-other : goal.invariant-loop-other
 invariant-loop-other g l = record {
   within : l.at ≤ length l.fn.walk.text.now;
   none : BeginsNoItem (drop l.at l.fn.walk.text.now);
-  put : (c : Text) → IsCanonicalFor l.fn.model (take l.fn.first l.text) c → (more : Text) × g.S.Sink.given l.fn.sink l.sink more
+  put : (c : Text) → HasCanonicalIn g.L.Language.has_front l.fn.model (take l.fn.first l.text) c → (more : Text) × g.S.Sink.given l.fn.sink l.sink more
       × HasCanonicalIn g.L.Language.has_front l.fn.model (take l.at l.text) (c ++ more);
 }
 

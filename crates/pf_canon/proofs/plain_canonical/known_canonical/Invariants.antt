@@ -1,13 +1,12 @@
-use Rattle.std.proofs.Common.{length, List, ◌-◌, ◌≤◌, take}
-use Rattle.pf_values.specs.meaning.Items.{Item}
-use Rattle.pf_text.specs.CanonicalRuns.{IsCanonicalRun}
+use Rattle.std.proofs.Common.{length, ◌-◌, ◌≤◌, take}
+use Rattle.pf_canon.proofs.KnownLemmas.{IsKeptIn}
 use Rattle.pf_canon.proofs.plain_canonical.known_canonical.Given as goal
 
 abbrev pub invariant-loop-at : goal.invariant-loop-at
-invariant-loop-at l = record {
+invariant-loop-at g l = record {
   within : l.at ≤ length l.text;
-  taken : (items : List Item) × IsCanonicalRun l.fn.model (take l.at l.text) items;
+  kept : IsKeptIn g.L.Language.has_front l.fn.model (take l.at l.text);
 }
 
 abbrev pub decreases-loop-at : goal.decreases-loop-at
-decreases-loop-at l = length l.text - l.at
+decreases-loop-at g l = length l.text - l.at

@@ -8,6 +8,7 @@ use Rattle.pf_posix.specs.Refusals.{IsPosixRefusedAt}
 use Rattle.pf_text.proofs.ReadingLemmas.{moved_over}
 use Rattle.pf_posix.proofs.FrontRefusals.{IsRefused}
 use Rattle.pf_posix.proofs.PlainFrontLemmas.{front_ended, front_others, front_put, front_walked, front_whole, no_front, none_put, put_few, was_put}
+use Rattle.pf_text.proofs.WalkLemmas.{items_walked}
 use Rattle.pf_posix.proofs.argument_types.arguments_within.Goals as goal
 
 pub loop-model-init : goal.loop-model-init
@@ -24,7 +25,7 @@ loop-model-init c =
 pub other_arguments-requires-clause-front : goal.other_arguments-requires-clause-front
 other_arguments-requires-clause-front c =
     let i = c.loop-model.invariant in
-    (front_walked c.args.model c.args.out.now c.loop-model.out c.loop-model.count c.loop-model.walk c.find.new.self c.find.ensures.passed i.front i.within).0.plain
+    (front_walked c.args.model c.args.out.now c.loop-model.out c.loop-model.count c.loop-model.walk c.find.new.self (items_walked _ _ _ c.find.ensures.passed) i.front i.within).0.plain
 
 pub other_arguments-requires-clause-never : goal.other_arguments-requires-clause-never
 other_arguments-requires-clause-never c =
@@ -46,7 +47,7 @@ returns-then-front-walk-clause-types c =
     let model = c.args.model in
     let here = c.find.new.self in
     let t = here.text.now in
-    let passed = c.find.ensures.passed in
+    let passed = items_walked _ _ _ c.find.ensures.passed in
     let now = front_walked model c.args.out.now c.loop-model.out c.loop-model.count c.loop-model.walk here passed i.front i.within in
     let front = c.put_specification-front in
     let put = subst (λ u. IsPut model u here.at c.loop-model.out front.new.out c.loop-model.count front.result) c.text.ensures front.ensures in
@@ -64,7 +65,7 @@ loop-model-preserved c =
     let model = c.args.model in
     let here = c.find.new.self in
     let t = here.text.now in
-    let passed = c.find.ensures.passed in
+    let passed = items_walked _ _ _ c.find.ensures.passed in
     let now = front_walked model c.args.out.now c.loop-model.out c.loop-model.count c.loop-model.walk here passed i.front i.within in
     let front = c.put_specification-front in
     let read = subst (λ u. IsPut model u here.at c.loop-model.out front.new.out c.loop-model.count front.result) c.text.ensures front.ensures in
@@ -84,7 +85,7 @@ returns-then-walk-text-clause-types c =
     let model = c.args.model in
     let here = c.find.new.self in
     let t = here.text.now in
-    let passed = c.find.ensures.passed in
+    let passed = items_walked _ _ _ c.find.ensures.passed in
     let whole = take MAX_TEXT_LEN c.args.text.now in
     let now = front_walked model c.args.out.now c.loop-model.out c.loop-model.count c.loop-model.walk here passed i.front i.within in
     let ended = front_ended model t here.at c.args.out.now c.loop-model.out c.loop-model.count now.0 passed.walk.few
@@ -99,7 +100,7 @@ returns-clause-types c =
     let model = c.args.model in
     let here = c.find.new.self in
     let t = here.text.now in
-    let passed = c.find.ensures.passed in
+    let passed = items_walked _ _ _ c.find.ensures.passed in
     let now = front_walked model c.args.out.now c.loop-model.out c.loop-model.count c.loop-model.walk here passed i.front i.within in
     subst (λ u. HasCount model u c.args.out.now c.loop-model.out c.loop-model.count) (passed.text ∙ i.over.text_is)
     (front_whole model t here.at c.args.out.now c.loop-model.out c.loop-model.count now.0 (omega (arith, c.if-walk-text.false, ap length c.text-2.ensures))

@@ -9,6 +9,7 @@ use Rattle.pf_posix.specs.Items.{errno_letter}
 use Rattle.pf_posix.specs.Laws.{HasCount}
 use Rattle.pf_posix.proofs.FrontRefusals.{IsRefused}
 use Rattle.pf_posix.proofs.NumberedLemmas.{IsTabledTo, errno_tabled, finished, first_added, first_refused, gap_refused, next_added, next_refused, table_ended, tabled_walked}
+use Rattle.pf_text.proofs.WalkLemmas.{items_walked}
 use Rattle.pf_posix.proofs.numbered.numbered_arguments.Goals as goal
 
 pub returns-in_err-add-in-Ok-clause-types : goal.returns-in_err-add-in-Ok-clause-types
@@ -43,7 +44,7 @@ pub returns-in_err-add-in-Ok-defined_at-clause-types : goal.returns-in_err-add-i
 returns-in_err-add-in-Ok-defined_at-clause-types c =
     let i = c.loop-model.invariant in
     let here = c.find.new.self in
-    let passed = c.find.ensures.passed in
+    let passed = items_walked _ _ _ c.find.ensures.passed in
     let t = here.text.now in
     let read = c.in-Ok-defined_at in
     let p = err_from_is_err_and c.from_residual-in_err-add-in-Ok-defined_at.result c.from_residual-in_err-add-in-Ok-defined_at.ensures.1 in
@@ -58,7 +59,7 @@ pub loop-model-preserved-then-has_errno : goal.loop-model-preserved-then-has_err
 loop-model-preserved-then-has_errno c =
     let i = c.loop-model.invariant in
     let here = c.find.new.self in
-    let passed = c.find.ensures.passed in
+    let passed = items_walked _ _ _ c.find.ensures.passed in
     let t = here.text.now in
     let now = tabled_walked c.args.model c.loop-model.walk here c.loop-model.table passed i.tabled in
     record {
@@ -73,7 +74,7 @@ pub loop-model-preserved : goal.loop-model-preserved
 loop-model-preserved c =
     let i = c.loop-model.invariant in
     let here = c.find.new.self in
-    let passed = c.find.ensures.passed in
+    let passed = items_walked _ _ _ c.find.ensures.passed in
     let t = here.text.now in
     let read = c.in-Ok-defined_at in
     let d = subst (λ u. IsDefinedAt u here.at Numbered (read.read, read.stop)) c.text-in-loop-model-2.ensures read.ensures in
@@ -91,7 +92,7 @@ pub returns-in_err-add_stars-in-Err-defined_at-clause-types : goal.returns-in_er
 returns-in_err-add_stars-in-Err-defined_at-clause-types c =
     let i = c.loop-model.invariant in
     let here = c.find.new.self in
-    let passed = c.find.ensures.passed in
+    let passed = items_walked _ _ _ c.find.ensures.passed in
     let t = here.text.now in
     let refused = c.in-Err-defined_at.refused in
     let p = err_from_is_err_and c.from_residual-in_err-add_stars-in-Err-defined_at.result c.from_residual-in_err-add_stars-in-Err-defined_at.ensures.1 in
@@ -105,7 +106,7 @@ pub returns-in-Err-defined_at-clause-types : goal.returns-in-Err-defined_at-clau
 returns-in-Err-defined_at-clause-types c =
     let i = c.loop-model.invariant in
     let here = c.find.new.self in
-    let passed = c.find.ensures.passed in
+    let passed = items_walked _ _ _ c.find.ensures.passed in
     let t = here.text.now in
     let refused = c.in-Err-defined_at.refused in
     let k = subst (λ u. IsRefusedIn u here.at Numbered refused) c.text-in-loop-model-2.ensures c.in-Err-defined_at.ensures in
@@ -118,7 +119,7 @@ pub returns-then-walk-text-clause-types : goal.returns-then-walk-text-clause-typ
 returns-then-walk-text-clause-types c =
     let i = c.loop-model.invariant in
     let here = c.find.new.self in
-    let passed = c.find.ensures.passed in
+    let passed = items_walked _ _ _ c.find.ensures.passed in
     let t = here.text.now in
     let now = tabled_walked c.args.model c.loop-model.walk here c.loop-model.table passed i.tabled in
     let ended = table_ended c.args.model t here.at c.loop-model.table now passed.walk.few (omega (arith, c.if-walk-text.true, ap length c.text-2.ensures))
@@ -131,7 +132,7 @@ pub returns-in_err-finish-clause-types : goal.returns-in_err-finish-clause-types
 returns-in_err-finish-clause-types c =
     let i = c.loop-model.invariant in
     let here = c.find.new.self in
-    let passed = c.find.ensures.passed in
+    let passed = items_walked _ _ _ c.find.ensures.passed in
     let t = here.text.now in
     let now = tabled_walked c.args.model c.loop-model.walk here c.loop-model.table passed i.tabled in
     let p = err_from_is_err_and c.from_residual-in_err-finish.result c.from_residual-in_err-finish.ensures.1 in
@@ -144,7 +145,7 @@ pub returns-clause-types : goal.returns-clause-types
 returns-clause-types c =
     let i = c.loop-model.invariant in
     let here = c.find.new.self in
-    let passed = c.find.ensures.passed in
+    let passed = items_walked _ _ _ c.find.ensures.passed in
     let t = here.text.now in
     let now = tabled_walked c.args.model c.loop-model.walk here c.loop-model.table passed i.tabled in
     subst (λ u. HasCount c.args.model u c.args.out.now c.copy_front.new.out c.loop-model.table.count) (passed.text ∙ i.text)

@@ -3,7 +3,7 @@ use Rattle.pf_text.proofs.ReadingLemmas.{HasReadFrom}
 use Rattle.pf_text.proofs.checking.items_end_from.Given as goal
 
 abbrev pub invariant-loop-walk : goal.invariant-loop-walk
-invariant-loop-walk l = HasReadFrom l.fn.walk l.walk
+invariant-loop-walk g l = HasReadFrom g.P.Passed.passes l.fn.walk l.walk
 
 abbrev pub decreases-loop-walk : goal.decreases-loop-walk
-decreases-loop-walk l = length l.fn.walk.text.now - l.walk.at
+decreases-loop-walk g l = length l.fn.walk.text.now - l.walk.at

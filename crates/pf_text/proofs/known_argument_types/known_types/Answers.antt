@@ -2,6 +2,7 @@ use Rattle.std.proofs.Common.{◌≤◌, ◌-◌, ◌∷◌, [], arith, drop, le
 use Rattle.pf_text.specs.Signatures.{ReadsTyped}
 use Rattle.pf_text.proofs.NoItemLemmas.{no_item}
 use Rattle.pf_text.proofs.ReadingLemmas.{HasTyped, typed_all, typed_item, typed_none, typed_passed_too}
+use Rattle.pf_text.proofs.WalkLemmas.{items_walked}
 use Rattle.pf_text.proofs.known_argument_types.known_types.Goals as goal
 
 pub loop-model-init : goal.loop-model-init
@@ -16,7 +17,7 @@ loop-model-preserved c =
     let text = c.args.text.now in
     let here = c.find.new.self in
     let found = take c.loop-model.count c.loop-model.types in
-    let now = typed_passed_too model text c.loop-model.walk here found c.loop-model.invariant.typed c.find.ensures.passed in
+    let now = typed_passed_too model text c.loop-model.walk here found c.loop-model.invariant.typed (items_walked _ _ _ c.find.ensures.passed) in
     let item = c.in_ok-arg_type in
     let within : item.stop ≤ length here.text.now = subst (λ t. item.stop ≤ length t) c.text.ensures item.ensures.1 in
     let typed : ReadsTyped model (take (item.stop - here.at) (drop here.at here.text.now)) (item.arg_type ∷ []) =
@@ -27,5 +28,5 @@ loop-model-preserved c =
 pub returns-then-walk-text : goal.returns-then-walk-text
 returns-then-walk-text c =
     let found = take c.loop-model.count c.loop-model.types in
-    let now = typed_passed_too c.args.model c.args.text.now c.loop-model.walk c.find.new.self found c.loop-model.invariant.typed c.find.ensures.passed in
+    let now = typed_passed_too c.args.model c.args.text.now c.loop-model.walk c.find.new.self found c.loop-model.invariant.typed (items_walked _ _ _ c.find.ensures.passed) in
     (c.loop-model.invariant.room, typed_all c.args.model c.args.text.now c.find.new.self found now (no_item c.find.new.self.text.now c.find.new.self.at (c.find.ensures.ended c.loop-model-test.false)) c.if-walk-text.true)

@@ -9,7 +9,7 @@ use Rattle.pf_text.proofs.WalkLemmas.{parts_between, parts_passed}
 use Rattle.pf_text.proofs.passed.canonical_parts_len.Goals as goal
 
 pub returns-then-has_canonical_parts-clause-passed : goal.returns-then-has_canonical_parts-clause-passed
-returns-then-has_canonical_parts-clause-passed c =
+returns-then-has_canonical_parts-clause-passed c some =
     let alternative = c.alternative_at-alternative.result.0 in
     let modifier = c.modifier_at-modifier.result.0 in
     let conv = c.in-Some.conv in

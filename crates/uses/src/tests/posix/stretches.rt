@@ -4,17 +4,18 @@ ghost use Rattle.pf_values.specs.meaning.Items.{Item, Reads};
 ghost use Rattle.pf_posix.specs.Stretches.{IsWholeAccepted};
 
 use pf_posix::{
-    Conversion, Floating, Modifier, Opaque, OpaqueAmount, OpaqueDirective, Stretch,
-    check_unnumbered, next_stretch,
+    Conversion, Floating, Modifier, Opaque, OpaqueAmount, OpaqueDirective, Stretch, conversion_at,
+    modifier_at, next_stretch, undefined_as,
 };
 use pf_text::Refusal;
 use pf_values::{Flag, FlagSet, Length, Model, RefusalKind};
+use pf_whole::check;
 
 /// Whether a format is known to be accepted without numbered arguments.
 fn has_stretches(model: Model, format: &[u8]) -> bool
     ensures { IsTrue result → IsWholeAccepted format.now }
 {
-    match check_unnumbered(model, format) {
+    match check(model, format) {
         Ok(()) => true,
         Err(_) => false,
     }
@@ -31,8 +32,35 @@ fn is_one_stretch(format: &[u8]) -> bool
     }
 }
 
+// The length modifier and the conversion at the front of a text.
+fn letters(text: &[u8]) -> (Modifier, Result<Conversion, Refusal>) {
+    let (modifier, stop) = modifier_at(text, 0);
+    (modifier, conversion_at(text, stop))
+}
+
+#[test]
+fn letters_of_a_specification(rt: HostRuntime) {
+    let stray = Refusal {
+        kind: RefusalKind::Unexpected,
+        at: 1,
+    };
+    let directive = OpaqueDirective {
+        flags: FlagSet::empty().with(Flag::Alt),
+        width: None,
+        precision: None,
+        modifier: Modifier::LongDouble,
+        conversion: Conversion::Pointer,
+    };
+    assert!(rt;
+        letters(b"lln") == (Modifier::Integer(Length::Ll), Ok(Conversion::Count))
+            && letters(b"p") == (Modifier::Integer(Length::None), Ok(Conversion::Pointer))
+            && letters(b"Lk") == (Modifier::LongDouble, Err(stray))
+            && undefined_as(&directive) == Some(RefusalKind::AltUndefined)
+    );
+}
+
 fn is_refused(format: &[u8], kind: RefusalKind, at: u64) -> bool {
-    check_unnumbered(Model::Lp64, format) == Err(Refusal { kind, at })
+    check(Model::Lp64, format) == Err(Refusal { kind, at })
 }
 
 #[test]

@@ -1,17 +1,17 @@
 //! What the C library calls instead of `canonical`: verbatim fronts, canonical texts on the stack, and
 //! reductions where they are called.
-use pf_canon::{Profile, Room, ShortText, VerbatimFront};
+use pf_canon::{Profile, Room, ShortText, VerbatimFront, check_in};
 use pf_reduce::{Change, Core, Reduced, change_of, reduce};
 use pf_text::{Refusal, directive_at, spell};
 use pf_values::{Model, RefusalKind};
 
 fn is_verbatim(format: &[u8]) -> bool {
-    VerbatimFront::of(Model::Lp64, format).is_all(format)
+    VerbatimFront::of::<Profile>(Model::Lp64, format).is_all::<Profile>(format)
 }
 
 // Whether all of a format's canonical text has room, and is this.
 fn is_put(format: &[u8], wanted: &[u8]) -> Result<bool, Refusal> {
-    let front = VerbatimFront::of(Model::Lp64, format);
+    let front = VerbatimFront::of::<Profile>(Model::Lp64, format);
     let mut text = ShortText::new();
     let room = text.put::<Profile>(&front, format)?;
     Ok(room == Room::Enough && text.as_slice() == wanted)
@@ -32,6 +32,8 @@ fn short_canonical_texts(rt: HostRuntime) {
         ] == [Ok(true), Ok(true), Ok(false), Err(refusal)]
             && is_verbatim(b"a%d%%")
             && !is_verbatim(b"a%i%%")
+            && check_in::<Profile>(Model::Lp64, b"a%i%5c") == Ok(())
+            && check_in::<Profile>(Model::Lp64, b"a%i%5%") == Err(refusal)
     );
 }
 

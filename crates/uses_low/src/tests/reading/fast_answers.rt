@@ -1,7 +1,7 @@
 //! Texts in memory: where a walk stops, directives and their parts at offsets, and types.
 use pf_text::{
     Bare, Canonical, Nothing, Passed, Percents, Refusal, Scanner, Walk, digits_at, directive_at,
-    flags_at, is_known_accepted, items_end, known_types, literal_len, modifier_at, number_at,
+    flags_at, items_end, items_end_from, known_types, literal_len, modifier_at, number_at,
     refusal_at, spell, spelled_at,
 };
 use pf_values::{ArgType, Flag, Length, Model, RefusalKind};
@@ -25,6 +25,8 @@ fn a_walk_stops(rt: HostRuntime) {
             stop::<Canonical>(b"%hhd%zu"),
             stop::<Canonical>(b"ab\0"),
             stop::<Bare>(b"%"),
+            stop::<(Canonical, Nothing)>(b"%d%%%lu%i"),
+            stop::<(Nothing, Percents)>(b"100%% of %d"),
         ] == [
             (3, true),
             (9, true),
@@ -33,7 +35,9 @@ fn a_walk_stops(rt: HostRuntime) {
             (9, true),
             (4, true),
             (2, false),
-            (0, false)
+            (0, false),
+            (7, true),
+            (9, true)
         ]
     );
 }
@@ -181,16 +185,12 @@ fn are_known(text: &[u8], wanted: &[ArgType]) -> bool {
 fn most_formats_are_known(rt: HostRuntime) {
     assert!(rt;
         [
-            is_known_accepted(b"%d%%"),
-            is_known_accepted(b"%d of %-8.3s%%"),
-            is_known_accepted(b"%f"),
-            is_known_accepted(b"100%, or not"),
             are_known(b"%u", &[ArgType::UInt]),
             are_known(
                 b"%s: %zd of %hhu",
                 &[ArgType::Str, ArgType::Long, ArgType::Int]
             ),
             are_known(b"%s: %f of %hhu", &[]),
-        ] == [true, true, false, false, true, true, false]
+        ] == [true, true, false]
     );
 }

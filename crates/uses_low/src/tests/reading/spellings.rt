@@ -1,6 +1,6 @@
 //! The spelling of a directive that is made of its parts. The program shows the spelling of directives that are read.
 use pf_text::laws::spelled_is_read;
-use pf_text::spell;
+use pf_text::{Spelling, push_number, spell};
 use pf_values::{Conv, Directive, Flag, FlagSet, Length};
 
 fn is_spelled(flags: FlagSet, width: u16, wanted: &[u8]) -> bool {
@@ -20,4 +20,15 @@ fn a_directive_made_of_its_parts(rt: HostRuntime) {
         ] == [true; 2]
     );
     spelled_is_read();
+}
+
+fn has_digits(number: u16, wanted: &[u8]) -> bool {
+    let mut out = Spelling::new();
+    push_number(&mut out, number);
+    out.as_slice() == wanted
+}
+
+#[test]
+fn numbers_without_zeros_in_front(rt: HostRuntime) {
+    assert!(rt; has_digits(0, b"0") && has_digits(4095, b"4095") && has_digits(65535, b"65535"));
 }

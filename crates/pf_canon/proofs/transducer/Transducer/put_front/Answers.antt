@@ -1,7 +1,7 @@
 use Rattle.std.proofs.Common.{◌≡◌, ◌++◌, ◌∙◌, List, arith, length, subst, sym, take}
 use Rattle.std.proofs.lemmas.List.{length-take-le}
 use Rattle.pf_values.specs.meaning.Items.{Item, Reads}
-use Rattle.pf_canon.specs.Making.{PutsItems}
+use Rattle.pf_canon.specs.Making.{IsWritten, PutsItems}
 use Rattle.pf_canon.proofs.BlockLemmas.{none_taken}
 use Rattle.pf_canon.proofs.ItemLemmas.{front_is, front_of_walk}
 use Rattle.pf_canon.proofs.WrittenLemmas.{written_through}
@@ -22,7 +22,7 @@ returns-clause-put g c =
     let front = take len text in
     let place = front_of_walk text c.new.result c.new.ensures.over len put.ensures.within in
     let same : take len c.new.result.text.now ≡ front = sym (front_is c.new.result.text.now len) ∙ place.0 in
-    let (more, given, written) = subst (λ t. PutsItems g.S.Sink.given r.model c.args.sink.now put.new.sink t r.silents put.new.self.silents) same put.ensures.put in
+    let (more, given, written) = subst (λ t. PutsItems g.S.Sink.given (IsWritten r.model) c.args.sink.now put.new.sink t r.silents put.new.self.silents) same put.ensures.put in
     let reads : (items : List Item) × Reads front items = subst (λ t. (items : List Item) × Reads t items) same put.ensures.reads in
     let long : length front ≡ len = length-take-le len text place.1 in (
       more,

@@ -1,6 +1,7 @@
 use Rattle.std.proofs.Common.{arith}
 use Rattle.pf_text.proofs.ReadingLemmas.{moved_over}
 use Rattle.pf_posix.proofs.SpecificationWalkLemmas.{ahead_ends, own_found, own_passed, own_text}
+use Rattle.pf_text.proofs.WalkLemmas.{items_walked}
 use Rattle.pf_posix.proofs.specification_walk.SpecificationWalk.next.Goals as goal
 
 pub item_at-requires-clause-reads : goal.item_at-requires-clause-reads
@@ -16,7 +17,7 @@ loop-self-preserved c =
     let item = c.item_at in (
       λ t all done h.
           let then = c.loop-self.invariant.0 t all done h in
-          own_passed t c.loop-self.self all done then item.result.1 item.ensures.further c.find.new.self c.find.ensures.passed
+          own_passed t c.loop-self.self all done then item.result.1 item.ensures.further c.find.new.self (items_walked _ _ _ c.find.ensures.passed)
           (rw c.in-None-default.is-0 at item.ensures.listed c.loop-self.self.model all done c.loop-self.self.fetched (own_text t _ all done then).listed),
       omega (arith, c.loop-self.invariant.1, item.ensures.further, c.find.ensures.passed.from),
     )
