@@ -112,9 +112,19 @@ def chunks(text: str) -> Iterator[Tuple[bool, str]]:
     yield is_system, text[start:]
 
 
+def own_spans(text: str) -> Iterator[Tuple[int, int]]:
+    """Yields where the parts of a text begin and end that no system header has, by the markers where these are entered:
+    later ones may lack the flag, and those of the file itself have it where it uses a macro of such a header.
+    """
+    found = list(MARKER.finditer(text))
+    system = {it["file"] for it in found if {"1", "3"} <= set(it["flags"].split())}
+    ends = [*(it.start() for it in found[1:]), len(text)]
+    yield from ((it.end(), end) for it, end in zip(found, ends) if it["file"] not in system)
+
 
 def macro_of(letter: str, end: str) -> str:
     return f"PRI{letter}{end}" if letter else f"__PRI{end}_PREFIX"
+
 
 @functools.lru_cache(maxsize=None)
 def names_pattern(names: Tuple[str, ...]) -> "re.Pattern[str]":

@@ -10,7 +10,7 @@ from .. import BadLiteral, Refused
 from ..compiling.calls import Argument, Call, FormatCalls
 from ..compiling.formats import Format
 from ..compiling.platforms import COMPILED, PLATFORMS
-from ..compiling.retargeting import BIT_FIELD, MARKER, TYPE_MARK
+from ..compiling.retargeting import BIT_FIELD, TYPE_MARK, own_spans
 from ..kinds import Type
 from ..models import Model
 from .judging import Fit, arguments_of, fit_of, text_of
@@ -62,11 +62,8 @@ def is_alike(unit: FormatCalls, text: str) -> bool:
 
 
 def own_text(text: str) -> str:
-    """Returns a text without what is of system headers. After a macro in these, their markers don't say what they are."""
-    found = list(MARKER.finditer(text))
-    system = {it["file"] for it in found if "3" in it["flags"]}
-    ends = [*(it.start() for it in found[1:]), len(text)]
-    return "".join(text[it.end() : end] for it, end in zip(found, ends) if it["file"] not in system)
+    """Returns a text without what is of system headers."""
+    return "".join(text[start:end] for start, end in own_spans(text))
 
 
 def is_same(call: Call) -> bool:
