@@ -8,13 +8,14 @@ from typing import Any, Counter, Dict, NamedTuple, Optional, Sequence, Tuple
 from ..kinds import Type
 from ..models import Model
 from ..source.known import Shape
+from .call_sites import call_sites
 from .compile_commands import CompileCommand
 from .formats import AROUND, Format, Formats
 from .functions import Callee, Callees, Functions, is_system
 from .libclang import cindex
-from .parsing import CALL_EXPR, FUNCTION_DECL, TYPEDEF_DECL, TYPES, UNREADABLE, VISIT_INSIDE, VISIT_NEXT, Parsed
+from .parsing import CALL_EXPR, FUNCTION_DECL, TYPES, UNREADABLE, VISIT_INSIDE, VISIT_NEXT, Parsed
 from .platforms import Platform
-from .retargeting import TYPE_MARK
+from .retargeting import TYPE_MARK, own_spans
 
 # Types that gcc has, and no directive takes: each is another than what it is in memory. Where there is no `__int128`, no
 # compiler reads what names it.
@@ -82,16 +83,11 @@ class Calls(Parsed):
             self.note_call(cursor)
         elif kind == FUNCTION_DECL:
             return self.note_function(cursor)
-        elif kind == TYPEDEF_DECL:
-            self.note_typedef(cursor)
         return VISIT_NEXT if kind in self.without_calls else VISIT_INSIDE
 
     def note_function(self, cursor: Any) -> int:
         """Notes a declaration of a function. Returns whether what is inside is visited, too."""
         return VISIT_INSIDE
-
-    def note_typedef(self, cursor: Any) -> None:
-        """Notes a typedef."""
 
     def note_call(self, cursor: Any) -> None:
         raise NotImplementedError
@@ -110,15 +106,13 @@ class FormatCalls(Calls):
         # How many calls have a format that isn't read; and of functions that aren't known, by the options for these.
         self.unread = 0
         self.others: Counter[str] = collections.Counter()
-        self.visit(self.note)
-
-    def note_function(self, cursor: Any) -> int:
-        library = cindex.conf.lib
-        is_passed = self.without_calls and not library.clang_isCursorDefinition(cursor)
-        return VISIT_NEXT if is_passed or library.clang_Location_isInSystemHeader(cursor.location) else VISIT_INSIDE
-
-    def note_typedef(self, cursor: Any) -> None:
-        self.formats.typedefs.append(cursor)
+        # One character for each byte.
+        plain = self.text.decode("latin-1")
+        given = (it.encode().decode("latin-1") for it in functions.given)
+        for at in call_sites(plain, own_spans(plain), given):
+            cursor = self.cursor_at(at)
+            if cursor._kind_id == CALL_EXPR:
+                self.note_call(cursor)
 
     def note_call(self, cursor: Any) -> None:
         callee = self.callees.callee(cursor)

@@ -82,6 +82,7 @@ class Parsed:
             )
         except (cindex.LibclangError, cindex.TranslationUnitLoadError) as error:
             raise Left(f"libclang: {error}") from error
+        self.file = self.unit.get_file("/unit")
 
     def errors(self) -> List[str]:
         """Returns what libclang can't parse outside of the compiler's own headers."""
@@ -155,6 +156,14 @@ class Parsed:
         if first.semantic_parent.kind.name in SCOPES:
             return f"{name} isn't at file scope"
         return None if has_prototype(first, known) else f"{name} has another prototype"
+
+    def cursor_at(self, offset: int) -> Any:
+        """Returns the innermost cursor at an offset of the text."""
+        library = cindex.conf.lib
+        location = library.clang_getLocationForOffset(self.unit, self.file, offset)
+        cursor = library.clang_getCursor(self.unit, location)
+        cursor._tu = self.unit
+        return cursor
 
     def visit(self, function: Callable[[Any], int]) -> None:
         """Calls a function for each cursor, which returns whether to go on inside of it.

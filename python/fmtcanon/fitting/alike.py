@@ -9,6 +9,7 @@ from typing import Iterator, Sequence
 from .. import BadLiteral, Refused
 from ..compiling.calls import Argument, Call, FormatCalls
 from ..compiling.formats import Format
+from ..compiling.parsing import LINE_MARKER
 from ..compiling.platforms import COMPILED, PLATFORMS
 from ..compiling.retargeting import BIT_FIELD, TYPE_MARK, own_spans
 from ..kinds import Type
@@ -62,8 +63,8 @@ def is_alike(unit: FormatCalls, text: str) -> bool:
 
 
 def own_text(text: str) -> str:
-    """Returns a text without what is of system headers."""
-    return "".join(text[start:end] for start, end in own_spans(text))
+    """Returns a text without what is of system headers, and without markers."""
+    return LINE_MARKER.sub("", "".join(text[start:end] for start, end in own_spans(text)))
 
 
 def is_same(call: Call) -> bool:
