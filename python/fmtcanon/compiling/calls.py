@@ -10,9 +10,11 @@ from ..models import Model
 from ..source.known import Shape
 from .call_sites import call_sites
 from .compile_commands import CompileCommand
+from .declared_types import is_declared_long, typedef_of
 from .formats import AROUND, Format, Formats
-from .functions import Callee, Callees, Functions, is_system
+from .functions import Callee, Callees, Functions
 from .libclang import cindex
+from .overloads import Overloads
 from .parsing import CALL_EXPR, FUNCTION_DECL, TYPES, UNREADABLE, VISIT_INSIDE, VISIT_NEXT, Parsed
 from .platforms import Platform
 from .retargeting import TYPE_MARK, own_spans
@@ -30,17 +32,17 @@ INTEGERS = {
     "LONGLONG": Type.LONG_LONG,
     "ULONGLONG": Type.ULONG_LONG,
 }
-# The types that may be a typedef's, and the expressions whose types the source declares.
+# The types that may be a typedef's.
 LONGS = ("LONG", "ULONG")
-DECLARED = ("DECL_REF_EXPR", "MEMBER_REF_EXPR", "CSTYLE_CAST_EXPR")
 # Those whose values are never negative. A bit-field of the last may be promoted to int.
 UNSIGNED = ("BOOL", "CHAR_U", "UCHAR", "USHORT", "UINT")
 
 
 class Argument(NamedTuple):
     """An argument of a call: its type after promotion, if that is an integer, the same in C, its type as the source
-    names it, whether it is an int that can't be negative: a literal, or of an unsigned type before promotion; and
-    whether the source declares it as `long`, which it is on every platform then.
+    names it, whether it is an int that can't be negative: a literal, or of an unsigned type before promotion; whether the
+    source declares it as `long`, which it is on every platform then; and the typedef of the C library that the source
+    declares it with, if that is `long` where it is compiled.
     """
 
     type: Optional[Type]
@@ -48,6 +50,7 @@ class Argument(NamedTuple):
     name: str
     is_unsigned: bool = False
     is_long: bool = False
+    typedef: str = ""
 
 
 class Call(NamedTuple):
@@ -106,6 +109,9 @@ class FormatCalls(Calls):
         # How many calls have a format that isn't read; and of functions that aren't known, by the options for these.
         self.unread = 0
         self.others: Counter[str] = collections.Counter()
+        # Whether all calls are the same elsewhere, if their arguments have the types there that are declared.
+        self.is_settled = True
+        self.overloads = Overloads(self) if command.is_cxx() else None
         # One character for each byte.
         plain = self.text.decode("latin-1")
         given = (it.encode().decode("latin-1") for it in functions.given)
@@ -129,6 +135,8 @@ class FormatCalls(Calls):
 
     def note_format(self, cursor: Any, name: str, shape: Shape, arguments: Sequence[Any]) -> None:
         """Notes the call of a function that has a format."""
+        if self.overloads and self.is_settled:
+            self.is_settled = self.overloads.is_settled(cursor)
         read = list(self.formats.read(arguments[shape.format]))
         self.unread += None in read
         line = cursor.location.line
@@ -138,7 +146,7 @@ class FormatCalls(Calls):
             *self.place_of(cursor.location),
             name,
             tuple(it for it in read if it),
-            tuple(map(argument_of, arguments[shape.first :])),
+            tuple(argument_of(it, self) for it in arguments[shape.first :]),
             self.line_of(cursor.extent.end),
         )
 
@@ -158,7 +166,7 @@ class FormatCalls(Calls):
         return any("%" in it.source for it in self.formats.read(argument) if it)
 
 
-def argument_of(cursor: Any) -> Argument:
+def argument_of(cursor: Any, unit: Parsed) -> Argument:
     type = cursor.type.get_canonical()
     if type.kind.name == "ENUM":
         type = type.get_declaration().enum_type.get_canonical()
@@ -170,21 +178,8 @@ def argument_of(cursor: Any) -> Argument:
     spelling = f"{type.element_type.spelling} *" if type.kind.name in ARRAYS else type.spelling
     is_natural = inside.kind.name == "INTEGER_LITERAL" or inside.type.get_canonical().kind.name in UNSIGNED
     is_unsigned = type.kind.name == "INT" and is_natural
-    is_long = type.kind.name in LONGS and inside.type.kind == type.kind and is_declared_long(inside)
+    is_any_long = type.kind.name in LONGS
+    is_long = is_any_long and inside.type.kind == type.kind and is_declared_long(inside)
+    typedef = typedef_of(inside, unit) if is_any_long and not is_long else ""
     name = inside.type.spelling.replace(TYPE_MARK, "")
-    return Argument(INTEGERS.get(type.kind.name), spelling, name, is_unsigned, is_long)
-
-
-def is_declared_long(cursor: Any) -> bool:
-    """Returns whether an expression is a cast to `long` by that name, or what the source declares so: not a typedef,
-    whose type may be another elsewhere, nor a member of the C library's or a bit-field. A call of a function that clang
-    knows has its result's type without the name of the typedef.
-    """
-    if cursor.kind.name not in DECLARED:
-        return False
-    if cursor.kind.name == "CSTYLE_CAST_EXPR":
-        return True
-    found = cursor.referenced
-    if found is None or found.kind.name not in ("VAR_DECL", "PARM_DECL", "FIELD_DECL"):
-        return False
-    return found.kind.name != "FIELD_DECL" or not (is_system(found) or found.is_bitfield())
+    return Argument(INTEGERS.get(type.kind.name), spelling, name, is_unsigned, is_long, typedef)
