@@ -12,7 +12,7 @@ from .retargeting import SPACE
 LETTER, BYTE = r"[A-Za-z_$\x80-\xff]", r"[\w$\x80-\xff]"
 WORD = rf"(?<!{BYTE}){LETTER}{BYTE}*"
 NAME = re.compile(WORD)
-ENDS_IN_BYTE = re.compile(BYTE)
+REST = re.compile(rf"{BYTE}*")
 # The end of the parameters of a variadic function, or in C++ of a pack of arguments; what is before the former.
 VARIADIC = re.compile(rf"\.\.\.{SPACE}\)")
 BEFORE_DOTS = (",", "(")
@@ -22,12 +22,13 @@ BETWEEN = ";{}"
 PARENTHESIS = re.compile(r"[()]")
 # A name before a parenthesis, or before the end of one and another, as in `(*name[2])(`.
 BEFORE = re.compile(rf"({WORD})(?:{SPACE}\[[^\]]*\])*(?:{SPACE}\))*{SPACE}\(")
-# What gives a name the type of something else.
-DEDUCED = ("auto", "typeof", "decltype")
-DEDUCING = re.compile(r"\b(?:auto|__auto_type|(?:__)?typeof(?:__)?|typeof_unqual|decltype)\b([^;{}=]*)")
+# What gives a name the type of something else; and what comes after it, up to its end or its value.
+DEDUCING = [re.compile(rf"{it}(?:__)?") for it in ("auto", "typeof", "decltype")]
+DECLARED = re.compile(r"[^;{}()=]*")
 ALIAS = re.compile(rf"\busing\s+({WORD})")
 # The parenthesis of what may be a call, after what may have a function as its value, or after any name.
 AFTER_VALUE = re.compile(rf"[)\]>}}]{SPACE}\(")
+OPENING = re.compile(rf"{SPACE}\(")
 AFTER_NAME = re.compile(rf"{WORD}{SPACE}\(")
 KEYWORDS = frozenset(
     "if while for switch return sizeof int char void long short unsigned signed float double const format __format__ "
@@ -54,15 +55,34 @@ def call_sites(text: str, spans: Sequence[Span], given: Iterable[str]) -> List[i
 
 def after_names(own: str, names: Set[str]) -> Iterator[int]:
     """Yields where parentheses are in a text after these names; or after any, if operators are among them."""
-    there = names & set(NAME.findall(own))
-    if "operator" in there:
+    if "operator" in names:
         yield from (it.end() - 1 for it in AFTER_NAME.finditer(own))
-    elif there:
-        # Patterns that begin with plain words are found several times faster than those that begin with anything else.
-        longest_first = sorted(there, key=lambda it: (-len(it), it))
-        for found in re.finditer(rf"({'|'.join(map(re.escape, longest_first))}){SPACE}\(", own):
-            if not ENDS_IN_BYTE.search(own, max(found.start() - 1, 0), found.start()):
+    # To look for one text after another takes a tenth of the time of a pattern of all.
+    for stem in stems_of(names):
+        at = own.find(stem)
+        while at >= 0:
+            end = REST.match(own, at).end()  # type: ignore[union-attr]
+            found = OPENING.match(own, end)
+            if found and name_before(own, end) in names:
                 yield found.end() - 1
+            at = own.find(stem, end)
+
+
+def stems_of(names: Iterable[str]) -> List[str]:
+    """Returns the shortest of these names, so that each has one of them in it."""
+    stems: List[str] = []
+    for name in sorted(names, key=len):
+        if not any(it in name for it in stems):
+            stems.append(name)
+    return stems
+
+
+def name_before(text: str, end: int) -> str:
+    """Returns the name that ends there."""
+    start = end
+    while start and (text[start - 1].isalnum() or text[start - 1] in "_$" or text[start - 1] >= "\x80"):
+        start -= 1
+    return text[start:end]
 
 
 def declared_names(text: str, spans: Sequence[Span]) -> Set[str]:
@@ -78,9 +98,9 @@ def declared_names(text: str, spans: Sequence[Span]) -> Set[str]:
         if "..." not in text[start:end]:
             note(text[start:end], BEFORE.findall(text, start, end), names, types)
     for start, end in spans:
-        own = text[start:end]
-        if any(it in own for it in DEDUCED):
-            names.update(name for found in DEDUCING.finditer(own) for name in NAME.findall(found[1]))
+        for pattern in DEDUCING:
+            for found in pattern.finditer(text, start, end):
+                names.update(NAME.findall(DECLARED.match(text, after_parentheses(text, found.end()))[0]))
     add_of_types(text, names, types)
     return names - KEYWORDS
 
@@ -120,6 +140,16 @@ def declarators(text: str, end: int) -> Tuple[int, List[str]]:
                 return start, names if is_after else names[-1:]
         start, at = beginning(text, max(start - 1, 0)), start
     return start, BEFORE.findall(text, start, end)
+
+
+def after_parentheses(text: str, at: int) -> int:
+    """Returns where what is in parentheses ends that begins there, after space, or this place."""
+    opening, depth = OPENING.match(text, at), 0
+    for found in PARENTHESIS.finditer(text, at) if opening else ():
+        depth += 1 if found[0] == "(" else -1
+        if depth == 0:
+            return found.end()
+    return at
 
 
 def is_in(spans: Sequence[Span], at: int) -> bool:

@@ -19,7 +19,7 @@ SPACE = r"(?:\s|(?<=\n)# \d+ [^\n]*)*"
 # The same, which stays.
 GAP = f"({SPACE})"
 # A line marker, and its flags: 3 is that of a system header.
-MARKER = re.compile(r'\n# \d+ ("(?:[^"\\\n]|\\.)*")([ \d]*)(?![^\n])')
+MARKER = re.compile(r'\n# \d+ ("[^"\\\n]*(?:\\.[^"\\\n]*)*")([ \d]*)(?![^\n])')
 # The flags of a marker where a system header begins.
 ENTERED = " 1 3"
 # A typedef of a name, which may be an array.

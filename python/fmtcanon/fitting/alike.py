@@ -23,6 +23,11 @@ INTEGERS = (Type.INT, Type.UINT, Type.LONG_LONG, Type.ULONG_LONG)
 TYPES = (*INTEGERS, Type.LONG, Type.ULONG, Type.DOUBLE, Type.LONG_DOUBLE, Type.STRING, Type.POINTER_TO_VOID)
 # What may choose one of several types.
 CHOOSING = ("_Generic", "__builtin_choose_expr", "__builtin_types_compatible_p", "__builtin_classify_type")
+# An array and the address of its first element have different types everywhere.
+IS_ARRAY = re.compile(
+    r"__builtin_types_compatible_p\s*\(\s*(?:__)?typeof(?:__)?\s*\((?P<array>[^()]*)\)\s*,"
+    r"\s*(?:__)?typeof(?:__)?\s*\(\s*&\s*\((?P=array)\)\s*\[0\]\s*\)\s*\)"
+)
 # Structs of the C library whose members are all `long` where they have other types elsewhere.
 OF_LONG = {"stat64", "r_debug", "link_map", "dl_phdr_info", "imaxdiv_t", "sigcontext", "timex", "_IO_FILE"}
 OF_LONG |= {"_G_fpos_t", "timeval", "dirent"}
@@ -43,7 +48,8 @@ OF_TEMPLATES = re.compile(
     r"\b(?:conditional|enable_if|is_same|common_type|numeric_limits|decltype|requires|concept|constexpr\s*\()"
     r"|template\s*<\s*>"
 )
-LITERAL = re.compile(r"""L?(?:"(?:[^"\\\n]|\\.)*"|'(?:[^'\\\n]|\\.)*')""")
+# A literal, without what is before its quotes.
+LITERAL = re.compile(r"""\"[^"\\\n]*(?:\\.[^"\\\n]*)*\"|'[^'\\\n]*(?:\\.[^'\\\n]*)*'""")
 WIDE, PLAIN = "fmtcanon_wide_literal", '""'
 
 
@@ -87,9 +93,12 @@ def calls_on_all(unit: FormatCalls, text: str) -> Optional[List[Dict[Key, Call]]
 
 
 def own_text(text: str) -> str:
-    """Returns a text without what is of system headers, without markers, and without literals: a name for each wide one."""
+    """Returns a text without what is of system headers, without markers, and without literals: a name for each wide one;
+    and without what asks whether an expression is an array.
+    """
     own = LINE_MARKER.sub("", "".join(text[start:end] for start, end in own_spans(text)))
-    return LITERAL.sub(lambda it: WIDE if it[0].startswith("L") else PLAIN, own)
+    own = LITERAL.sub(lambda it: f" {WIDE} " if own[it.start() - 1 : it.start()] == "L" else PLAIN, own)
+    return IS_ARRAY.sub(PLAIN, own)
 
 
 def call_on_all(call: Call) -> Optional[Sequence[Call]]:
