@@ -58,7 +58,9 @@ def differing(kind: str) -> Iterator[str]:
     there = getattr(COMPILED, kind)
     for name in {name for it in PLATFORMS for name in getattr(it, kind)}:
         values = {getattr(it, kind).get(name, there.get(name)) for it in PLATFORMS}
-        if name not in there or (len(values) > 1 and not LONG.search(there[name])):
+        # A suffix makes a constant `long`.
+        is_long = name.endswith("_C") or (name in there and LONG.search(there[name]))
+        if name not in there or (len(values) > 1 and not is_long):
             yield name
 
 
