@@ -6,7 +6,7 @@ The text is the one that the file's own compiler made, so no macro, branch or fl
 import ctypes
 import os
 import re
-from typing import Any, Callable, Dict, List, NamedTuple, Optional, Sequence, Tuple
+from typing import Any, Callable, Dict, List, Optional, Sequence, Tuple
 
 from ..source.attributes import printf_indexes
 from ..source.known import Known, Shape
@@ -82,6 +82,7 @@ class Parsed:
             )
         except (cindex.LibclangError, cindex.TranslationUnitLoadError) as error:
             raise Left(f"libclang: {error}") from error
+        self.file = self.unit.get_file("/unit")
 
     def errors(self) -> List[str]:
         """Returns what libclang can't parse outside of the compiler's own headers."""
@@ -156,8 +157,16 @@ class Parsed:
             return f"{name} isn't at file scope"
         return None if has_prototype(first, known) else f"{name} has another prototype"
 
-    def visit(self, function: Callable[[Any], int]) -> None:
-        """Calls a function for each cursor, which returns whether to go on inside of it.
+    def cursor_at(self, offset: int) -> Any:
+        """Returns the innermost cursor at an offset of the text."""
+        library = cindex.conf.lib
+        location = library.clang_getLocationForOffset(self.unit, self.file, offset)
+        cursor = library.clang_getCursor(self.unit, location)
+        cursor._tu = self.unit
+        return cursor
+
+    def visit(self, function: Callable[[Any], int], top: Any = None) -> None:
+        """Calls a function for each cursor, or each in one, which returns whether to go on inside of it.
 
         ctypes would only print an exception of the function, and go on: the first is kept, and raised at the end.
         """
@@ -172,7 +181,7 @@ class Parsed:
                 return 0
 
         library = cindex.conf.lib
-        library.clang_visitChildren(self.unit.cursor, library.clang_visitChildren.argtypes[1](called), None)
+        library.clang_visitChildren(top or self.unit.cursor, library.clang_visitChildren.argtypes[1](called), None)
         if failures:
             raise failures[0]
 

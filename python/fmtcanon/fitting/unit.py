@@ -15,7 +15,7 @@ from ..compiling.stand_ins import Original, original
 from ..compiling.targets import model_in
 from ..models import Model
 from ..source.known import Shape
-from .alike import is_alike
+from .alike import calls_on_all
 
 
 class Settings(NamedTuple):
@@ -44,12 +44,13 @@ class Unit:
         self.read: Optional[Dependencies] = None
         text = self.first_text()
         first = self.parsed(text, COMPILED)
-        is_one = not settings.types and is_alike(first, text)
-        parsed = [first if is_one or it is COMPILED else self.parsed(text, it) for it in PLATFORMS]
-        errors = parsed[0].errors()
+        known = None if settings.types else calls_on_all(first, text)
+        self.calls: List[Dict[Key, Call]] = known or [
+            first.found if it is COMPILED else self.parsed(text, it).found for it in PLATFORMS
+        ]
+        errors = first.errors()
         self.why_left: Optional[str] = errors[0] if errors else None
-        self.calls: List[Dict[Key, Call]] = [it.found for it in parsed]
-        self.unread, self.others = parsed[0].unread, parsed[0].others
+        self.unread, self.others = first.unread, first.others
         self.defined: Optional[bytes] = None
 
     def first_text(self) -> str:
