@@ -77,11 +77,14 @@ class Parsed:
             if it.startswith(("-std=", "-m32", "-mx32", "-funsigned-char"))
         ]
         try:
-            self.unit = cindex.Index.create().parse(
-                "/unit", args=[language, *FLAGS, *kept, *SHIMS, *words], unsaved_files=[("/unit", self.text.decode())]
-            )
+            self.unit = self.translated([language, *FLAGS, *kept, *SHIMS, *words])
         except (cindex.LibclangError, cindex.TranslationUnitLoadError) as error:
             raise Left(f"libclang: {error}") from error
+
+    def translated(self, words: Sequence[str]) -> Any:
+        """Returns what libclang makes of the text with the words of a command."""
+        files = [("/unit", self.text.decode())]
+        return cindex.Index.create().parse("/unit", args=words, unsaved_files=files)
 
     def errors(self) -> List[str]:
         """Returns what libclang can't parse outside of the compiler's own headers."""
@@ -157,7 +160,11 @@ class Parsed:
         return None if has_prototype(first, known) else f"{name} has another prototype"
 
     def visit(self, function: Callable[[Any], int]) -> None:
-        """Calls a function for each cursor, which returns whether to go on inside of it.
+        """Calls a function for each cursor, which returns whether to go on inside of it."""
+        self.visit_in(self.unit.cursor, function)
+
+    def visit_in(self, top: Any, function: Callable[[Any], int]) -> None:
+        """Calls a function for each cursor inside of another.
 
         ctypes would only print an exception of the function, and go on: the first is kept, and raised at the end.
         """
@@ -172,7 +179,7 @@ class Parsed:
                 return 0
 
         library = cindex.conf.lib
-        library.clang_visitChildren(self.unit.cursor, library.clang_visitChildren.argtypes[1](called), None)
+        library.clang_visitChildren(top, library.clang_visitChildren.argtypes[1](called), None)
         if failures:
             raise failures[0]
 

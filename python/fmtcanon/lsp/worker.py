@@ -5,6 +5,7 @@ import shutil
 import tempfile
 from typing import Iterator, Mapping, NamedTuple, Optional, Sequence, Tuple
 
+from ..compiling.kept import KeptUnits
 from ..compiling.left import Left
 from ..compiling.retargeting import write_headers
 from ..compiling.sources import Name
@@ -42,6 +43,7 @@ class CompileWorker:
         self.folder, self.root = folder, root
         self.databases = Databases()
         self.words: Sequence[str] = ()
+        self.kept = KeptUnits(folder)
 
     def start(self) -> None:
         """Takes note that this is a process of its own: nothing that it prints gets to the editor."""
@@ -65,7 +67,7 @@ class CompileWorker:
             files = self.databases.files(given.path, given.database, given.flags)
         except (Left, OSError) as why:
             return CompiledAnswer(given.uri, (), str(why))
-        settings = Settings(self.words, given.functions, {})
+        settings = Settings(self.words, given.functions, {}, kept=self.kept)
         question = Question(given.models, given.added, settings)
         found = answer(job_of(files, Name(given.path, given.path), question, data))
         findings = [it.finding for it in found.found.values()]
