@@ -5,12 +5,13 @@ after as many bytes and lines of space: so an offset and a line are the same as 
 """
 
 import collections
+import functools
 import hashlib
 import os
 import re
 import tempfile
 import threading
-from typing import Any, Callable, Counter, Deque, Dict, Iterator, NamedTuple, Optional, Sequence, Tuple
+from typing import Any, Callable, Counter, Deque, Dict, Iterator, List, Mapping, NamedTuple, Optional, Sequence, Tuple
 
 from .. import encode_literal
 from ..source.tokens import CHARACTER, RAW, STRING
@@ -18,9 +19,10 @@ from .calls import Call, FormatCalls, Key
 from .compile_commands import CompileCommand
 from .functions import Functions
 from .libclang import cindex
-from .parsing import FUNCTION_DECL, TYPEDEF_DECL, VISIT_NEXT
-from .platforms import Platform
-from .retargeting import MARKER
+from .markers import Marker
+from .parsing import FUNCTION_DECL, TYPEDEF_DECL, VISIT_NEXT, without_gnu_printf
+from .platforms import PLATFORMS, Platform
+from .retargeting import MARKER, front_of, retargeted_part, traits_of
 
 # How many sources are kept, each with a unit for each platform.
 MOST = 4
@@ -28,7 +30,6 @@ MOST = 4
 PREAMBLE = 0x04 | 0x100
 # The end of a line marker: its flags.
 FLAGS = re.compile(rb'\A# \d+ "(?:[^"\\\n]|\\.)*"([ \d]*)')
-MARKERS = re.compile(MARKER.pattern.encode())
 LINES = re.compile(rb"\n(?:\s*(?:# \d+ [^\n]*)?\n)+")
 LINE_NUMBER = re.compile(rb"\n# (\d+) ")
 MARK = re.compile(
@@ -43,6 +44,13 @@ DEDUCED = re.compile(rb"(?<![\w$])(?:auto|constexpr|consteval|decltype)(?![\w$])
 TEXTS = 3
 
 
+class KeptText(NamedTuple):
+    """The text of a unit: what comes before its own text, and that."""
+
+    head: bytes
+    rest: bytes
+
+
 class KeptUnit:
     """A translation unit that is parsed again for each text."""
 
@@ -55,6 +63,9 @@ class KeptUnit:
                 pass
         self.words: Sequence[str] = ()
         self.unit: Any = None
+        # The text before the own one, as it was given and as it is on the platform.
+        self.given: Any = None
+        self.head = ""
         # The calls in declarations by what has an effect on them and by their text, of the last texts.
         self.known: Deque[Dict[Tuple[bytes, bytes], CallsInside]] = collections.deque(maxlen=TEXTS)
 
@@ -86,16 +97,17 @@ class KeptUnit:
         return include + b" " * space + b"\n" * lines + rest
 
 
-def cut_of(text: bytes, name: bytes) -> int:
+@functools.lru_cache(maxsize=2)
+def cut_of(text: str, name: str) -> int:
     """Returns where the text of a unit goes on after the last `#include` at the beginning of its file, which has this name
     in line markers: no call is before.
     """
     found, done, is_own = 0, 0, False
-    for marker in MARKERS.finditer(text):
-        if is_own and b"(" in text[done : marker.start()]:
+    for marker in MARKER.finditer(text):
+        if is_own and "(" in text[done : marker.start()]:
             break
         is_own = marker["file"] == name
-        if is_own and b"2" in marker["flags"]:
+        if is_own and "2" in marker["flags"]:
             found = marker.start()
         done = marker.end()
     return found
@@ -147,14 +159,12 @@ class KeptCalls(FormatCalls):
     """
 
     def __init__(
-        self, command: CompileCommand, text: bytes, platform: Platform, functions: Functions, kept: KeptUnit
+        self, command: CompileCommand, text: KeptText, platform: Platform, functions: Functions, kept: KeptUnit
     ) -> None:
-        self.kept, self.cut, self.given = kept, 0, functions
-        super().__init__(command, text, platform, functions)
+        self.kept, self.cut, self.given = kept, len(text.head), functions
+        super().__init__(command, text.head + text.rest, platform, functions)
 
     def translated(self, words: Sequence[str]) -> Any:
-        used, at = self.command.used()
-        self.cut = cut_of(self.text, encode_literal(os.fsencode(used[at])))
         return self.kept.parse(words, self.text, self.cut)
 
     def visit(self, function: Callable[[Any], int]) -> None:
@@ -252,22 +262,65 @@ def moved(call: Call, lines: int) -> Call:
     return call._replace(line=call.line + lines, last=call.last + lines)
 
 
+class KeptSource:
+    """The units of a source on each platform, and the numbers of the markers in it."""
+
+    def __init__(self, folder: str) -> None:
+        self.units = {it.name: KeptUnit(folder) for it in PLATFORMS}
+        self.marker = KeptMarker()
+
+
+class KeptMarker(Marker):
+    """A marker that gives each place the number that it had before, so that a declaration with them is as it was."""
+
+    def __init__(self) -> None:
+        super().__init__()
+        self.known: List[Tuple[bytes, int]] = []
+        self.next = 0
+
+    def numbered(self, sources: Sequence[bytes]) -> List[int]:
+        size = min(len(sources), len(self.known))
+        same = [old == new for (old, _), new in zip(self.known, sources)]
+        front = same.index(False) if False in same else size
+        back = 0
+        while back < size - front and self.known[-1 - back][0] == sources[-1 - back]:
+            back += 1
+        count = len(sources) - front - back
+        middle = range(self.next, self.next + count)
+        self.next += count
+        before = [it for _, it in self.known]
+        numbers = [*before[:front], *middle, *before[len(before) - back :]]
+        self.known = list(zip(sources, numbers))
+        return numbers
+
+
 class KeptUnits:
-    """The units of the sources that were parsed last, in a folder."""
+    """The sources that were parsed last, by their commands. What libclang keeps is in a folder."""
 
     def __init__(self, folder: str) -> None:
         self.folder = folder
-        self.known: Dict[Tuple[str, ...], Dict[str, KeptUnit]] = {}
+        self.known: Dict[Tuple[str, ...], KeptSource] = {}
         self.lock = threading.Lock()
 
-    def calls(self, command: CompileCommand, text: bytes, platform: Platform, functions: Functions) -> FormatCalls:
-        """Returns the calls of a unit on a platform."""
+    def source(self, command: CompileCommand) -> KeptSource:
+        """Returns what is kept of a source."""
         with self.lock:
             key = (command.folder, command.file, *command.words)
-            units = self.known[key] = self.known.pop(key, {})
+            found = self.known[key] = self.known.pop(key, None) or KeptSource(self.folder)
             while len(self.known) > MOST:
                 del self.known[next(iter(self.known))]
-            if platform.name not in units:
-                units[platform.name] = KeptUnit(self.folder)
-            kept = units[platform.name]
-        return KeptCalls(command, text, platform, functions, kept)
+            return found
+
+    def calls(
+        self, command: CompileCommand, text: str, platform: Platform, own: Mapping[str, str], functions: Functions
+    ) -> FormatCalls:
+        """Returns the calls in the text of a unit, as it is on a platform."""
+        used, at = command.used()
+        cut, kept = cut_of(text, encode_literal(os.fsencode(used[at])).decode()), self.source(command).units[platform.name]
+        given = text[:cut], traits_of(text), own
+        if kept.given != given:
+            kept.given, kept.head = given, retargeted_part(text[:cut], platform, own, given[1])
+        rest = retargeted_part(text[cut:], platform, own, given[1])
+        front = front_of(kept.head + rest, platform)
+        parts = [without_gnu_printf(it.encode()) for it in (front + kept.head, rest)]
+        return KeptCalls(command, KeptText(*parts), platform, functions, kept)

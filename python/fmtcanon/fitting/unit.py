@@ -10,6 +10,7 @@ from ..compiling.dependencies import Dependencies
 from ..compiling.functions import Functions
 from ..compiling.kept import KeptUnits
 from ..compiling.left import Left
+from ..compiling.markers import Marker
 from ..compiling.parsing import as_utf8
 from ..compiling.platforms import COMPILED, PLATFORMS, Platform
 from ..compiling.retargeting import retargeted
@@ -89,10 +90,13 @@ class Unit:
     def parsed(self, text: str, platform: Platform) -> FormatCalls:
         own = {name: platform.types.get(type, type) for name, type in self.settings.types.items()}
         functions = Functions(self.settings.functions)
-        source, kept = retargeted(text, platform, own).encode(), self.settings.kept
-        if kept is not None:
-            return kept.calls(self.command, source, platform, functions)
-        return FormatCalls(self.command, source, platform, functions)
+        if self.settings.kept is not None:
+            return self.settings.kept.calls(self.command, text, platform, own, functions)
+        return FormatCalls(self.command, retargeted(text, platform, own).encode(), platform, functions)
+
+    def marker(self) -> Marker:
+        """Returns what marks places of the file."""
+        return self.settings.kept.source(self.command).marker if self.settings.kept is not None else Marker()
 
     def marked(self, text: str) -> Dict[Key, Call]:
         """Returns the calls in the text of another source of the file, as it is compiled."""
