@@ -22,12 +22,12 @@ from .libclang import cindex
 from .markers import Marker
 from .parsing import FUNCTION_DECL, TYPEDEF_DECL, VISIT_NEXT, without_gnu_printf
 from .platforms import PLATFORMS, Platform
-from .retargeting import MARKER, front_of, retargeted_part, traits_of
+from .retargeting import MARKER, TYPE_MARK, declarations, retargeted_part, traits_of
 
 # How many sources are kept, each with a unit for each platform.
 MOST = 4
-# A precompiled preamble, also for a unit that is parsed for the first time.
-PREAMBLE = 0x04 | 0x100
+# A precompiled preamble, also for a unit that is parsed for the first time, without the bodies of its functions.
+PREAMBLE = 0x04 | 0x100 | 0x40 | 0x800
 # The end of a line marker: its flags.
 FLAGS = re.compile(rb'\A# \d+ "(?:[^"\\\n]|\\.)*"([ \d]*)')
 LINES = re.compile(rb"\n(?:\s*(?:# \d+ [^\n]*)?\n)+")
@@ -65,7 +65,7 @@ class KeptUnit:
         self.unit: Any = None
         # The text before the own one, as it was given and as it is on the platform.
         self.given: Any = None
-        self.head = ""
+        self.head = b""
         # The calls in declarations by what has an effect on them and by their text, of the last texts.
         self.known: Deque[Dict[Tuple[bytes, bytes], CallsInside]] = collections.deque(maxlen=TEXTS)
 
@@ -319,8 +319,9 @@ class KeptUnits:
         cut, kept = cut_of(text, encode_literal(os.fsencode(used[at])).decode()), self.source(command).units[platform.name]
         given = text[:cut], traits_of(text), own
         if kept.given != given:
-            kept.given, kept.head = given, retargeted_part(text[:cut], platform, own, given[1])
-        rest = retargeted_part(text[cut:], platform, own, given[1])
-        front = front_of(kept.head + rest, platform)
-        parts = [without_gnu_printf(it.encode()) for it in (front + kept.head, rest)]
-        return KeptCalls(command, KeptText(*parts), platform, functions, kept)
+            kept.given = given
+            kept.head = without_gnu_printf(retargeted_part(text[:cut], platform, own, given[1]).encode())
+        rest = without_gnu_printf(retargeted_part(text[cut:], platform, own, given[1]).encode())
+        is_named = any(TYPE_MARK.encode() in it for it in (kept.head, rest))
+        front = declarations(platform).encode() if is_named else b""
+        return KeptCalls(command, KeptText(front + kept.head, rest), platform, functions, kept)

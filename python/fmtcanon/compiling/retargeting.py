@@ -177,12 +177,7 @@ def retargeted(text: str, platform: Platform, own: Mapping[str, str]) -> str:
     only.
     """
     text = retargeted_part(text, platform, own, traits_of(text))
-    return front_of(text, platform) + text
-
-
-def front_of(text: str, platform: Platform) -> str:
-    """Returns the line of declarations that a changed text needs, or nothing."""
-    return declarations(platform) if TYPE_MARK in text else ""
+    return declarations(platform) + text if TYPE_MARK in text else text
 
 
 def retargeted_part(text: str, platform: Platform, own: Mapping[str, str], traits: TextTraits) -> str:
