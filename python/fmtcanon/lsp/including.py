@@ -9,7 +9,9 @@ from .diagnosing import TextEdit
 # What may have the text of a directive in it, and the lines of directives.
 LINE = re.compile(
     rb"|".join([RAW, STRING, CHARACTER, COMMENT])
-    + rb"|^[ \t]*#[ \t]*(?P<word>\w+)[ \t]*(?P<name><[^>\n]*>)?(?:[^\\\n/]|\\[\s\S]|/(?![/*]))*(?:\n|\Z)",
+    + rb"|^[ \t]*#[ \t]*(?P<word>\w+)[ \t]*(?P<name><[^>\n]*>)?(?:[^\\\n/]|\\[\s\S]|/(?![/*])|"
+    + COMMENT
+    + rb")*(?:\n|\Z)",
     re.MULTILINE,
 )
 
