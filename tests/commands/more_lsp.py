@@ -333,7 +333,7 @@ def test_hostile(folder, work, python, trials):
 
 
 def test_beside_clangd(folder, work, python, tools, trials):
-    """Beside clangd, what clang says isn't said, and all else is."""
+    """Next to clangd, what clang says isn't said again, and all the rest is."""
     tools.need("clang", "clang")
     file = work / "a.c"
     text = CASES.replace("(int)n, i", "n, i").replace('"%lx"', '"%y %m"')

@@ -66,7 +66,7 @@ LIMITS = {
     "docs/TRANSLATIONS.md": 1100,
     "docs/EXPLAINING.md": 460,
     # With settings of editors.
-    "docs/EDITORS.md": 560,
+    "docs/EDITORS.md": 720,
     # With the figures of real sources and of compilers, and what is for every day.
     "docs/PORTING.md": 1900,
     "docs/REFACTORING.md": 1450,
@@ -81,13 +81,13 @@ LIMITS = {
     "docs/DEFINITIONS.md": 4750,
     "docs/PERFORMANCE.md": 980,
     # With a walk through one call, tables of files by what they do, and words of the sources.
-    "docs/internals/ARCHITECTURE.md": 3340,
+    "docs/internals/ARCHITECTURE.md": 3370,
     "docs/internals/DECISIONS.md": 2250,
     # With an index by what rt prints.
     "docs/internals/PROOF_NOTES.md": 4000,
     # With what rt prints for an open goal, and what is inlined.
     "docs/CONTRIBUTING.md": 1350,
-    "SECURITY.md": 150,
+    "SECURITY.md": 162,
     "CHANGELOG.md": 1525,
     CALLING: 9300,
 }

@@ -1,4 +1,4 @@
-"""The process that compiles, beside the server: it may hang or crash, and then the next text gets another."""
+"""The process that compiles for the server: it may hang or crash, and then the next text gets another."""
 
 import os
 import shutil

@@ -38,7 +38,7 @@ def check_program(command: CompileCommand) -> None:
     folders = [it for it in os.environ.get("PATH", os.defpath).split(os.pathsep) if os.path.isabs(it)]
     is_there = shutil.which(name, path=os.pathsep.join(folders)) if not folder else folder in folders
     if not (COMPILER.fullmatch(name) and is_there):
-        raise Left(f"{program} in a {FILE} is no compiler of PATH: name the folder of that file in the option database")
+        raise Left(f"{program} in a {FILE} isn't a compiler of PATH: name the folder of that file in the option database")
 
 
 class Databases:
