@@ -45,6 +45,8 @@ TEXTS = [
     (f'{FRONT}typedef int wchar_t;\n# 2 "a.c" 2\nwchar_t x;\n', False),
     # A macro of another header in a system header, whose markers lack the flag.
     (f'{FRONT}typedef\n# 2 "/usr/include/stddef.h"\nfmtcanon_type_wchar_t\n# 2 "a.c" 2\nint x;\n', True),
+    # A macro of a system header in the file itself, whose marker has the flag.
+    (f'{FRONT}# 2 "a.c" 2\nvoid *p =\n# 2 "a.c" 3 4\n0\n# 2 "a.c"\n; wchar_t x;\n', False),
     ('# 1 "a.c"\nint x = (fmtcanon_WCHAR_MAX + 2147483647);\n', False),
     ('# 1 "a.c"\nlong x = (fmtcanon_LONG_MIN + -9223372036854775807L - 1);\n', True),
     ('# 1 "a.c"\nint x = L\'x\';\n', False),
@@ -88,8 +90,8 @@ class Alike(unittest.TestCase):
 
     def test_own_text(self):
         text = '# 1 "a.c"\nint a;\n# 1 "/x.h" 1 3\nint b;\n# 3 "/x.h"\nint c;\n'
-        text += '# 2 "in.h" 1\nint d;\n# 2 "a.c" 2\nint e;\n'
-        self.assertEqual(own_text(text).split(), ["int", "a;", "int", "d;", "int", "e;"])
+        text += '# 2 "in.h" 1\nint d;\n# 2 "a.c" 2\nint e\n# 2 "a.c" 3 4\n= 0\n# 2 "a.c"\n;\n'
+        self.assertEqual(own_text(text).split(), ["int", "a;", "int", "d;", "int", "e", "=", "0", ";"])
 
 
 if __name__ == "__main__":

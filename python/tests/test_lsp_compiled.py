@@ -8,7 +8,7 @@ import unittest
 from pathlib import Path
 
 from fmtcanon.compiling.compile_commands import CompileCommand
-from fmtcanon.compiling.kept import KeptMarker, cut_of, probe_in
+from fmtcanon.compiling.kept import cut_of
 from fmtcanon.compiling.left import Left
 from fmtcanon.frame.findings import ERROR, Finding
 from fmtcanon.lsp.compiled import (
@@ -307,7 +307,7 @@ class Commands(unittest.TestCase):
 
 
 class Keeping(unittest.TestCase):
-    """The text of a unit is cut and searched without a compiler."""
+    """The text of a unit is cut without a compiler."""
 
     def test_cut(self):
         """The own text begins after the last header, unless it has a bracket before that."""
@@ -320,41 +320,6 @@ class Keeping(unittest.TestCase):
         ]
         for before, own in rows:
             self.assertEqual(cut_of(before + own, '"a.c"'), len(before))
-
-    def test_probes(self):
-        """Each declaration that may have a call is found by its brace or `=`: not in brackets, literals, and line markers."""
-        rows = [
-            (b"int f(int a[3], char c) {", b"{"),
-            (b"int f(void); struct s *g(int (*h)(void)) {", b"{"),
-            (b"int x = 3;", b"="),
-            (b'# 3 "a{b"\nint f(char *s) {', b"{"),
-            (b"char c['{']; int x = 4;", b"="),
-            (b'namespace a { extern "C" { void f() {', b"{"),
-            (b"int f(int x) __attribute__((section(\"{\"))); int y;", None),
-        ]
-        for text, wanted in rows:
-            found = probe_in(text, 0)
-            self.assertEqual(found, None if wanted is None else text.rindex(wanted), text)
-
-    def test_numbers(self):
-        """A marker has the number that it had, if what is before or after it is as it was."""
-        marker = KeptMarker()
-        first = marker.numbered([b"a", b"b", b"c"])
-        self.assertEqual(len(set(first)), 3)
-        second = marker.numbered([b"a", b"x", b"b", b"c"])
-        self.assertEqual([second[0], *second[2:]], first)
-        self.assertNotIn(second[1], first)
-        third = marker.numbered([b"a", b"b"])
-        self.assertEqual(third[0], first[0])
-        self.assertEqual(len(set(third)), 2)
-        self.assertEqual(marker.numbered([]), [])
-        chosen, known = random.Random(2), {}
-        for _ in range(500):
-            sources = [bytes([chosen.choice(b"abc")]) for _ in range(chosen.randrange(6))]
-            numbers = marker.numbered(sources)
-            self.assertEqual(len(set(numbers)), len(sources))
-            for source, number in zip(sources, numbers):
-                self.assertEqual(known.setdefault(number, source), source)
 
 
 if __name__ == "__main__":

@@ -39,6 +39,8 @@ BODIES = [
     '__auto_type n = sizeof(int); printf("%lu", n);',
     '__typeof__(sizeof 1) n = 1; printf("%lu", n);',
     'wchar_t c = 1; printf("%d %lc %ls", c, c, &c);',
+    'wchar_t c = 1; if (NULL) printf("%d", c);',
+    'printf("%d %s", _Generic(sizeof 1, unsigned long: 1, default: 1ll), (char *)NULL);',
     'printf("%d %ld", L\'x\', L\'y\');',
     'printf("%u %d", WEOF, WCHAR_MAX);',
     'printf("%ld %jd", imaxdiv(1, 2).quot, imaxdiv(1, 2).rem);',

@@ -8,13 +8,16 @@ from typing import Any, Counter, Dict, NamedTuple, Optional, Sequence, Tuple
 from ..kinds import Type
 from ..models import Model
 from ..source.known import Shape
+from .call_sites import call_sites
 from .compile_commands import CompileCommand
+from .declared_types import is_declared_long, typedef_of
 from .formats import AROUND, Format, Formats
-from .functions import Callee, Callees, Functions, is_system
+from .functions import Callee, Callees, Functions
 from .libclang import cindex
-from .parsing import CALL_EXPR, FUNCTION_DECL, TYPEDEF_DECL, TYPES, UNREADABLE, VISIT_INSIDE, VISIT_NEXT, Parsed
+from .overloads import Overloads
+from .parsing import CALL_EXPR, FUNCTION_DECL, TYPES, UNREADABLE, VISIT_INSIDE, VISIT_NEXT, Parsed
 from .platforms import Platform
-from .retargeting import TYPE_MARK
+from .retargeting import TYPE_MARK, own_spans
 
 # Types that gcc has, and no directive takes: each is another than what it is in memory. Where there is no `__int128`, no
 # compiler reads what names it.
@@ -29,17 +32,17 @@ INTEGERS = {
     "LONGLONG": Type.LONG_LONG,
     "ULONGLONG": Type.ULONG_LONG,
 }
-# The types that may be a typedef's, and the expressions whose types the source declares.
+# The types that may be a typedef's.
 LONGS = ("LONG", "ULONG")
-DECLARED = ("DECL_REF_EXPR", "MEMBER_REF_EXPR", "CSTYLE_CAST_EXPR")
 # Those whose values are never negative. A bit-field of the last may be promoted to int.
 UNSIGNED = ("BOOL", "CHAR_U", "UCHAR", "USHORT", "UINT")
 
 
 class Argument(NamedTuple):
     """An argument of a call: its type after promotion, if that is an integer, the same in C, its type as the source
-    names it, whether it is an int that can't be negative: a literal, or of an unsigned type before promotion; and
-    whether the source declares it as `long`, which it is on every platform then.
+    names it, whether it is an int that can't be negative: a literal, or of an unsigned type before promotion; whether the
+    source declares it as `long`, which it is on every platform then; and the typedef of the C library that the source
+    declares it with, if that is `long` where it is compiled.
     """
 
     type: Optional[Type]
@@ -47,6 +50,7 @@ class Argument(NamedTuple):
     name: str
     is_unsigned: bool = False
     is_long: bool = False
+    typedef: str = ""
 
 
 class Call(NamedTuple):
@@ -82,16 +86,11 @@ class Calls(Parsed):
             self.note_call(cursor)
         elif kind == FUNCTION_DECL:
             return self.note_function(cursor)
-        elif kind == TYPEDEF_DECL:
-            self.note_typedef(cursor)
         return VISIT_NEXT if kind in self.without_calls else VISIT_INSIDE
 
     def note_function(self, cursor: Any) -> int:
         """Notes a declaration of a function. Returns whether what is inside is visited, too."""
         return VISIT_INSIDE
-
-    def note_typedef(self, cursor: Any) -> None:
-        """Notes a typedef."""
 
     def note_call(self, cursor: Any) -> None:
         raise NotImplementedError
@@ -99,6 +98,9 @@ class Calls(Parsed):
 
 class FormatCalls(Calls):
     """The calls with formats in the text of a unit on a platform, by their keys."""
+
+    # Where what is looked at begins in the text.
+    first = 0
 
     def __init__(self, command: CompileCommand, text: bytes, platform: Platform, functions: Functions) -> None:
         words = WITHOUT_INT128 if platform.model is Model.ILP32 else []
@@ -110,15 +112,21 @@ class FormatCalls(Calls):
         # How many calls have a format that isn't read; and of functions that aren't known, by the options for these.
         self.unread = 0
         self.others: Counter[str] = collections.Counter()
-        self.visit(self.note)
+        # Whether all calls are the same elsewhere, if their arguments have the types there that are declared.
+        self.is_settled = True
+        self.overloads = Overloads(self) if command.is_cxx() else None
+        self.note_calls(functions)
 
-    def note_function(self, cursor: Any) -> int:
-        library = cindex.conf.lib
-        is_passed = self.without_calls and not library.clang_isCursorDefinition(cursor)
-        return VISIT_NEXT if is_passed or library.clang_Location_isInSystemHeader(cursor.location) else VISIT_INSIDE
-
-    def note_typedef(self, cursor: Any) -> None:
-        self.formats.typedefs.append(cursor)
+    def note_calls(self, functions: Functions) -> None:
+        """Notes the calls in the text after the first bytes that have none."""
+        # One character for each byte.
+        plain = self.text.decode("latin-1")
+        spans = [(max(start, self.first), end) for start, end in own_spans(plain) if end > self.first]
+        given = (it.encode().decode("latin-1") for it in functions.given)
+        for at in call_sites(plain, spans, given):
+            cursor = self.cursor_at(at)
+            if cursor._kind_id == CALL_EXPR:
+                self.note_call(cursor)
 
     def note_call(self, cursor: Any) -> None:
         callee = self.callees.callee(cursor)
@@ -135,6 +143,8 @@ class FormatCalls(Calls):
 
     def note_format(self, cursor: Any, name: str, shape: Shape, arguments: Sequence[Any]) -> None:
         """Notes the call of a function that has a format."""
+        if self.overloads and self.is_settled:
+            self.is_settled = self.overloads.is_settled(cursor)
         read = list(self.formats.read(arguments[shape.format]))
         self.unread += None in read
         line = cursor.location.line
@@ -144,7 +154,7 @@ class FormatCalls(Calls):
             *self.place_of(cursor.location),
             name,
             tuple(it for it in read if it),
-            tuple(map(argument_of, arguments[shape.first :])),
+            tuple(argument_of(it, self) for it in arguments[shape.first :]),
             self.line_of(cursor.extent.end),
         )
 
@@ -164,7 +174,7 @@ class FormatCalls(Calls):
         return any("%" in it.source for it in self.formats.read(argument) if it)
 
 
-def argument_of(cursor: Any) -> Argument:
+def argument_of(cursor: Any, unit: Parsed) -> Argument:
     type = cursor.type.get_canonical()
     if type.kind.name == "ENUM":
         type = type.get_declaration().enum_type.get_canonical()
@@ -176,21 +186,8 @@ def argument_of(cursor: Any) -> Argument:
     spelling = f"{type.element_type.spelling} *" if type.kind.name in ARRAYS else type.spelling
     is_natural = inside.kind.name == "INTEGER_LITERAL" or inside.type.get_canonical().kind.name in UNSIGNED
     is_unsigned = type.kind.name == "INT" and is_natural
-    is_long = type.kind.name in LONGS and inside.type.kind == type.kind and is_declared_long(inside)
+    is_any_long = type.kind.name in LONGS
+    is_long = is_any_long and inside.type.kind == type.kind and is_declared_long(inside)
+    typedef = typedef_of(inside, unit) if is_any_long and not is_long else ""
     name = inside.type.spelling.replace(TYPE_MARK, "")
-    return Argument(INTEGERS.get(type.kind.name), spelling, name, is_unsigned, is_long)
-
-
-def is_declared_long(cursor: Any) -> bool:
-    """Returns whether an expression is a cast to `long` by that name, or what the source declares so: not a typedef,
-    whose type may be another elsewhere, nor a member of the C library's or a bit-field. A call of a function that clang
-    knows has its result's type without the name of the typedef.
-    """
-    if cursor.kind.name not in DECLARED:
-        return False
-    if cursor.kind.name == "CSTYLE_CAST_EXPR":
-        return True
-    found = cursor.referenced
-    if found is None or found.kind.name not in ("VAR_DECL", "PARM_DECL", "FIELD_DECL"):
-        return False
-    return found.kind.name != "FIELD_DECL" or not (is_system(found) or found.is_bitfield())
+    return Argument(INTEGERS.get(type.kind.name), spelling, name, is_unsigned, is_long, typedef)

@@ -7,7 +7,7 @@ from typing import Any, Dict, Iterator, List, NamedTuple, Optional, Sequence, Tu
 from ..source.attributes import returned_index
 from ..source.known import GETTEXT
 from .libclang import cindex
-from .parsing import LINE_MARKER, Parsed
+from .parsing import LINE_MARKER, TYPEDEF_DECL, VISIT_INSIDE, Parsed
 from .retargeting import PRI_MARK
 
 # Kinds of what is around an expression without a change of its value.
@@ -47,11 +47,12 @@ Inside = Tuple[Any, int]
 
 
 class Formats:
-    """Reads what may be the formats in the text of a unit, whose typedefs are noted."""
+    """Reads what may be the formats in the text of a unit."""
 
     def __init__(self, unit: Parsed) -> None:
         self.unit = unit
-        self.typedefs: List[Any] = []
+        # The typedefs of the unit, if a format needs them.
+        self.typedefs: Optional[List[Any]] = None
         # Whether a value that was computed chose a format, or where one begins: it may be another elsewhere.
         self.is_computed = False
 
@@ -152,7 +153,7 @@ class Formats:
     def selected(self, cursor: Any, children: Sequence[Any]) -> Sequence[Any]:
         """Returns the expression that `_Generic` selects by the names of types before each; none if that isn't known."""
         wanted, default = type_name_of(children[0].type.get_canonical().spelling), []
-        typedefs: Dict[str, Any] = {it.spelling: it for it in self.typedefs}
+        typedefs = self.typedefs_before(cursor)
         for before, child in zip(children, children[1:]):
             text = self.unit.text[before.extent.end.offset : child.extent.start.offset].decode(errors="replace")
             name = LINE_MARKER.sub("", text).strip().lstrip(",)").strip().rstrip("(").strip()[:-1].strip()
@@ -166,6 +167,19 @@ class Formats:
             if not known and not IS_TYPE.fullmatch(name):
                 return []
         return default
+
+    def typedefs_before(self, cursor: Any) -> Dict[str, Any]:
+        """Returns the typedefs in the text before a cursor, by their names."""
+        if self.typedefs is None:
+            self.typedefs = []
+            self.unit.visit(self.note_typedef)
+        start = cursor.extent.start.offset
+        return {it.spelling: it for it in self.typedefs if it.location.offset < start}
+
+    def note_typedef(self, cursor: Any) -> int:
+        if cursor._kind_id == TYPEDEF_DECL and self.typedefs is not None:
+            self.typedefs.append(cursor)
+        return VISIT_INSIDE
 
     def returned(self, call: Any) -> Sequence[Any]:
         """Returns the arguments that a function returns as they are or translated: by its attributes, or its name."""

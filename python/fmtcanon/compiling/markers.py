@@ -2,7 +2,7 @@
 
 import os
 import re
-from typing import Any, Dict, List, Optional, Sequence, Set
+from typing import Any, Dict, List, Optional, Set
 
 from ..source.known import GETTEXT, KNOWN
 from .calls import Calls
@@ -21,10 +21,6 @@ class Marker:
     def __init__(self) -> None:
         self.tag = os.urandom(8).hex()
         self.pattern = re.compile(f'"fmtcanon_{self.tag}_(\\d+)_"')
-
-    def numbered(self, sources: Sequence[bytes]) -> List[int]:
-        """Returns a number for each place, whose sources these are."""
-        return list(range(len(sources)))
 
     def literal(self, number: int) -> bytes:
         return f'"fmtcanon_{self.tag}_{number}_"'.encode()

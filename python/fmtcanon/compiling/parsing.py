@@ -83,6 +83,7 @@ class Parsed:
             self.unit = self.translated([language, *FLAGS, *kept, *SHIMS, *words])
         except (cindex.LibclangError, cindex.TranslationUnitLoadError) as error:
             raise Left(f"libclang: {error}") from error
+        self.file = self.unit.get_file(self.unit.spelling)
 
     def translated(self, words: Sequence[str]) -> Any:
         """Returns what libclang makes of the text with the words of a command."""
@@ -161,6 +162,14 @@ class Parsed:
         if first.semantic_parent.kind.name in SCOPES:
             return f"{name} isn't at file scope"
         return None if has_prototype(first, known) else f"{name} has another prototype"
+
+    def cursor_at(self, offset: int) -> Any:
+        """Returns the innermost cursor at an offset of the text."""
+        library = cindex.conf.lib
+        location = library.clang_getLocationForOffset(self.unit, self.file, offset)
+        cursor = library.clang_getCursor(self.unit, location)
+        cursor._tu = self.unit
+        return cursor
 
     def visit(self, function: Callable[[Any], int]) -> None:
         """Calls a function for each cursor, which returns whether to go on inside of it."""

@@ -19,7 +19,9 @@ SPACE = r"(?:\s|(?<=\n)# \d+ [^\n]*)*"
 # The same, which stays.
 GAP = f"({SPACE})"
 # A line marker, and its flags: 3 is that of a system header.
-MARKER = re.compile(r'(?m)^# \d+ (?P<file>"(?:[^"\\\n]|\\.)*")(?P<flags>[ \d]*)$')
+MARKER = re.compile(r'\n# \d+ ("[^"\\\n]*(?:\\.[^"\\\n]*)*")([ \d]*)(?![^\n])')
+# The flags of a marker where a system header begins.
+ENTERED = " 1 3"
 # A typedef of a name, which may be an array.
 TYPEDEF = r"typedef(?<!\wtypedef)(?P<words>\s+[A-Za-z_][\w\s]*?[\s*]+)(?P<name>\w+)(?=\s*(?:\[[^;]*\])?;)"
 # A struct with at most one in another, which has a name or which a typedef names; and a member of it.
@@ -102,19 +104,39 @@ def write_headers(folder: str) -> List[str]:
     return [f"-I{folder}", "-imacros", os.path.join(folder, OF_COMPILER)]
 
 
+def markers(text: str) -> List[Tuple[int, int, str, str]]:
+    """Returns where the markers of a text begin and end, their files and their flags."""
+    # A pattern that begins with plain text is found several times faster, so that of a line begins with its end.
+    return [(it.start(), it.end() - 1, *it.groups()) for it in MARKER.finditer("\n" + text)]
+
+
 def chunks(text: str) -> Iterator[Tuple[bool, str]]:
     """Yields the parts of a text that system headers have in turn with those that others have, and which these are."""
-    start, is_system = 0, False
-    for found in MARKER.finditer(text):
-        if ("3" in found["flags"]) != is_system:
-            yield is_system, text[start : found.start()]
-            start, is_system = found.start(), not is_system
-    yield is_system, text[start:]
+    done, is_system = 0, False
+    for start, _, _, flags in markers(text):
+        if ("3" in flags) != is_system:
+            yield is_system, text[done:start]
+            done, is_system = start, not is_system
+    yield is_system, text[done:]
 
+
+def own_spans(text: str) -> List[Tuple[int, int]]:
+    """Returns where the parts of a text begin and end that no system header has, by the markers where these are entered:
+    later ones may lack the flag, and those of the file itself have it where it uses a macro of such a header.
+    """
+    found = markers(text)
+    system = {file for _, _, file, flags in found if flags.startswith(ENTERED)}
+    spans: List[Tuple[int, int]] = []
+    for (start, end, file, _), (next_start, *_) in zip(found, [*found[1:], (len(text),)]):
+        if file not in system:
+            is_next = spans and spans[-1][1] == start
+            spans.append((spans.pop()[0] if is_next else end, next_start))
+    return spans
 
 
 def macro_of(letter: str, end: str) -> str:
     return f"PRI{letter}{end}" if letter else f"__PRI{end}_PREFIX"
+
 
 @functools.lru_cache(maxsize=None)
 def names_pattern(names: Tuple[str, ...]) -> "re.Pattern[str]":

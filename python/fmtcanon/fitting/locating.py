@@ -1,7 +1,7 @@
 """Finds where the directives of a unit are in its source, by a marker that is put before each string literal."""
 
 import re
-from typing import AbstractSet, Dict, List, Mapping, NamedTuple, Optional, Tuple
+from typing import AbstractSet, Dict, List, NamedTuple, Optional, Sequence, Tuple
 
 from .. import BadLiteral, decode_literal, source_offset
 from ..compiling.calls import Key
@@ -73,9 +73,8 @@ def located(unit: Unit) -> Optional[Located]:
     """Returns where the formats of a unit are, or None if its file can't be preprocessed with markers."""
     try:
         file = unit.original()
-        listed = [it for it in runs_in(file.source) if b"%" in it.text]
-        marker = unit.marker()
-        places = dict(zip(marker.numbered([it.source for it in listed]), listed))
+        places = [it for it in runs_in(file.source) if b"%" in it.text]
+        marker = Marker()
         text = unit.text(with_markers(file.source, places, marker))
         calls = unit.marked(text)
     except (Left, OSError):
@@ -91,17 +90,17 @@ def located(unit: Unit) -> Optional[Located]:
     return Located(file, found, compiled)
 
 
-def with_markers(source: bytes, places: Mapping[int, LiteralRun], marker: Marker) -> bytes:
+def with_markers(source: bytes, places: Sequence[LiteralRun], marker: Marker) -> bytes:
     """Returns a source with a marker before each place."""
     parts, done = [], 0
-    for number, place in places.items():
+    for number, place in enumerate(places):
         parts += [source[done : place.start], marker.literal(number), b" "]
         done = place.start
     return b"".join([*parts, source[done:]])
 
 
 def unmarked(
-    format: Format, pattern: "re.Pattern[bytes]", places: Mapping[int, LiteralRun]
+    format: Format, pattern: "re.Pattern[bytes]", places: Sequence[LiteralRun]
 ) -> Optional[Tuple[bytes, List[Piece]]]:
     """Returns the text of a format without its markers, and what comes after them."""
     try:

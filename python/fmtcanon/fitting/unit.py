@@ -10,7 +10,6 @@ from ..compiling.dependencies import Dependencies
 from ..compiling.functions import Functions
 from ..compiling.kept import KeptUnits
 from ..compiling.left import Left
-from ..compiling.markers import Marker
 from ..compiling.parsing import as_utf8
 from ..compiling.platforms import COMPILED, PLATFORMS, Platform
 from ..compiling.retargeting import retargeted
@@ -18,7 +17,7 @@ from ..compiling.stand_ins import Original, original
 from ..compiling.targets import model_in
 from ..models import Model
 from ..source.known import Shape
-from .alike import is_alike
+from .alike import calls_on_all
 
 
 class Settings(NamedTuple):
@@ -49,12 +48,11 @@ class Unit:
         self.read: Optional[Dependencies] = None
         text = self.first_text()
         first = self.parsed(text, COMPILED)
-        is_one = not settings.types and is_alike(first, text)
-        parsed = [first] * len(PLATFORMS) if is_one else self.parsed_everywhere(text, first)
-        errors = parsed[0].errors()
+        known = None if settings.types else calls_on_all(first, text)
+        self.calls: List[Dict[Key, Call]] = known or [it.found for it in self.parsed_everywhere(text, first)]
+        errors = first.errors()
         self.why_left: Optional[str] = errors[0] if errors else None
-        self.calls: List[Dict[Key, Call]] = [it.found for it in parsed]
-        self.unread, self.others = parsed[0].unread, parsed[0].others
+        self.unread, self.others = first.unread, first.others
         self.defined: Optional[bytes] = None
 
     def first_text(self) -> str:
@@ -93,10 +91,6 @@ class Unit:
         if self.settings.kept is not None:
             return self.settings.kept.calls(self.command, text, platform, own, functions)
         return FormatCalls(self.command, retargeted(text, platform, own).encode(), platform, functions)
-
-    def marker(self) -> Marker:
-        """Returns what marks places of the file."""
-        return self.settings.kept.source(self.command).marker if self.settings.kept is not None else Marker()
 
     def marked(self, text: str) -> Dict[Key, Call]:
         """Returns the calls in the text of another source of the file, as it is compiled."""
