@@ -18,7 +18,9 @@ PATIENCE = 60
 class Client:
     """An editor without a screen."""
 
-    def __init__(self, uri=URI, options=None, encodings=None, environment=None, start=True, python=sys.executable, root=None):
+    def __init__(
+        self, uri=URI, options=None, encodings=None, environment=None, start=True, python=sys.executable, root=None
+    ):
         words = [python, "-B", "-m", "fmtcanon.lsp"]
         pipes = {"stdin": subprocess.PIPE, "stdout": subprocess.PIPE, "stderr": subprocess.PIPE}
         environment = {**os.environ, "PYTHONPATH": str(TOP / "python"), **(environment or {})}
@@ -113,9 +115,9 @@ class Client:
             line = lines[place["line"]].encode("utf-16-le")[: 2 * place["character"]]
             return starts[place["line"]] + len(line.decode("utf-16-le"))
 
-        edits = [(offset(it["range"]["start"]), offset(it["range"]["end"]), it["newText"]) for it in action["edit"]["changes"][self.uri]]
         text = self.text
-        for start, end, new in sorted(edits, reverse=True):
+        listed = [(it["range"], it["newText"]) for it in action["edit"]["changes"][self.uri]]
+        for start, end, new in sorted(((offset(a["start"]), offset(a["end"]), new) for a, new in listed), reverse=True):
             text = text[:start] + new + text[end:]
         return text
 

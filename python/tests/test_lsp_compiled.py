@@ -58,7 +58,7 @@ class Lives(unittest.TestCase):
         client = self.client(MISSING)
         self.assertEqual([it["code"] for it in client.open(SOURCE)], ["LengthUndefined"])
         said = client.logged()
-        self.assertTrue(said.startswith("fmtcanon-lsp: arguments aren't compared with formats: libclang is missing"), said)
+        self.assertTrue(said.startswith("fmtcanon-lsp: arguments aren't compared with formats: libclang is missing"))
         client.change({"text": SOURCE + "\n"}, version=2)
         self.assertEqual(len(client.diagnostics(2)), 1)
         time.sleep(0.5)
@@ -122,7 +122,8 @@ class Lives(unittest.TestCase):
         client.hover("%d")
         self.assertEqual(client.held, [])
         # Another setting later.
-        client.notify("workspace/didChangeConfiguration", settings={"fmtcanon": {"compile": True, "colour": 2}, "other": 1})
+        given = {"fmtcanon": {"compile": True, "colour": 2}, "other": 1}
+        client.notify("workspace/didChangeConfiguration", settings=given)
         self.assertIn("the option colour with the value 2 isn't known", client.logged())
         self.assertIn("the process that compiles it ended", client.logged())
         for settings in (None, {}, {"fmtcanon": None}, [1]):
@@ -140,7 +141,8 @@ class Lives(unittest.TestCase):
 
 
 def finding(start, end, **fix):
-    details = {"argument": 1, "format": "%d", "fix": {"text": None, "cast": None, "include": None, "verified": True, **fix}}
+    proposed = {"text": None, "cast": None, "include": None, "verified": True, **fix}
+    details = {"argument": 1, "format": "%d", "fix": proposed}
     return FindingAt(start, end, Finding("a.c", 1, 1, "size", ERROR, "wrong", details=details))
 
 
@@ -225,22 +227,22 @@ class Fixes(unittest.TestCase):
 
     def test_headers(self):
         """A header is included after those of the system, where they always are, and only once."""
-        wanted = b"#include <inttypes.h>\n"
         rows = [
-            (b"#include <stdio.h>\nint x;\n", b"#include <stdio.h>\n" + wanted + b"int x;\n"),
-            (b"#include <inttypes.h>\nint x;\n", None),
-            (b'#include "own.h"\n#include <a.h>\n#include "b.h"\nint x;\n', b'#include "own.h"\n#include <a.h>\n' + wanted + b'#include "b.h"\nint x;\n'),
-            (b'#define X\n#include "own.h"\nint x;\n', b'#define X\n#include "own.h"\n' + wanted + b"int x;\n"),
-            (b"int x;\n", wanted + b"int x;\n"),
-            (b"#include <a.h>\n#if X\n#include <b.h>\n#endif\nint x;\n", b"#include <a.h>\n" + wanted + b"#if X\n#include <b.h>\n#endif\nint x;\n"),
-            (b"#include <a.h>\n/*\n#include <b.h>\n*/\nint x;\n", b"#include <a.h>\n" + wanted + b"/*\n#include <b.h>\n*/\nint x;\n"),
-            (b'#include <a.h>\r\nchar *s = "\\\n#include <b.h>";\nint x;\n', b'#include <a.h>\r\n#include <inttypes.h>\r\nchar *s = "\\\n#include <b.h>";\nint x;\n'),
-            (b"#include <a.h> /* why */\nint x;\n", b"#include <a.h> /* why */\n" + wanted + b"int x;\n"),
+            (b"#include <stdio.h>\n", b""),
+            (b'#include "own.h"\n#include <a.h>\n', b'#include "b.h"\n'),
+            (b'#define X\n#include "own.h"\n', b""),
+            (b"", b""),
+            (b"#include <a.h>\n", b"#if X\n#include <b.h>\n#endif\n"),
+            (b"#include <a.h>\n", b"/*\n#include <b.h>\n*/\n"),
+            (b"#include <a.h>\r\n", b'char *s = "\\\n#include <b.h>";\n'),
+            (b"#include <a.h> /* why */\n", b""),
         ]
-        for before, after in rows:
-            edit = include_edit(before, "inttypes.h", before.index(b"int x"))
-            found = None if edit is None else before[: edit.start] + edit.new + before[edit.end :]
-            self.assertEqual(found, after)
+        for front, back in rows:
+            data = front + back + b"int x;\n"
+            edit = include_edit(data, "inttypes.h", data.index(b"int x"))
+            end = b"\r\n" if b"\r" in front else b"\n"
+            self.assertEqual((edit.start, edit.end, edit.new), (len(front), len(front), b"#include <inttypes.h>" + end))
+        self.assertIsNone(include_edit(b"#include <inttypes.h>\nint x;\n", "inttypes.h", 22))
         # Only what is before counts.
         self.assertIsNotNone(include_edit(b"x\n#include <inttypes.h>\n", "inttypes.h", 1))
 

@@ -1,7 +1,7 @@
 """Translation units that stay while their source is edited: libclang keeps what comes before its own text precompiled.
 
-The text of a unit is cut after its last `#include`. What comes before is a file of its own, which the rest includes first,
-after as many bytes and lines of space: so an offset and a line are the same as in the text.
+The text of a unit is cut after its last `#include`. What comes before is a file of its own, which the rest includes
+first, after as many bytes and lines of space: so an offset and a line are the same as in the text.
 """
 
 import functools
@@ -22,8 +22,8 @@ from .retargeting import TYPE_MARK, TextTraits, declarations, markers, retargete
 
 # How many sources are kept, each with a unit for each platform.
 MOST = 4
-# As libclang numbers them: a precompiled preamble, also for a unit that is parsed for the first time, without the bodies
-# of its functions.
+# As libclang numbers them: a precompiled preamble, also for a unit that is parsed for the first time, without the
+# bodies of its functions.
 OPTIONS = 0x04 | 0x100 | 0x40 | 0x800
 # The flags of the line marker that a text begins with.
 FLAGS = re.compile(rb'\A# \d+ "(?:[^"\\\n]|\\.)*"([ \d]*)')
@@ -37,7 +37,7 @@ class KeptText(NamedTuple):
 
 
 class KeptHead(NamedTuple):
-    """What comes before the own text of a unit as the preprocessor made it, what it is changed by, and what it is then."""
+    """What comes before the own text of a unit: as the preprocessor made it, what changes it, and what it is then."""
 
     given: str
     traits: TextTraits
@@ -91,8 +91,8 @@ class KeptUnit:
 
 @functools.lru_cache(maxsize=2)
 def cut_of(text: str, name: str) -> int:
-    """Returns where the text of a unit goes on after the last `#include` at the beginning of its file, which has this name
-    in line markers: no call is before.
+    """Returns where the text of a unit goes on after the last `#include` at the beginning of its file, which has this
+    name in line markers: no call is before.
     """
     cut, done, is_own = 0, 0, False
     for start, end, file, flags in markers(text):
@@ -123,8 +123,8 @@ class KeptCalls(FormatCalls):
 
 
 class KeptUnits:
-    """The sources that were parsed last, by their commands, with a unit for each platform. What libclang keeps of them is
-    in a folder.
+    """The sources that were parsed last, by their commands, with a unit for each platform. What libclang keeps of them
+    is in a folder.
     """
 
     def __init__(self, folder: str) -> None:

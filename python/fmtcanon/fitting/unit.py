@@ -78,7 +78,7 @@ class Unit:
         return self.defined
 
     def parsed_everywhere(self, text: str, first: FormatCalls) -> List[FormatCalls]:
-        """Returns the calls in a text on each platform: on one they are known. Units that are kept are parsed together."""
+        """Returns the calls in a text on each platform: on one they are known. Those that are kept are parsed together."""
         others = [it for it in PLATFORMS if it is not COMPILED]
         if self.settings.kept is None:
             return [first, *(self.parsed(text, it) for it in others)]

@@ -140,8 +140,8 @@ def diagnosis_of(one: FindingAt) -> Diagnosis:
 
 
 def is_said_by(one: FindingAt, rejected: Dict[str, List[int]], line: int) -> bool:
-    """Returns whether a finding is only that a format is rejected, which the text says, too: at a line soon after that of
-    the call.
+    """Returns whether a finding is only that a format is rejected, which the text says, too, in a line soon after that
+    of the call.
     """
     if one.finding.kind != UNJUDGED:
         return False
@@ -150,7 +150,7 @@ def is_said_by(one: FindingAt, rejected: Dict[str, List[int]], line: int) -> boo
 
 
 def fixes_of(one: FindingAt, written: WrittenSource, data: bytes) -> Iterator[SourceFix]:
-    """Yields what may be done about a finding: another directive, a cast of its argument, and the header that these need."""
+    """Yields what may be done about a finding: another directive, a cast of its argument, and the header they need."""
     proposed: Optional[Dict[str, Any]] = one.finding.details.get("fix")
     if proposed is None:
         return

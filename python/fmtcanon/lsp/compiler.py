@@ -1,14 +1,13 @@
 """The process that compiles for the server: it may hang or crash, and then the next text gets another."""
 
 import os
-import shutil
 import tempfile
 import time
 from typing import Any, List, Optional
 
 from ..frame.processes import GRACE, Worker, started, wait_or_kill
 from .compiled import CompiledAnswer
-from .worker import CompiledText, CompileWorker
+from .worker import CompiledText, CompileWorker, remove
 
 
 class CompilerEnded(Exception):
@@ -66,7 +65,8 @@ class Compiler:
         self.given = None
         if not is_done:
             raise CompilerEnded(result)
-        return result
+        answer: CompiledAnswer = result
+        return answer
 
     def stop(self, kill: bool = False) -> None:
         """Ends the process, and removes what it kept."""
@@ -75,4 +75,4 @@ class Compiler:
             return
         worker.connection.close()
         wait_or_kill(worker.process, 0 if kill else GRACE)
-        shutil.rmtree(self.folder, ignore_errors=True)
+        remove(self.folder)

@@ -2,7 +2,7 @@
 
 import os
 import time
-from typing import Any, Callable, List, Mapping, Optional
+from typing import Any, Callable, List, Mapping
 
 from ..compiling.libclang import MISSING, cindex
 from .compiler import Compiler, CompilerEnded
@@ -11,8 +11,8 @@ from .worker import CompiledText
 
 
 class Compiling:
-    """The sources among views that are due, and the process that compiles them. `log` says something, and `publish` what is
-    found in a view.
+    """The sources among views that are due, and the process that compiles them. `log` says something, and `publish` what
+    is found in a view.
     """
 
     def __init__(

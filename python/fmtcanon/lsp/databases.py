@@ -4,7 +4,7 @@ import argparse
 import os
 import re
 import shutil
-from typing import Dict, List, Optional, Sequence, Tuple
+from typing import Dict, Optional, Sequence, Tuple
 
 from ..compiling.compile_commands import CompileCommand
 from ..compiling.left import Left
@@ -30,15 +30,19 @@ def folder_above(path: str) -> Optional[str]:
 
 
 def check_program(command: CompileCommand) -> None:
-    """Raises Left unless the program of a compile command that nobody named is a compiler that PATH finds: a folder that
-    is opened runs nothing of its own.
+    """Raises Left unless the program of a compile command that nobody named is a compiler of PATH: a folder that is
+    opened runs nothing of its own.
     """
     program = command.words[0]
     folder, name = os.path.split(program)
-    folders = [it for it in os.environ.get("PATH", os.defpath).split(os.pathsep) if os.path.isabs(it)]
-    is_there = shutil.which(name, path=os.pathsep.join(folders)) if not folder else folder in folders
+    is_there = folder in absolute_path().split(os.pathsep) if folder else shutil.which(name, path=absolute_path())
     if not (COMPILER.fullmatch(name) and is_there):
-        raise Left(f"{program} in a {FILE} isn't a compiler of PATH: name the folder of that file in the option database")
+        raise Left(f"{program} isn't a compiler of PATH: name the folder of its {FILE} in the option database")
+
+
+def absolute_path() -> str:
+    """Returns the folders of PATH that are the same wherever a program runs."""
+    return os.pathsep.join(filter(os.path.isabs, os.environ.get("PATH", os.defpath).split(os.pathsep)))
 
 
 class Databases:

@@ -30,7 +30,7 @@ class TextEdit(NamedTuple):
 
 
 class SourceFix(NamedTuple):
-    """A change of a document: its title, the offsets of what is replaced, and the new bytes; and what else changes with it."""
+    """A change of a document: its title, the offsets of what is replaced, the new bytes, and what else changes."""
 
     title: str
     start: int

@@ -17,8 +17,8 @@ LINE = re.compile(
 
 
 def include_edit(data: bytes, header: str, before: int) -> Optional[TextEdit]:
-    """Returns the change that includes a header after those of the system that are included before an offset, outside of
-    `#if`, or else after others or at the beginning; None if it is included there.
+    """Returns the change that includes a header after those of the system that are included before an offset, outside
+    of `#if`, or else after others or at the beginning; None if it is included there.
     """
     wanted = b"<" + header.encode() + b">"
     depth, at, own = 0, 0, 0

@@ -15,9 +15,9 @@ ADDED = (RANK, SIGN, COMPOSED)
 
 
 class Options(NamedTuple):
-    """The data models, and hovers name the types of the first one first; whether clangd runs, so that what it says isn't
-    said again; functions that take formats; whether sources are compiled, how many seconds that may take, with which
-    compile_commands.json or flags, and which kinds of findings are added.
+    """The data models, and hovers name the types of the first one first; whether clangd runs, so that what it says
+    isn't said again; functions that take formats; whether sources are compiled, how many seconds that may take, with
+    which compile_commands.json or flags, and which kinds of findings are added.
     """
 
     models: Sequence[Model] = MODELS["all"]
@@ -37,8 +37,10 @@ def options_of(given: Any, before: Options = Options()) -> Tuple[Options, List[s
     for name, value in given.items() if isinstance(given, dict) else ():
         if name == "model" and isinstance(value, str) and value in MODELS:
             options = options._replace(models=MODELS[value])
-        elif name in ("beside_clangd", "compile") and isinstance(value, bool):
-            options = options._replace(**{name: value})
+        elif name == "beside_clangd" and isinstance(value, bool):
+            options = options._replace(beside_clangd=value)
+        elif name == "compile" and isinstance(value, bool):
+            options = options._replace(compile=value)
         elif name == "seconds" and type(value) in (int, float) and value > 0:
             options = options._replace(seconds=value)
         elif name == "database" and (value is None or isinstance(value, str)):

@@ -64,7 +64,7 @@ class Server:
         self.is_initialized = self.is_stopping = self.is_done = False
 
     def run(self) -> int:
-        """Answers until the editor says exit or goes, and returns the exit status: 0 only after a request to shut down."""
+        """Answers until the editor says exit or goes. Returns the exit status: 0 only after a request to shut down."""
         try:
             while not self.is_done:
                 is_more = self.take_in(0.0 if self.waiting else self.pause())

@@ -3,6 +3,7 @@
 import os
 import shutil
 import tempfile
+import time
 from typing import Iterator, Mapping, NamedTuple, Optional, Sequence, Tuple
 
 from ..compiling.kept import KeptUnits
@@ -19,8 +20,12 @@ from ..frame.interrupting import CLEANING
 from ..models import Model
 from ..source.known import Shape
 from .compiled import CompiledAnswer, FindingAt
-from .databases import Databases
+from .databases import Databases, absolute_path
 from .documents import UTF_8, Document
+
+
+# How often a folder is tried to be removed, and the seconds between.
+TRIES, REST = 5, 0.05
 
 
 class CompiledText(NamedTuple):
@@ -48,8 +53,9 @@ class CompileWorker:
     def start(self) -> None:
         """Takes note that this is a process of its own: nothing that it prints gets to the editor."""
         os.dup2(os.open(os.devnull, os.O_RDWR), 1)
-        CLEANING.append(lambda: shutil.rmtree(self.folder, ignore_errors=True))
+        CLEANING.append(lambda: remove(self.folder))
         os.environ["TMPDIR"] = tempfile.tempdir = self.folder
+        os.environ["PATH"] = absolute_path()
         if self.root:
             os.chdir(self.root)
         self.words = write_headers(os.path.join(self.folder, "headers"))
@@ -74,6 +80,15 @@ class CompileWorker:
         why_left = [it.message for it in findings if it.kind == SKIPPED]
         listed = tuple(located_in(data, findings, shown_file(given.path)))
         return CompiledAnswer(given.uri, listed, why_left[0] if why_left else "")
+
+
+def remove(folder: str) -> None:
+    """Removes a folder, in which another thread may still write for a moment."""
+    for _ in range(TRIES):
+        shutil.rmtree(folder, ignore_errors=True)
+        if not os.path.exists(folder):
+            return
+        time.sleep(REST)
 
 
 def located_in(data: bytes, findings: Sequence[Finding], file: str) -> Iterator[FindingAt]:
