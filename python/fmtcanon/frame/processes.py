@@ -221,7 +221,8 @@ def serve(work: Callable[[Any], Any], own: Connection, others: Iterable[Connecti
     for it in others:
         it.close()
     given: queue.SimpleQueue[Any] = queue.SimpleQueue()
-    threading.Thread(target=receive, args=(own, given), daemon=True).start()
+    receiving = threading.Thread(target=receive, args=(own, given), daemon=True)
+    receiving.start()
     while True:
         item = given.get()
         try:
@@ -231,8 +232,8 @@ def serve(work: Callable[[Any], Any], own: Connection, others: Iterable[Connecti
         try:
             own.send(result)
         except OSError:
-            # Nobody waits for it any more.
-            return
+            # Nobody waits for it any more: the process ends once it has cleaned.
+            receiving.join()
 
 
 def receive(own: Connection, given: queue.SimpleQueue[Any]) -> None:
