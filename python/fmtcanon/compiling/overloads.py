@@ -7,6 +7,7 @@ from typing import Any, Dict, Set
 
 from .declared_types import CASTS, FUNCTIONS, OUTSIDE, REFERENCES, VARIABLES
 from .formats import AROUND
+from .libclang import cindex
 from .parsing import Parsed
 
 SCALARS = (
@@ -34,6 +35,7 @@ PLAIN = {
     "TEMPLATE_REF",
 }
 CALLED = (*FUNCTIONS, "CONSTRUCTOR", "CONVERSION_FUNCTION")
+CLASSES = ("CLASS_DECL", "STRUCT_DECL", "UNION_DECL")
 DECLARED = (*CALLED, "FUNCTION_TEMPLATE", "USING_DECLARATION")
 # `long` in the name of a type, alone or in what it points to or is made of; `long long` is the same everywhere.
 LONG = re.compile(r"(?<!long )\blong\b(?! long| double)")
@@ -108,7 +110,10 @@ def could_be_another(argument: Any) -> bool:
         if len(children) != 1:
             break
         argument = children[0]
-    return bool(LONG.search(argument.type.get_canonical().spelling))
+    type = argument.type.get_canonical()
+    if type.kind.name == "ENUM":
+        type = type.get_declaration().enum_type.get_canonical()
+    return bool(LONG.search(type.spelling))
 
 
 def is_written(reference: Any) -> bool:
@@ -132,9 +137,16 @@ def is_deduced(type: Any) -> bool:
             type = type.element_type
         elif kind == "TYPEDEF":
             declaration = type.get_declaration()
-            if declaration.semantic_parent.kind.name not in (*OUTSIDE, "CLASS_DECL", "STRUCT_DECL"):
+            if not is_fixed(declaration.semantic_parent):
                 return True
             type = declaration.underlying_typedef_type
         else:
             is_class = kind == "UNEXPOSED" and type.get_canonical().kind.name == "RECORD"
             return kind not in (*SCALARS, "VOID", "RECORD", "FUNCTIONPROTO") and not is_class
+
+
+def is_fixed(scope: Any) -> bool:
+    """Returns whether what is declared in a scope depends on no parameter of a template."""
+    if scope.kind.name in CLASSES:
+        return cindex.conf.lib.clang_getSpecializedCursorTemplate(scope) is None and is_fixed(scope.semantic_parent)
+    return scope.kind.name in OUTSIDE

@@ -46,7 +46,7 @@ PRI_NAME = re.compile(r"PRI([diouxX])(\w+)|__PRI(\w+)_PREFIX")
 # What of C++ may choose a type or a function by types.
 OF_TEMPLATES = re.compile(
     r"\b(?:conditional|enable_if|is_same|common_type|numeric_limits|decltype|requires|concept|constexpr\s*\()"
-    r"|template\s*<\s*>"
+    r"|template\s*<\s*>|\b(?:struct|class|union)\s+\w+\s*<"
 )
 # A literal, without what is before its quotes.
 LITERAL = re.compile(r"""\"[^"\\\n]*(?:\\.[^"\\\n]*)*\"|'[^'\\\n]*(?:\\.[^'\\\n]*)*'""")
