@@ -20,8 +20,12 @@ from fmtcanon.lsp.compiled import (
     diagnosis_of,
     fixes_of,
 )
+from fmtcanon.lsp.compiling import Compiling
 from fmtcanon.lsp.databases import check_program, folder_above
+from fmtcanon.lsp.documents import UTF_16, Document
 from fmtcanon.lsp.including import include_edit
+from fmtcanon.lsp.options import Options
+from fmtcanon.lsp.views import SourceView
 from fmtcanon.models import Model
 from fmtcanon.source.written import WrittenSource
 
@@ -204,6 +208,23 @@ class Moving(unittest.TestCase):
         self.assertEqual(part.found, [two])
         part.saved()
         self.assertEqual(part.take(CompiledAnswer("u", (two,), "a.c:8: unknown type")), "a.c:8: unknown type")
+
+
+    def test_reopened(self):
+        """What is found in a text of a document that was closed isn't said of it once it is open again."""
+        document = Document("file:///a.c", "c", SOURCE, 1, UTF_16)
+        views = {document.uri: SourceView(document, Options())}
+        published = []
+        compiling = Compiling(views, self.fail, published.append)
+        answer = CompiledAnswer(document.uri, (finding(0, 2),), "")
+        compiling.view = views[document.uri]
+        compiling.take(answer)
+        self.assertEqual(len(published), 1)
+        views[document.uri] = SourceView(document, Options())
+        compiling.take(answer)
+        del views[document.uri]
+        compiling.take(answer)
+        self.assertEqual(len(published), 1)
 
 
 class Fixes(unittest.TestCase):

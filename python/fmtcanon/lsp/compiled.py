@@ -68,18 +68,18 @@ NAMES_NOT_BY_CLANG = {it.name.title().replace("_", "") for it in NOT_BY_CLANG}
 
 def change_between(old: bytes, new: bytes) -> TextChange:
     """Returns what changed between two texts, as one piece."""
-    size = min(len(old), len(new))
-    start = longest(size, lambda it: old[:it] == new[:it])
-    kept = longest(size - start, lambda it: old[len(old) - it :] == new[len(new) - it :])
-    return TextChange(start, len(old) - kept, len(new) - len(old))
+    size, first, second = min(len(old), len(new)), len(old), len(new)
+    start = longest(size, lambda low, it: old[low:it] == new[low:it])
+    kept = longest(size - start, lambda low, it: old[first - it : first - low] == new[second - it : second - low])
+    return TextChange(start, first - kept, second - first)
 
 
-def longest(size: int, is_equal: Callable[[int], bool]) -> int:
-    """Returns the largest number up to a size for which something is so, as it is for all smaller ones."""
+def longest(size: int, is_equal: Callable[[int, int], bool]) -> int:
+    """Returns how far two texts are equal, up to a size, if it is known of each part of them."""
     low, high = 0, size
     while low < high:
         middle = (low + high + 1) // 2
-        low, high = (middle, high) if is_equal(middle) else (low, middle - 1)
+        low, high = (middle, high) if is_equal(low, middle) else (low, middle - 1)
     return low
 
 

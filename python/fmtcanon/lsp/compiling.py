@@ -2,9 +2,10 @@
 
 import os
 import time
-from typing import Any, Callable, List, Mapping
+from typing import Any, Callable, List, Mapping, Optional
 
 from ..compiling.libclang import MISSING, cindex
+from .compiled import CompiledAnswer
 from .compiler import Compiler, CompilerEnded
 from .views import DocumentView, SourceView
 from .worker import CompiledText
@@ -20,6 +21,8 @@ class Compiling:
     ) -> None:
         self.views, self.log, self.publish = views, log, publish
         self.compiler = Compiler(None)
+        # The one whose text is being compiled.
+        self.view: Optional[SourceView] = None
         self.is_missing = False
 
     @property
@@ -48,23 +51,29 @@ class Compiling:
         except CompilerEnded as why:
             self.log(f"{given.path if given else 'a source'}: not judged: {why}")
         else:
-            view = self.views.get(answer.uri) if answer else None
-            if answer and isinstance(view, SourceView):
-                said = view.compiled.take(answer)
-                if said:
-                    self.log(f"{view.document.path}: {said}")
-                self.publish(view)
+            if answer:
+                self.take(answer)
         now = time.monotonic()
         ready = [it for it in self.due() if it.compiled.due is not None and it.compiled.due <= now]
         if ready and self.compiler.is_idle:
             self.give(min(ready, key=lambda it: it.compiled.due or 0))
 
+    def take(self, answer: CompiledAnswer) -> None:
+        """Takes what was found, unless the document was closed."""
+        view = self.view
+        if view is not None and self.views.get(answer.uri) is view:
+            said = view.compiled.take(answer)
+            if said:
+                self.log(f"{view.document.path}: {said}")
+            self.publish(view)
+
     def give(self, view: SourceView) -> None:
+        """Gives the process the text of a view."""
         if cindex is None:
             self.is_missing = True
             self.log(f"arguments aren't compared with formats: {MISSING}")
             return
-        options, document = view.options, view.document
+        options, document, self.view = view.options, view.document, view
         view.compiled.asked()
         functions = {name.decode(): shape for name, shape in options.functions.items()}
         text = CompiledText(

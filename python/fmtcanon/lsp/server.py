@@ -26,7 +26,7 @@ from .framing import (
     framed,
 )
 from .options import Options, options_of
-from .views import DocumentView, SourceView, view_of
+from .views import CatalogView, DocumentView, SourceView, view_of
 
 NAME = "fmtcanon"
 INCREMENTAL = 2
@@ -201,10 +201,10 @@ class Server:
             self.send(method="textDocument/publishDiagnostics", params={"uri": uri, "diagnostics": []})
 
     def saved(self, params: Params) -> None:
-        """Has the source compiled again that was saved, or all if that was another file."""
+        """Has the source compiled again that was saved, or all if that was a header."""
         view = self.views.get(params["textDocument"]["uri"])
-        is_source = isinstance(view, SourceView) and view.can_be_compiled
-        for one in [view] if view and is_source else self.views.values():
+        is_alone = isinstance(view, CatalogView) or (isinstance(view, SourceView) and view.can_be_compiled)
+        for one in [view] if view and is_alone else self.views.values():
             one.saved()
 
     def configured(self, params: Params) -> None:

@@ -119,9 +119,10 @@ class SourceView(DocumentView):
 
     @property
     def can_be_compiled(self) -> bool:
-        """Whether the document is a file that is compiled by itself."""
+        """Whether the document is a file that is compiled by itself, and isn't too long."""
         path = self.document.path
-        return path is not None and SOURCES.fullmatch(path) is not None and os.path.isfile(path)
+        is_source = path is not None and SOURCES.fullmatch(path) is not None and os.path.isfile(path)
+        return is_source and len(self.document.data) <= LONGEST
 
     def diagnoses(self) -> Iterator[Optional[Diagnosis]]:
         data = self.document.data[:LONGEST]
