@@ -2,6 +2,7 @@
 
 import os
 import random
+import signal
 import tempfile
 import time
 import unittest
@@ -103,18 +104,21 @@ class Lives(unittest.TestCase):
         self.assertEqual(list((self.folder / "temporary").iterdir()), [])
 
     def test_killed(self):
-        """If the server is killed, the process that compiles ends, and removes what it kept."""
-        client = self.client(HANGS)
-        client.open(SOURCE)
-        temporary = self.folder / "temporary"
+        """If a signal ends the server, the process that compiles ends, too, and what it kept is removed."""
+        for number in (signal.SIGKILL, signal.SIGTERM, signal.SIGHUP):
+            client = self.client(HANGS)
+            client.open(SOURCE)
+            temporary = self.folder / "temporary"
+            self.wait(lambda folder=temporary: list(folder.glob("*/headers/*")))
+            client.process.send_signal(number)
+            self.assertTrue(self.wait(lambda folder=temporary: not list(folder.iterdir())), number)
+
+    def wait(self, is_so):
+        """Waits until something is so, and returns whether it is."""
         end = time.monotonic() + 20
-        while not list(temporary.glob("*/headers/*")) and time.monotonic() < end:
+        while not is_so() and time.monotonic() < end:
             time.sleep(0.05)
-        self.assertTrue(list(temporary.iterdir()))
-        client.process.kill()
-        while list(temporary.iterdir()) and time.monotonic() < end:
-            time.sleep(0.05)
-        self.assertEqual(list(temporary.iterdir()), [])
+        return is_so()
 
     def test_never(self):
         """With the option `compile` nothing is compiled; a file that isn't there, or is a header, isn't either."""
