@@ -95,6 +95,7 @@ TEXTS = [
     # A macro of a system header in the file itself, whose marker has the flag.
     (f'{FRONT}# 2 "a.c" 2\nvoid *p =\n# 2 "a.c" 3 4\n0\n# 2 "a.c"\n; wchar_t x;\n', False),
     ('# 1 "a.c"\nint x = (fmtcanon_WCHAR_MAX + 2147483647);\n', False),
+    ('# 1 "a.c"\nlong x = (fmtcanon_UINT64_C + 1UL);\n', True),
     ('# 1 "a.c"\nlong x = (fmtcanon_LONG_MIN + -9223372036854775807L - 1);\n', True),
     ('# 1 "a.c"\nint x = L\'x\';\n', False),
     ('# 1 "a.c"\nint x = \'L\'; char *y = "L" "wchar_t";\n', True),

@@ -3,7 +3,6 @@
 It needs libclang and gcc.
 """
 
-import os
 import subprocess
 
 from tests.commands.more_check import CALLS, CXX, SAYS, SOURCE

@@ -12,10 +12,9 @@ from .retargeting import SPACE
 LETTER, BYTE = r"[A-Za-z_$\x80-\xff]", r"[\w$\x80-\xff]"
 WORD = rf"(?<!{BYTE}){LETTER}{BYTE}*"
 NAME = re.compile(WORD)
-REST = re.compile(rf"{BYTE}*")
 # The end of the parameters of a variadic function, or in C++ of a pack of arguments; what is before the former.
 VARIADIC = re.compile(rf"\.\.\.{SPACE}\)")
-BEFORE_DOTS = (",", "(")
+BEFORE_DOTS, LONGEST_SPACE = (",", "("), 80
 ATTRIBUTE = re.compile(r"format(?:__)?\s*\(")
 # What is between declarations and statements.
 BETWEEN = ";{}"
@@ -61,9 +60,9 @@ def after_names(own: str, names: Set[str]) -> Iterator[int]:
     for stem in stems_of(names):
         at = own.find(stem)
         while at >= 0:
-            end = REST.match(own, at).end()  # type: ignore[union-attr]
+            start, end = name_around(own, at)
             found = OPENING.match(own, end)
-            if found and name_before(own, end) in names:
+            if found and own[start:end] in names:
                 yield found.end() - 1
             at = own.find(stem, end)
 
@@ -77,12 +76,19 @@ def stems_of(names: Iterable[str]) -> List[str]:
     return stems
 
 
-def name_before(text: str, end: int) -> str:
-    """Returns the name that ends there."""
-    start = end
-    while start and (text[start - 1].isalnum() or text[start - 1] in "_$" or text[start - 1] >= "\x80"):
+def name_around(text: str, at: int) -> Tuple[int, int]:
+    """Returns where the name begins and ends that has this offset in it."""
+    start = end = at
+    while start and is_byte(text[start - 1]):
         start -= 1
-    return text[start:end]
+    while end < len(text) and is_byte(text[end]):
+        end += 1
+    return start, end
+
+
+def is_byte(character: str) -> bool:
+    """Returns whether a character may be in a name."""
+    return character.isalnum() or character in "_$" or character >= "\x80"
 
 
 def declared_names(text: str, spans: Sequence[Span]) -> Set[str]:
@@ -90,9 +96,10 @@ def declared_names(text: str, spans: Sequence[Span]) -> Set[str]:
     names: Set[str] = set()
     types: Set[str] = set()
     for found in VARIADIC.finditer(text):
-        if text[max(0, found.start() - 80) : found.start()].rstrip().endswith(BEFORE_DOTS) or is_in(spans, found.start()):
-            start, declared = declarators(text, found.start())
-            note(text[start : found.start()], declared, names, types)
+        at = found.start()
+        if text[max(0, at - LONGEST_SPACE) : at].rstrip().endswith(BEFORE_DOTS) or is_in(spans, at):
+            start, declared = declarators(text, at)
+            note(text[start:at], declared, names, types)
     for found in ATTRIBUTE.finditer(text):
         start, end = beginning(text, found.start()), ending(text, found.end())
         if "..." not in text[start:end]:
@@ -100,7 +107,8 @@ def declared_names(text: str, spans: Sequence[Span]) -> Set[str]:
     for start, end in spans:
         for pattern in DEDUCING:
             for found in pattern.finditer(text, start, end):
-                names.update(NAME.findall(DECLARED.match(text, after_parentheses(text, found.end()))[0]))
+                after = DECLARED.match(text, after_parentheses(text, found.end()))
+                names.update(NAME.findall(after[0]) if after else ())
     add_of_types(text, names, types)
     return names - KEYWORDS
 

@@ -13,9 +13,8 @@ from .compile_commands import CompileCommand
 from .declared_types import is_declared_long, typedef_of
 from .formats import AROUND, Format, Formats
 from .functions import Callee, Callees, Functions
-from .libclang import cindex
 from .overloads import Overloads
-from .parsing import CALL_EXPR, FUNCTION_DECL, TYPES, UNREADABLE, VISIT_INSIDE, VISIT_NEXT, Parsed
+from .parsing import CALL_EXPR, UNREADABLE, Parsed
 from .platforms import Platform
 from .retargeting import TYPE_MARK, own_spans
 
@@ -40,9 +39,9 @@ UNSIGNED = ("BOOL", "CHAR_U", "UCHAR", "USHORT", "UINT")
 
 class Argument(NamedTuple):
     """An argument of a call: its type after promotion, if that is an integer, the same in C, its type as the source
-    names it, whether it is an int that can't be negative: a literal, or of an unsigned type before promotion; whether the
-    source declares it as `long`, which it is on every platform then; and the typedef of the C library that the source
-    declares it with, if that is `long` where it is compiled.
+    names it, whether it is an int that can't be negative: a literal, or of an unsigned type before promotion; whether
+    the source declares it as `long`, which it is on every platform then; and the typedef of the C library that the
+    source declares it with, if that is `long` where it is compiled.
     """
 
     type: Optional[Type]
@@ -76,24 +75,6 @@ class Calls(Parsed):
     def __init__(self, command: CompileCommand, text: bytes, functions: Functions, words: Sequence[str] = ()) -> None:
         super().__init__(command, text, words)
         self.callees = Callees(self, functions)
-        # In C, what declares types has no calls.
-        self.without_calls = () if command.is_cxx() else TYPES
-
-    def note(self, cursor: Any) -> int:
-        """Notes a cursor. Returns whether what is inside is visited, too."""
-        kind = cursor._kind_id
-        if kind == CALL_EXPR:
-            self.note_call(cursor)
-        elif kind == FUNCTION_DECL:
-            return self.note_function(cursor)
-        return VISIT_NEXT if kind in self.without_calls else VISIT_INSIDE
-
-    def note_function(self, cursor: Any) -> int:
-        """Notes a declaration of a function. Returns whether what is inside is visited, too."""
-        return VISIT_INSIDE
-
-    def note_call(self, cursor: Any) -> None:
-        raise NotImplementedError
 
 
 class FormatCalls(Calls):

@@ -1,5 +1,5 @@
-"""What the source declares the type of an expression as: `long`, which it is on every platform then, or a typedef of the
-C library, of which it is known what it is on each.
+"""What the source declares the type of an expression as: `long`, which it is on every platform then, or a typedef of
+the C library, whose type on each platform is known.
 """
 
 from typing import Any
@@ -74,7 +74,7 @@ def named_by(type: Any) -> str:
             type = type.get_pointee()
         elif kind == "TYPEDEF":
             declaration = type.get_declaration()
-            name, type = declaration.spelling, declaration.underlying_typedef_type
+            name, type = str(declaration.spelling), declaration.underlying_typedef_type
             if name.startswith(TYPE_MARK):
                 return name[len(TYPE_MARK) :] if name[len(TYPE_MARK) :] in TYPEDEFS else ""
             # One that another platform's text has as it is begins with another name, or has an attribute.

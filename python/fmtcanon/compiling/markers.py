@@ -9,7 +9,7 @@ from .calls import Calls
 from .compile_commands import CompileCommand
 from .functions import Functions
 from .left import Left
-from .parsing import SCOPES, VISIT_INSIDE
+from .parsing import CALL_EXPR, FUNCTION_DECL, SCOPES, TYPES, VISIT_INSIDE, VISIT_NEXT
 
 # An attribute that has another function's code run under a name.
 ALIAS = re.compile(r"(?<![\w$])_*(alias|weakref|ifunc)(?![\w$])")
@@ -57,12 +57,18 @@ class MarkedCalls(Calls):
         self.uses: Dict[int, List[str]] = {}
         self.why: Dict[int, str] = {}
         self.names = {*KNOWN, *functions.given}
+        # In C, what declares types has no calls.
+        self.without_calls = () if command.is_cxx() else TYPES
         self.visit(self.note)
 
-    def note_function(self, function: Any) -> int:
-        if function.spelling in self.names:
-            self.note_declaration(function)
-        return VISIT_INSIDE
+    def note(self, cursor: Any) -> int:
+        """Notes a cursor. Returns whether what is inside is visited, too."""
+        kind = cursor._kind_id
+        if kind == CALL_EXPR:
+            self.note_call(cursor)
+        elif kind == FUNCTION_DECL and cursor.spelling in self.names:
+            self.note_declaration(cursor)
+        return VISIT_NEXT if kind in self.without_calls else VISIT_INSIDE
 
     def note_declaration(self, function: Any) -> None:
         file, known = self.file_of(function.location), KNOWN.get(function.spelling)

@@ -1,5 +1,5 @@
-"""Says whether a call of C++ could call another function elsewhere, or have arguments of other types, because a type that
-is another there chooses an overload or what a template makes.
+"""Says whether a call of C++ could call another function elsewhere, or have arguments of other types, because a type
+that is another there chooses an overload or what a template makes.
 """
 
 import re
@@ -117,8 +117,8 @@ def could_be_another(argument: Any) -> bool:
 
 
 def is_written(reference: Any) -> bool:
-    """Returns whether what an expression refers to has a type that is written: that of a variable or a member isn't if it
-    is deduced, or if a template makes it.
+    """Returns whether what an expression refers to has a type that is written: that of a variable or a member isn't if
+    it is deduced, or if a template makes it.
     """
     found = reference.referenced
     if found is None:

@@ -6,7 +6,7 @@ The text is the one that the file's own compiler made, so no macro, branch or fl
 import ctypes
 import os
 import re
-from typing import Any, Callable, Dict, List, NamedTuple, Optional, Sequence, Tuple
+from typing import Any, Callable, Dict, List, Optional, Sequence, Tuple
 
 from ..source.attributes import printf_indexes
 from ..source.known import Known, Shape

@@ -107,7 +107,7 @@ def write_headers(folder: str) -> List[str]:
 def markers(text: str) -> List[Tuple[int, int, str, str]]:
     """Returns where the markers of a text begin and end, their files and their flags."""
     # A pattern that begins with plain text is found several times faster, so that of a line begins with its end.
-    return [(it.start(), it.end() - 1, *it.groups()) for it in MARKER.finditer("\n" + text)]
+    return [(it.start(), it.end() - 1, it[1], it[2]) for it in MARKER.finditer("\n" + text)]
 
 
 def chunks(text: str) -> Iterator[Tuple[bool, str]]:
@@ -121,13 +121,13 @@ def chunks(text: str) -> Iterator[Tuple[bool, str]]:
 
 
 def own_spans(text: str) -> List[Tuple[int, int]]:
-    """Returns where the parts of a text begin and end that no system header has, by the markers where these are entered:
-    later ones may lack the flag, and those of the file itself have it where it uses a macro of such a header.
+    """Returns where the parts of a text begin and end that no system header has, by the markers where these are
+    entered: later ones may lack the flag, and those of the file itself have it where it uses a macro of such a header.
     """
     found = markers(text)
     system = {file for _, _, file, flags in found if flags.startswith(ENTERED)}
     spans: List[Tuple[int, int]] = []
-    for (start, end, file, _), (next_start, *_) in zip(found, [*found[1:], (len(text),)]):
+    for (start, end, file, _), next_start in zip(found, [*(it[0] for it in found[1:]), len(text)]):
         if file not in system:
             is_next = spans and spans[-1][1] == start
             spans.append((spans.pop()[0] if is_next else end, next_start))

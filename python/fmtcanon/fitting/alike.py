@@ -1,5 +1,5 @@
-"""Says what the calls of a unit are on every platform, by what they are where it is compiled: if their types are the same
-elsewhere or declared as typedefs of the C library, and nothing else chooses them, one parse is enough.
+"""Says what the calls of a unit are on every platform, by what they are where it is compiled: if their types are the
+same elsewhere or declared as typedefs of the C library, and nothing else chooses them, one parse is enough.
 """
 
 import functools
@@ -58,7 +58,9 @@ def differing(kind: str) -> Iterator[str]:
     there = getattr(COMPILED, kind)
     for name in {name for it in PLATFORMS for name in getattr(it, kind)}:
         values = {getattr(it, kind).get(name, there.get(name)) for it in PLATFORMS}
-        if name not in there or (len(values) > 1 and not LONG.search(there[name])):
+        # A suffix makes a constant `long`.
+        is_long = name.endswith("_C") or (name in there and LONG.search(there[name]))
+        if name not in there or (len(values) > 1 and not is_long):
             yield name
 
 
@@ -80,7 +82,9 @@ def structs() -> "re.Pattern[str]":
 
 
 def calls_on_all(unit: FormatCalls, text: str) -> Optional[List[Dict[Key, Call]]]:
-    """Returns the calls on each platform of a unit whose text this is, if those where it is compiled say what they are."""
+    """Returns the calls on each platform of a unit with this text, or None if they aren't known by those where it is
+    compiled.
+    """
     if unit.formats.is_computed or not unit.is_settled:
         return None
     calls = {key: call_on_all(call) for key, call in unit.found.items()}
@@ -93,8 +97,8 @@ def calls_on_all(unit: FormatCalls, text: str) -> Optional[List[Dict[Key, Call]]
 
 
 def own_text(text: str) -> str:
-    """Returns a text without what is of system headers, without markers, and without literals: a name for each wide one;
-    and without what asks whether an expression is an array.
+    """Returns a text without what is of system headers, without markers, without literals, except a name for each wide
+    one, and without what asks whether an expression is an array.
     """
     own = LINE_MARKER.sub("", "".join(text[start:end] for start, end in own_spans(text)))
     own = LITERAL.sub(lambda it: f" {WIDE} " if own[it.start() - 1 : it.start()] == "L" else PLAIN, own)
@@ -102,7 +106,7 @@ def own_text(text: str) -> str:
 
 
 def call_on_all(call: Call) -> Optional[Sequence[Call]]:
-    """Returns a call on each platform, or None if the types of its arguments, or what its formats take, aren't known."""
+    """Returns a call on each platform, or None if it isn't known what its arguments are and what its formats take."""
     try:
         formats = [[format_on(it, platform) for it in call.formats] for platform in PLATFORMS]
         taken = [[taken_by(it, platform) for it in of] for of, platform in zip(formats, PLATFORMS)]
