@@ -88,7 +88,7 @@ LIMITS = {
     # With what rt prints for an open goal, and what is inlined.
     "docs/CONTRIBUTING.md": 1350,
     "SECURITY.md": 162,
-    "CHANGELOG.md": 1525,
+    "CHANGELOG.md": 1535,
     CALLING: 9300,
 }
 MARGIN = 10
