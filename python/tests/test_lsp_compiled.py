@@ -214,6 +214,25 @@ class Moving(unittest.TestCase):
         self.assertEqual(part.take(CompiledAnswer("u", (two,), "a.c:8: unknown type")), "a.c:8: unknown type")
 
 
+    def test_text_moves_too(self):
+        """Until a text is read again, what it said is where it is now."""
+        document = Document("file:///a.c", "c", SOURCE, 1, UTF_16)
+        view = SourceView(document, Options())
+        while not view.advance(time.monotonic() + 60):
+            pass
+        [one] = view.shown()
+        at = SOURCE.index("%hs")
+        self.assertEqual((one.start, one.end), (at, at + 3))
+        for text, wanted in [("xx" + SOURCE, at + 2), (SOURCE, at), (SOURCE.replace("%hs", "%hhs"), None), (SOURCE, None)]:
+            document.change({"text": text})
+            view.changed()
+            self.assertEqual([it.start for it in view.shown()], [] if wanted is None else [wanted], text)
+        while not view.advance(time.monotonic() + 60):
+            pass
+        self.assertEqual([it.start for it in view.shown()], [at])
+        view.has(Options(beside_clangd=True))
+        self.assertEqual(view.shown(), [])
+
     def test_reopened(self):
         """What is found in a text of a document that was closed isn't said of it once it is open again."""
         document = Document("file:///a.c", "c", SOURCE, 1, UTF_16)

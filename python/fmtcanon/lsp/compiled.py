@@ -2,7 +2,7 @@
 
 import re
 import time
-from typing import Any, Callable, Dict, Iterator, List, NamedTuple, Optional, Sequence, Tuple
+from typing import Any, Callable, Dict, Iterable, Iterator, List, NamedTuple, Optional, Sequence, Tuple, TypeVar
 
 from ..compiling.platforms import COMPILED
 from ..fitting.judging import Fit
@@ -19,6 +19,8 @@ SIMPLE = re.compile(rb"[*&!~+-]*(?:[\w$]+|\([^()]*\))(?:(?:\.|->)[\w$]+|\[[^][]*
 NUMBER = re.compile(r"\d+")
 # How many lines a call goes at most whose format the text knows, too.
 LINES_OF_A_CALL = 50
+# What has a start and an end in a text.
+Spanning = TypeVar("Spanning", "FindingAt", Diagnosis)
 
 
 class TextChange(NamedTuple):
@@ -28,6 +30,14 @@ class TextChange(NamedTuple):
     end: int
     growth: int
 
+    def moved(self, one: Spanning) -> Optional[Spanning]:
+        """Returns what is said of a part of the text, after the change, or None if it is about what changed."""
+        if one.end <= self.start:
+            return one
+        if one.start < self.end:
+            return None
+        return one._replace(start=one.start + self.growth, end=one.end + self.growth)
+
 
 class FindingAt(NamedTuple):
     """A finding of fmtcanon-check, and its offsets in a document."""
@@ -35,14 +45,6 @@ class FindingAt(NamedTuple):
     start: int
     end: int
     finding: Finding
-
-    def after(self, change: TextChange) -> Optional["FindingAt"]:
-        """Returns the finding after a change of the text, or None if it is about what changed."""
-        if self.end <= change.start:
-            return self
-        if self.start < change.end:
-            return None
-        return self._replace(start=self.start + change.growth, end=self.end + change.growth)
 
     @property
     def is_by_clang(self) -> bool:
@@ -83,11 +85,15 @@ def longest(size: int, is_equal: Callable[[int, int], bool]) -> int:
     return low
 
 
-def after(found: Sequence[FindingAt], changes: Sequence[TextChange]) -> List[FindingAt]:
-    """Returns findings after changes of the text, without those that are about what changed."""
-    for change in changes:
-        found = [it for it in (one.after(change) for one in found) if it is not None]
-    return list(found)
+def after(found: Iterable[Spanning], changes: Sequence[TextChange]) -> List[Spanning]:
+    """Returns what is said of a text after changes of it, without what is about that which changed."""
+    listed: List[Spanning] = []
+    for one in found:
+        now: Optional[Spanning] = one
+        for change in changes:
+            now = change.moved(now) if now is not None else None
+        listed += [now] if now is not None else []
+    return listed
 
 
 class CompiledPart:
@@ -104,12 +110,13 @@ class CompiledPart:
         # Whether that is to be said: once the document is opened or saved, and not of each text in between.
         self.is_to_say = True
 
-    def changed(self, data: bytes) -> None:
-        """Notes that the document has another text."""
+    def changed(self, data: bytes) -> TextChange:
+        """Notes that the document has another text, and returns what changed."""
         change = change_between(self.data, data)
         self.changes.append(change)
         self.data, self.found = data, after(self.found, [change])
         self.due = time.monotonic() + SOON
+        return change
 
     def saved(self) -> None:
         """Notes that files may be others now."""

@@ -59,7 +59,7 @@ class Server:
         # The requests that were cancelled before they were answered.
         self.cancelled: Set[Any] = set()
         self.views: Dict[str, DocumentView] = {}
-        self.compiling = Compiling(self.views, self.log, self.publish_if_read)
+        self.compiling = Compiling(self.views, self.log, self.publish)
         self.options, self.encoding = Options(), UTF_16
         self.is_initialized = self.is_stopping = self.is_done = False
 
@@ -236,11 +236,6 @@ class Server:
         listed = [shown_diagnosis(document, it) for it in view.shown()]
         published = {"uri": document.uri, "version": document.version, "diagnostics": listed}
         self.send(method="textDocument/publishDiagnostics", params=published)
-
-    def publish_if_read(self, view: DocumentView) -> None:
-        """Publishes what compiling found, unless the text is still being read: then that follows."""
-        if view.due is None and view.running is None:
-            self.publish(view)
 
     # Requests about a place.
 

@@ -12,7 +12,7 @@ from ..source.declared import Shapes, declared_for, declared_in
 from ..source.written import WrittenFormat, WrittenSource
 from . import calls, catalogs, diagnosing
 from .catalogs import Hover
-from .compiled import CompiledPart, diagnosis_of, fixes_of, is_said_by
+from .compiled import CompiledPart, after, diagnosis_of, fixes_of, is_said_by
 from .diagnosing import Diagnosis, SourceFix
 from .documents import Document
 from .markdown import about_directive, about_format, one_line
@@ -51,6 +51,11 @@ class DocumentView:
     def has(self, options: Options) -> None:
         """Takes other options."""
         self.options, self.running, self.due = options, None, time.monotonic()
+
+    @property
+    def is_read(self) -> bool:
+        """Whether all is found in the text as it is."""
+        return self.due is None and self.running is None
 
     def is_due(self, now: float) -> bool:
         return self.running is not None or (self.due is not None and self.due <= now)
@@ -103,16 +108,20 @@ class SourceView(DocumentView):
         self.written: Optional[WrittenSource] = None
         self.before: Optional[WrittenSource] = None
         self.compiled = CompiledPart(document.data)
+        # What was found in the text before it changed, where that is now.
+        self.earlier: List[Diagnosis] = []
 
     def changed(self) -> None:
+        before = self.found if self.is_read else self.earlier
         super().changed()
-        self.compiled.changed(self.document.data)
+        self.earlier = after(before, [self.compiled.changed(self.document.data)])
         self.written = None
 
     def saved(self) -> None:
         self.compiled.saved()
 
     def has(self, options: Options) -> None:
+        self.earlier = self.found if self.is_read else self.earlier
         super().has(options)
         self.shapes = None
         self.compiled.saved()
@@ -141,14 +150,14 @@ class SourceView(DocumentView):
 
     def shown(self) -> List[Diagnosis]:
         """Returns what is said of the document, each once, except what clangd says."""
-        document = self.document
+        document, written = self.document, self.found if self.is_read else self.earlier
         rejected: Dict[str, List[int]] = {}
-        for one in self.found:
+        for one in written:
             if one.format is not None:
                 text = one.format.decode(errors="backslashreplace")
                 rejected.setdefault(text, []).append(document.line_of(one.start))
         compiled = [it for it in self.compiled.found if not is_said_by(it, rejected, document.line_of(it.start))]
-        found = sorted([*self.found, *map(diagnosis_of, compiled)], key=lambda it: it.start)
+        found = sorted([*written, *map(diagnosis_of, compiled)], key=lambda it: it.start)
         return [it for it in found if not (it.is_by_clang and self.options.beside_clangd)]
 
     def near(self, offset: int) -> WrittenSource:
@@ -209,7 +218,7 @@ class CatalogView(DocumentView):
 
     def fixes(self, start: int, end: int) -> Iterator[Tuple[Diagnosis, SourceFix]]:
         # After a change the faults are found again first: their offsets are those of the text before it.
-        if self.due is None and self.running is None:
+        if self.is_read:
             for one in self.found:
                 for it in one.fixes if one.start <= end and start <= one.end else ():
                     if catalogs.helps(self.document, it, self.options.models):
