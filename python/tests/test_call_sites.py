@@ -15,6 +15,7 @@ DECLARATIONS = [
     ("int (*say[2])(const char *, ...);", {"say"}),
     ("int (*choose(int which))(const char *, ...);", {"choose", "which"}),
     ("struct s { int x; void (*say)(int, const char *, ...); };", {"say"}),
+    ("void say [[gnu::__format__(__printf__, 1, 2), gnu::cold]] (const char *, ...);", {"say"}),
     ("int say(const char *,\n# 3 \"x.h\" 3 4\n ...\n# 4 \"x.h\"\n);", {"say"}),
     ("typedef int say_t(const char *, ...); struct s { say_t *say; };", {"say_t", "say"}),
     ("typedef int (*say_t)(const char *, ...); typedef say_t more_t; more_t first, second;", None),

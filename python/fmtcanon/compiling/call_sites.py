@@ -19,8 +19,9 @@ ATTRIBUTE = re.compile(r"format(?:__)?\s*\(")
 # What is between declarations and statements.
 BETWEEN = ";{}"
 PARENTHESIS = re.compile(r"[()]")
-# A name before a parenthesis, or before the end of one and another, as in `(*name[2])(`.
-BEFORE = re.compile(rf"({WORD})(?:{SPACE}\[[^\]]*\])*(?:{SPACE}\))*{SPACE}\(")
+# A name before a parenthesis, or before the end of one and another, as in `(*name[2])(`,
+# also with attributes, as in `name [[cold]] (`.
+BEFORE = re.compile(rf"({WORD})(?:{SPACE}\[+[^\]]*\]+)*(?:{SPACE}\))*{SPACE}\(")
 # What gives a name the type of something else; and what comes after it, up to its end or its value.
 DEDUCING = [re.compile(rf"{it}(?:__)?") for it in ("auto", "typeof", "decltype")]
 DECLARED = re.compile(r"[^;{}()=]*")

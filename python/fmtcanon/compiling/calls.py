@@ -3,6 +3,7 @@ format, and the types of the arguments after promotion.
 """
 
 import collections
+import re
 from typing import Any, Counter, Dict, NamedTuple, Optional, Sequence, Tuple
 
 from ..kinds import Type
@@ -12,9 +13,9 @@ from .call_sites import call_sites
 from .compile_commands import CompileCommand
 from .declared_types import is_declared_long, typedef_of
 from .formats import AROUND, Format, Formats
-from .functions import Callee, Callees, Functions
+from .functions import Callee, Callees, Functions, is_system
 from .overloads import Overloads
-from .parsing import CALL_EXPR, UNREADABLE, Parsed
+from .parsing import CALL_EXPR, UNREADABLE, VISIT_INSIDE, Parsed
 from .platforms import Platform
 from .retargeting import TYPE_MARK, own_spans
 
@@ -22,6 +23,7 @@ from .retargeting import TYPE_MARK, own_spans
 # compiler reads what names it.
 OF_GCC = [f"-D{it}=__float128" for it in ("_Float32", "_Float32x", "_Float64", "_Float64x")]
 WITHOUT_INT128 = ["-D__int128=long long", "-D__int128_t=long long", "-D__uint128_t=unsigned long long"]
+TEMPLATE = re.compile(r"template\s*<")
 ARRAYS = ("CONSTANTARRAY", "INCOMPLETEARRAY", "VARIABLEARRAY")
 INTEGERS = {
     "INT": Type.INT,
@@ -103,11 +105,27 @@ class FormatCalls(Calls):
         # One character for each byte.
         plain = self.text.decode("latin-1")
         spans = [(max(start, self.first), end) for start, end in own_spans(plain) if end > self.first]
+        if self.command.is_cxx() and any(TEMPLATE.search(plain, *it) for it in spans):
+            self.walk()
+            return
         given = (it.encode().decode("latin-1") for it in functions.given)
         for at in call_sites(plain, spans, given):
-            cursor = self.cursor_at(at)
-            if cursor._kind_id == CALL_EXPR:
-                self.note_call(cursor)
+            self.note(self.cursor_at(at))
+
+    def walk(self) -> None:
+        """Notes the calls outside of system headers. What libclang finds at a place in a template may be what was made of
+        that for some types.
+        """
+        for cursor in self.unit.cursor.get_children():
+            if not is_system(cursor):
+                self.note(cursor)
+                self.visit(self.note, cursor)
+
+    def note(self, cursor: Any) -> int:
+        """Notes a cursor, if it is a call. Returns that what is inside is visited, too."""
+        if cursor._kind_id == CALL_EXPR:
+            self.note_call(cursor)
+        return VISIT_INSIDE
 
     def note_call(self, cursor: Any) -> None:
         callee = self.callees.callee(cursor)

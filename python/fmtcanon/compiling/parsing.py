@@ -171,12 +171,8 @@ class Parsed:
         cursor._tu = self.unit
         return cursor
 
-    def visit(self, function: Callable[[Any], int]) -> None:
-        """Calls a function for each cursor, which returns whether to go on inside of it."""
-        self.visit_in(self.unit.cursor, function)
-
-    def visit_in(self, top: Any, function: Callable[[Any], int]) -> None:
-        """Calls a function for each cursor inside of another.
+    def visit(self, function: Callable[[Any], int], top: Any = None) -> None:
+        """Calls a function for each cursor, or each in one, which returns whether to go on inside of it.
 
         ctypes would only print an exception of the function, and go on: the first is kept, and raised at the end.
         """
@@ -191,7 +187,7 @@ class Parsed:
                 return 0
 
         library = cindex.conf.lib
-        library.clang_visitChildren(top, library.clang_visitChildren.argtypes[1](called), None)
+        library.clang_visitChildren(top or self.unit.cursor, library.clang_visitChildren.argtypes[1](called), None)
         if failures:
             raise failures[0]
 
