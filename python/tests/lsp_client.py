@@ -18,15 +18,17 @@ PATIENCE = 60
 class Client:
     """An editor without a screen."""
 
-    def __init__(self, uri=URI, options=None, encodings=None, environment=None, start=True):
-        words = [sys.executable, "-B", "-m", "fmtcanon.lsp"]
+    def __init__(
+        self, uri=URI, options=None, encodings=None, environment=None, start=True, python=sys.executable, root=None
+    ):
+        words = [python, "-B", "-m", "fmtcanon.lsp"]
         pipes = {"stdin": subprocess.PIPE, "stdout": subprocess.PIPE, "stderr": subprocess.PIPE}
         environment = {**os.environ, "PYTHONPATH": str(TOP / "python"), **(environment or {})}
         self.process = subprocess.Popen(words, env=environment, **pipes)
         self.uri, self.number, self.framing, self.held, self.notes = uri, 0, Framing(), [], []
         if start:
             general = {"positionEncodings": encodings} if encodings else {}
-            given = {"capabilities": {"general": general}, "initializationOptions": options}
+            given = {"capabilities": {"general": general}, "initializationOptions": options, "rootUri": root}
             self.capabilities = self.request("initialize", given)["result"]["capabilities"]
             self.notify("initialized")
 
@@ -99,6 +101,25 @@ class Client:
             "context": {},
         }
         return self.request("textDocument/codeAction", given)["result"]
+
+    def logged(self):
+        """The next message of the log."""
+        return self.next(lambda it: it.get("method") == "window/logMessage")["params"]["message"]
+
+    def apply(self, action):
+        """The whole text after an action."""
+        lines = self.text.split("\n")
+        starts = [sum(len(it) + 1 for it in lines[:at]) for at in range(len(lines) + 1)]
+
+        def offset(place):
+            line = lines[place["line"]].encode("utf-16-le")[: 2 * place["character"]]
+            return starts[place["line"]] + len(line.decode("utf-16-le"))
+
+        text = self.text
+        listed = [(it["range"], it["newText"]) for it in action["edit"]["changes"][self.uri]]
+        for start, end, new in sorted(((offset(a["start"]), offset(a["end"]), new) for a, new in listed), reverse=True):
+            text = text[:start] + new + text[end:]
+        return text
 
     def fixed(self, action):
         """The line after an action."""

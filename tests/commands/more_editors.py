@@ -1,5 +1,5 @@
 """Reads the lines of findings with vim's quickfix list and Emacs' compilation mode, as these are installed, and lets
-neovim and Emacs with eglot talk to fmtcanon-lsp.
+neovim and Emacs with eglot talk to fmtcanon-lsp, which has libclang.
 """
 
 import json
@@ -87,7 +87,14 @@ void f(int n, double x)
     printf("%5000d\\n", n);
 }
 """
+SIZE = '#include <stdio.h>\nvoid f(size_t size)\n{\n    printf("é %lu bytes\\n", size);\n}\n'
 SERVED = {
+    "size.c": (
+        SIZE,
+        [[4, 15, 1, "size"]],
+        "`%lu` ← `size`: argument 1, unsigned long: decimal",
+        SIZE.replace("%lu", "%zu"),
+    ),
     "a.c": (
         SOURCE,
         [[4, 15, 4, "no-effect"], [5, 12, 2, "WidthTooLarge"]],
@@ -203,7 +210,7 @@ def test_emacs(lines, tools, trials):
     trials.expect((lines / "lines").read_text(encoding="utf-8"), found, PLACES)
 
 
-def with_commands(folder, work):
+def with_commands(folder, work, python):
     """The environment in which the commands are on the path, and the recipes of the page in a folder."""
     for language, name in RECIPES.items():
         [recipe] = re.findall(
@@ -212,16 +219,16 @@ def with_commands(folder, work):
         (work / name).write_text(recipe, encoding="utf-8")
     (work / "bin").mkdir()
     for name in ("check", "explain", "lsp", "po"):
-        words = " ".join(Tool(name, folder, work).words)
+        words = " ".join(Tool(name, folder, work, python).words)
         (work / f"bin/fmtcanon-{name}").write_text(f'#!/bin/sh\nexec {words} "$@"\n', encoding="utf-8")
         (work / f"bin/fmtcanon-{name}").chmod(0o755)
     path = f"{work}/bin{os.pathsep}{os.environ['PATH']}"
     return {**Tool("lsp", folder, work).environment, "PATH": path, "HOME": str(work), "XDG_CACHE_HOME": str(work)}
 
 
-def served(words, folder, work, trials):
+def served(words, folder, work, python, trials):
     """Compares what an editor shows by the server with what is expected of each file."""
-    environment = with_commands(folder, work)
+    environment = with_commands(folder, work, python)
     for name, (text, places, hover, fixed) in SERVED.items():
         (work / name).write_text(text, encoding="utf-8")
         (work / "found").unlink(missing_ok=True)
@@ -231,27 +238,27 @@ def served(words, folder, work, trials):
         trials.expect(f"{name} in {words[0]}", shown, [places, hover, fixed])
 
 
-def test_neovim(folder, work, tools, trials):
+def test_neovim(folder, work, python, tools, trials):
     """Neovim shows what the server says, with the recipe of the page."""
     tools.need("nvim", "neovim")
     (work / "serve.lua").write_text(NEOVIM, encoding="utf-8")
-    served(["nvim", "-u", "NONE", "-n", "--headless", "-S", "serve.lua", "-c", "cquit"], folder, work, trials)
+    served(["nvim", "-u", "NONE", "-n", "--headless", "-S", "serve.lua", "-c", "cquit"], folder, work, python, trials)
 
 
-def test_eglot(folder, work, tools, trials):
+def test_eglot(folder, work, python, tools, trials):
     """Emacs with eglot shows what the server says, with the recipe of the page."""
     tools.need("emacs", "emacs-nox")
     words = ["emacs", "-q", "--batch", "--eval", "(progn (package-initialize) (require 'eglot))"]
     done = subprocess.run(words, check=False, timeout=TIMEOUT, stdin=subprocess.DEVNULL, capture_output=True)
     trials.expect("eglot is there: the package elpa-eglot has it", done.returncode, 0)
     (work / "serve.el").write_text(EGLOT, encoding="utf-8")
-    served(["emacs", "-q", "--batch", "-l", "serve.el"], folder, work, trials)
+    served(["emacs", "-q", "--batch", "-l", "serve.el"], folder, work, python, trials)
 
 
-def test_vim_recipe(folder, work, tools, trials):
+def test_vim_recipe(folder, work, python, tools, trials):
     """Without a server, vim explains the format at the cursor and lists findings of a catalog."""
     tools.need("vim", "vim")
-    environment = with_commands(folder, work)
+    environment = with_commands(folder, work, python)
     (work / "a.c").write_text(SOURCE, encoding="utf-8")
     (work / "de.po").write_text(FILES["in/de.po"], encoding="utf-8")
     (work / "read.vim").write_text(VIM_RECIPE, encoding="utf-8")
@@ -260,10 +267,10 @@ def test_vim_recipe(folder, work, tools, trials):
     trials.expect("the recipe for vim", found, wanted)
 
 
-def test_efm(folder, work, tools, trials):
+def test_efm(folder, work, python, tools, trials):
     """With efm-langserver an editor shows the findings of a catalog."""
     tools.need("efm-langserver", "efm-langserver")
-    environment = with_commands(folder, work)
+    environment = with_commands(folder, work, python)
     text = FILES["in/de.po"]
     (work / "de.po").write_text(text, encoding="utf-8")
     uri = f"file://{work}/de.po"

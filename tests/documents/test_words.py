@@ -80,7 +80,7 @@ LIMITS = {
     "docs/TRANSLATIONS.md": 860,
     "docs/EXPLAINING.md": 470,
     # With settings of editors.
-    "docs/EDITORS.md": 560,
+    "docs/EDITORS.md": 720,
     # With the figures of real sources and of compilers, and what is for every day.
     "docs/PORTING.md": 1900,
     "docs/REFACTORING.md": 1200,
@@ -98,8 +98,8 @@ LIMITS = {
     "docs/internals/ARCHITECTURE.md": 1760,
     "docs/internals/DECISIONS.md": 2080,
     "docs/CONTRIBUTING.md": 980,
-    "SECURITY.md": 150,
-    "CHANGELOG.md": 1525,
+    "SECURITY.md": 162,
+    "CHANGELOG.md": 1535,
     CALLING: 9400,
     # What works in proofs, with an index by what rt prints, and how four crates are proved.
     PROOFS: 4200,

@@ -1,25 +1,13 @@
 """The files that are judged, and what is left or skipped, and why."""
 
 import os
-from typing import Any, FrozenSet, Iterator, Optional
+from typing import Any, Iterator, Optional
 
 from ..compiling.compile_commands import SOURCES
-from ..compiling.left import Left
-from ..compiling.sources import NO_COMMAND, Files, Name
+from ..compiling.sources import NO_COMMAND, Files
+from ..fitting.asking import job_of
 from ..fitting.checking import Job, Question
 from .changes import GitChange
-
-
-def job_of(
-    files: Files, name: Name, question: Question, source: Optional[bytes] = None, among: FrozenSet[str] = frozenset()
-) -> Job:
-    """Returns what is to be done for a file."""
-    why = files.why_skipped(name)
-    try:
-        commands = () if why else files.commands(name.path)
-    except Left as left:
-        return Job(name.path, (), question, str(left))
-    return Job(name.path, commands, question, why_skipped=why, source=source, among=among)
 
 
 def jobs_of(files: Files, question: Question, change: Optional[GitChange] = None) -> Iterator[Job]:

@@ -82,6 +82,9 @@ class Calls(Parsed):
 class FormatCalls(Calls):
     """The calls with formats in the text of a unit on a platform, by their keys."""
 
+    # Where what is looked at begins in the text.
+    first = 0
+
     def __init__(self, command: CompileCommand, text: bytes, platform: Platform, functions: Functions) -> None:
         words = WITHOUT_INT128 if platform.model is Model.ILP32 else []
         super().__init__(command, text, functions, [f"--target={platform.target}", *OF_GCC, *words])
@@ -95,10 +98,14 @@ class FormatCalls(Calls):
         # Whether all calls are the same elsewhere, if their arguments have the types there that are declared.
         self.is_settled = True
         self.overloads = Overloads(self) if command.is_cxx() else None
+        self.note_calls(functions)
+
+    def note_calls(self, functions: Functions) -> None:
+        """Notes the calls in the text after the first bytes that have none."""
         # One character for each byte.
         plain = self.text.decode("latin-1")
-        spans = own_spans(plain)
-        if command.is_cxx() and any(TEMPLATE.search(plain, *it) for it in spans):
+        spans = [(max(start, self.first), end) for start, end in own_spans(plain) if end > self.first]
+        if self.command.is_cxx() and any(TEMPLATE.search(plain, *it) for it in spans):
             self.walk()
             return
         given = (it.encode().decode("latin-1") for it in functions.given)

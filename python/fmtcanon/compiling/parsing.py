@@ -55,6 +55,12 @@ def as_utf8(text: bytes) -> bytes:
         return OTHER_BYTES.sub(b"_", text)
 
 
+def without_gnu_printf(text: bytes) -> bytes:
+    """Returns a text in which attributes name the language of formats as clang does."""
+    # Looking for the word first takes a tenth of the time.
+    return GNU_PRINTF.sub(rb"\1printf", text) if b"gnu_printf" in text else text
+
+
 # That of a function whose attribute has numbers that aren't constants of numbers.
 UNREADABLE = Shape(-1, None)
 
@@ -66,10 +72,7 @@ class Parsed:
         self.command = command
         self.folders = tuple(f"{it}/" for it in command.system_folders())
         self.files: Dict[str, str] = {}
-        self.text = as_utf8(text)
-        # Looking for the word first takes a tenth of the time.
-        if b"gnu_printf" in self.text:
-            self.text = GNU_PRINTF.sub(rb"\1printf", self.text)
+        self.text = without_gnu_printf(as_utf8(text))
         language = "-xc++" if command.is_cxx() else "-xc"
         kept = [
             it.replace("gnu23", "gnu2x").replace("c23", "c2x")
@@ -77,12 +80,15 @@ class Parsed:
             if it.startswith(("-std=", "-m32", "-mx32", "-funsigned-char"))
         ]
         try:
-            self.unit = cindex.Index.create().parse(
-                "/unit", args=[language, *FLAGS, *kept, *SHIMS, *words], unsaved_files=[("/unit", self.text.decode())]
-            )
+            self.unit = self.translated([language, *FLAGS, *kept, *SHIMS, *words])
         except (cindex.LibclangError, cindex.TranslationUnitLoadError) as error:
             raise Left(f"libclang: {error}") from error
-        self.file = self.unit.get_file("/unit")
+        self.file = self.unit.get_file(self.unit.spelling)
+
+    def translated(self, words: Sequence[str]) -> Any:
+        """Returns what libclang makes of the text with the words of a command."""
+        files = [("/unit", self.text.decode())]
+        return cindex.Index.create().parse("/unit", args=words, unsaved_files=files)
 
     def errors(self) -> List[str]:
         """Returns what libclang can't parse outside of the compiler's own headers."""

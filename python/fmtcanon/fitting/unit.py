@@ -1,12 +1,14 @@
 """A unit: a file as one of its compile commands compiles it, and its calls on every platform."""
 
 import dataclasses
+from concurrent.futures import ThreadPoolExecutor
 from typing import Dict, List, Mapping, NamedTuple, Optional, Sequence
 
 from ..compiling.calls import Call, FormatCalls, Key
 from ..compiling.compile_commands import CompileCommand
 from ..compiling.dependencies import Dependencies
 from ..compiling.functions import Functions
+from ..compiling.kept import KeptUnits
 from ..compiling.left import Left
 from ..compiling.parsing import as_utf8
 from ..compiling.platforms import COMPILED, PLATFORMS, Platform
@@ -20,13 +22,15 @@ from .alike import calls_on_all
 
 class Settings(NamedTuple):
     """The words that find the headers of this command; functions that take formats, by the options; typedefs, each with
-    the one whose type it has; and the folder of this command if it is to be known what units read.
+    the one whose type it has; the folder of this command if it is to be known what units read; and those that are kept
+    while their sources are edited.
     """
 
     words: Sequence[str]
     functions: Mapping[str, Shape]
     types: Mapping[str, str]
     folder: str = ""
+    kept: Optional[KeptUnits] = None
 
 
 class Unit:
@@ -45,9 +49,7 @@ class Unit:
         text = self.first_text()
         first = self.parsed(text, COMPILED)
         known = None if settings.types else calls_on_all(first, text)
-        self.calls: List[Dict[Key, Call]] = known or [
-            first.found if it is COMPILED else self.parsed(text, it).found for it in PLATFORMS
-        ]
+        self.calls: List[Dict[Key, Call]] = known or [it.found for it in self.parsed_everywhere(text, first)]
         errors = first.errors()
         self.why_left: Optional[str] = errors[0] if errors else None
         self.unread, self.others = first.unread, first.others
@@ -75,9 +77,19 @@ class Unit:
             self.defined = bytes(self.command.run(self.source, "-E", "-dD", "-w").stdout)
         return self.defined
 
+    def parsed_everywhere(self, text: str, first: FormatCalls) -> List[FormatCalls]:
+        """Returns the calls in a text on each platform: on one they are known. Those that are kept are parsed together."""
+        others = [it for it in PLATFORMS if it is not COMPILED]
+        if self.settings.kept is None:
+            return [first, *(self.parsed(text, it) for it in others)]
+        with ThreadPoolExecutor(len(others)) as pool:
+            return [first, *pool.map(lambda it: self.parsed(text, it), others)]
+
     def parsed(self, text: str, platform: Platform) -> FormatCalls:
         own = {name: platform.types.get(type, type) for name, type in self.settings.types.items()}
         functions = Functions(self.settings.functions)
+        if self.settings.kept is not None:
+            return self.settings.kept.calls(self.command, text, platform, own, functions)
         return FormatCalls(self.command, retargeted(text, platform, own).encode(), platform, functions)
 
     def marked(self, text: str) -> Dict[Key, Call]:

@@ -153,27 +153,11 @@ class Workers:
     def start(self) -> None:
         """Starts one more process, unless the system has no means for it."""
         try:
-            from multiprocessing import Pipe, Process
-
-            own, other = Pipe()
-        except (ImportError, OSError):
+            self.all.append(started(self.work, [it.connection for it in self.all]))
+        except (ImportError, OSError, ValueError):
             self.jobs = len(self.all)
-            return
-        process = Process(
-            target=serve, args=(self.work, other, [own, *(it.connection for it in self.all)]), daemon=True
-        )
-        # A signal for the new process doesn't find the handlers of this one.
-        before = signal.pthread_sigmask(signal.SIG_BLOCK, NUMBERS)
-        try:
-            process.start()
-            self.all.append(Worker(process, own))
+        else:
             self.idle.append(self.all[-1])
-        except OSError:
-            own.close()
-            self.jobs = len(self.all)
-        finally:
-            signal.pthread_sigmask(signal.SIG_SETMASK, before)
-            other.close()
 
     def end(self) -> None:
         """Ends the processes: each sees that its connection is closed. One that doesn't end in time is killed."""
@@ -182,6 +166,29 @@ class Workers:
         limit = time.monotonic() + GRACE
         for one in self.all:
             wait_or_kill(one.process, max(limit - time.monotonic(), 0))
+
+
+def started(work: Callable[[Any], Any], others: Iterable[Connection] = ()) -> Worker:
+    """Starts a process that works on what it gets by its connection, and holds none of the others. Raises `ImportError`,
+    `OSError` or `ValueError` if the system has no means for it.
+    """
+    from multiprocessing import get_context
+
+    # Another way to start one runs the command's own file again.
+    context = get_context("fork")
+    own, other = context.Pipe()
+    process = context.Process(target=serve, args=(work, other, [own, *others]), daemon=True)
+    # A signal for the new process doesn't find the handlers of this one.
+    before = signal.pthread_sigmask(signal.SIG_BLOCK, NUMBERS)
+    try:
+        process.start()
+    except OSError:
+        own.close()
+        raise
+    finally:
+        signal.pthread_sigmask(signal.SIG_SETMASK, before)
+        other.close()
+    return Worker(process, own)
 
 
 def wait_or_kill(process: Any, seconds: float) -> None:
@@ -214,7 +221,8 @@ def serve(work: Callable[[Any], Any], own: Connection, others: Iterable[Connecti
     for it in others:
         it.close()
     given: queue.SimpleQueue[Any] = queue.SimpleQueue()
-    threading.Thread(target=receive, args=(own, given), daemon=True).start()
+    receiving = threading.Thread(target=receive, args=(own, given), daemon=True)
+    receiving.start()
     while True:
         item = given.get()
         try:
@@ -224,8 +232,8 @@ def serve(work: Callable[[Any], Any], own: Connection, others: Iterable[Connecti
         try:
             own.send(result)
         except OSError:
-            # Nobody waits for it any more.
-            return
+            # Nobody waits for it any more: the process ends once it has cleaned.
+            receiving.join()
 
 
 def receive(own: Connection, given: queue.SimpleQueue[Any]) -> None:

@@ -12,15 +12,12 @@ from ..formats.explaining import ExplainedDirective, Explanation
 from ..formats.items import MACRO
 from ..formats.rejections import instead_of, instead_span
 from ..frame.excerpts import Excerpt
-from ..frame.findings import ERROR, NOTE, WARNING, Finding
+from ..frame.findings import Finding
 from ..source.macros import expansion
 from ..source.written import explained
-from . import diagnosing
-from .diagnosing import Diagnosis, Related, SourceFix, fix
+from .diagnosing import LEVELS, Diagnosis, Related, SourceFix, fix
 from .documents import Document
 from .markdown import about_directive, about_format
-
-LEVELS = {ERROR: diagnosing.ERROR, WARNING: diagnosing.WARNING, NOTE: diagnosing.INFORMATION}
 
 
 class Hover(NamedTuple):

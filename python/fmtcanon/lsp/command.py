@@ -12,7 +12,8 @@ DESCRIPTION = """\
 A language server for printf formats in C, C++ and message catalogs, over standard input and output.
 
 It says what each directive does and which argument it takes, what is rejected, which parts have no effect, and what is \
-wrong with a translation. It needs no compiler, runs nothing and writes no file."""
+wrong with a translation. With libclang it also says what fmtcanon-check finds: then it runs the preprocessors of \
+compilers, and writes to a temporary folder."""
 EPILOG = """\
 Options of the editor, as initializationOptions:
   model          the data models: lp64, ilp32, llp64, both, or all, the default;
@@ -20,6 +21,12 @@ Options of the editor, as initializationOptions:
   beside_clangd  true: what clangd says is not said again
   functions      functions that take formats, each as NAME:FORMAT[:FIRST],
                  counted from 1
+  compile        false: nothing is compiled
+  database       the folder of a compile_commands.json; otherwise the next one
+                 above a file, or in a folder build there
+  flags          flags of the compile command, cc, for files without one
+  added          kinds of findings to add: rank, sign, composed
+  seconds        how long compiling a text may take; 60 otherwise
 
 docs/EDITORS.md says how editors start it.
 

@@ -1,10 +1,11 @@
 """Says what is wrong with the formats of a source as it is written, and what may be written instead."""
 
-from typing import Iterator, NamedTuple, Tuple
+from typing import Iterator, NamedTuple, Optional, Tuple
 
 from .. import Kind, Model, Refused
 from ..formats.layout import as_source
 from ..formats.rejections import advice_on, instead_of, instead_span, refused_span
+from ..frame import findings
 from ..kinds import Part
 from ..source.written import WrittenDirective, WrittenFormat
 from ..specification import SpelledSpecification
@@ -12,6 +13,7 @@ from ..specification import SpelledSpecification
 # The levels of the protocol, and its tag for what has no effect.
 ERROR, WARNING, INFORMATION, HINT = 1, 2, 3, 4
 UNNECESSARY = 1
+LEVELS = {findings.ERROR: ERROR, findings.WARNING: WARNING, findings.NOTE: INFORMATION}
 NO_EFFECT = "no-effect"
 # The only rejections that clang says nothing of.
 NOT_BY_CLANG = (Kind.WIDTH_TOO_LARGE, Kind.PRECISION_TOO_LARGE, Kind.TOO_LONG)
@@ -19,13 +21,22 @@ NOT_BY_CLANG = (Kind.WIDTH_TOO_LARGE, Kind.PRECISION_TOO_LARGE, Kind.TOO_LONG)
 WITH_SIGN = "difFeEgGaA"
 
 
+class TextEdit(NamedTuple):
+    """The offsets of what is replaced in a document, and the new bytes."""
+
+    start: int
+    end: int
+    new: bytes
+
+
 class SourceFix(NamedTuple):
-    """A change of a document: its title, the offsets of what is replaced, and the new bytes."""
+    """A change of a document: its title, the offsets of what is replaced, the new bytes, and what else changes."""
 
     title: str
     start: int
     end: int
     new: bytes
+    more: Tuple[TextEdit, ...] = ()
 
 
 class Related(NamedTuple):
@@ -37,7 +48,9 @@ class Related(NamedTuple):
 
 
 class Diagnosis(NamedTuple):
-    """A fault of a document: its offsets, level, kind and words, what may be done, and whether clang says the same."""
+    """A fault of a document: its offsets, level, kind and words, what may be done, whether clang says the same, and the
+    format if it is rejected.
+    """
 
     start: int
     end: int
@@ -47,6 +60,7 @@ class Diagnosis(NamedTuple):
     fixes: Tuple[SourceFix, ...] = ()
     related: Tuple[Related, ...] = ()
     is_by_clang: bool = False
+    format: Optional[bytes] = None
 
 
 def diagnoses_of(format: WrittenFormat, model: Model) -> Iterator[Diagnosis]:
@@ -66,7 +80,8 @@ def rejected(format: WrittenFormat, refusal: Refused, model: Model) -> Diagnosis
     start, end = format.range_of(first, min(last, len(text)))[:2] if first < len(text) else (format.start, format.end)
     fixes = tuple(instead(format, refusal, model))
     words = advice_on(text, refusal, model)
-    return Diagnosis(start, end, WARNING, refusal.name, words, fixes, is_by_clang=refusal.kind not in NOT_BY_CLANG)
+    is_by_clang = refusal.kind not in NOT_BY_CLANG
+    return Diagnosis(start, end, WARNING, refusal.name, words, fixes, is_by_clang=is_by_clang, format=text)
 
 
 def instead(format: WrittenFormat, refusal: Refused, model: Model) -> Iterator[SourceFix]:

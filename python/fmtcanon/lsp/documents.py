@@ -66,6 +66,10 @@ class Document:
         self.starts[first:] = [*lines, *(it + growth for it in self.starts[last:])]
         self.data = data
 
+    def line_of(self, offset: int) -> int:
+        """Returns the number of the line that has an offset, from 0."""
+        return bisect.bisect_right(self.starts, offset) - 1
+
     def line(self, number: int) -> bytes:
         """Returns a line, counted from 0, without its end; an empty one after the last."""
         if number >= len(self.starts):
@@ -90,7 +94,7 @@ class Document:
         return self.starts[number] + len(bytes_of(units[: 2 * count].decode("utf-16-le", "surrogatepass")))
 
     def position(self, offset: int) -> Dict[str, int]:
-        number = bisect.bisect_right(self.starts, offset) - 1
+        number = self.line_of(offset)
         front = self.data[self.starts[number] : offset]
         if self.encoding == UTF_8 or front.isascii():
             return {"line": number, "character": len(front)}

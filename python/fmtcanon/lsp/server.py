@@ -10,8 +10,9 @@ from typing import Any, Callable, Deque, Dict, List, Mapping, Optional, Set, Tup
 
 from .. import __version__
 from ..frame.output import complain, write
-from .diagnosing import HINT, UNNECESSARY, WARNING, Diagnosis, SourceFix
-from .documents import UTF_8, UTF_16, Document
+from .compiling import Compiling
+from .diagnosing import HINT, UNNECESSARY, WARNING, Diagnosis, SourceFix, TextEdit
+from .documents import UTF_8, UTF_16, Document, path_of
 from .framing import (
     CANCELLED,
     INVALID_PARAMS,
@@ -25,7 +26,7 @@ from .framing import (
     framed,
 )
 from .options import Options, options_of
-from .views import DocumentView, view_of
+from .views import CatalogView, DocumentView, SourceView, view_of
 
 NAME = "fmtcanon"
 INCREMENTAL = 2
@@ -58,11 +59,12 @@ class Server:
         # The requests that were cancelled before they were answered.
         self.cancelled: Set[Any] = set()
         self.views: Dict[str, DocumentView] = {}
+        self.compiling = Compiling(self.views, self.log, self.publish)
         self.options, self.encoding = Options(), UTF_16
         self.is_initialized = self.is_stopping = self.is_done = False
 
     def run(self) -> int:
-        """Answers until the editor says exit or goes, and returns the exit status: 0 only after a request to shut down."""
+        """Answers until the editor says exit or goes. Returns the exit status: 0 only after a request to shut down."""
         try:
             while not self.is_done:
                 is_more = self.take_in(0.0 if self.waiting else self.pause())
@@ -74,18 +76,20 @@ class Server:
                     self.work()
         except BadFraming as fault:
             complain(f"fmtcanon-lsp: {fault}")
+        finally:
+            self.compiling.stop()
         return 0 if self.is_stopping else 1
 
     def pause(self) -> Optional[float]:
         """Returns the seconds until there is work; None if only a message brings some."""
         if any(it.running for it in self.views.values()):
             return 0.0
-        due = [it.due for it in self.views.values() if it.due is not None]
+        due = [*(it.due for it in self.views.values() if it.due is not None), *self.compiling.wake()]
         return max(0.0, min(due) - time.monotonic()) if due else None
 
     def take_in(self, seconds: Optional[float]) -> bool:
-        """Reads what there is, or waits for it up to a time. Returns False at the end."""
-        while select.select([self.descriptor], [], [], seconds)[0]:
+        """Reads what there is, or waits for it or for what was compiled up to a time. Returns False at the end."""
+        while self.descriptor in select.select([self.descriptor, *self.compiling.connections], [], [], seconds)[0]:
             data = os.read(self.descriptor, PART)
             if not data:
                 return False
@@ -151,6 +155,7 @@ class Server:
     # The life of the server and of documents.
 
     def initialize(self, params: Params) -> Params:
+        self.compiling.compiler.root = root_in(params)
         general = (params.get("capabilities") or {}).get("general") or {}
         offered = general.get("positionEncodings") or [UTF_16]
         # The first is what the editor itself counts in.
@@ -164,7 +169,7 @@ class Server:
     def capabilities(self) -> Params:
         return {
             "positionEncoding": self.encoding,
-            "textDocumentSync": {"openClose": True, "change": INCREMENTAL, "save": False},
+            "textDocumentSync": {"openClose": True, "change": INCREMENTAL, "save": True},
             "hoverProvider": True,
             "documentHighlightProvider": True,
             "signatureHelpProvider": {"triggerCharacters": [","]},
@@ -195,8 +200,27 @@ class Server:
         if self.views.pop(uri, None) is not None:
             self.send(method="textDocument/publishDiagnostics", params={"uri": uri, "diagnostics": []})
 
+    def saved(self, params: Params) -> None:
+        """Has the source compiled again that was saved, or all if that was a header."""
+        view = self.views.get(params["textDocument"]["uri"])
+        is_alone = isinstance(view, CatalogView) or (isinstance(view, SourceView) and view.can_be_compiled)
+        for one in [view] if view and is_alone else self.views.values():
+            one.saved()
+
+    def configured(self, params: Params) -> None:
+        """Takes other options."""
+        settings = params.get("settings")
+        given = settings.get(NAME) if isinstance(settings, dict) else None
+        if given is not None:
+            self.options, faults = options_of(given, self.options)
+            for view in self.views.values():
+                view.has(self.options)
+            for fault in faults:
+                self.log(fault)
+
     def work(self) -> None:
         """Works for a moment on what is due, and publishes what is wrong with a document once all is found."""
+        self.compiling.work()
         now = time.monotonic()
         for view in self.views.values():
             try:
@@ -209,7 +233,7 @@ class Server:
 
     def publish(self, view: DocumentView) -> None:
         document = view.document
-        listed = [shown_diagnosis(document, it) for it in view.found]
+        listed = [shown_diagnosis(document, it) for it in view.shown()]
         published = {"uri": document.uri, "version": document.version, "diagnostics": listed}
         self.send(method="textDocument/publishDiagnostics", params=published)
 
@@ -245,6 +269,13 @@ class Server:
         return [shown_action(view.document, *it) for it in islice(view.fixes(start, end), MOST)]
 
 
+def root_in(params: Params) -> Optional[str]:
+    """Returns the folder that the editor has open, if it is one."""
+    folders = params.get("workspaceFolders") or [{"uri": params.get("rootUri")}]
+    path = path_of(str(folders[0]["uri"]))
+    return path if path and os.path.isdir(path) else None
+
+
 def shown_diagnosis(document: Document, one: Diagnosis) -> Params:
     """Returns a fault as the protocol has it."""
     shown: Params = {
@@ -265,13 +296,16 @@ def shown_diagnosis(document: Document, one: Diagnosis) -> Params:
 
 def shown_action(document: Document, one: Diagnosis, change: SourceFix) -> Params:
     """Returns what may be done about a fault as the protocol has it."""
-    edit = {"range": document.range(change.start, change.end), "newText": change.new.decode("utf-8", "replace")}
+    edits = [
+        {"range": document.range(it.start, it.end), "newText": it.new.decode("utf-8", "replace")}
+        for it in (TextEdit(change.start, change.end, change.new), *change.more)
+    ]
     return {
         "title": change.title,
         "kind": QUICK_FIX,
         "isPreferred": True,
         "diagnostics": [shown_diagnosis(document, one)],
-        "edit": {"changes": {document.uri: [edit]}},
+        "edit": {"changes": {document.uri: edits}},
     }
 
 
@@ -279,9 +313,10 @@ METHODS: Mapping[str, Callable[[Server, Params], Any]] = {
     "initialize": Server.initialize,
     "initialized": Server.heed,
     "shutdown": Server.shut_down,
+    "workspace/didChangeConfiguration": Server.configured,
     "textDocument/didOpen": Server.opened,
     "textDocument/didChange": Server.changed,
-    "textDocument/didSave": Server.heed,
+    "textDocument/didSave": Server.saved,
     "textDocument/didClose": Server.closed,
     "textDocument/hover": Server.hover,
     "textDocument/documentHighlight": Server.highlight,

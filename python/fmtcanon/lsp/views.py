@@ -1,14 +1,18 @@
 """Documents that are open, with what is said of them: sources of C and C++, and catalogs."""
 
+import os
 import time
 from typing import Any, Dict, Iterator, List, Optional, Tuple
 
 from ..catalogs.checking import Right
+from ..compiling.compile_commands import SOURCES
 from ..formats.layout import as_source
+from ..models import Model
 from ..source.declared import Shapes, declared_for, declared_in
 from ..source.written import WrittenFormat, WrittenSource
 from . import calls, catalogs, diagnosing
 from .catalogs import Hover
+from .compiled import CompiledPart, after, diagnosis_of, fixes_of, is_said_by
 from .diagnosing import Diagnosis, SourceFix
 from .documents import Document
 from .markdown import about_directive, about_format, one_line
@@ -27,16 +31,31 @@ class DocumentView:
 
     def __init__(self, document: Document, options: Options) -> None:
         self.document, self.options = document, options
-        self.model = options.models[0]
         self.found: List[Diagnosis] = []
         self.due: Optional[float] = time.monotonic()
         self.running: Optional[Iterator[Optional[Diagnosis]]] = None
         self.took = 0.0
 
+    @property
+    def model(self) -> Model:
+        return self.options.models[0]
+
     def changed(self) -> None:
         """Notes that the document has another text."""
         self.running = None
         self.due = time.monotonic() + max(SOON, REST * self.took)
+
+    def saved(self) -> None:
+        """Notes that files were written."""
+
+    def has(self, options: Options) -> None:
+        """Takes other options."""
+        self.options, self.running, self.due = options, None, time.monotonic()
+
+    @property
+    def is_read(self) -> bool:
+        """Whether all is found in the text as it is."""
+        return self.due is None and self.running is None
 
     def is_due(self, now: float) -> bool:
         return self.running is not None or (self.due is not None and self.due <= now)
@@ -58,6 +77,10 @@ class DocumentView:
     def diagnoses(self) -> Iterator[Optional[Diagnosis]]:
         """Yields what is wrong with the document, or None after a step without a fault."""
         raise NotImplementedError
+
+    def shown(self) -> List[Diagnosis]:
+        """Returns what is said of the document."""
+        return self.found
 
     def hover(self, offset: int) -> Optional[Hover]:
         raise NotImplementedError
@@ -84,10 +107,31 @@ class SourceView(DocumentView):
         # The text as it is now, once it is read, and as it was.
         self.written: Optional[WrittenSource] = None
         self.before: Optional[WrittenSource] = None
+        self.compiled = CompiledPart(document.data)
+        # What was found in the text before it changed, where that is now.
+        self.earlier: List[Diagnosis] = []
 
     def changed(self) -> None:
+        before = self.found if self.is_read else self.earlier
         super().changed()
+        self.earlier = after(before, [self.compiled.changed(self.document.data)])
         self.written = None
+
+    def saved(self) -> None:
+        self.compiled.saved()
+
+    def has(self, options: Options) -> None:
+        self.earlier = self.found if self.is_read else self.earlier
+        super().has(options)
+        self.shapes = None
+        self.compiled.saved()
+
+    @property
+    def can_be_compiled(self) -> bool:
+        """Whether the document is a file that is compiled by itself, and isn't too long."""
+        path = self.document.path
+        is_source = path is not None and SOURCES.fullmatch(path) is not None and os.path.isfile(path)
+        return is_source and len(self.document.data) <= LONGEST
 
     def diagnoses(self) -> Iterator[Optional[Diagnosis]]:
         data = self.document.data[:LONGEST]
@@ -101,14 +145,20 @@ class SourceView(DocumentView):
             self.written = written
         yield None
         for format in written.formats():
-            yield from self.shown(format)
+            yield from diagnosing.diagnoses_of(format, self.model)
             yield None
 
-    def shown(self, format: WrittenFormat) -> Iterator[Diagnosis]:
-        """Yields what is wrong with a format, except what clangd says."""
-        for one in diagnosing.diagnoses_of(format, self.model):
-            if not (one.is_by_clang and self.options.beside_clangd):
-                yield one
+    def shown(self) -> List[Diagnosis]:
+        """Returns what is said of the document, each once, except what clangd says."""
+        document, written = self.document, self.found if self.is_read else self.earlier
+        rejected: Dict[str, List[int]] = {}
+        for one in written:
+            if one.format is not None:
+                text = one.format.decode(errors="backslashreplace")
+                rejected.setdefault(text, []).append(document.line_of(one.start))
+        compiled = [it for it in self.compiled.found if not is_said_by(it, rejected, document.line_of(it.start))]
+        found = sorted([*written, *map(diagnosis_of, compiled)], key=lambda it: it.start)
+        return [it for it in found if not (it.is_by_clang and self.options.beside_clangd)]
 
     def near(self, offset: int) -> WrittenSource:
         """Returns the source as it is read, or what is near an offset if it changed since."""
@@ -146,6 +196,10 @@ class SourceView(DocumentView):
             if format.start <= end and start <= format.end:
                 for one in diagnosing.diagnoses_of(format, self.model):
                     yield from ((one, it) for it in one.fixes if one.start <= end and start <= one.end)
+        for found in self.compiled.found:
+            if found.start <= end and start <= found.end:
+                written = self.near(found.start)
+                yield from ((diagnosis_of(found), it) for it in fixes_of(found, written, self.document.data))
 
 
 class CatalogView(DocumentView):
@@ -164,7 +218,7 @@ class CatalogView(DocumentView):
 
     def fixes(self, start: int, end: int) -> Iterator[Tuple[Diagnosis, SourceFix]]:
         # After a change the faults are found again first: their offsets are those of the text before it.
-        if self.due is None and self.running is None:
+        if self.is_read:
             for one in self.found:
                 for it in one.fixes if one.start <= end and start <= one.end else ():
                     if catalogs.helps(self.document, it, self.options.models):
