@@ -7,6 +7,9 @@ lines the folder has, and which constants of the code the definitions use.
 It does the same for the headline of the whole language, with WHOLE_STARTS and WHOLE_FOLDER. That headline also depends
 on definitions of FOLDER, and on those of `pf_posix`.
 
+No file that is reached names anything else than definitions of these folders, declarations of the code, and
+definitions of the library: a word of `proofs/` or of another crate could mean anything.
+
 What is reached is listed in reached.md, also what REFUSALS, those in the whole language, reach, and neither ACCEPTED nor
 FOLDER has. `python3 -m tests.documents.test_reach` writes that file.
 """
@@ -35,6 +38,10 @@ REFUSED_BY = [
     ("pf_whole/src/canonical_texts.rt", "check"),
 ]
 ACCEPTED = [(f"{LOWER}.Items", "HasArguments"), (f"{LOWER}.Stretches", "IsWholeAccepted")]
+# What the files may name, besides each other: the library's definitions, and the code's declarations.
+KNOWN = r"Rattle\.(std\.specs|\w+\.specs\.declared)\."
+# Where a refusal in the whole language has definitions, too.
+READERS = ["Rattle.pf_values.specs", "Rattle.pf_text.specs"]
 NAME = r"[^\W\d]\w*"
 # An import: of names of a module, or of a module by another name.
 IMPORT = re.compile(rf"^ *(?:ghost )?(pub )?use (Rattle[\w.]+?)(?:\.\{{([^{{}}]*)\}}| as ({NAME}));?$", re.MULTILINE)
@@ -182,6 +189,17 @@ def of_code(others):
     return types, constants
 
 
+def strays(text, folders):
+    """What the text of a file of definitions names outside of these folders and of what is KNOWN: the modules that it
+    imports, and the lines with paths or imports that are left.
+    """
+    module = Module()
+    rest = imports_of(without_comments(text), module)
+    paths = {path for path, _ in module.imports.values()} | set(module.aliases.values())
+    outside = [it for it in paths if not re.match(KNOWN, it + ".") and not it.startswith(tuple(f"{at}." for at in folders))]
+    return sorted(outside) + re.findall(r"^.*\bRattle\..*$|^ *(?:pub )?use .*$", rest, re.MULTILINE)
+
+
 def in_words(names):
     """These definitions, to be printed."""
     return sorted(f"{path}.{name}" for path, name in names)
@@ -247,6 +265,31 @@ def test_reach(trials):
     wanted = lines_there(FOLDER)
     trials.expect("lines in docs/DEFINITIONS.md", counted(text, "The headline and a rejection depend on"), wanted)
     try_whole(trials, others)
+
+
+def test_strays(trials):
+    """What the headlines and refusals depend on is in their folders and in what is known, however it is named."""
+    first, whole, refused = ({path for path, _ in found} for found, _ in of_headlines())
+    for paths, folders in [(first, [FOLDER]), (whole, [FOLDER, WHOLE_FOLDER, LOWER]), (refused - whole, [FOLDER, LOWER, *READERS])]:
+        for path in sorted(paths):
+            trials.expect(f"what {path} names besides", strays(file_of(path).read_text(encoding="utf-8"), folders), [])
+
+
+def test_planted_strays(trials):
+    """Each way out of the folder is seen."""
+    text = file_of(f"{FOLDER}.Items").read_text(encoding="utf-8")
+    trials.expect("what Items.antt names besides", strays(text, [FOLDER]), [])
+    for old, new in [
+        (f"use {FOLDER}.Spelling.", "use Rattle.pf_values.proofs.Hidden."),
+        (f"use {FOLDER}.Spelling.", f"use Rattle.pf_values.proofs.Hidden.{{MayBe}}\nuse {FOLDER}.Spelling."),
+        ("IsAccepted t =", "IsAccepted t = Rattle.pf_values.proofs.Hidden.MayBe t ×"),
+        (f"use {FOLDER}.Spelling.", f"use Rattle.memchr.specs.Find\nuse {FOLDER}.Spelling."),
+        (f"use {FOLDER}.Spelling.", f"use Rattle.memchr.specs.Find.{{◌≡◌}}\nuse {FOLDER}.Spelling."),
+        (f"use {FOLDER}.Spelling.", f"use Rattle.std.proofs.Common as common\nuse {FOLDER}.Spelling."),
+        (f"use {FOLDER}.Spelling.", f"use native.Mathlib.Nat.{{least}}\nuse {FOLDER}.Spelling."),
+    ]:
+        edited = text.replace(old, new, 1)
+        trials.expect(f"{new}: is in the text, and is seen", (edited != text, strays(edited, [FOLDER]) != []), (True, True))
 
 
 def try_whole(trials, known):
