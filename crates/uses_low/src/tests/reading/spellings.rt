@@ -1,6 +1,6 @@
 //! The spelling of a directive that is made of its parts. The program shows the spelling of directives that are read.
 use pf_text::laws::spelled_is_read;
-use pf_text::{Spelling, push_number, spell};
+use pf_text::spell;
 use pf_values::{Conv, Directive, Flag, FlagSet, Length};
 
 fn is_spelled(flags: FlagSet, width: u16, wanted: &[u8]) -> bool {
@@ -16,19 +16,9 @@ fn a_directive_made_of_its_parts(rt: HostRuntime) {
     assert!(rt;
         [
             is_spelled(flags, 0, b"%-c"),
-            is_spelled(flags, 50, b"%-50c")
-        ] == [true; 2]
+            is_spelled(flags, 50, b"%-50c"),
+            is_spelled(flags, 4095, b"%-4095c")
+        ] == [true; 3]
     );
     spelled_is_read();
-}
-
-fn has_digits(number: u16, wanted: &[u8]) -> bool {
-    let mut out = Spelling::new();
-    push_number(&mut out, number);
-    out.as_slice() == wanted
-}
-
-#[test]
-fn numbers_without_zeros_in_front(rt: HostRuntime) {
-    assert!(rt; has_digits(0, b"0") && has_digits(4095, b"4095") && has_digits(65535, b"65535"));
 }
