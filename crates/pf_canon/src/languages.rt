@@ -48,7 +48,7 @@ pub trait Language: Passed {
 
     ghost has_none: { (model : Model) → has_front model [] [] };
 
-    // what it passes is of its own, and comes as it is
+    // its verbatim items are its own, and are copied unchanged
     ghost has_passed: { (model : Model) → ComesVerbatim has_front Self.passes model };
 }
 

@@ -1,4 +1,4 @@
-//! What the profile lacks, where arguments may have no numbers.
+//! Directives outside the profile, in formats whose arguments have no numbers.
 ghost use Rattle.std.specs.Prelude.{◌≡◌, ◌≤◌, drop, length, take, MatchOption, MatchResult};
 ghost use Rattle.pf_values.specs.declared.limits.TheConstants.{MAX_TEXT_LEN as LIMIT};
 ghost use Rattle.pf_text.specs.FoundDirectives.{BeginsNoItem};

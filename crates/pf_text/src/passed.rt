@@ -99,7 +99,7 @@ impl Passed for Canonical {
     }
 }
 
-/// What the one passes, or else the other.
+/// Passes the items of either language.
 impl<P: Passed, Q: Passed> Passed for (P, Q) {
     ghost passes = { Either P.passes Q.passes };
 

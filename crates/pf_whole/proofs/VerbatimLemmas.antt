@@ -1,4 +1,4 @@
--- What the profile lacks and is its own normal spelling.
+-- Directives outside the profile that are their own normal spelling.
 use Rattle.std.proofs.Common.{◌≡◌, ℕ, ◌+◌, ◌-◌, [], ◌∷◌, take, drop, refl, sym, ap, subst, arith, inl}
 use Rattle.pf_values.specs.meaning.Text.{Text, percent}
 use Rattle.pf_text.specs.Offsets.{HasBytes}

@@ -1,4 +1,4 @@
-//! What the profile lacks and is its own normal spelling in each data model.
+//! Directives outside the profile that are their own normal spelling in each data model.
 ghost use Rattle.std.specs.Prelude.{◌≡◌, ◌+◌, ◌<◌, ◌≤◌, Some, drop, length, take, IfSome, IsTrue};
 ghost use Rattle.pf_values.specs.declared.models.Model.{Model as ModelOf};
 ghost use Rattle.pf_values.specs.meaning.Spelling.{flags_spelled};
@@ -16,8 +16,8 @@ use pf_posix::{
 use pf_text::number_at;
 use pf_values::{Conv, Flag, FlagSet, Length};
 
-/// Returns how many bytes the directive has that begins with the `%` at an offset, if it has a conversion alone
-/// that the profile lacks. If not, 0.
+/// Returns the length of the directive that begins with the `%` at an offset, if it is a conversion outside the
+/// profile and nothing else. Otherwise returns 0.
 #[inline(always)]
 pub(crate) fn bare_len(text: &[u8], at: usize) -> usize
     requires { HasPercent text.now at }
