@@ -1,5 +1,5 @@
 //! Two texts, compared in step.
-ghost use Rattle.std.specs.Prelude.{◌≡◌, ◌≤◌, Some, Err, IfOk, MatchResult, ◌≢◌, [], IsTrue, MatchBool};
+ghost use Rattle.std.specs.Prelude.{◌≡◌, ◌≤◌, Some, Err, IfErr, IfOk, MatchResult, ◌≢◌, [], IsTrue, MatchBool};
 ghost use Rattle.pf_values.specs.Counting.{HasFailed, Known, device_of, failures_of};
 ghost use Rattle.pf_values.specs.declared.models.Model.{Model as ModelOf};
 ghost use Rattle.pf_values.specs.meaning.Text.{Text};
@@ -11,7 +11,7 @@ ghost use Rattle.pf_canon.specs.Languages.{AreSameIn, StopsIn};
 use crate::canonical_bytes::{ByteSource, ByteTransducer};
 use crate::canonical_slices::{CanonicalSlices, place_in};
 use crate::common_prefix::common_prefix_len;
-use crate::early_difference::differ_after;
+use crate::early_difference::{differ_after, has_stray, item_start};
 use crate::faults::{SideFault, StreamFault};
 use crate::languages::{Language, Profile, check_in};
 use pf_text::{Refusal, Side, Walk, items_end_from};
@@ -61,10 +61,50 @@ pub fn same_text_in<L: Language>(
     if are_all(first, second, common) {
         return same_itself::<L>(model, first);
     }
+    if item_start(first, common) < common {
+        return same_inside_directive::<L>(model, first, second, common);
+    }
     if differ_after::<L>(model, first, second, common) {
         return Ok(false);
     }
     same_after_common::<L>(model, first, second, common)
+}
+
+// Compares two texts that seem to differ inside a directive. If one has a byte there that no directive has, it is
+// most often refused. So both are checked first: a refused text is read once then, and not three times.
+#[inline(never)]
+fn same_inside_directive<L: Language>(
+    model: Model,
+    first: &[u8],
+    second: &[u8],
+    common: usize,
+) -> Result<bool, (Side, Refusal)>
+    requires { AreCommon first.now second.now common }
+    ensures { MatchResult result (AreSameIn L.has_front model first.now second.now)
+        (StopsIn L.has_front L.refuses model first.now second.now) }
+{
+    if has_stray(first, common) || has_stray(second, common) {
+        check_both::<L>(model, first, second)?;
+    }
+    same_after_common::<L>(model, first, second, common)
+}
+
+// Checks two texts, the first before the second.
+#[inline(always)]
+fn check_both<L: Language>(
+    model: Model,
+    first: &[u8],
+    second: &[u8],
+) -> Result<(), (Side, Refusal)>
+    ensures { IfErr result (StopsIn L.has_front L.refuses model first.now second.now) }
+{
+    if let Err(refusal) = check_in::<L>(model, first) {
+        return Err((Side::First, refusal));
+    }
+    match check_in::<L>(model, second) {
+        Ok(()) => Ok(()),
+        Err(refusal) => Err((Side::Second, refusal)),
+    }
 }
 
 // Whether the first `common` bytes of two texts, which are equal, are all of both.

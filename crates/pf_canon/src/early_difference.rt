@@ -28,9 +28,6 @@ pub(crate) fn differ_after<L: Language>(
 {
     let first_rest = &first[common..];
     let second_rest = &second[common..];
-    if item_start(first, common) != common {
-        return false;
-    }
     if !begin_apart(first_rest, second_rest) {
         return take_other_types(model, first, second);
     }
@@ -64,6 +61,24 @@ pub fn item_start(text: &[u8], at: usize) -> usize
         }
     }
     at
+}
+
+/// Whether a text has no byte at an offset, or one that no directive of any language has.
+#[inline(always)]
+pub(crate) fn has_stray(text: &[u8], at: usize) -> bool {
+    match text.get(at) {
+        Some(byte) => !may_be_within(*byte) && !may_end(*byte),
+        None => true,
+    }
+}
+
+// Whether a byte may come after those of a directive that come before its conversion.
+#[inline(always)]
+fn may_end(byte: u8) -> bool {
+    matches!(
+        byte,
+        b'$' | b'%' | b'*' | b'A'..=b'G' | b'L' | b'S' | b'X' | b'a'..=b'i' | b'm'..=b'p' | b's' | b'u' | b'x'
+    )
 }
 
 // The offset of the directive that the `%` at an offset begins, or `at` if it may end `%%`.

@@ -29,7 +29,7 @@ use Rattle.pf_posix.specs.Defined.{undefined_of}
 use Rattle.pf_posix.specs.Items.{Byte, Errno, PosixItem, ReadsPosix, Specification, SpellsPosixItem, errno_letter, fetched}
 use Rattle.pf_posix.specs.Laws.{HasCount, filled}
 use Rattle.pf_posix.specs.Letters.{conversion_of}
-use Rattle.pf_posix.specs.OpaqueParts.{parts_of_opaque}
+use Rattle.pf_posix.specs.OpaqueParts.{bare, parts_of_opaque}
 use Rattle.pf_posix.specs.PartsInText.{specification_read}
 use Rattle.pf_posix.specs.Endings.{end_refusal}
 use Rattle.pf_posix.specs.Halts.{IsDefinedAt, IsHalt, IsRefusedIn}
@@ -41,6 +41,7 @@ use Rattle.pf_posix.proofs.FrontRefusals.{IsRefused, agreed_plain, end_refused, 
 use Rattle.pf_posix.specs.Plain.{HasPlainItems, HasTypeAt, IsPlain, IsPlainFront, IsPut, IsPutAt, numbering_after}
 use Rattle.pf_posix.specs.Readings.{wanted_types}
 use Rattle.pf_posix.specs.Refusals.{IsPosixRefusedAt, numbering_of}
+use Rattle.pf_posix.specs.StretchesInText.{ArePartsAt}
 use Rattle.pf_posix.specs.Specifications.{Amount, Given, Fetched, PosixSpecification, conversion_letter, modifier_letters}
 use Rattle.pf_posix.specs.Spelling.{SpellsPosix, SpellsPosixPrecision, SpellsPosixWidth}
 use Rattle.pf_posix.specs.Types.{conversion_type, fetch, fetches, star_fetches, widened}
@@ -71,6 +72,31 @@ typed_profile model t at found wanted h e =
 abbrev bare_of : Conversion → PosixSpecification
 bare_of conversion = specification_by (numbers_by None no_flags None None) (Integer lengths.None) conversion
 
+pub bare_spelled : (t : Text) (at : ℕ) (conversion : Conversion) → HasPercent t at → conversion_of (get_or t (at + 1) 0) ≡ Some conversion
+    → SpellsPosix (take (at + 2 - at) (drop at t)) (bare_of conversion)
+bare_spelled t at conversion h known =
+    let letter = conversion_letter conversion in
+    let two : 2 ≡ at + 2 - at = omega arith in
+    let text : 37 ∷ letter ∷ [] ≡ take (at + 2 - at) (drop at t) =
+    sym (two_bytes t at h ∙ ap (λ b. 37 ∷ b ∷ []) (byte_of_conversion (get_or t (at + 1) 0) conversion known)) ∙ ap (λ n. take n (drop at t)) two in
+    subst (λ u. SpellsPosix u (bare_of conversion)) text
+        (finishes Opened (37 ∷ []) letter (bare_of conversion) refl (ap (finish Opened) (letter_tests conversion).sign_is))
+
+-- so it is the specification at its offset
+pub bare_at : (t : Text) (at : ℕ) (conversion : Conversion) → HasPercent t at → conversion_of (get_or t (at + 1) 0) ≡ Some conversion
+    → ArePartsAt t at (bare conversion, at + 2)
+bare_at t at conversion h known = (
+  record {
+    position = None;
+    flags_start = at + 1;
+    flags_stop = at + 1;
+    parts = bare conversion;
+    stars = record { width = None; width_stop = at; precision = None; precision_stop = at };
+  },
+  record { some = omega arith; within = omega (arith, h.0); spelled = bare_spelled t at conversion h known },
+  refl,
+)
+
 pub typed_bare : (model : Model) (t : Text) (at : ℕ) (wanted : ArgumentType) → HasPercent t at
     → Some wanted ≡ option_map (conversion_type model (Integer lengths.None)) (conversion_of (get_or t (at + 1) 0)) → HasTypeAt model t at (wanted, at + 2)
 typed_bare model t at wanted h e = go (conversion_of (get_or t (at + 1) 0)) refl e where
@@ -78,19 +104,14 @@ typed_bare model t at wanted h e = go (conversion_of (get_or t (at + 1) 0)) refl
       → HasTypeAt model t at (wanted, at + 2)
   go None known e = cc
   go (Some conversion) known e =
-      let letter = conversion_letter conversion in
       let same : wanted ≡ conversion_type model (Integer lengths.None) conversion = cc in
-      let two : 2 ≡ at + 2 - at = omega arith in
       let defined : undefined_of (bare_of conversion) ≡ None = grind arith in
-      let text : 37 ∷ letter ∷ [] ≡ take (at + 2 - at) (drop at t) =
-      sym (two_bytes t at h ∙ ap (λ b. 37 ∷ b ∷ []) (byte_of_conversion (get_or t (at + 1) 0) conversion known)) ∙ ap (λ n. take n (drop at t)) two in
-      let spelled = finishes Opened (37 ∷ []) letter (bare_of conversion) refl (ap (finish Opened) (letter_tests conversion).sign_is) in
       record {
         s = bare_of conversion;
         plain = record {
           some = omega arith;
           within = omega (arith, h.0);
-          spelled = (subst (λ u. SpellsPosix u (bare_of conversion)) text spelled, defined);
+          spelled = (bare_spelled t at conversion h known, defined);
           unnumbered = refl;
         };
         fetches_are = ap (λ k. fetch None k ∷ []) (sym same);

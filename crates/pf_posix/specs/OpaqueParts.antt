@@ -2,9 +2,12 @@
 use Rattle.std.specs.Prelude.{ℕ, Option, Some, None}
 use Rattle.pf_values.specs.declared.conversions.Conv.{Conv}
 use Rattle.pf_values.specs.declared.conversions.Conv.TheVariants.{D}
+use Rattle.pf_values.specs.declared.lengths.Length.TheVariants as lengths
+use Rattle.pf_values.specs.meaning.Flags.{no_flags}
 use Rattle.pf_values.specs.meaning.Specification.{Specification}
 use Rattle.pf_posix.specs.declared.conversions.Conversion.{Conversion}
 use Rattle.pf_posix.specs.declared.conversions.Conversion.TheVariants.{Profile}
+use Rattle.pf_posix.specs.declared.conversions.Modifier.TheVariants.{Integer}
 use Rattle.pf_posix.specs.Opaque.{OpaqueErrno, OpaqueItem, OpaqueSpecification}
 use Rattle.pf_posix.specs.Specifications.{Amount, Given, Fetched, PosixSpecification}
 use Rattle.pf_posix.specs.Types.{integer_length}
@@ -33,6 +36,16 @@ parts_of_opaque d = record {
   precision = amount_of d.precision;
   modifier = d.modifier;
   conversion = d.conversion;
+}
+
+-- a conversion alone
+abbrev pub bare : Conversion → OpaqueDirective
+bare conversion = record {
+  flags = no_flags;
+  width = None;
+  precision = None;
+  modifier = Integer lengths.None;
+  conversion = conversion;
 }
 
 -- the item that the code's value is

@@ -2,10 +2,13 @@
 use Rattle.std.specs.Prelude.{◌≡◌, ℕ, ◌<◌, ◌≤◌, List, [], ◌∷◌, ◌++◌, drop, length}
 use Rattle.pf_values.specs.meaning.Items.{Item, Reads}
 use Rattle.pf_values.specs.meaning.Text.{Text}
+use Rattle.pf_posix.specs.declared.opaque_directives.OpaqueDirective.{OpaqueDirective}
+use Rattle.pf_posix.specs.declared.specifications.Specification.{Specification}
 use Rattle.pf_posix.specs.declared.stretches.Found.{Found}
 use Rattle.pf_posix.specs.declared.stretches.Found.TheVariants as found
 use Rattle.pf_posix.specs.Opaque.{SpellsOpaqueItem}
 use Rattle.pf_posix.specs.OpaqueParts.{item_of_opaque}
+use Rattle.pf_posix.specs.PartsInText.{IsSpecificationAt}
 use Rattle.pf_posix.specs.Stretches.{Stretches, Last, Before, ReadsWhole}
 
 -- an item before the first stretch, which has it then
@@ -26,6 +29,10 @@ IsFound t at left (found.Items stop) = (items : List Item) × (bytes : Text) × 
 IsFound t at left (found.Opaque other stop) = (bytes : Text) × (later : Stretches)
     × SpellsOpaqueItem bytes (item_of_opaque other) × ReadsWhole (drop stop t) later
     × (drop at t ≡ bytes ++ drop stop t) × (left ≡ Before [] (item_of_opaque other) later)
+
+-- these are the parts of the specification at an offset, which ends at another
+abbrev pub ArePartsAt : Text → ℕ → OpaqueDirective × ℕ → Type 0
+ArePartsAt t at found = (read : Specification) × IsSpecificationAt t at (read, found.1) × (read.parts ≡ found.0)
 
 -- where that ends, which is after the offset
 abbrev pub EndsBehind : Text → ℕ → Found → Type 0

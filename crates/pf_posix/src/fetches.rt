@@ -42,8 +42,7 @@ pub(crate) fn conversion_type(
     }
 }
 
-/// The type of the argument of a specification that is only a conversion. None if it isn't known: for the
-/// rare ones, a test would cost the others more.
+/// The type of the argument of a specification that is only a conversion, or None.
 #[inline(always)]
 pub(crate) fn bare_type(byte: u8) -> Option<ArgumentType>
     ensures { IfSome result (λ wanted. (model : Model) → Some wanted
@@ -53,8 +52,11 @@ pub(crate) fn bare_type(byte: u8) -> Option<ArgumentType>
         b'd' | b'i' | b'c' => Some(ArgumentType::Profile(ArgType::Int)),
         b'u' | b'o' | b'x' | b'X' | b'b' => Some(ArgumentType::Profile(ArgType::UInt)),
         b's' => Some(ArgumentType::Profile(ArgType::Str)),
-        b'f' | b'g' => Some(ArgumentType::Double),
+        b'f' | b'F' | b'e' | b'E' | b'g' | b'G' | b'a' | b'A' => Some(ArgumentType::Double),
         b'p' => Some(ArgumentType::Pointer),
+        b'n' => Some(ArgumentType::PointerToInt),
+        b'C' => Some(ArgumentType::WideChar),
+        b'S' => Some(ArgumentType::WideString),
         _ => None,
     }
 }

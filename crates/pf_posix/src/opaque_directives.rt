@@ -2,7 +2,7 @@
 ghost use Rattle.std.specs.Prelude.{◌≡◌};
 ghost use Rattle.pf_values.specs.meaning.Lengths.{is_long};
 ghost use Rattle.pf_posix.specs.Opaque.{is_opaque, is_outside, is_star};
-ghost use Rattle.pf_posix.specs.OpaqueParts.{amount_of, parts_of_opaque};
+ghost use Rattle.pf_posix.specs.OpaqueParts.{amount_of, bare, parts_of_opaque};
 ghost use Rattle.pf_posix.specs.Types.{integer_length};
 
 use crate::conversions::{Conversion, Modifier};
@@ -31,6 +31,22 @@ pub struct OpaqueDirective {
     pub modifier: Modifier,
     /// Its conversion.
     pub conversion: Conversion,
+}
+
+impl OpaqueDirective {
+    /// The directive that is a conversion alone.
+    #[inline(always)]
+    pub(crate) fn bare(conversion: Conversion) -> OpaqueDirective
+        ensures { result ≡ bare conversion }
+    {
+        OpaqueDirective {
+            flags: FlagSet::empty(),
+            width: None,
+            precision: None,
+            modifier: Modifier::Integer(Length::None),
+            conversion,
+        }
+    }
 }
 
 /// An item between two stretches of the profile.

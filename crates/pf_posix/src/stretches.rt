@@ -1,11 +1,15 @@
 //! The stretches of a text of the whole language, and what is between them: opaque directives, and `%m`.
-ghost use Rattle.std.specs.Prelude.{◌≢◌, ◌<◌, ◌≤◌, IfSome, IsSomeAnd, drop, length, slice_index};
+ghost use Rattle.std.specs.Prelude.{◌≡◌, ◌≢◌, ◌+◌, ◌<◌, ◌≤◌, IfSome, IsSomeAnd, MatchOption, drop, get_or, length, slice_index};
 ghost use Rattle.pf_values.specs.meaning.Text.{percent};
+ghost use Rattle.pf_posix.specs.Halts.{BeginsNoneAfter};
 ghost use Rattle.pf_posix.specs.Heads.{IsHead, IsPlaced};
+ghost use Rattle.pf_posix.specs.Items.{errno_letter};
 ghost use Rattle.pf_posix.specs.Stretches.{ReadsWhole, Stretches};
-ghost use Rattle.pf_posix.specs.StretchesInText.{EndsBehind, IsFound};
+ghost use Rattle.pf_posix.specs.StretchesInText.{ArePartsAt, EndsBehind, IsFound};
+ghost use Rattle.pf_posix.specs.declared.specifications.Numbering.TheVariants.{Undecided};
 
-use crate::opaque_directives::{Opaque, is_opaque};
+use crate::letters::conversion_of;
+use crate::opaque_directives::{Opaque, OpaqueDirective, is_opaque};
 use crate::specifications::{Numbering, has_byte, has_errno, specification_at};
 use pf_text::literal_len;
 
@@ -77,13 +81,31 @@ fn found_at(text: &[u8], at: usize) -> Option<Found>
     if has_errno(text, at) {
         return Some(Found::Opaque(Opaque::Errno, at + 2));
     }
-    let Ok((read, stop)) = specification_at(text, at, Numbering::Undecided) else {
-        return None;
-    };
-    if is_opaque(read.parts) {
-        return Some(Found::Opaque(Opaque::Directive(read.parts), stop));
+    let (parts, stop) = parts_at(text, at)?;
+    if is_opaque(parts) {
+        return Some(Found::Opaque(Opaque::Directive(parts), stop));
     }
     Some(Found::Items(stop))
+}
+
+// The parts of the specification at an offset, and where it ends. A conversion alone is read by its letter.
+#[inline(always)]
+fn parts_at(text: &[u8], at: usize) -> Option<(OpaqueDirective, usize)>
+    requires start { at < length text.now }
+    requires percent { get_or text.now at 0 ≡ percent }
+    requires other { get_or text.now (at + 1) 0 ≢ percent }
+    requires errno { get_or text.now (at + 1) 0 ≢ errno_letter }
+    ensures { MatchOption result (BeginsNoneAfter Undecided (drop at text.now)) (ArePartsAt text.now at) }
+{
+    if at + 1 < text.len() {
+        if let Some(conversion) = conversion_of(text[at + 1]) {
+            return Some((OpaqueDirective::bare(conversion), at + 2));
+        }
+    }
+    match specification_at(text, at, Numbering::Undecided) {
+        Ok((read, stop)) => Some((read.parts, stop)),
+        Err(_) => None,
+    }
 }
 
 #[inline(always)]

@@ -133,6 +133,16 @@ neutral_past model a rest items s shown args count h e n =
     ∙ rw (first, own) (append_assoc (shown_as shown ++ shown_neutrals model items) (shown_any model s) (neutral_shown model rest)
     ∙ append_assoc (shown_as shown) (shown_neutrals model items) (shown_any model s ++ neutral_shown model rest)) ∙ h
 
+-- they are neutral while no probe is found
+pub neutral_until : (model : Model) (a rest : Stretches) (xs ys : List Item) (s : OpaqueItem) (shown : List (Option OwnedArg)) (args : List OwnedArg)
+    (count : ℕ) (found now : Bool)
+    → (found ≡ false → IsNeutralUpTo model a (Before xs s rest) shown) → IsShownNext model xs ys found (map argument_of_owned args) now
+    → count ≡ length (types_of_opaque model s) → now ≡ false → IsNeutralUpTo model a rest ((shown ++ map Some args) ++ replicate count None)
+neutral_until model a rest xs ys s shown args count found now h (inl (alike, same, e)) n unfound =
+    neutral_past model a rest xs s shown args count (h (sym e ∙ unfound)) same n
+neutral_until model a rest xs ys s shown args count found now h (inr (inl (was, is, agrees, neutral))) n unfound = cc
+neutral_until model a rest xs ys s shown args count found now h (inr (inr (was, is, tells))) n unfound = cc
+
 pub neutral_end : (model : Model) (a : Stretches) (items : List Item) (shown : List (Option OwnedArg)) (args : List OwnedArg)
     → IsNeutralUpTo model a (Last items) shown → map argument_of_owned args ≡ neutrals (types model items)
     → shown_as (shown ++ map Some args) ≡ neutral_shown model a

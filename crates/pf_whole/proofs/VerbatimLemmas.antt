@@ -6,11 +6,11 @@ use Rattle.pf_text.specs.Walks.{HasPercent}
 use Rattle.pf_text.proofs.SpecificationLemmas.{bytes_join, bytes_one}
 use Rattle.pf_text.proofs.WalkLemmas.{bytes_between}
 use Rattle.pf_posix.specs.Opaque.{OpaqueSpecification}
-use Rattle.pf_posix.specs.OpaqueParts.{parts_of_opaque}
+use Rattle.pf_posix.specs.OpaqueParts.{bare, parts_of_opaque}
 use Rattle.pf_posix.specs.Specifications.{conversion_letter}
 use Rattle.pf_posix.specs.declared.conversions.Conversion.{Conversion}
 use Rattle.pf_posix.specs.declared.opaque_directives.OpaqueDirective.{OpaqueDirective}
-use Rattle.pf_whole.specs.Verbatim.{bare, IsOwnNormalForm, IsPlainAt, IsOwnSpelling}
+use Rattle.pf_whole.specs.Verbatim.{IsOwnNormalForm, IsPlainAt, IsOwnSpelling}
 use Rattle.pf_whole.specs.meaning.NormalSpellings.{posix_spelling_of}
 use Rattle.pf_whole.proofs.SpelledNormally.{spelled_parts}
 

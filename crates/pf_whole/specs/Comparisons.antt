@@ -1,5 +1,5 @@
 -- What a comparison answers, as the code holds it.
-use Rattle.std.specs.Prelude.{◌≡◌, ◌⊎◌, Bool, true, false, ℕ, List, map, option_map, Option, Some, None, ⊤}
+use Rattle.std.specs.Prelude.{◌≡◌, ◌⊎◌, ◌≤◌, ◌++◌, Bool, true, false, ℕ, List, drop, length, map, option_map, Option, Some, None, ⊤}
 use Rattle.std.specs.Global.{Vec}
 use Rattle.std.specs.List.{AllZip}
 use Rattle.pf_values.specs.declared.models.Model.{Model}
@@ -25,7 +25,7 @@ use Rattle.pf_compare.specs.declared.comparisons.CompareFault.TheVariants.{Refus
 use Rattle.pf_whole.specs.declared.verdicts.WholeVerdict.{WholeVerdict}
 use Rattle.pf_whole.specs.declared.verdicts.WholeVerdict.TheVariants as verdicts
 use Rattle.pf_whole.specs.Answers as answers
-use Rattle.pf_whole.specs.Answers.{HaveOneShape, IsWholeComparisonOf, ShowsNeutral, ShowsProbe}
+use Rattle.pf_whole.specs.Answers.{HaveOneShape, IsWholeComparisonOf, ShowsNeutral, ShowsProbe, neutral_shown}
 use Rattle.pf_whole.specs.Faults.{FaultForWholeSame}
 use Rattle.pf_whole.specs.Findings.{IsTellingProbe}
 use Rattle.pf_posix.specs.Stretches.{Stretches, ReadsWhole, IsWholeAccepted, whole_types}
@@ -111,6 +111,17 @@ AreShownNext model t u found shown.Neutral = (xs ys : List Item) → HasItems t 
 AreShownNext model t u found (shown.Shown args now) = (xs ys : List Item) → HasItems t xs → HasItems u ys
     → (map type_of_owned args.items ≡ types model xs)
     × IsShownNext model xs ys found (map argument_of_owned args.items) now
+
+-- neutral arguments are shown of a text up to an offset, each of its type
+pub record IsShownNeutrally (model : Model) (t : Text) (at : ℕ) (shown : List (Option OwnedArg)) : Type 0 where
+  pub all : Stretches
+  pub left : Stretches
+  pub reads : ReadsWhole t all
+  pub reads_left : ReadsWhole (drop at t) left
+  pub within : at ≤ length t
+  pub neutral : shown_as shown ++ neutral_shown model left ≡ neutral_shown model all
+  pub typed : (rest : List (Option OwnedArg)) → AllZip HasShownType rest (whole_types model left)
+      → AllZip HasShownType (shown ++ rest) (whole_types model all)
 
 -- neutral arguments are shown, or those of the first probe that tells the texts apart
 abbrev pub ShowsDifference : Model → Stretches → Stretches → List (Option Argument) → Type 0

@@ -48,13 +48,3 @@ pub record IsOwnNormalForm (s : PosixSpecification) : Type 0 where
   pub opaque : is_opaque s ≡ true
   pub defined : IsPosixDefined s
   pub normal : (model : Model) → normal_parts model s ≡ s
-
--- a conversion alone
-abbrev pub bare : Conversion → OpaqueDirective
-bare conversion = record {
-  flags = no_flags;
-  width = None;
-  precision = None;
-  modifier = Integer lengths.None;
-  conversion = conversion;
-}

@@ -84,6 +84,9 @@ fn argument_count(model: Model, text: &[u8]) -> u64
     ensures { (types : List ArgumentType) × HasArguments model text.now types
         × (result ≡ length types) }
 {
+    if text.is_empty() {
+        return 0;
+    }
     match arguments(model, text, &mut []) {
         Ok(count) => count,
         Err(_) => unreachable!(),

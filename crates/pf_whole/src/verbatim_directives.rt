@@ -4,8 +4,8 @@ ghost use Rattle.pf_values.specs.declared.models.Model.{Model as ModelOf};
 ghost use Rattle.pf_values.specs.meaning.Spelling.{flags_spelled};
 ghost use Rattle.pf_text.specs.Offsets.{HasBytes};
 ghost use Rattle.pf_text.specs.Walks.{HasPercent};
-ghost use Rattle.pf_posix.specs.OpaqueParts.{amount_of, parts_of_opaque};
-ghost use Rattle.pf_whole.specs.Verbatim.{bare, HasFewFlags, IsOwnNormalForm, IsPlainAt, CanBePrecision, IsOwnSpelling, CanBeWidth};
+ghost use Rattle.pf_posix.specs.OpaqueParts.{amount_of, bare, parts_of_opaque};
+ghost use Rattle.pf_whole.specs.Verbatim.{HasFewFlags, IsOwnNormalForm, IsPlainAt, CanBePrecision, IsOwnSpelling, CanBeWidth};
 ghost use Rattle.pf_whole.specs.meaning.NormalSpellings.{integer_modifier, kept_conversion, kept_flags, kept_modifier, normal_precision, posix_precision_spelled, posix_width_spelled};
 
 use crate::directives::{is_general, is_meant};

@@ -5,7 +5,7 @@ ghost use Rattle.pf_values.specs.meaning.Items.{HasItems, Item, types};
 ghost use Rattle.pf_compare.specs.Answers.{IsComparisonOf};
 ghost use Rattle.pf_posix.specs.Stretches.{IsWholeAccepted, ReadsWhole, Stretches, whole_types};
 ghost use Rattle.pf_whole.specs.Answers.{HaveOneShape, neutral_shown};
-ghost use Rattle.pf_whole.specs.Comparisons.{AreShownNext, FaultForWholeCompare, GivesArguments, HasShownType, IsComparison, IsDifference, IsVerdictOf, ShowsDifference, shown_as};
+ghost use Rattle.pf_whole.specs.Comparisons.{AreShownNext, FaultForWholeCompare, GivesArguments, HasShownType, IsComparison, IsDifference, IsShownNeutrally, IsVerdictOf, ShowsDifference, shown_as};
 ghost use Rattle.pf_whole.specs.meaning.Traces.{AreWholeAlike};
 
 use crate::calls::{call_argument_count, first_call_difference};
@@ -148,7 +148,12 @@ fn first_difference(
             &second[from..other.end],
             is_found,
         )? {
-            StretchArguments::Neutral => return neutral_arguments(alloc, model, first),
+            StretchArguments::Neutral => {
+                if is_found {
+                    return neutral_arguments(alloc, model, first, 0, Vec::new(alloc));
+                }
+                return neutral_arguments(alloc, model, first, at, shown);
+            }
             StretchArguments::Shown(args, found) => {
                 push_all(args, &mut shown)?;
                 is_found = found;
@@ -258,19 +263,22 @@ fn difference_of(model: Model, first: &[u8], second: &[u8], comparison: Comparis
     }
 }
 
-// Returns neutral arguments for an accepted format.
+// Returns neutral arguments for an accepted format, of which those up to an offset are there.
 fn neutral_arguments(
     alloc: Global,
     model: Model,
     text: &[u8],
+    from: usize,
+    before: Vec<Option<OwnedArg>>,
 ) -> Result<Vec<Option<OwnedArg>>, AllocError>
-    requires { IsWholeAccepted text.now }
+    requires accepted { IsWholeAccepted text.now }
+    requires shown { IsShownNeutrally model text.now from before.items }
     ensures { IfOk result (λ shown. (a : Stretches) → ReadsWhole text.now a
         → (shown_as shown.items ≡ neutral_shown model a)
         × AllZip HasShownType shown.items (whole_types model a)) }
 {
-    let mut shown = Vec::new(alloc);
-    let mut at = 0;
+    let mut shown = before;
+    let mut at = from;
     while let Some(stretch) = next_stretch(text, at) {
         push_all(
             neutrals_of(alloc, model, &text[at..stretch.end])?,

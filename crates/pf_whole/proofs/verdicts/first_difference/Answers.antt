@@ -1,4 +1,4 @@
-use Rattle.std.proofs.Common.{◌++◌, false, None, Some, map, replicate, sym, ap, ◌∙◌, arith, subst, inl, inr}
+use Rattle.std.proofs.Common.{◌++◌, false, None, Some, map, replicate, refl, sym, ap, ◌∙◌, arith, subst, inl, inr}
 use Rattle.pf_posix.specs.OpaqueParts.{item_of_opaque}
 use Rattle.pf_posix.specs.Stretches.{Before, Last}
 use Rattle.std.proofs.lemmas.Result.{IfOk-weaker}
@@ -11,11 +11,13 @@ use Rattle.pf_whole.proofs.FindingLoops.{IsComparedUpTo, compared_from}
 use Rattle.pf_whole.proofs.HeadLemmas.{at_last, before_opaque, between, between_few, first_items, less_left, stretch_has}
 use Rattle.pf_whole.proofs.ShownLoops.{
   HasShownDifference,
+  IsNeutralUpTo,
   IsTypedUpTo,
   compared_end,
   compared_past,
   first_tells,
   first_types,
+  neutral_until,
   other_before,
   other_last,
   shown_once,
@@ -44,6 +46,7 @@ loop-stretch-init c =
       subst (λ l. IsComparedUpTo c.args.model a.stretches b.stretches a.stretches b.stretches (shown_as l) false) none
           (compared_from c.args.model a.stretches b.stretches),
       subst (IsTypedUpTo c.args.model a.stretches a.stretches) none (typed_from c.args.model a.stretches),
+      λ unfound. subst (IsNeutralUpTo c.args.model a.stretches a.stretches) none refl,
     )
 
 pub next_stretch-requires : goal.next_stretch-requires
@@ -66,8 +69,33 @@ stretch_arguments-requires c =
       first_types c.args.model i.2 i.3 i.10,
     )
 
-pub returns-in-Neutral : goal.returns-in-Neutral
-returns-in-Neutral c =
+pub neutral_arguments-requires-clause-shown : goal.neutral_arguments-requires-clause-shown
+neutral_arguments-requires-clause-shown c =
+    let a = c.requires.accepted_first in
+    let none = sym c.new.ensures.items in record {
+      all = a.stretches;
+      left = a.stretches;
+      reads = a.reads;
+      reads_left = a.reads;
+      within = omega arith;
+      neutral = subst (IsNeutralUpTo c.args.model a.stretches a.stretches) none refl;
+      typed = subst (IsTypedUpTo c.args.model a.stretches a.stretches) none (typed_from c.args.model a.stretches);
+    }
+
+pub neutral_arguments-requires-in-Neutral-clause-shown : goal.neutral_arguments-requires-in-Neutral-clause-shown
+neutral_arguments-requires-in-Neutral-clause-shown c =
+    let i = c.loop-stretch.invariant in record {
+      all = i.0;
+      left = i.2;
+      reads = i.4;
+      reads_left = i.6;
+      within = i.8;
+      neutral = i.13 c.if-is_found.false;
+      typed = i.12;
+    }
+
+pub returns-then-is_found : goal.returns-then-is_found
+returns-then-is_found c =
     let i = c.loop-stretch.invariant in
     let t = c.args.first.now in
     let u = c.args.second.now in
@@ -84,6 +112,25 @@ returns-in-Neutral c =
       inl (subst (ShowsNeutral model i.0 i.1) (sym (h i.0 i.4).0) neutral),
       (h i.0 i.4).1,
     )) c.neutral_arguments.ensures
+
+pub returns-in-Neutral : goal.returns-in-Neutral
+returns-in-Neutral c =
+    let i = c.loop-stretch.invariant in
+    let t = c.args.first.now in
+    let u = c.args.second.now in
+    let model = c.args.model in
+    let first = stretch_has t c.loop-stretch.at i.2 c.in-Some.stretch (c.in-Some.ensures.head i.2 i.6) c.requires.accepted_first.limit in
+    let second = stretch_has u c.loop-stretch.from i.3 c.in-Some-next_stretch.other
+    (c.in-Some-next_stretch.ensures.head i.3 i.7) c.requires.accepted_second.limit in
+    let next = subst (AreShownNext model (between t c.loop-stretch.at c.in-Some.stretch.end)
+    (between u c.loop-stretch.from c.in-Some-next_stretch.other.end) c.loop-stretch.is_found)
+    c.in-Neutral.is c.in_ok-stretch_arguments.ensures in
+    let tells = i.11.neutral (first_tells model i.2 i.3 i.10 (next (first_items i.2) (first_items i.3) first second)) in
+    let neutral = shows_neutral model t u i.0 i.1 i.4 i.5 (c.requires.shape i.0 i.1 i.4 i.5) tells in
+    IfOk-weaker c.neutral_arguments-in-Neutral.result _ _ (λ shown h a b k l. shown_once model t u i.0 i.1 a b shown.items i.4 i.5 k l (
+      inl (subst (ShowsNeutral model i.0 i.1) (sym (h i.0 i.4).0) neutral),
+      (h i.0 i.4).1,
+    )) c.neutral_arguments-in-Neutral.ensures
 
 pub returns-in_default-opaque : goal.returns-in_default-opaque
 returns-in_default-opaque c = λ x y k l.
@@ -161,6 +208,9 @@ loop-stretch-preserved c =
       subst (IsTypedUpTo model i.0 before.rest) given
           (typed_past model i.0 before.rest before.items s shown args c.call_argument_count.result
           (subst (λ a. IsTypedUpTo model i.0 a shown) before.left_is i.12) both.0 count),
+      λ unfound. subst (IsNeutralUpTo model i.0 before.rest) given
+          (neutral_until model i.0 before.rest before.items other.items s shown args c.call_argument_count.result found c.in-Shown.found
+          (λ was. subst (λ a. IsNeutralUpTo model i.0 a shown) before.left_is (i.13 was)) both.1 count unfound),
     )
 
 pub unreachable-requires-2 : goal.unreachable-requires-2

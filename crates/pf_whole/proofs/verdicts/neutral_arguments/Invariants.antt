@@ -1,12 +1,9 @@
-use Rattle.std.proofs.Common.{◌-◌, ◌≤◌, drop, length}
-use Rattle.pf_posix.specs.Stretches.{ReadsWhole, Stretches}
-use Rattle.pf_whole.proofs.ShownLoops.{IsNeutralUpTo, IsTypedUpTo}
+use Rattle.std.proofs.Common.{◌-◌, length}
+use Rattle.pf_whole.specs.Comparisons.{IsShownNeutrally}
 use Rattle.pf_whole.proofs.verdicts.neutral_arguments.Given as goal
 
 abbrev pub invariant-loop-stretch : goal.invariant-loop-stretch
-invariant-loop-stretch l =
-    (a left : Stretches) × ReadsWhole l.text a × ReadsWhole (drop l.at l.text) left × (l.at ≤ length l.text)
-    × IsNeutralUpTo l.model a left l.shown.items × IsTypedUpTo l.model a left l.shown.items
+invariant-loop-stretch l = IsShownNeutrally l.model l.text l.at l.shown.items
 
 abbrev pub decreases-loop-stretch : goal.decreases-loop-stretch
 decreases-loop-stretch l = length l.text - l.at
