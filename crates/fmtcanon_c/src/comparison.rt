@@ -154,10 +154,13 @@ fn words_of(alloc: Global, verdict: &WholeVerdict) -> Result<Vec<u8>, AllocError
     }
 }
 
+// Most words have as many bytes, with the NUL after them: "any", "n:0".
+const USUAL_WORD: usize = 4;
+
 fn ended_words(alloc: Global, shown: &[Option<OwnedArg>]) -> Result<Vec<u8>, AllocError>
     ensures { IfOk result (λ out. out.items ≡ ended_words shown.now) }
 {
-    let mut out = Vec::new(alloc);
+    let mut out = Vec::with_capacity(alloc, shown.len().saturating_mul(USUAL_WORD))?;
     for argument in shown {
         push_word_or_any(argument, &mut out)?;
         out.push(0)?;

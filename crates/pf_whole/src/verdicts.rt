@@ -1,5 +1,5 @@
 //! How two formats of the whole language compare.
-ghost use Rattle.std.specs.Prelude.{◌≡◌, ◌++◌, IfOk, IsTrue, List, MatchResult, None, Some, map, replicate};
+ghost use Rattle.std.specs.Prelude.{◌≡◌, ◌++◌, [], IfOk, IsTrue, List, MatchResult, None, Some, map, replicate};
 ghost use Rattle.std.specs.List.{AllZip};
 ghost use Rattle.pf_values.specs.meaning.Items.{HasItems, Item, types};
 ghost use Rattle.pf_compare.specs.Answers.{IsComparisonOf};
@@ -11,7 +11,7 @@ ghost use Rattle.pf_whole.specs.meaning.Traces.{AreWholeAlike};
 use crate::calls::{call_argument_count, first_call_difference};
 use crate::comparison::same_text;
 use pf_compare::{CompareFault, Comparison, OwnedArg, Verdict, neutrals_of};
-use pf_posix::{fits, next_stretch};
+use pf_posix::{arguments, fits, next_stretch};
 use pf_values::Model;
 use std::alloc::{AllocError, Global};
 
@@ -133,7 +133,7 @@ fn first_difference(
         → ReadsWhole second.now b → ShowsDifference model a b (shown_as shown.items)
         × AllZip HasShownType shown.items (whole_types model a)) }
 {
-    let mut shown = Vec::new(alloc);
+    let mut shown = room_for_arguments(alloc, model, first)?;
     let mut is_found = false;
     let mut at = 0;
     let mut from = 0;
@@ -150,7 +150,8 @@ fn first_difference(
         )? {
             StretchArguments::Neutral => {
                 if is_found {
-                    return neutral_arguments(alloc, model, first, 0, Vec::new(alloc));
+                    let none = room_for_arguments(alloc, model, first)?;
+                    return neutral_arguments(alloc, model, first, 0, none);
                 }
                 return neutral_arguments(alloc, model, first, at, shown);
             }
@@ -167,6 +168,20 @@ fn first_difference(
         from = other.after;
     }
     unreachable!()
+}
+
+// Returns room for the arguments of a format.
+fn room_for_arguments(
+    alloc: Global,
+    model: Model,
+    text: &[u8],
+) -> Result<Vec<Option<OwnedArg>>, AllocError>
+    ensures { IfOk result (λ room. room.items ≡ []) }
+{
+    match arguments(model, text, &mut []) {
+        Ok(count) => Vec::with_capacity(alloc, count as usize),
+        Err(_) => Ok(Vec::new(alloc)),
+    }
 }
 
 // The arguments of a stretch that are shown.

@@ -31,7 +31,7 @@ pub loop-stretch-init : goal.loop-stretch-init
 loop-stretch-init c =
     let a = c.requires.accepted_first in
     let b = c.requires.accepted_second in
-    let none = sym c.new-shown.ensures.items in (
+    let none = sym c.in_ok-shown.ensures in (
       a.stretches,
       b.stretches,
       a.stretches,
@@ -72,7 +72,7 @@ stretch_arguments-requires c =
 pub neutral_arguments-requires-clause-shown : goal.neutral_arguments-requires-clause-shown
 neutral_arguments-requires-clause-shown c =
     let a = c.requires.accepted_first in
-    let none = sym c.new.ensures.items in record {
+    let none = sym c.in_ok-none-in-Neutral.ensures in record {
       all = a.stretches;
       left = a.stretches;
       reads = a.reads;
