@@ -41,7 +41,7 @@ use Rattle.pf_posix.proofs.FrontRefusals.{IsRefused, agreed_plain, end_refused, 
 use Rattle.pf_posix.specs.Plain.{HasPlainItems, HasTypeAt, IsPlain, IsPlainFront, IsPut, IsPutAt, numbering_after}
 use Rattle.pf_posix.specs.Readings.{wanted_types}
 use Rattle.pf_posix.specs.Refusals.{IsPosixRefusedAt, numbering_of}
-use Rattle.pf_posix.specs.StretchesInText.{ArePartsAt}
+use Rattle.pf_posix.specs.StretchesInText.{HasPartsAt}
 use Rattle.pf_posix.specs.Specifications.{Amount, Given, Fetched, PosixSpecification, conversion_letter, modifier_letters}
 use Rattle.pf_posix.specs.Spelling.{SpellsPosix, SpellsPosixPrecision, SpellsPosixWidth}
 use Rattle.pf_posix.specs.Types.{conversion_type, fetch, fetches, star_fetches, widened}
@@ -84,7 +84,7 @@ bare_spelled t at conversion h known =
 
 -- so it is the specification at its offset
 pub bare_at : (t : Text) (at : ℕ) (conversion : Conversion) → HasPercent t at → conversion_of (get_or t (at + 1) 0) ≡ Some conversion
-    → ArePartsAt t at (bare conversion, at + 2)
+    → HasPartsAt t at (bare conversion, at + 2)
 bare_at t at conversion h known = (
   record {
     position = None;

@@ -30,9 +30,9 @@ IsFound t at left (found.Opaque other stop) = (bytes : Text) × (later : Stretch
     × SpellsOpaqueItem bytes (item_of_opaque other) × ReadsWhole (drop stop t) later
     × (drop at t ≡ bytes ++ drop stop t) × (left ≡ Before [] (item_of_opaque other) later)
 
--- these are the parts of the specification at an offset, which ends at another
-abbrev pub ArePartsAt : Text → ℕ → OpaqueDirective × ℕ → Type 0
-ArePartsAt t at found = (read : Specification) × IsSpecificationAt t at (read, found.1) × (read.parts ≡ found.0)
+-- a text has a specification of these parts at an offset, which ends at another
+abbrev pub HasPartsAt : Text → ℕ → OpaqueDirective × ℕ → Type 0
+HasPartsAt t at found = (read : Specification) × IsSpecificationAt t at (read, found.1) × (read.parts ≡ found.0)
 
 -- where that ends, which is after the offset
 abbrev pub EndsBehind : Text → ℕ → Found → Type 0

@@ -5,7 +5,7 @@ ghost use Rattle.pf_posix.specs.Halts.{BeginsNoneAfter};
 ghost use Rattle.pf_posix.specs.Heads.{IsHead, IsPlaced};
 ghost use Rattle.pf_posix.specs.Items.{errno_letter};
 ghost use Rattle.pf_posix.specs.Stretches.{ReadsWhole, Stretches};
-ghost use Rattle.pf_posix.specs.StretchesInText.{ArePartsAt, EndsBehind, IsFound};
+ghost use Rattle.pf_posix.specs.StretchesInText.{HasPartsAt, EndsBehind, IsFound};
 ghost use Rattle.pf_posix.specs.declared.specifications.Numbering.TheVariants.{Undecided};
 
 use crate::letters::conversion_of;
@@ -95,7 +95,7 @@ fn parts_at(text: &[u8], at: usize) -> Option<(OpaqueDirective, usize)>
     requires percent { get_or text.now at 0 ≡ percent }
     requires other { get_or text.now (at + 1) 0 ≢ percent }
     requires errno { get_or text.now (at + 1) 0 ≢ errno_letter }
-    ensures { MatchOption result (BeginsNoneAfter Undecided (drop at text.now)) (ArePartsAt text.now at) }
+    ensures { MatchOption result (BeginsNoneAfter Undecided (drop at text.now)) (HasPartsAt text.now at) }
 {
     if at + 1 < text.len() {
         if let Some(conversion) = conversion_of(text[at + 1]) {

@@ -2,7 +2,6 @@
 use Rattle.std.specs.Prelude.{◌≡◌, ℕ, ◌<◌, ◌≤◌, ◌⊎◌, ⊤, Option, Some, None, true}
 use Rattle.pf_values.specs.declared.flags.Flag.TheVariants.{Minus}
 use Rattle.pf_values.specs.declared.flags.FlagSet.{FlagSet}
-use Rattle.pf_values.specs.declared.lengths.Length.TheVariants as lengths
 use Rattle.pf_values.specs.declared.limits.TheConstants.{MAX_NUMBER}
 use Rattle.pf_values.specs.declared.models.Model.{Model}
 use Rattle.pf_values.specs.meaning.Flags.{no_flags, with_flag}
@@ -12,8 +11,6 @@ use Rattle.pf_posix.specs.Defined.{IsPosixDefined}
 use Rattle.pf_posix.specs.Opaque.{OpaqueItem, SpellsOpaqueItem, is_opaque}
 use Rattle.pf_posix.specs.OpaqueParts.{parts_of_opaque}
 use Rattle.pf_posix.specs.Specifications.{Amount, Given, Fetched, PosixSpecification}
-use Rattle.pf_posix.specs.declared.conversions.Conversion.{Conversion}
-use Rattle.pf_posix.specs.declared.conversions.Modifier.TheVariants.{Integer}
 use Rattle.pf_posix.specs.declared.opaque_directives.OpaqueDirective.{OpaqueDirective}
 use Rattle.pf_whole.specs.meaning.NormalSpellings.{normal_parts, normal_spelling, posix_spelling_of}
 

@@ -278,7 +278,7 @@ fn difference_of(model: Model, first: &[u8], second: &[u8], comparison: Comparis
     }
 }
 
-// Returns neutral arguments for an accepted format, of which those up to an offset are there.
+// Returns neutral arguments for an accepted format. Those up to an offset are there.
 fn neutral_arguments(
     alloc: Global,
     model: Model,

@@ -1,6 +1,5 @@
 use Rattle.std.proofs.Common.{◌≡◌, Bool, true, false, refl, sym, ◌∙◌, subst}
 use Rattle.std.proofs.Math.Bool.{beq, ◌&&◌}
-use Rattle.pf_values.specs.declared.flags.FlagSet.{FlagSet}
 use Rattle.pf_whole.proofs.comparison.same_flags.Goals as goal
 
 both : (a b : Bool) → (a && b) ≡ true → (a ≡ true) × (b ≡ true)
