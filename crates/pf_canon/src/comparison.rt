@@ -91,11 +91,7 @@ fn same_inside_directive<L: Language>(
 
 // Checks two texts, the first before the second.
 #[inline(always)]
-fn check_both<L: Language>(
-    model: Model,
-    first: &[u8],
-    second: &[u8],
-) -> Result<(), (Side, Refusal)>
+fn check_both<L: Language>(model: Model, first: &[u8], second: &[u8]) -> Result<(), (Side, Refusal)>
     ensures { IfErr result (StopsIn L.has_front L.refuses model first.now second.now) }
 {
     if let Err(refusal) = check_in::<L>(model, first) {

@@ -80,7 +80,7 @@ bare_spelled t at conversion h known =
     let text : 37 ∷ letter ∷ [] ≡ take (at + 2 - at) (drop at t) =
     sym (two_bytes t at h ∙ ap (λ b. 37 ∷ b ∷ []) (byte_of_conversion (get_or t (at + 1) 0) conversion known)) ∙ ap (λ n. take n (drop at t)) two in
     subst (λ u. SpellsPosix u (bare_of conversion)) text
-        (finishes Opened (37 ∷ []) letter (bare_of conversion) refl (ap (finish Opened) (letter_tests conversion).sign_is))
+    (finishes Opened (37 ∷ []) letter (bare_of conversion) refl (ap (finish Opened) (letter_tests conversion).sign_is))
 
 -- so it is the specification at its offset
 pub bare_at : (t : Text) (at : ℕ) (conversion : Conversion) → HasPercent t at → conversion_of (get_or t (at + 1) 0) ≡ Some conversion
