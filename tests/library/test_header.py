@@ -93,7 +93,7 @@ def try_printed(compiler, folder, trials, work):
 
 
 def is_native(model):
-    """A program that compiles exactly if FMTCANON_NATIVE is this data model, or isn't defined."""
+    """A program that compiles if and only if FMTCANON_NATIVE is this data model, or isn't defined."""
     if model is None:
         return "#ifdef FMTCANON_NATIVE\n#error it is defined\n#endif\n"
     return f"typedef char is_native[FMTCANON_NATIVE == {model} ? 1 : -1];\n"
