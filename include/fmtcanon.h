@@ -1,9 +1,9 @@
 /* fmtcanon: canonical texts of printf formats, and whether two are interchangeable.
  *
  * A format is `len` bytes at `text`. No byte after them is read, so it needs no NUL at its end, and a
- * NUL inside it is rejected. What a call returns and writes, as its comment says, is proved; when it
- * allocates, and fmtcanon_fmtcheck(), which is C code here, are tested. docs/C.md explains that, and has
- * examples.
+ * NUL inside it is rejected. What a call returns and writes, as its comment says, is proved, but not that
+ * memory suffices. When a call allocates, and the C code of this header, which is FMTCANON_NATIVE and
+ * fmtcanon_fmtcheck(), are tested. docs/C.md explains that, and has examples.
  *
  * The profile and the whole language. fmtcanon_arguments(), fmtcanon_directives(), and the calls whose
  * names begin with fmtcanon_fits or fmtcanon_whole accept the whole language of POSIX `fprintf`: numbered
@@ -291,10 +291,11 @@ int64_t fmtcanon_bounds(int model, const char *text, size_t len, struct fmtcanon
 
 /* Returns the number of bytes that the format prints for the arguments, and writes them into `out` with a
  * NUL after them. They fit if the number is below `cap`. The bytes are those of `snprintf` in the data
- * model `model`, but no argument is read that isn't there: FMTCANON_ERROR_COUNT if there are more or fewer
- * arguments than the format takes, and FMTCANON_ERROR_TYPE if one has a different type, is a number out of the
- * range of its type, or a string with a NUL. FMTCANON_ERROR_NOMEMORY if the number is 2^63 or more.
- * Allocates nothing. */
+ * model `model`, and those that docs/internals/DECISIONS.md chooses where the C standard leaves room. But no
+ * argument is read that isn't there: FMTCANON_ERROR_COUNT if there are more or fewer arguments than the
+ * format takes, and FMTCANON_ERROR_TYPE if one has a different type, is a number out of the range of
+ * its type, or a string with a NUL. FMTCANON_ERROR_NOMEMORY if the number is 2^63 or more. Allocates
+ * nothing. */
 int64_t fmtcanon_render(int model, const char *text, size_t len, const fmtcanon_argument *args,
                         size_t count, char *out, size_t cap, fmtcanon_error *error);
 
@@ -360,8 +361,9 @@ int64_t fmtcanon_whole_canonical(int model, const char *text, size_t len, char *
 /* Returns 1 if two formats of the whole language without numbered arguments are interchangeable, 0
  * otherwise. They are if they take arguments of the same types, and for all of them print the same bytes and
  * make the same calls in the same places: a directive that fmtcanon_same() rejects calls the C library with
- * its normal spelling and its arguments, and `%m` without any. For formats that fmtcanon_same() accepts, both answers are equal. Directives that
- * differ, as `%1f` and `%f`, may print the same with some C library. Allocates nothing. */
+ * its normal spelling and its arguments, and `%m` without any. They have the same canonical text if and only
+ * if it is 1. For formats that fmtcanon_same() accepts, both answers are equal. Directives that differ, as
+ * `%1f` and `%f`, may print the same with some C library. Allocates nothing. */
 int64_t fmtcanon_whole_same(int model, const char *first, size_t first_len, const char *second,
                             size_t second_len, fmtcanon_error *error);
 
@@ -431,9 +433,10 @@ uint32_t fmtcanon_version(void);
  *
  *     printf(fmtcanon_fmtcheck(suspect, "%d of %s\n"), number, name);
  *
- * It is the call `fmtcheck` of BSD for the whole language. Only types are compared. So `suspect` may print
- * more, and `snprintf` should print it into a buffer; and it may read strings up to their NUL where
- * `fallback` has a precision. Allocates nothing. C89 doesn't have it. */
+ * It is C code: two lengths, a choice of pointers, and the call of fmtcanon_fits_fewer(), which decides
+ * and is proved. It is the call `fmtcheck` of BSD for the whole language. Only types are compared. So
+ * `suspect` may print more, and `snprintf` should print it into a buffer; and it may read strings up to
+ * their NUL where `fallback` has a precision. Allocates nothing. C89 doesn't have it. */
 #if defined(FMTCANON_NATIVE) && (defined(__STDC_VERSION__) || defined(__cplusplus))
 #ifdef __GNUC__
 __attribute__((__format_arg__(2)))

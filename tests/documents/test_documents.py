@@ -34,6 +34,7 @@ MODEL_COMMANDS = ["canon", "same", "format", "show", "stream", "types"]
 # kit, and placeholders.
 FOREIGN_NAMES = set(
     """
+    libos_c
     cents errno intmax_t ptrdiff_t strerror uintmax_t I64
     xargs git sort msgfmt pipefail SOURCE_DATE_EPOCH fix plant PKG_CONFIG_PATH PYTHONPATH ldconfig pkg config cflags libs pkgconfig sudo iconv
     axiom axioms abort incremental nat trusted
@@ -287,6 +288,15 @@ def test_sizes(trials):
     found = re.search(pattern, text)
     near = found and [abs(int(number) - count) * 10 <= count for number, count in zip(found.groups(), counts)]
     trials.expect(f"lines in docs/VERIFICATION.md, within a tenth: {counts}", near, [True] * len(counts))
+
+
+def test_diagram(trials):
+    """The diagram of docs/VERIFICATION.md has each crate but the callers."""
+    text = (TOP / "docs/VERIFICATION.md").read_text(encoding="utf-8")
+    diagram = re.search(r"^ +arguments .*?\n\n", text, re.MULTILINE | re.DOTALL).group()
+    crates = re.findall(r"^(\w+)", (TOP / "crates.txt").read_text(encoding="utf-8"), re.MULTILINE)
+    proved = {crate for crate in crates if not crate.startswith("uses")}
+    trials.expect("crates of the diagram", set(re.findall(r"\b(?:pf_\w+|fmtcanon\w*)", diagram)), proved)
 
 
 def try_mutant(trials, contributing):

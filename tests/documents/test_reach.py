@@ -11,7 +11,8 @@ No file that is reached names anything else than definitions of these folders, d
 definitions of the library: a word of `proofs/` or of another crate could mean anything.
 
 What is reached is listed in reached.md, also what REFUSALS, those in the whole language, reach, and neither ACCEPTED nor
-FOLDER has. `python3 -m tests.documents.test_reach` writes that file.
+FOLDER has. `python3 -m tests.documents.test_reach` writes that file. It has the sizes, too: also of what an answer of the
+program depends on, and of what the calls of the C library do. docs/VERIFICATION.md has these numbers.
 """
 
 import re
@@ -38,6 +39,10 @@ REFUSED_BY = [
     ("pf_whole/src/canonical_texts.rt", "check"),
 ]
 ACCEPTED = [(f"{LOWER}.Items", "HasArguments"), (f"{LOWER}.Stretches", "IsWholeAccepted")]
+# The function whose contract is that of the program, and the crate whose exported functions are the calls of the C library.
+PROGRAM_STARTS = [("fmtcanon/src/run.rt", "run")]
+LIBRARY = "fmtcanon_c/src"
+EXPORTED = re.compile(r'^pub extern "C" fn (\w+)', re.MULTILINE)
 # What the files may name, besides each other: the library's definitions, and the code's declarations.
 KNOWN = r"Rattle\.(std\.specs|\w+\.specs\.declared)\."
 # Where a refusal in the whole language has definitions, too.
@@ -132,7 +137,7 @@ def contract(file, function):
     """The names in the clauses of a function: each a module and a name in it."""
     module = Module()
     text = imports_of(without_comments((TOP / "crates" / file).read_text(encoding="utf-8")), module)
-    clauses = re.search(rf"^pub fn {function}\b.*?^{{", text, flags=re.DOTALL | re.MULTILINE)[0]
+    clauses = re.search(rf'^pub (?:extern "C" )?fn {function}\b.*?^{{', text, flags=re.DOTALL | re.MULTILINE)[0]
     return list(module.named(clauses))
 
 
@@ -157,6 +162,29 @@ def reached_from(names):
             own = {word for word, _ in WORDS.findall(body) if word in module.types}
             left += [(there[0], word) for word in own] + list(module.named(body))
     return found, others
+
+
+def library_starts():
+    """The calls of the C library, each with its file."""
+    files = [file.relative_to(TOP / "crates") for file in sorted((TOP / "crates" / LIBRARY).glob("*.rt"))]
+    return [(file, name) for file in files for name in EXPORTED.findall((TOP / "crates" / file).read_text(encoding="utf-8"))]
+
+
+def size_of(found):
+    """How many definitions these are, and how many lines they have, without comments, imports and empty lines."""
+    lines = [line for path, name in found for line in module_of(path).texts[name].splitlines() if line.strip()]
+    return len(found), len(lines)
+
+
+def sizes():
+    """What each begins with, and the size of what it depends on."""
+    starts = {
+        "The headline and a rejection": STARTS,
+        "The headline of the whole language": WHOLE_STARTS,
+        "An answer of the program": PROGRAM_STARTS,
+        "The calls of the C library": library_starts(),
+    }
+    return {name: size_of(reached(start)[0]) for name, start in starts.items()}
 
 
 def all_there(folder):
@@ -241,6 +269,8 @@ def page():
     """The text of reached.md."""
     heads = ["The headline and a rejection", "The headline of the whole language, besides", "A rejection in the whole language, besides"]
     lines = ["# What the headlines depend on", "", "`python3 -m tests.documents.test_reach` writes this file."]
+    lines += ["", "| Depends on | Definitions | Lines |", "|---|---|---|"]
+    lines += [f"| {name} | {count:,} | {length:,} |" for name, (count, length) in sizes().items()]
     for head, (found, others) in zip(heads, of_headlines()):
         types, constants = of_code(others)
         lines += ["", f"## {head}", "", *by_file(found), ""]
@@ -313,6 +343,23 @@ def try_whole(trials, known):
     trials.expect("lines in docs/VERIFICATION.md", sizes and [int(it) for it in sizes.groups()], counts)
     read = re.search(r"the (\d+) lines of that folder", verification)
     trials.expect("lines to read, in docs/VERIFICATION.md", read and int(read[1]), counts[0])
+
+
+def test_sizes(trials):
+    """docs/VERIFICATION.md says how many definitions an answer depends on, in tens, and how many lines they have, in hundreds."""
+    text = (TOP / "docs/VERIFICATION.md").read_text(encoding="utf-8").replace(",", "")
+    said = re.search(r"answer of the program depends on some (\d+) definitions with (\d+) lines those of the C calls on (\d+) with (\d+)", text)
+    found = sizes()
+    wanted = [
+        round(number, -digits)
+        for name in ("An answer of the program", "The calls of the C library")
+        for number, digits in zip(found[name], (1, 2))
+    ]
+    trials.expect("definitions and lines in docs/VERIFICATION.md", said and [int(it) for it in said.groups()], wanted)
+    # Each call of the header is counted, but not fmtcanon_fmtcheck, which is C code.
+    header = (TOP / "include/fmtcanon.h").read_text(encoding="utf-8")
+    calls = set(re.findall(r"^u?int\d+_t (fmtcanon_\w+)\(", header, re.MULTILINE))
+    trials.expect("calls of the C library that are counted", {name for _, name in library_starts()}, calls)
 
 
 def test_refusals(trials):

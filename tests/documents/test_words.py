@@ -44,12 +44,12 @@ PHRASES = {
     r"lower|greater|way|need))",
     "whose, one of them": r"of which",
     "returns": r"(?:(?<!that )it|which|that|call|calls|stream) answers?|answered (?:by|an|with)|answers (?:only|an|so|as)\b",
+    "if and only if": r"exactly if",
     "otherwise": r"(?<!nothing )(?<!anything )(?<!something )(?<!everything )(?<!somebody )(?<!what )(?<!or )(?<!one )else"
     r"(?! if)",
 }
 # The same for what people read first: pages, manual pages, the header, help texts and examples.
 FIRST = {
-    "if and only if": r"exactly if",
     "different, wrong, other than": r"(?:is|are|be|has|have|take|takes|with|whose type is) another"
     r"(?= (?:type|kind|size|sign|number|order|conversion|encoding)s?\b|[.,;:)]| elsewhere)|of another kind|alone is another",
     "skipped": r"(?:places?|files?|formats?|calls?) (?:is|are|was|were) left(?! (?:out|over))|(?:is|was) left as it is",

@@ -11,7 +11,7 @@
 #define WANT(holds) ((holds) && growths == 0 ? (void)0 : failed(#holds, __LINE__))
 #define COUNT(rows) (sizeof(rows) / sizeof *(rows))
 
-enum { LP64 = FMTCANON_LP64, ILP32 = FMTCANON_ILP32, LLP64 = FMTCANON_LLP64, PAGE = 4096, DIRECTIVES = 100000 };
+enum { LP64 = FMTCANON_LP64, ILP32 = FMTCANON_ILP32, LLP64 = FMTCANON_LLP64, PAGE = 4096, DIRECTIVES = 1100000 };
 static const uint64_t NONE = FMTCANON_UNBOUNDED;
 
 static int growths;
@@ -146,12 +146,12 @@ static void errors(void)
 /* Sums above 2^32, and one string without a bound among many directives. */
 static void sums(void)
 {
-    static char text[16 * DIRECTIVES];
+    static char text[6 * DIRECTIVES + 6];
     struct fmtcanon_bounds b;
     size_t at = 0, k;
     for (k = 0; k < DIRECTIVES; k++, at += 6) memcpy(text + at, "%4095c", 6);
     WANT(fmtcanon_bounds(LP64, text, at, &b, NULL) == 0);
-    WANT(b.least == (uint64_t)4095 * DIRECTIVES && b.greatest == b.least);
+    WANT(b.least > UINT32_MAX && b.least == (uint64_t)4095 * DIRECTIVES && b.greatest == b.least);
     memcpy(text + at, "%hhd%s", 6);
     WANT(fmtcanon_bounds(LP64, text, at + 4, &b, NULL) == 0);
     WANT(b.least == (uint64_t)4095 * DIRECTIVES + 1 && b.greatest == (uint64_t)4095 * DIRECTIVES + 4);

@@ -32,7 +32,7 @@ static void failed(const char *what, int line)
 }
 
 /* Two formats, and in which data models the second takes a beginning of the types of the first, and in which the first
- * takes one of those of the second. Both are so exactly if the second takes just these types. */
+ * takes one of those of the second. Both are so if and only if the second takes just these types. */
 static const struct {
     const char *first, *second;
     int models, reverse;

@@ -162,7 +162,7 @@ static size_t without(char *to, const char *text, const fmtcanon_specification *
     return len;
 }
 
-/* A part is in `needless` exactly if the specification is the same without it, as fmtcanon_whole_same() says. */
+/* A part is in `needless` if and only if the specification is the same without it, as fmtcanon_whole_same() says. */
 static void try_needless(const char *text)
 {
     fmtcanon_specification s;

@@ -1,5 +1,5 @@
 """Tries what programs see of the header alone: that it raises no warnings, that compilers check arguments through
-fmtcanon_fmtcheck, and which data model FMTCANON_NATIVE is.
+fmtcanon_fmtcheck, which data model FMTCANON_NATIVE is, and that its C code is no more than has to be trusted.
 
 It needs a Linux system with gcc; more_compilers.py tries other compilers.
 """
@@ -7,7 +7,7 @@ It needs a Linux system with gcc; more_compilers.py tries other compilers.
 import re
 
 from tests.frame.cases import tests_of
-from tests.library.test_library import HEADER, lines_of
+from tests.library.test_library import HEADER, header_text, lines_of
 
 STANDARDS = ["c99", "c11", "gnu17"]
 STANDARDS_OF_CPLUSPLUS = ["c++98", "c++11", "c++17"]
@@ -93,7 +93,7 @@ def try_printed(compiler, folder, trials, work):
 
 
 def is_native(model):
-    """A program that compiles exactly if FMTCANON_NATIVE is this data model, or isn't defined."""
+    """A program that compiles if and only if FMTCANON_NATIVE is this data model, or isn't defined."""
     if model is None:
         return "#ifdef FMTCANON_NATIVE\n#error it is defined\n#endif\n"
     return f"typedef char is_native[FMTCANON_NATIVE == {model} ? 1 : -1];\n"
@@ -112,6 +112,16 @@ def test_sizes(compiler, trials, work):
         text = head + "".join(lines) + "#include <fmtcanon.h>\n"
         found = [model for model in models if compiled(compiler, text + is_native(model), work) == (0, [])]
         trials.expect(f"FMTCANON_NATIVE for {limits}", found, [wanted])
+
+
+def test_code(trials):
+    """The code of the header is one function: two lengths, a call of the library that decides, and a choice of pointers."""
+    [(name, body)] = re.findall(r"^static inline .*?(\w+)\([^)]*\)\n\{\n(.*?)^\}", header_text(), re.MULTILINE | re.DOTALL)
+    trials.expect("the inline function", name, "fmtcanon_fmtcheck")
+    calls = re.findall(r"(\w+)\(", body)
+    trials.expect("calls of its body", sorted(set(calls) - {"if"}), ["fmtcanon_fits_fewer", "strlen"])
+    trials.expect("what it returns", re.findall(r"return (\w+);", body), ["suspect", "fallback"])
+    trials.expect("braces elsewhere", len(re.findall(r"^\{", header_text(), re.MULTILINE)), 1)
 
 
 def try_compiler(compiler, standards, folder, trials, work):

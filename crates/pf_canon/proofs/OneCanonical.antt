@@ -1,4 +1,4 @@
--- Two texts are equivalent exactly if they have one canonical text.
+-- Two texts are equivalent if and only if they have one canonical text.
 use Rattle.std.specs.Prelude.{◌↔◌, Bool, IsTrue}
 use Rattle.pf_values.specs.declared.models.Model.{Model}
 use Rattle.pf_values.specs.meaning.Items.{IsAccepted}

@@ -87,7 +87,7 @@ same_used_up (Some start) (Some left) t bytes e h same = append_cancel_left byte
 same_used_up (Some start) None t bytes e h same = h [] (e ∙ sym same ∙ sym (append-nil bytes))
 same_used_up None left t bytes e h same = absurd e
 
--- a text is its canonical text exactly if nothing is left of it after that
+-- a text is its canonical text if and only if nothing is left of it after that
 pub stripped_to_end : (t c : Text) (start left : Option (Bor Text)) (is : Bool) → IsLeft start t → IsFrontStripped start c left
     → IsTrue is ↔ IsLeft left [] → IsTrue is ↔ (c ≡ t)
 stripped_to_end t c start left is rest cut e =

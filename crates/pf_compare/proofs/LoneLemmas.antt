@@ -111,7 +111,7 @@ module _ (model : Model) (s t : Specification) (after : List Item) where
   one_type_list (Byte byte ∷ before) e = one_type_list before e
   one_type_list (Directive u ∷ before) e = ap (λ ts. arg_type model u ∷ ts) (one_type_list before e)
 
-  -- what is printed is the same exactly if the one directive prints the same
+  -- what is printed is the same if and only if the one directive prints the same
   same_all : (before : List Item) (args : List Argument) (n : Argument) → slice_get args (length (types model before)) ≡ Some n
       → printed_text model s n ≡ printed_text model t n
       → all_printed model (before ++ Directive s ∷ after) args ≡ all_printed model (before ++ Directive t ∷ after) args

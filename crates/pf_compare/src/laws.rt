@@ -12,8 +12,8 @@ pub fn one_canonical_text()
 {}
 
 /// Proves the headline. Two accepted formats have equal argument types and print equal bytes for
-/// every list of such arguments exactly if their canonical texts are equal byte for byte. Each has
-/// exactly one, which has its types, prints its bytes, and is its own canonical text.
+/// every list of such arguments if and only if their canonical texts are equal byte for byte. Each
+/// has exactly one, which has its types, prints its bytes, and is its own canonical text.
 pub fn headline()
     ensures { (model : Model) (t u : Text) → IsAccepted t → IsAccepted u → HaveOneMeaning model t u }
 {}

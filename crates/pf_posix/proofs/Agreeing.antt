@@ -161,7 +161,7 @@ module _ (place : ℕ) where
     go true e = inl (yes_number f.number (place + 1) e, rw e refl)
     go false e = inr (no_number f.number (place + 1) e, rw e refl)
 
-  -- an argument is fetched exactly if it has a first fetch
+  -- an argument is fetched if and only if it has a first fetch
   pub fetched_some : (fs : List Fetch) (type : ArgumentType) → wanted_at place fs ≡ Some type → IsFetched place fs
   fetched_some [] type e = cc
   fetched_some (f ∷ fs) type e = elim (wanted_cases f fs) [

@@ -214,7 +214,7 @@ errno_put model t at old count h letter =
       same_length = refl;
     }
 
--- types were put exactly if an item was read
+-- types were put if and only if an item was read
 module _ (model : Model) (t : Text) (at : ℕ) (old new : List ArgumentType) (count : ℕ) (read : PlainFront) where
   pub was_put : IsPut model t at old new count read → read.at ≢ at → IsPutAt model t at old new count read
   was_put (inl h) other = absurd (other h.0)

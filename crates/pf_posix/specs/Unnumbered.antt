@@ -34,7 +34,7 @@ pub record IsAcceptedUnnumbered (t : Text) : Type 0 where
   pub unnumbered : AllByRecursion IsUnnumbered items
   pub limit : length t ≤ MAX_TEXT_LEN
 
--- a text is accepted exactly if this holds
+-- a text is accepted if and only if this holds
 abbrev pub AcceptsUnnumbered : Text → Type 0
 AcceptsUnnumbered t = IsWholeAccepted t ↔ IsAcceptedUnnumbered t
 

@@ -91,8 +91,8 @@ pub fn read_once()
     ensures { (t : Text) → IsReadOnce t }
 {}
 
-/// Proves that a text is accepted as stretches and opaque directives exactly if it is read with no
-/// numbered specification, and it is within the limit.
+/// Proves that a text is accepted as stretches and opaque directives if and only if it is read with
+/// no numbered specification, and it is within the limit.
 pub fn accepts_unnumbered()
     ensures { (t : Text) → AcceptsUnnumbered t }
 {}

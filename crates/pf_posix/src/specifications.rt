@@ -255,8 +255,8 @@ fn position_at(
     }
 }
 
-// The number of the argument of a `*` that ends at an offset, and where it ends. It has one exactly if the
-// specification has (POSIX fprintf on `*m$`).
+// The number of the argument of a `*` that ends at an offset, and where it ends. It has one if and only if
+// the specification has (POSIX fprintf on `*m$`).
 #[inline(never)]
 fn star_number_at(
     text: &[u8],

@@ -155,6 +155,8 @@ module _ (t : Text) (start a b c : ℕ) (flags : FlagSet) (width precision : Opt
           some = omega (arith, h.2.from, w.from, p.from, ending.letters.from, ending.stop);
           within = omega (arith, ending.stop, ending.letter.within);
           read = (subst (λ u. Spells u found.directive) (sym whole) (rw ending.directive spells), ending.defined);
+          modifier = rw (ending.modifier, ending.stop, ending.directive) (bytes_join t c ending.between (ending.between + 1)
+              (length_letters ending.length) (conv_letter ending.conv ∷ []) ending.letters ending.letter);
         }
 
   pub found_or_none : (found : Option FoundDirective) → EndsWidth width t b → EndsPrecision precision t c

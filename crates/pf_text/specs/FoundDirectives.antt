@@ -16,11 +16,13 @@ use Rattle.pf_text.specs.Fronts.{IsFront}
 use Rattle.pf_text.specs.Offsets.{EndsFlags, EndsPrecision, EndsWidth, HasBytes}
 use Rattle.pf_text.specs.declared.specification.FoundDirective.{FoundDirective}
 
--- it is the bytes from there up to its end
+-- it is the bytes from there up to its end, and the last of these are its length modifier and its conversion
 pub record IsFoundAt (t : Text) (start : ℕ) (found : FoundDirective) : Type 0 where
   pub some : start < found.stop
   pub within : found.stop ≤ length t
   pub read : IsReadAs (take (found.stop - start) (drop start t)) (Directive found.directive)
+  pub modifier : HasBytes t found.modifier_at found.stop
+      (length_letters found.directive.length ++ conv_letter found.directive.conv ∷ [])
 
 -- the spelling of a specification up to its length modifier
 abbrev pub head_spelled : Specification → Text

@@ -1,5 +1,5 @@
 //! The argument types of a text, in a slice, if they are known.
-ghost use Rattle.std.specs.Prelude.{◌≡◌, ◌<◌, ◌≤◌, ◌-◌, [], ◌∷◌, ◌++◌, drop, length, take, None, MatchOption, ⊤};
+ghost use Rattle.std.specs.Prelude.{◌≡◌, ◌+◌, ◌-◌, ◌<◌, ◌≤◌, [], ◌∷◌, ◌++◌, drop, length, take, None, MatchOption, ⊤};
 ghost use Rattle.pf_values.specs.Directives.{specification_of};
 ghost use Rattle.pf_values.specs.declared.lengths.Length.TheVariants as lengths;
 ghost use Rattle.pf_values.specs.meaning.DataModel.{arg_type};
@@ -14,11 +14,13 @@ use crate::specification::directive_at_percent;
 use crate::walk::Walk;
 use pf_values::{ArgType, Conv, Length, Model};
 
-/// Puts the types of the arguments that a text takes at the front of `types`, and returns how many there
-/// are. `None` if they aren't known or have no room; then call `signature`.
+/// Puts the types of the arguments that a text takes at the front of `types`, leaves the rest as it was, and
+/// returns how many there are. `None` if they aren't known or have no room: then `types` may have been written,
+/// and `signature` says them.
 pub fn known_types(model: Model, text: &[u8], types: &mut [ArgType]) -> Option<usize>
     ensures { MatchOption result ⊤ (λ count. (count ≤ length types.new)
-        × TakesTypes model text.now (take count types.new)) }
+        × TakesTypes model text.now (take count types.new)
+        × (drop count types.new ≡ drop count types.old)) }
 {
     let mut walk = Walk::new(text);
     let mut count = 0;
@@ -37,8 +39,9 @@ pub fn known_types(model: Model, text: &[u8], types: &mut [ArgType]) -> Option<u
 #[inline(always)]
 fn put_type(types: &mut [ArgType], count: usize, arg_type: ArgType) -> Option<usize>
     requires { count ≤ length types.old }
-    ensures { MatchOption result ⊤ (λ more. (more ≤ length types.new)
-        × (take more types.new ≡ take count types.old ++ arg_type ∷ [])) }
+    ensures { MatchOption result ⊤ (λ more. (more ≡ count + 1) × (more ≤ length types.new)
+        × (take more types.new ≡ take count types.old ++ arg_type ∷ [])
+        × (drop more types.new ≡ drop more types.old)) }
 {
     if count >= types.len() {
         return None;

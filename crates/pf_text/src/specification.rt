@@ -41,8 +41,8 @@ pub fn directive_at(text: &[u8], start: usize) -> Option<FoundDirective>
     directive_at_percent(text, start)
 }
 
-/// Returns the directive at an offset of a text, if it is spelled as `spell` spells it, and has no flag
-/// but `-` or `0`. `None` says nothing of the text: call `directive_at` then.
+/// Returns the directive at an offset of a text, if it is spelled as `spell` spells it. `None` says nothing of
+/// the text, and comes for each flag but `-` and `0`: call `directive_at` then.
 #[inline(always)]
 pub fn spelled_at(text: &[u8], start: usize) -> Option<FoundDirective>
     ensures { IfSome result (IsSpelledAt text.now start) }

@@ -20,7 +20,8 @@ canonical_for model t c accepted is = record {
   kept = λ own. alike_have_one_canonical model t t c t (one_canonical_is_alike model t t c is is) is own;
 }
 
--- a fact that holds exactly if two texts are alike holds exactly if they have one canonical text
+-- a fact that holds if and only if two texts are alike holds if and only if they have one canonical
+-- text
 module _ (model : Model) (t u : Text) (first : IsWholeAccepted t) (second : IsWholeAccepted u) where
   one_exactly : (P : Type 0) → (P ↔ AreWholeAlike model t u) → (P ↔ HaveOneWholeCanonical model t u)
   one_exactly P same =

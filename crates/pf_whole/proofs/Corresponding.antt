@@ -1,4 +1,4 @@
--- Two texts are alike exactly if their stretches correspond.
+-- Two texts are alike if and only if their stretches correspond.
 use Rattle.std.proofs.Common.{◌≡◌}
 use Rattle.pf_values.specs.declared.models.Model.{Model}
 use Rattle.pf_values.specs.meaning.Text.{Text}

@@ -7,7 +7,7 @@ use Rattle.pf_values.specs.meaning.Printing.{AreEquivalent, PrintAlike}
 use Rattle.pf_values.specs.meaning.Text.{Text}
 use Rattle.pf_text.proofs.Texts.{Reads-unique}
 
--- two stretches are equivalent exactly if their items print alike
+-- two stretches are equivalent if and only if their items print alike
 pub stretches_equivalent : (model : Model) (t u : Text) (a b : List Item) → Reads t a → Reads u b → (AreEquivalent model t u ↔ PrintAlike model a b)
 stretches_equivalent model t u a b h g = (
   λ e.

@@ -115,8 +115,8 @@ IsWholeVerdict model a b (Different shown) = (whole_types model a ≡ whole_type
     × (placed_calls model 0 a ≡ placed_calls model 0 b)
     × (ShowsNeutral model a b shown ⊎ ShowsProbe model a b shown)
 
--- the verdict on two accepted texts, which is Same exactly if they are alike, and exactly if they have one
--- canonical text
+-- the verdict on two accepted texts, which is Same if and only if they are alike, and if and only if they
+-- have one canonical text
 pub record IsWholeComparisonOf (model : Model) (t u : Text) (verdict : WholeVerdict) : Type 0 where
   pub first : IsWholeAccepted t
   pub second : IsWholeAccepted u

@@ -63,6 +63,19 @@ IsVerdictOf found (verdicts.Directives index) = ⊥
 IsVerdictOf found (verdicts.Args shown) =
     (args : Vec OwnedArg) × (found ≡ compared.Args args) × (shown.items ≡ map Some args.items)
 
+-- what a verdict of the profile is in the whole language: all of its arguments are shown
+abbrev pub whole_verdict : Verdict → answers.WholeVerdict
+whole_verdict compared.Same = answers.Same
+whole_verdict (compared.Types index) = answers.TypesDiffer index
+whole_verdict (compared.Args args) = answers.Different (shown_as (map Some args.items))
+
+-- two formats that compare in the profile compare in the whole language in the same way and in no other, with the
+-- same arguments
+abbrev pub ProfileCompares : Model → Type 0
+ProfileCompares model = (t u : Text) (comparison : Comparison) → IsComparisonOf model t u comparison
+    → IsWholeComparisonOf model t u (whole_verdict comparison.verdict)
+    × ((other : answers.WholeVerdict) → IsWholeComparisonOf model t u other → other ≡ whole_verdict comparison.verdict)
+
 -- two formats of the profile are compared
 abbrev pub IsProfileVerdict : Model → Text → Text → WholeVerdict → ℕ → Type 0
 IsProfileVerdict model t u verdict renderings =

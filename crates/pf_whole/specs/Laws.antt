@@ -55,8 +55,8 @@ abbrev pub AlikePrintAlike : Model → Type 0
 AlikePrintAlike model = (t u : Text) → AreWholeAlike model t u → (respond : Text → Call → Text)
     → PrintAlikeBy model respond t u
 
--- Two texts are alike exactly if they are equivalent in the profile. A text is the canonical text of the
--- first exactly if it is so in the profile.
+-- Two texts are alike if and only if they are equivalent in the profile. A text is the canonical text of
+-- the first if and only if it is so in the profile.
 pub record CoincidesWithProfile (model : Model) (t u : Text) : Type 0 where
   pub alike : AreWholeAlike model t u ↔ AreEquivalent model t u
   pub canonical : (c : Text) → (IsWholeCanonicalOf model t c ↔ IsCanonicalOf model t c)
@@ -98,7 +98,7 @@ Correspond model (Before a s rest) (Before b p more) =
     PrintAlike model a b × (normal_spelling model s ≡ normal_spelling model p)
     × Correspond model rest more
 
--- two texts are alike exactly if their stretches correspond
+-- two texts are alike if and only if their stretches correspond
 abbrev pub AlikeIsCorresponding : Model → Type 0
 AlikeIsCorresponding model = (t u : Text) (a b : Stretches) → ReadsWhole t a → ReadsWhole u b
     → (AreWholeAlike model t u ↔ Correspond model a b)

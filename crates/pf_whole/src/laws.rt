@@ -1,6 +1,7 @@
 //! Laws over the definitions: each is the contract of a function that does nothing.
 ghost use Rattle.pf_values.specs.declared.models.Model.{Model};
 ghost use Rattle.pf_whole.specs.Answers.{AgreeingIsTogether, CallsGiveShape, OneVerdict, TellingIsApart};
+ghost use Rattle.pf_whole.specs.Comparisons.{ProfileCompares};
 ghost use Rattle.pf_whole.specs.meaning.WholeHeadline.{WholeHeadline};
 ghost use Rattle.pf_whole.specs.Laws.{AlikeCallTheSame, AlikeIsCorresponding, CanonicalIsAlike, AlikeHaveOneCanonical, OneCanonicalIsAlike, ProfileCoincides, AlikePrintAlike, AlikeShareErrno, ServeFewer, TracesOnce, TracesSuffice};
 
@@ -16,7 +17,7 @@ pub fn alike_print_alike()
     ensures { (model : Model) → AlikePrintAlike model }
 {}
 
-/// Proves that two texts of the profile are alike exactly if they are equivalent, and their
+/// Proves that two texts of the profile are alike if and only if they are equivalent, and their
 /// canonical texts here are those of the profile.
 pub fn profile_coincides()
     ensures { (model : Model) → ProfileCoincides model }
@@ -38,14 +39,14 @@ pub fn canonical_is_alike()
 {}
 
 /// Proves the headline of the whole language. Each accepted text has exactly one canonical text, which
-/// is alike to it, and is its own canonical text. Two accepted texts are alike exactly if their
+/// is alike to it, and is its own canonical text. Two accepted texts are alike if and only if their
 /// canonical texts are equal byte for byte.
 pub fn headline()
     ensures { (model : Model) → WholeHeadline model }
 {}
 
-/// Proves that two texts are alike exactly if, side by side, their stretches print alike and what is
-/// between them has the same normal spelling.
+/// Proves that two texts are alike if and only if, side by side, their stretches print alike and
+/// what is between them has the same normal spelling.
 pub fn alike_is_corresponding()
     ensures { (model : Model) → AlikeIsCorresponding model }
 {}
@@ -72,6 +73,12 @@ pub fn alike_share_errno()
 /// difference, nothing is read that was not passed.
 pub fn serve_fewer()
     ensures { (model : Model) → ServeFewer model }
+{}
+
+/// Proves that two formats of the profile compare in the whole language as they do in the profile, with the same
+/// arguments, and in no other way. So `same --whole` says of them what `same` says.
+pub fn profile_compares()
+    ensures { (model : Model) → ProfileCompares model }
 {}
 
 /// Proves that two texts have at most one verdict. So `compare` can return no other one.

@@ -39,8 +39,8 @@ pub fn may_replace(alloc: Global, model: Model, old: &[u8], new: &[u8]) -> bool
 }
 
 /// Returns whether the canonical texts of two formats are equal byte for byte. By the headline, they are
-/// exactly if both formats take the same types and print the same bytes for all arguments. `None` if a
-/// format is refused, or out of memory.
+/// if and only if both formats take the same types and print the same bytes for all arguments. `None` if
+/// a format is refused, or out of memory.
 pub fn have_one_canonical_text(
     alloc: Global,
     model: Model,

@@ -5,6 +5,7 @@ use crate::meaning::{are_equivalent, may_replace, shows_difference};
 use pf_values::Model;
 
 mod comparisons;
+mod equality;
 mod faults;
 mod literals;
 mod memory;

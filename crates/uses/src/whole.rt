@@ -18,7 +18,8 @@ pub fn are_alike(model: Model, first: &[u8], second: &[u8]) -> bool
 }
 
 /// Returns whether the canonical texts of two formats of the whole language are equal byte for byte. By the
-/// headline, they are exactly if the formats are alike. `None` if a format is refused, or out of memory.
+/// headline, they are if and only if the formats are alike. `None` if a format is refused, or out of
+/// memory.
 pub fn have_one_whole_canonical_text(
     alloc: Global,
     model: Model,

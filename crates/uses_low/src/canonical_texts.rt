@@ -32,7 +32,7 @@ pub fn fits(model: Model, format: &[u8], room: u128) -> bool
     }
 }
 
-/// Copies a format in canonical spelling, in memory of fixed size. True only where the reader was
+/// Copies a format in canonical spelling. True only where the reader was
 /// read to its end and the whole canonical text of what it handed out was written.
 pub fn copies_tidily<R: Read, W: Write>(
     model: Model,

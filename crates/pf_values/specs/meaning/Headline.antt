@@ -14,8 +14,8 @@ pub record HasOneCanonical (model : Model) (t : Text) : Type 0 where
   pub means_the_same : AreEquivalent model t canonical
   pub is_its_own : IsCanonicalOf model canonical canonical
 
--- Each of two texts has exactly one canonical text. The two texts are equivalent exactly if these
--- canonical texts are equal byte for byte.
+-- Each of two texts has exactly one canonical text. The two texts are equivalent if and only if
+-- these canonical texts are equal byte for byte.
 pub record HaveOneMeaning (model : Model) (t u : Text) : Type 0 where
   pub first : HasOneCanonical model t
   pub second : HasOneCanonical model u

@@ -15,8 +15,8 @@ pub record HasOneWholeCanonical (model : Model) (t : Text) : Type 0 where
   pub means_the_same : AreWholeAlike model t canonical
   pub is_its_own : IsWholeCanonicalOf model canonical canonical
 
--- Each of two texts has exactly one canonical text. The two texts are alike exactly if these canonical
--- texts are equal byte for byte.
+-- Each of two texts has exactly one canonical text. The two texts are alike if and only if these
+-- canonical texts are equal byte for byte.
 pub record HaveOneWholeMeaning (model : Model) (t u : Text) : Type 0 where
   pub first : HasOneWholeCanonical model t
   pub second : HasOneWholeCanonical model u

@@ -1,4 +1,4 @@
-use Rattle.std.proofs.Common.{◌-◌, ◌≤◌, length, take}
+use Rattle.std.proofs.Common.{◌≡◌, ◌-◌, ◌≤◌, drop, length, take}
 use Rattle.pf_values.specs.declared.limits.TheConstants.{MAX_TEXT_LEN}
 use Rattle.pf_text.proofs.ReadingLemmas.{HasTyped}
 use Rattle.pf_text.proofs.known_argument_types.known_types.Given as goal
@@ -7,6 +7,7 @@ abbrev pub invariant-loop-model : goal.invariant-loop-model
 invariant-loop-model l = record {
   room : l.count ≤ length l.types;
   typed : HasTyped l.model l.text l.walk (take l.count l.types);
+  rest : drop l.count l.types ≡ drop l.count l.fn.types;
 }
 
 abbrev pub decreases-loop-model : goal.decreases-loop-model
