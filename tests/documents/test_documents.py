@@ -34,7 +34,7 @@ MODEL_COMMANDS = ["canon", "same", "format", "show", "stream", "types"]
 # kit, and placeholders.
 FOREIGN_NAMES = set(
     """
-    libos_c
+    libos_c rattle_alloc rattle_dealloc rattle_realloc rattle_arg rattle_env rattle_env_at rattle_errno rattle_set_errno chdir getcwd
     cents errno intmax_t ptrdiff_t strerror uintmax_t I64
     xargs git sort msgfmt pipefail SOURCE_DATE_EPOCH fix plant PKG_CONFIG_PATH PYTHONPATH ldconfig pkg config cflags libs pkgconfig sudo iconv
     axiom axioms abort incremental nat trusted

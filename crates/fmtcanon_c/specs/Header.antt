@@ -9,7 +9,7 @@ use Rattle.pf_whole.specs.declared.parts.Part.TheVariants.{Flag, Width, Precisio
 use Rattle.pf_whole.specs.Parts.{only}
 use Rattle.fmtcanon_c.specs.Specifications.{part_bits}
 use Rattle.fmtcanon_c.specs.declared.specifications.TheConstants.{NONE}
-use Rattle.fmtcanon_c.specs.declared.byte_counts.TheConstants.{UNBOUNDED}
+use Rattle.fmtcanon_c.specs.declared.byte_counts.TheConstants.{MOST, UNBOUNDED}
 use Rattle.fmtcanon_c.specs.declared.directives.TheConstants.{NO_ARGUMENT}
 use Rattle.fmtcanon_c.specs.declared.interface.TheConstants.{LITERAL_KINDS, NO_MEMORY, NO_MODEL, NO_PLACE, WRONG_COUNT, WRONG_TYPE}
 
@@ -81,3 +81,7 @@ IsNoneOfHeader = NONE ≡ 2 ^ 64 - 1
 -- FMTCANON_UNBOUNDED, which is UINT64_MAX
 abbrev pub IsUnboundedOfHeader : Type 0
 IsUnboundedOfHeader = UNBOUNDED ≡ 2 ^ 64 - 1
+
+-- UINT64_MAX - 1, the largest number of bytes that is put
+abbrev pub IsMostOfHeader : Type 0
+IsMostOfHeader = MOST ≡ 2 ^ 64 - 2

@@ -1,5 +1,5 @@
 -- What the calls about two formats answer. This project's own.
-use Rattle.std.specs.Prelude.{◌≡◌, ◌⊎◌, ◌↔◌, Bool, true, false, IsTrue, ℕ, ℤ, List, ◌++◌, Option, None, Some, Result, Ok, Err}
+use Rattle.std.specs.Prelude.{◌≡◌, ◌⊎◌, ◌↔◌, Bool, true, false, IsTrue, ℕ, ℤ, pos, List, ◌++◌, Option, None, Some, Result, Ok, Err}
 use Rattle.std.specs.List.{AllByRecursion}
 use Rattle.pf_text.specs.Refusals.{RefusesOne}
 use Rattle.pf_text.specs.declared.refusals.Refusal.{Refusal}
@@ -8,8 +8,10 @@ use Rattle.pf_posix.specs.declared.types.ArgumentType.{ArgumentType}
 use Rattle.pf_posix.specs.Items.{HasArguments}
 use Rattle.pf_values.specs.declared.models.Model.{Model}
 use Rattle.pf_values.specs.declared.models.TheConstants.Model.{ALL}
+use Rattle.pf_canon.specs.Comparison.{HaveOneCanonical}
 use Rattle.pf_values.specs.meaning.Printing.{AreEquivalent}
 use Rattle.pf_values.specs.meaning.Text.{Text}
+use Rattle.pf_whole.specs.Answers.{HaveOneWholeCanonical}
 use Rattle.pf_whole.specs.Languages.{AcceptsText, IsFirstIn, Language, Numbered, Profile, RefusesText, Unnumbered}
 use Rattle.pf_whole.specs.meaning.Traces.{AreWholeAlike}
 use Rattle.fmtcanon_c.specs.declared.interface.CError.{CError}
@@ -40,6 +42,13 @@ AreRelated WholeSame model first second = AreWholeAlike model first second
 AreRelated Fits model first second = Fit model first second
 AreRelated FitsFewer model first second = FitFewer model first second
 
+-- two texts have one canonical text; it doesn't show whether their types fit
+abbrev pub HaveOneText : Relation → Model → Text → Text → Type 0
+HaveOneText Same model first second = HaveOneCanonical model first second
+HaveOneText WholeSame model first second = HaveOneWholeCanonical model first second
+HaveOneText Fits model first second = Fit model first second
+HaveOneText FitsFewer model first second = FitFewer model first second
+
 -- both texts are accepted
 abbrev pub AcceptsRelated : Relation → Text → Text → Model → Type 0
 AcceptsRelated relation first second model =
@@ -51,10 +60,11 @@ RefusesRelated relation first second stop model =
     RefusesOne (AcceptsText (relation_language relation) model) (RefusesText (relation_language relation) model)
     first second stop.0 stop.1
 
--- both texts are accepted, and this is whether they are related
+-- both texts are accepted, and this is whether they are related, and whether they have one canonical text
 abbrev pub Relates : Relation → Model → Text → Text → Bool → Type 0
 Relates relation model first second is =
     AcceptsRelated relation first second model × (IsTrue is ↔ AreRelated relation model first second)
+    × (IsTrue is ↔ HaveOneText relation model first second)
 
 -- there is no index at which arguments differ
 abbrev pub is_nowhere : {E : Type 0} → Result (Option ℕ) E → Result Bool E
@@ -67,13 +77,19 @@ abbrev pub IsRefusalIn : (Side × Refusal → Type 0) → ℤ → CError → Typ
 IsRefusalIn Refuses code error =
     (stop : Side × Refusal) × Refuses stop × IsRefusalCode stop.0 stop.1 code error
 
--- 1 where two accepted texts are related, 0 where they aren't, with the error untouched; or one is
--- refused
+-- 1 where two accepted texts are related, and where they have one canonical text, 0 where they aren't and
+-- don't, with the error untouched; or one is refused
 abbrev pub AnswersRelation : Relation → Model → Text → Text → CError → ℤ → CError → Type 0
 AnswersRelation relation model first second error code error_now =
     (AcceptsRelated relation first second model × IsTruthCode (AreRelated relation model first second) code
-    × (error_now ≡ error))
+    × IsTruthCode (HaveOneText relation model first second) code × (error_now ≡ error))
     ⊎ IsRefusalIn (λ stop. RefusesRelated relation first second stop model) code error_now
+
+-- the answer of fmtcanon_fits_fewer is 1 if and only if the second text takes the arguments of the first, or
+-- those at their beginning: fmtcanon_fmtcheck chooses by that
+abbrev pub OneIsFit : Type 0
+OneIsFit = (model : Model) (first second : Text) (error error_now : CError) (code : ℤ)
+    → AnswersRelation FitsFewer model first second error code error_now → (code ≡ pos 1) ↔ FitFewer model first second
 
 -- the data models in which they are related, where both are accepted in all, with the error untouched; or
 -- one is refused in the first data model in which one is

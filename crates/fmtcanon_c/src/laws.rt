@@ -1,5 +1,6 @@
 //! Laws on the numbers that C programs see. Each is the contract of a function that does nothing.
-ghost use Rattle.fmtcanon_c.specs.Header.{AreErrorsOfHeader, HasNumberOfHeader, HasBitOfHeader, IsArgumentOfHeader, IsNoneOfHeader, IsUnboundedOfHeader};
+ghost use Rattle.fmtcanon_c.specs.Header.{AreErrorsOfHeader, HasNumberOfHeader, HasBitOfHeader, IsArgumentOfHeader, IsMostOfHeader, IsNoneOfHeader, IsUnboundedOfHeader};
+ghost use Rattle.fmtcanon_c.specs.Relations.{OneIsFit};
 ghost use Rattle.pf_literals.specs.declared.faults.LiteralKind.{LiteralKind};
 ghost use Rattle.pf_whole.specs.declared.parts.Part.{Part};
 
@@ -31,4 +32,15 @@ pub fn none_of_header()
 /// Proves that the number that means "no largest number of bytes" is the header's.
 pub fn unbounded_of_header()
     ensures { IsUnboundedOfHeader }
+{}
+
+/// Proves that the largest number of bytes that is put is the header's, one less than that number.
+pub fn most_of_header()
+    ensures { IsMostOfHeader }
+{}
+
+/// Proves that the answer of `fmtcanon_fits_fewer` is 1 if and only if the second format takes the arguments of
+/// the first, or those at their beginning. By that, `fmtcanon_fmtcheck` of the header chooses.
+pub fn one_is_fit()
+    ensures { OneIsFit }
 {}

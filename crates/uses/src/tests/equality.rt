@@ -72,10 +72,11 @@ fn spans_that_differ_are_unequal(rt: HostRuntime) {
             },
             stretch == stretch,
             stretch == Stretch { end: 1, ..stretch },
-            stretch == Stretch {
-                after: 3,
-                ..stretch
-            },
+            stretch
+                == Stretch {
+                    after: 3,
+                    ..stretch
+                },
         ] == [
             true, false, false, false, false, false, false, true, false, false
         ]

@@ -9,7 +9,12 @@ pub returns-in-Ok-false : goal.returns-in-Ok-false
 returns-in-Ok-false c =
     let h = c.in-Ok-false.ensures in
     in_model c.args.model _ _ _ c.in-Some.model c.ranges.model c.in-Some.ensures
-    (inl (h.0, inr (λ so. false≢true (sym c.in-Ok-false.field-0-test ∙ h.1.1 so), refl), refl))
+    (inl (
+      h.0,
+      inr (λ so. false≢true (sym c.in-Ok-false.field-0-test ∙ h.1.1 so), refl),
+      inr (λ one. false≢true (sym c.in-Ok-false.field-0-test ∙ h.2.1 one), refl),
+      refl,
+    ))
 
 pub returns-in-Err : goal.returns-in-Err
 returns-in-Err c =
