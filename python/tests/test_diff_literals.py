@@ -6,7 +6,7 @@ import unittest
 from fmtcanon import Model
 from fmtcanon.diff.judging import is_judged
 from fmtcanon.diff.pairing import matching, paired
-from fmtcanon.source.macros import expansion
+from fmtcanon.source.macros import PlacePart, expansion
 from fmtcanon.source.places import EnclosingCall, Position, Source
 
 # A source, and of each place the line and column of its quote, its call and its bytes in LP64, or why there are none.
@@ -191,6 +191,12 @@ class Reading(unittest.TestCase):
         }
         for name, wanted in names.items():
             self.assertEqual([expansion(name, it) for it in Model], wanted, name)
+
+    def test_defined_macro(self):
+        place = Source(b'f("a" X);').read().places[0]
+        self.assertEqual(place.words, b'"a" X')
+        place.define({b"X": (PlacePart("string", b'"b%d"'),)}, Model.LP64)
+        self.assertEqual(place.words, b"ab%")
 
     def test_time(self):
         """Texts that a pattern could match in many ways take linear time."""

@@ -4,7 +4,8 @@ Usage: python3 -m tests.mutants.clauses [CRATE ..]
 
 A clause is broken by a mutant if the goals that refused it (`crates/NAME/refused.txt`) have the clause's name, or, of a
 clause without one, if they are of the function. Such a goal may be true, and only no longer be proved by the search.
-unedited.py says which functions are public.
+unedited.py says which functions are public. A method of a trait has the clauses that the trait declares for it, or if
+the trait is std's, those of its ghost members, as one without a name.
 
 Its last line is 'N passed, M failed', and it exits with 1 where M isn't 0.
 """
@@ -18,20 +19,59 @@ from tests.mutants.refused import Record
 from tests.mutants.unedited import exported, has_body, is_public, sources_of
 
 CLAUSE = re.compile(r"\bensures\s+(\w*)\s*(?=\{)")
+TRAIT = re.compile(r"\bpub trait (\w+)[^{]*(?=\{)")
+METHOD = re.compile(r"\bfn (\w+)")
+GHOST = re.compile(r"\bghost \w+ = ")
 # Clauses that no mutant breaks, each with the reason.
 EXCEPTIONS = {
     "fmtcanon::answer::Ending::outcome: digit": "it says something of the definition alone",
+    "fmtcanon::input::CountedInput::copy_all: reads": "it hands on what `copy_canonical` ensures",
+    "fmtcanon::input::CountedInput::copy_all: writes": "it hands on what `copy_canonical` ensures",
+    "fmtcanon::input::CountedInput::read_next: bound": "it hands on what `Counted::read` ensures",
+    "pf_canon::languages::ProfilePassed::len: left": "of this type it says nothing",
     "pf_posix::argument_types::arguments: length": "no body changes the length of a slice that it is given",
     "pf_posix::directive_spans::directives: length": "no body changes the length of a slice that it is given",
     "pf_reduce::results::Normal::directive: normal": "what it reads always has it",
+    "pf_text::passed::NothingPassed::len: left": "of this type it says nothing",
+    "pf_text::passed::QPassed::len: left": "a check has another name for it than rattle_functions.py",
+    "pf_text::passed::QPassed::len: passed": "a check has another name for it than rattle_functions.py",
+    "pf_text::passed::QPassed::len: within": "a check has another name for it than rattle_functions.py",
     "pf_values::counted::Counted::into_inner": "the type of its parameter leaves one answer",
     "pf_values::counted::Counted::new: device": "the type of its parameter leaves one answer",
     "pf_values::directives::Directive::precision: defined": "what it reads always has it",
     "pf_values::directives::Directive::width: defined": "what it reads always has it",
+    "pf_whole::languages::WholeLanguage::other_at: placed": "it hands on what `opaque_at` ensures",
+    "pf_whole::languages::WholePassed::len: left": "of this type it says nothing",
 }
 
 
-def public_clauses(folder):
+def clauses_of_traits(crates):
+    """Returns the names of the clauses that each trait of the crates declares for each of its methods."""
+    found = {}
+    for name in crates.names():
+        for text in sources_of(crates.folder(name)).values():
+            code = rattle_functions.blanked(text)
+            for trait in TRAIT.finditer(code):
+                inside = code[trait.end() : rattle_functions.group_end(code, trait.end())]
+                starts = [*METHOD.finditer(inside), None]
+                for method, following in zip(starts, starts[1:]):
+                    listed = CLAUSE.findall(inside, method.end(), following.start() if following else len(inside))
+                    found[trait[1], method[1]] = listed
+    return found
+
+
+def clauses_of(function, code, of_traits):
+    """Returns the names of the clauses of a function: its own, or those of the trait that it is a method of."""
+    own = CLAUSE.findall(code[function.contract : function.start])
+    if own or " for " not in function.block:
+        return own
+    _, head = rattle_functions.split_parameters(function.block)
+    method = rattle_functions.plain_name(head.partition(" for ")[0]), function.path.rpartition("::")[2]
+    block = code[code.rfind("\nimpl", 0, function.head) : function.head]
+    return of_traits.get(method, [""] if GHOST.search(block) else [])
+
+
+def public_clauses(folder, of_traits):
     """Yields the path of each public function of a crate, with the name of a clause, or nothing for one without."""
     sources = sources_of(folder)
     homes, (names, modules) = rattle_functions.homes_of(sources), exported(sources)
@@ -39,7 +79,7 @@ def public_clauses(folder):
         code = rattle_functions.blanked(text)
         for function in rattle_functions.functions(text, path, homes):
             if is_public(function, names, modules) and has_body(text, function):
-                for clause in CLAUSE.findall(code[function.contract : function.start]):
+                for clause in clauses_of(function, code, of_traits):
                     yield function.path, clause
 
 
@@ -60,9 +100,10 @@ def unbroken(names):
     exceptions that one does.
     """
     crates, count, missing = Crates(), 0, []
+    of_traits = clauses_of_traits(crates)
     for name in names or crates.names():
         refused = refusals(Record(crates.folder(name), ""))
-        for path, clause in public_clauses(crates.folder(name)):
+        for path, clause in public_clauses(crates.folder(name), of_traits):
             if is_broken(path, clause, refused):
                 count += 1
             else:

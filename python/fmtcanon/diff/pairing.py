@@ -116,7 +116,7 @@ def matching(
             found += [(a, b, 1) for a, b in pairs]
             for (a, b), (c, d) in zip([(a0 - 1, b0 - 1), *pairs], ends):
                 spans.append((a + 1, c, b + 1, d))
-        elif (a1 - a0) * (b1 - b0) <= MANY:
+        elif (a1 - a0) * (b1 - b0) <= MANY and not set(first[a0:a1]).isdisjoint(second[b0:b1]):
             matcher = difflib.SequenceMatcher(None, first[a0:a1], second[b0:b1], autojunk=False)
             found += [(a + a0, b + b0, size) for a, b, size in matcher.get_matching_blocks()]
     return sorted(it for it in found if it[2])
@@ -219,8 +219,10 @@ def paired(old: Source, new: Source) -> Pairing:
     left: Tuple[List[Place], List[Place]] = ([], [])
     for a, b, c, d in gaps(blocks, len(keys[0]), len(keys[1])):
         before, after = first.places_in(kept[0][a:b]), second.places_in(kept[1][c:d])
-        found = in_frames(first, second, kept[0][a:b], kept[1][c:d])
-        found += aligned(*without(found, before, after))
+        found: List[Pair] = []
+        if before and after:
+            found += in_frames(first, second, kept[0][a:b], kept[1][c:d])
+            found += aligned(*without(found, before, after))
         pairs += found
         for side, rest in zip(left, without(found, before, after)):
             side += rest

@@ -85,13 +85,16 @@ class Position(NamedTuple):
 class Place:
     """String literals and macros side by side in a source, by their offsets in the text without spliced lines."""
 
-    __slots__ = ("source", "start", "end", "quote", "parts", "call", "_texts")
+    __slots__ = ("source", "start", "end", "quote", "parts", "call", "_texts", "_words", "_rest")
 
     def __init__(
         self, source: "Source", start: int, end: int, quote: int, parts: Tuple[PlacePart, ...], call: EnclosingCall
     ) -> None:
         self.source, self.start, self.end, self.quote, self.parts, self.call = source, start, end, quote, parts, call
         self._texts: Optional[Dict[Model, Tuple[Optional[bytes], str]]] = None
+        # Kept, since a place is compared with many others.
+        self._words: Optional[bytes] = None
+        self._rest: Optional[bytes] = None
 
     def text(self, model: Model) -> Tuple[Optional[bytes], str]:
         """Returns the bytes in a data model; or None, and why they aren't known."""
@@ -109,6 +112,7 @@ class Place:
     def define(self, macros: Dict[bytes, Tuple[PlacePart, ...]], model: Model) -> None:
         """Makes the text in a data model with more macros than those of the file."""
         self._texts = {model: joined(self.parts, {**macros, **self.source.macros}, model)}
+        self._words = None
 
     @property
     def key(self) -> bytes:
@@ -118,17 +122,22 @@ class Place:
     @property
     def words(self) -> bytes:
         """The text with each specification as `%`, to see whether two places are one."""
-        text = self.text(Model.LP64)[0]
-        if text is not None and len(text) > LONG:
-            return text[:LONG]
-        return self.key if text is None else without_specifications(text)
+        if self._words is None:
+            text = self.text(Model.LP64)[0]
+            if text is not None and len(text) > LONG:
+                self._words = text[:LONG]
+            else:
+                self._words = self.key if text is None else without_specifications(text)
+        return self._words
 
     @property
     def rest(self) -> bytes:
         """What follows in the statement, or in the definition of a macro, without white space."""
-        following = self.source.plain[self.end : self.end + REST]
-        end = b"\n" if self.call.function.startswith(b"#") else b";"
-        return b"".join(following.partition(end)[0].split())
+        if self._rest is None:
+            following = self.source.plain[self.end : self.end + REST]
+            end = b"\n" if self.call.function.startswith(b"#") else b";"
+            self._rest = b"".join(following.partition(end)[0].split())
+        return self._rest
 
     def span(self) -> Tuple[Position, Position]:
         """Returns the position of the first quote, and that after the last part."""
