@@ -1,6 +1,8 @@
 //! Whether one format may be put in the place of another, and arguments that show a difference.
 ghost use Rattle.std.specs.Prelude.{◌↔◌, IfSome, IsTrue, [], ◌∷◌};
+ghost use Rattle.pf_values.specs.meaning.Canonical.{IsCanonicalOf};
 ghost use Rattle.pf_values.specs.meaning.Printing.{AreEquivalent};
+ghost use Rattle.pf_values.specs.meaning.Text.{Text};
 ghost use Rattle.pf_values.specs.declared.arguments.Arg.TheVariants as args;
 ghost use Rattle.pf_compare.specs.Answers.{TellApart};
 
@@ -8,6 +10,7 @@ use pf_canon::laws::one_canonical_text_means_the_same;
 use pf_canon::{canonical, same_text};
 use pf_compare::confirms;
 use pf_compare::laws::headline;
+use pf_text::check;
 use pf_values::{Arg, Model};
 use std::alloc::Global;
 
@@ -57,6 +60,19 @@ pub fn have_one_canonical_text(
         return None;
     };
     Some(of_first.as_slice() == of_second.as_slice())
+}
+
+/// Returns whether a format is accepted. If so, by the headline, there is a canonical text of it, which means
+/// the same, and is its own canonical text.
+pub fn has_canonical_text(model: Model, format: &[u8]) -> bool
+    ensures { IsTrue result → (c : Text) × IsCanonicalOf model format.now c
+        × AreEquivalent model format.now c × IsCanonicalOf model c c }
+{
+    headline();
+    match check(format) {
+        Ok(()) => true,
+        Err(_) => false,
+    }
 }
 
 /// Returns whether a number shows that two formats differ: both take an int and nothing else, and

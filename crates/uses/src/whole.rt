@@ -1,10 +1,14 @@
 //! Formats of the whole language, compared.
 ghost use Rattle.std.specs.Prelude.{◌↔◌, IfSome, IsTrue};
-ghost use Rattle.pf_whole.specs.meaning.Traces.{AreWholeAlike};
+ghost use Rattle.pf_values.specs.meaning.Canonical.{IsCanonicalOf};
+ghost use Rattle.pf_values.specs.meaning.Text.{Text};
+ghost use Rattle.pf_whole.specs.Laws.{PrintAlikeBy};
+ghost use Rattle.pf_whole.specs.meaning.Traces.{AreWholeAlike, Call};
+ghost use Rattle.pf_whole.specs.meaning.WholeCanonical.{IsWholeCanonicalOf};
 
 use pf_values::Model;
-use pf_whole::laws::headline;
-use pf_whole::{canonical, same_text};
+use pf_whole::laws::{alike_print_alike, headline, profile_coincides};
+use pf_whole::{canonical, check, same_text};
 use std::alloc::Global;
 
 /// Returns whether two formats of the whole language are known to be alike. Allocates nothing.
@@ -36,4 +40,65 @@ pub fn have_one_whole_canonical_text(
         return None;
     };
     Some(of_first.as_slice() == of_second.as_slice())
+}
+
+/// Returns whether a format of the whole language is accepted. If so, by the headline, there is a canonical text
+/// of it, which is alike to it, and is its own canonical text.
+pub fn has_whole_canonical_text(model: Model, format: &[u8]) -> bool
+    ensures { IsTrue result → (c : Text) × IsWholeCanonicalOf model format.now c
+        × AreWholeAlike model format.now c × IsWholeCanonicalOf model c c }
+{
+    headline();
+    match check(model, format) {
+        Ok(()) => true,
+        Err(_) => false,
+    }
+}
+
+/// Returns whether two formats of the whole language are known to print the same, whatever their calls print.
+pub fn print_alike(model: Model, first: &[u8], second: &[u8]) -> bool
+    ensures { IsTrue result → (respond : Text → Call → Text)
+        → PrintAlikeBy model respond first.now second.now }
+{
+    alike_print_alike();
+    are_alike(model, first, second)
+}
+
+/// Returns whether two formats of the profile are alike in the whole language, as the profile compares them.
+/// `None` if it refuses one of them.
+pub fn are_alike_by_profile(model: Model, first: &[u8], second: &[u8]) -> Option<bool>
+    ensures { IfSome result (λ same. IsTrue same ↔ AreWholeAlike model first.now second.now) }
+{
+    profile_coincides();
+    match pf_canon::same_text(model, first, second) {
+        Ok(same) => Some(same),
+        Err(_) => None,
+    }
+}
+
+/// Returns the canonical text of a format in the whole language, by that of the profile. `None` if it refuses the
+/// format, or out of memory.
+pub fn whole_text_by_profile(alloc: Global, model: Model, format: &[u8]) -> Option<Vec<u8>>
+    ensures { IfSome result (λ text. IsWholeCanonicalOf model format.now text.items) }
+{
+    profile_coincides();
+    match pf_canon::canonical(alloc, model, format) {
+        Ok(text) => Some(text),
+        Err(_) => None,
+    }
+}
+
+/// Returns the canonical text of a format in the profile, by that of the whole language. `None` if the profile
+/// refuses the format, or out of memory.
+pub fn profile_text_by_whole(alloc: Global, model: Model, format: &[u8]) -> Option<Vec<u8>>
+    ensures { IfSome result (λ text. IsCanonicalOf model format.now text.items) }
+{
+    profile_coincides();
+    let Ok(()) = pf_text::check(format) else {
+        return None;
+    };
+    match canonical(alloc, model, format) {
+        Ok(text) => Some(text),
+        Err(_) => None,
+    }
 }

@@ -1,5 +1,5 @@
 //! Uses of the libraries up to `pf_canon`, as a caller writes them. Each is proved from the contracts of the calls alone,
-//! with no proof file.
+//! and with no proof file, except one that cites a law.
 #![tactic(auto)]
 
 pub mod canonical_texts;
