@@ -76,6 +76,7 @@ pub(crate) fn push_decimal(out: &mut Vec<u8>, number: u128) -> Result<(), AllocE
 }
 
 /// Adds a text as a line.
+#[inline(always)]
 pub(crate) fn push_line(out: &mut Vec<u8>, text: &str) -> Result<(), AllocError>
     ensures { IfOk result (λ _. out.new.items ≡ out.old.items ++ line text.now) }
 {
