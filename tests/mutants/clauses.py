@@ -3,7 +3,7 @@
 Usage: python3 -m tests.mutants.clauses [CRATE ..]
 
 A clause is broken by a mutant if the goals that refused it (`crates/NAME/refused.txt`) have the clause's name, or, of a
-clause without one, if they are of the function. Such a goal may be true, and only no longer be proved by the search.
+clause without one, if they are of the function. Only current lines count.
 unedited.py says which functions are public.
 
 Its last line is 'N passed, M failed', and it exits with 1 where M isn't 0.
@@ -14,7 +14,8 @@ import sys
 
 from tests.mutants import rattle_functions
 from tests.mutants.crates import Crates
-from tests.mutants.refused import Record
+from tests.mutants.mutants import Mutants
+from tests.mutants.refused import kit_of
 from tests.mutants.unedited import exported, has_body, is_public, sources_of
 
 CLAUSE = re.compile(r"\bensures\s+(\w*)\s*(?=\{)")
@@ -43,9 +44,9 @@ def public_clauses(folder):
                     yield function.path, clause
 
 
-def refusals(record):
-    """Returns the function and the goals of each line of a record."""
-    found = [goals.rpartition(" of ") for _, goals in record.lines.values()]
+def refusals(lines):
+    """Returns the function and the goals of each of these lines of a record."""
+    found = [goals.rpartition(" of ") for goals in lines]
     return [(path, goals.split()) for goals, _, path in found]
 
 
@@ -60,8 +61,10 @@ def unbroken(names):
     exceptions that one does.
     """
     crates, count, missing = Crates(), 0, []
+    # The kit that made the records, so that none has to be here.
+    mutants = Mutants(crates, kit_of(crates.folder(crates.names()[0])))
     for name in names or crates.names():
-        refused = refusals(Record(crates.folder(name), ""))
+        refused = refusals(mutants.current(name))
         for path, clause in public_clauses(crates.folder(name)):
             if is_broken(path, clause, refused):
                 count += 1

@@ -20,12 +20,12 @@ from tests.mutants import rattle_functions
 from tests.mutants import toy_crates
 from tests.mutants.crates import TOP, Crates
 from tests.mutants.definitions import bare, definitions_in, without_comments
-from tests.mutants.mutant_files import Mutant, Pair, batches, functions_at, mutants_of, read_pairs
+from tests.mutants.mutant_files import Copy, Mutant, Pair, applied, batches, functions_at, mutants_of, read_pairs
 from tests.mutants.mutant_keys import Keys
 from tests.mutants.mutant_trials import answers_of
 from tests.mutants.mutants import Mutants
 from tests.mutants.refused import Record
-from tests.mutants.reports import Report, Verdict, verdict_of
+from tests.mutants.reports import Report, Verdict, verdict_of, verdict_with_twin
 from tests.mutants.schedule import Task, run_all
 from tests.mutants.work import Work, cache_folder, open_work
 
@@ -48,6 +48,10 @@ impl From<Refusal> for Outcome {
 
 impl<R: Read, A> Copy for &mut Pair<R, u8, A> {
     fn copy(&mut self) {}
+}
+
+impl<P: Read, Q: Read> Read for (P, Q) {
+    fn both(&self) {}
 }
 
 const LIMIT: u16 = 1;
@@ -78,10 +82,16 @@ class Functions(unittest.TestCase):
             "readers::Reader::new",
             "readers::lines::OutcomeFromRefusal::from",
             "readers::lines::PairU8Copy::copy",
+            "readers::lines::Tuple2Read::both",
             "readers::lines::front",
         ]
         self.assertEqual([it.path for it in found], wanted)
         self.assertEqual([it.path for it in rattle_functions.functions("fn main() {}", "src/main.rt", {})], ["main"])
+
+    def test_attributes(self):
+        text = "fn a() {}\n#[inline]\n#[tactic(auto, using(l))]\n/// It.\npub fn b() {}\n"
+        found = rattle_functions.functions(text, "src/lib.rt", {})
+        self.assertEqual([it.attributes for it in found], [(), ("#[tactic(auto, using(l))]",)])
 
     def at(self, part):
         start = SOURCE.index(part)
@@ -123,6 +133,10 @@ class Files(unittest.TestCase):
             "mutant: m\nnew: 2\n",
             "file: src/a.rt\nold: 1\nnew: 2\n",
             f"{head}new: 3\n",
+            "mutant: m\nfile: src/a.rt\nold: 1\nsame: 2\n",
+            f"{head}same: 2\nsame: 2\n",
+            f"{head}old: 2\nsame: 2\n",
+            "twin: m\nsame: 2\n",
         ]:
             with self.assertRaises(ValueError):
                 read_pairs(text)
@@ -135,6 +149,135 @@ class Files(unittest.TestCase):
         for pair in [Pair("", "1", "2"), Pair("", "1", "2", "fn"), Pair("", "a", "c", "fn b"), Pair("", "3", "4")]:
             with self.assertRaises(ValueError):
                 pair.applied(self.TEXT)
+
+    def test_twins(self):
+        text = "mutant: m\nfile: src/a.rt\nold: 1\nnew: 2\nsame: 3\nold: a\nnew: b\ncopy: f\nnew: 4\nsame:\n"
+        wanted = [Pair("src/a.rt", "1", "2", "", "3"), Pair("src/a.rt", "a", "b"), Copy("src/a.rt", "f", "4", "")]
+        self.assertEqual(read_pairs(text), {"m": wanted})
+
+    COPIED = """pub struct One;
+
+impl Passed for One {
+    ghost passes = { T };
+
+    fn len(_: u8, _: u8) -> u8 {
+        1
+    }
+}
+
+impl<'a> Two<'a> {
+    pub(crate) fn of<P: Read>(&self, n: u8) -> u8
+        ensures { result ≡ n }
+    {
+        n + 0
+    }
+}
+
+impl<R: Read> Read for Three<R> {
+    ghost use A.{b};
+
+    ghost left = { b };
+
+    fn read(&mut self) -> u8
+        ensures { result ≡ b }
+    {
+        1
+    }
+}
+
+impl Other for One {}
+"""
+    TYPE_COPY = """
+pub struct LenTwinM;
+
+impl Passed for LenTwinM {
+    ghost passes = { T };
+
+    fn len(unnamed: u8, unnamed_2: u8) -> u8 { 4 }
+}
+
+impl Other for LenTwinM {}
+"""
+    METHOD_COPY = """
+impl<R: Read> Three<R> {
+    ghost use A.{b};
+
+    fn read_mutant_m(&mut self) -> u8
+        ensures { result ≡ b }
+    { 3 }
+}
+"""
+
+    @in_folder
+    def test_copies(self, folder):
+        lines = "file: src/a.rt\ncopy: {}\nnew: 3\nsame: 4\n"
+        toy_crates.write(folder, {"src/a.rt": self.COPIED, "mutants.txt": "mutant: m\n" + lines.format("Two::of")})
+        [mutant] = mutants_of(folder)
+        self.assertEqual((mutant.functions, mutant.listed()), ({"a::Two::of"}, {"a::Two::of_mutant_m"}))
+        self.assertEqual(mutant.twin.listed(), {"a::Two::of_twin_m"})
+        copy = "fn of_mutant_m<P: Read>(&self, n: u8) -> u8\n        ensures { result ≡ n }\n{ 3 }\n"
+        text = applied(mutant, folder, {})["src/a.rt"]
+        self.assertIn(copy, text)
+        self.assertEqual(text.replace(f"\n\n{copy}", ""), self.COPIED)
+        # A method of a trait is copied for another type.
+        toy_crates.write(folder, {"mutants.txt": "mutant: m\n" + lines.format("OnePassed::len")})
+        [mutant] = mutants_of(folder)
+        self.assertEqual(mutant.twin.listed(), {"a::LenTwinMPassed::len"})
+        self.assertIn(self.TYPE_COPY, applied(mutant.twin, folder, {})["src/a.rt"])
+        # With a contract of its own it is copied as a method of the type.
+        toy_crates.write(folder, {"mutants.txt": "mutant: m\n" + lines.format("ThreeRead::read")})
+        [mutant] = mutants_of(folder)
+        self.assertEqual(mutant.listed(), {"a::Three::read_mutant_m"})
+        self.assertIn(self.METHOD_COPY, applied(mutant, folder, {})["src/a.rt"])
+        for name in ["none", "of::Two", "One::len"]:
+            toy_crates.write(folder, {"mutants.txt": "mutant: m\n" + lines.format(name)})
+            self.assertTrue(mutants_of(folder)[0].is_broken(), name)
+        fields = self.COPIED.replace("struct One;", "struct One(u8);")
+        toy_crates.write(folder, {"src/a.rt": fields, "mutants.txt": "mutant: m\n" + lines.format("OnePassed::len")})
+        self.assertTrue(mutants_of(folder)[0].is_broken())
+
+    @in_folder
+    def test_edits_in_copies(self, folder):
+        edit = "mutant: m\nfile: src/a.rt\nold: n + 0\nnew: n + 1\n"
+        toy_crates.write(folder, {"src/a.rt": self.COPIED, "mutants.txt": edit})
+        [mutant] = mutants_of(folder)
+        self.assertEqual((mutant.functions, mutant.listed()), ({"a::Two::of"}, {"a::Two::of_mutant_m"}))
+        text = applied(mutant, folder, {})["src/a.rt"]
+        self.assertEqual((text.count("{ n + 1 }"), text.count("        n + 0\n")), (1, 1))
+        # A function with proofs is edited in its place.
+        toy_crates.write(folder, {"proofs/a/Two/of/Invariants.antt": ""})
+        [mutant] = mutants_of(folder)
+        self.assertEqual(mutant.listed(), {"a::Two::of"})
+        self.assertIn("        n + 1\n", applied(mutant, folder, {})["src/a.rt"])
+
+    @in_folder
+    def test_broken_twins(self, folder):
+        toy_crates.write(folder, {"src/lib.rt": "fn a() { 1 }\nfn b() { 3 }\n"})
+        for pairs, is_broken in [
+            ("old: 1\nnew: 2\nsame: (1)\n", False),
+            ("old: 1\nnew: 2\nsame: 2\n", True),
+            ("old: 1\nnew: 2\nold: 2\nnew: 4\nsame: 1\n", True),
+        ]:
+            toy_crates.write(folder, {"mutants.txt": f"mutant: m\nfile: src/lib.rt\n{pairs}"})
+            [mutant] = mutants_of(folder)
+            self.assertEqual((mutant.is_broken(), mutant.twin.is_broken()), (False, is_broken), pairs)
+
+    @in_folder
+    def test_twins_of_must_fail(self, folder):
+        edit = "file: src/lib.rt\nold: 1\nnew: 2\n"
+        twin = "twin: m\nfile: src/lib.rt\nold: 1\nsame: (1)\n"
+        toy_crates.write(folder, {"src/lib.rt": "fn a() { 1 }\nfn b() { 3 }\n", "must-fail/m.edit": edit, "mutants.txt": twin})
+        [mutant] = mutants_of(folder)
+        self.assertEqual([(it.new, it.same) for it in [*mutant.pairs, *mutant.twin.pairs]], [("2", None), ("(1)", "(1)")])
+        # Or it is tried in other words.
+        toy_crates.write(folder, {"mutants.txt": twin.replace("same:", "new: 4\nsame:")})
+        [mutant] = mutants_of(folder)
+        self.assertEqual((mutant.pairs[0].new, mutant.twin.pairs[0].new), ("4", "(1)"))
+        toy_crates.write(folder, {"mutants.txt": twin.replace("old: 1", "old: 3")})
+        self.assertTrue(mutants_of(folder)[0].twin.is_broken())
+        toy_crates.write(folder, {"mutants.txt": twin.replace("twin: m", "twin: n")})
+        with self.assertRaises(ValueError):
+            mutants_of(folder)
 
     @in_folder
     def test_both_folders(self, folder):
@@ -163,6 +306,12 @@ class Files(unittest.TestCase):
             ["fn a() { 9 + 2 }\nfn b() { 9 }\n", "fn a() { 1 + 9 }\nfn b() { 3 }\n"],
         )
         self.assertEqual([len(group) for group, _ in batches(mutants, folder, 1)], [1, 1, 1])
+        # Copies come after edits, and one function can have several.
+        copies = [
+            Mutant(name, [Copy("src/lib.rt", "a", "9")], frozenset("a"), copies={"a": f"a_mutant_{name}"}) for name in "xy"
+        ]
+        groups = [[it.name for it in group] for group, _ in batches([*copies, *mutants[:1]], folder, 60)]
+        self.assertEqual(groups, [["1", "x", "y"]])
 
 
 class Reports(unittest.TestCase):
@@ -212,6 +361,30 @@ only=3 holes=0
         for functions in [frozenset(["a::Left::new"]), frozenset()]:
             found = verdict_of(Report(text, "pf_x"), Mutant("m", functions=functions))
             self.assertEqual(found[0], Verdict.LET_THROUGH)
+
+    def test_a_copy(self):
+        text = (
+            "fn pf_x::a::b_mutant_m: no proof: expected answers; `search` did not prove `returns`\n"
+            "fn pf_x::a::b: no holes\nonly=1 holes=1\n"
+        )
+        mutant = Mutant("m", functions=frozenset(["a::b"]), copies={"a::b": "a::b_mutant_m"})
+        self.assertEqual(verdict_of(Report(text, "pf_x"), mutant), (Verdict.REFUSED, "returns of a::b"))
+        twin = Mutant("m", functions=frozenset(["a::b"]), copies={"a::b": "a::b_twin_m"}, is_twin=True)
+        self.assertEqual(verdict_of(Report(text, "pf_x"), twin)[0], Verdict.BROKEN)
+
+    def test_twins(self):
+        refused, let_through, broken = ((it, "why") for it in (Verdict.REFUSED, Verdict.LET_THROUGH, Verdict.BROKEN))
+        for mutant, twin, wanted in [
+            (refused, let_through, Verdict.REFUSED),
+            (refused, refused, Verdict.TWIN_REFUSED),
+            (refused, broken, Verdict.TWIN_BROKEN),
+            (refused, (Verdict.NOT_JUDGED, "why"), Verdict.TWIN_BROKEN),
+            (let_through, refused, Verdict.LET_THROUGH),
+            (let_through, let_through, Verdict.LET_THROUGH),
+            (broken, let_through, Verdict.BROKEN),
+        ]:
+            self.assertIs(verdict_with_twin(mutant, twin)[0], wanted)
+        self.assertEqual(verdict_with_twin(refused), refused)
 
     @in_folder
     def test_files_of_answers(self, folder):
@@ -296,6 +469,7 @@ impl Model for Size {
 """,
         "crates/low/src/others.rt": "pub struct First { size: u32 }\n",
         "crates/middle/src/made.rt": MIDDLE,
+        "crates/middle/proofs/made/made/Answers.antt": "pub returns : goal.returns\nreturns c = refl\n",
     }
     MUTANT = Mutant("m", [Pair("src/made.rt", "called(n)", "called(n) + 1")], frozenset(["made::made"]))
     # Edits of one file each that change the key, and that don't.
@@ -311,10 +485,14 @@ impl Model for Size {
         ("crates/low/src/sizes.rt", "{ ℕ }", "{ ℤ }"),
         ("crates/low/src/sizes.rt", "size ≡ n", "n ≡ n"),
         ("crates/low/src/sizes.rt", "size: 2", "size: 3"),
+        ("crates/middle/src/made.rt", "result ≡ n }", "result ≡ n + n }"),
+        ("crates/middle/src/made.rt", "/// Returns something.", "#[tactic(auto, using(lemma))]"),
+        ("crates/middle/src/lib.rt", "#![tactic(auto)]", "#![tactic(none)]"),
+        ("crates/middle/proofs/made/made/Answers.antt", "returns", "returns-else"),
     ]
     NO_CHANGES = [
         ("crates/middle/src/made.rt", "Returns something", "Returns nothing"),
-        ("crates/middle/src/made.rt", "result ≡ n }", "result ≡ n + n }"),
+        ("crates/middle/proofs/made/made/Answers.antt", "refl", "sym"),
         ("crates/low/specs/Doubles.antt", "-- Twice", "-- Two times"),
         ("crates/low/specs/Doubles.antt", "tripled n = n + n + n", "tripled n = n"),
         ("crates/low/proofs/twice/Answers.antt", "refl", "sym"),
@@ -324,7 +502,7 @@ impl Model for Size {
         ("crates/fmtcanon_c/src/lib.rt", "Returns twice", "Returns two times"),
     ]
 
-    def key(self, folder, edit=None, mutant=MUTANT, crate="middle"):
+    def key(self, folder, edit=None, mutant=MUTANT, crate="middle", goals="returns of made::made"):
         """Returns the key of a mutant, with one edit of a file."""
         shutil.rmtree(folder, ignore_errors=True)
         files = dict(self.FILES)
@@ -333,7 +511,7 @@ impl Model for Size {
             self.assertNotEqual(files[path], files[path].replace(old, new) if "proofs" not in path else "")
             files[path] = files[path].replace(old, new, 1)
         toy_crates.write(folder, files)
-        return Keys(Crates(folder)).key(crate, mutant)
+        return Keys(Crates(folder)).key(crate, mutant, goals)
 
     @in_folder
     def test_edits(self, folder):
@@ -351,7 +529,10 @@ impl Model for Size {
             Mutant("m", self.MUTANT.pairs * 2, self.MUTANT.functions),
             Mutant("m", self.MUTANT.pairs, frozenset(["made::called"])),
         ]
-        self.assertEqual(len({self.key(folder / "a", mutant=it) for it in [self.MUTANT, *others]}), 5)
+        with_twin = Mutant("m", self.MUTANT.pairs, self.MUTANT.functions)
+        with_twin.twin = Mutant("m", [Pair("src/made.rt", "called(n)", "(called(n))")], self.MUTANT.functions, is_twin=True)
+        found = {self.key(folder / "a", mutant=it) for it in [self.MUTANT, *others, with_twin]}
+        self.assertEqual(len(found | {self.key(folder / "a", goals="returns of another")}), 7)
 
     @in_folder
     def test_a_constant(self, folder):
@@ -550,8 +731,10 @@ class Whole(unittest.TestCase):
         for name in ["middle", "fmtcanon_c"]:
             toy_crates.write(self.folder, {f"crates/{name}/refused.txt": f"kit {mutant_keys.kit()}\n"})
         self.assertEqual(self.run_script("--recorded"), ({}, "2 passed, 0 failed", 0))
+        self.assertIn("2 mutants have no twin", self.said)
         self.assertEqual(self.run_script("--gate"), (self.sampled(), "1 passed, 0 failed", 0))
         self.assertIn("built over fmtcanon_c", self.said)
+        self.edit_goals()
         self.forge()
 
     def sampled(self):
@@ -559,12 +742,26 @@ class Whole(unittest.TestCase):
         sample = re.search(r"^a sample of 1 mutants: low/(\S+)$", self.said, re.MULTILINE)
         return {sample[1]: Verdict.REFUSED}
 
-    def forge(self):
-        """A line by hand passes where the records are compared, and not where all are tried."""
-        self.has_mutants(["same-meaning"])
+    def edit_goals(self):
+        """A line with other goals is not current."""
+        file = self.folder / "crates/low/refused.txt"
+        text = file.read_text(encoding="utf-8")
+        file.write_text(text.replace(" returns of same", " returns of limit"), encoding="utf-8")
+        self.assertEqual(self.run_script("--recorded"), ({}, "1 passed, 1 failed", 1))
+
+    def put_by_hand(self, name, goals):
+        """Writes the line of a mutant that nobody tried, as the script would."""
+        self.has_mutants([name])
         [mutant], record = mutants_of(self.folder / "crates/low"), Record(self.folder / "crates/low", mutant_keys.kit())
-        record.put(mutant.name, Keys(Crates(self.folder)).key("low", mutant), "returns of same")
+        record.put(mutant.name, Keys(Crates(self.folder)).key("low", mutant, goals), goals)
         record.keep_only({mutant.name})
+
+    def forge(self):
+        """A line by hand passes where the records are compared, and not where the mutant is tried."""
+        self.put_by_hand("no-search", "returns of limit")
+        self.assertEqual(self.run_script("--gate"), ({"no-search": Verdict.REFUSED}, "0 passed, 1 failed", 1))
+        self.assertIn("low/no-search is recorded with other goals: returns of limit", self.said)
+        self.put_by_hand("same-meaning", "returns of same")
         self.assertEqual(self.run_script("--recorded"), ({}, "1 passed, 0 failed", 0))
         let_through = {"same-meaning": Verdict.LET_THROUGH}
         self.assertEqual(self.run_script("--all"), (let_through, "0 passed, 1 failed", 1))
@@ -592,3 +789,27 @@ class Sampling(unittest.TestCase):
             self.assertEqual({len(it) for it in samples}, {wanted})
             self.assertEqual(len({*map(tuple, samples)}) > 1, count > 1)
             self.assertEqual([it.name for it in mutants.sample("low", "a")], samples[0])
+
+
+class Twins(unittest.TestCase):
+    """The twins of this repository's mutants."""
+
+    # How many mutants of a crate have no twin. There are to be no more of them, and none in the end.
+    WITHOUT = {
+        "pf_values": 108,
+        "pf_text": 6,
+        "pf_render": 2,
+        "pf_canon": 57,
+        "pf_compare": 16,
+        "pf_posix": 45,
+        "pf_whole": 25,
+        "fmtcanon": 114,
+        "fmtcanon_c": 39,
+        "uses_low": 8,
+        "uses": 10,
+    }
+
+    def test_each_has_one(self):
+        every = {name: mutants_of(Crates().folder(name)) for name in Crates().names()}
+        counts = {name: sum(it.twin is None for it in found) for name, found in every.items()}
+        self.assertEqual({name: count for name, count in counts.items() if count}, self.WITHOUT)
