@@ -796,8 +796,8 @@ class Twins(unittest.TestCase):
 
     # How many mutants of a crate have no twin. There are to be no more of them, and none in the end.
     WITHOUT = {
-        "pf_values": 108,
-        "pf_text": 6,
+        "pf_values": 49,
+        "pf_text": 2,
         "pf_render": 2,
         "pf_canon": 57,
         "pf_compare": 16,
