@@ -50,18 +50,23 @@ def with_copy(text, function, mark, body):
     head = re.sub(r"^fn\s+\w+", f"fn {name}", text[function.head : function.start].rstrip())
     if not of_type:
         return f"{text[: function.end]}\n\n{head}\n{{ {body} }}\n{text[function.end :]}"
-    begin = text.rindex(f"impl{function.block}" if function.block.startswith("<") else f"impl {function.block}", 0, function.head)
+    begin = text.rindex(impl(function.block), 0, function.head)
     end = rattle_functions.group_end(rattle_functions.blanked(text), text.index("{", begin))
     if has_own_contract(function):
         uses = "".join(re.findall(r"^ *ghost use [^;]*;\n", text[begin:end], re.MULTILINE))
-        block = f"impl{block_of_type(function)}" if function.block.startswith("<") else f"impl {block_of_type(function)}"
-        return f"{text[:end]}\n\n{block} {{\n{uses}\n    {head}\n    {{ {body} }}\n}}\n{text[end:]}"
+        return f"{text[:end]}\n\n{impl(block_of_type(function))} {{\n{uses}\n    {head}\n    {{ {body} }}\n}}\n{text[end:]}"
     if not re.search(rf"\bstruct {re.escape(of_type)};", text):
         raise ValueError(f"{function.path} has the contract of a trait, and {of_type} has fields or parameters")
-    block = text[begin : function.head] + named(text[function.head : function.start]) + f"{{ {body} }}" + text[function.end : end]
+    head = text[begin : function.head] + named(text[function.head : function.start])
+    block = f"{head}{{ {body} }}{text[function.end : end]}"
     blocks = [block, *(it for it in blocks_of(text, of_type) if it != text[begin:end])]
     renamed = "\n\n".join(re.sub(rf" for {of_type}\b", f" for {name}", it, count=1) for it in blocks)
     return f"{text[:end]}\n\npub struct {name};\n\n{renamed}\n{text[end:]}"
+
+
+def impl(head):
+    """Returns how a block with this head begins."""
+    return f"impl{head}" if head.startswith("<") else f"impl {head}"
 
 
 def named(head):

@@ -20,7 +20,6 @@ branch of the function itself has a goal without one, be it right or wrong. In a
 for what is right.
 """
 
-import re
 from dataclasses import dataclass, field, replace
 from typing import Optional
 
