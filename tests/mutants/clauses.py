@@ -3,9 +3,9 @@
 Usage: python3 -m tests.mutants.clauses [CRATE ..]
 
 A clause is broken by a mutant if the goals that refused it (`crates/NAME/refused.txt`) have the clause's name, or, of a
-clause without one, if they are of the function. Such a goal may be true, and only no longer be proved by the search.
-unedited.py says which functions are public. A method of a trait has the clauses that the trait declares for it, or if
-the trait is std's, those of its ghost members, as one without a name.
+clause without one, if they are of the function. Only current lines count. Where a mutant has no twin, such a goal may be
+true, and only no longer be proved by the search. unedited.py says which functions are public. A method of a trait has
+the clauses that the trait declares for it, or if the trait is std's, those of its ghost members, as one without a name.
 
 Its last line is 'N passed, M failed', and it exits with 1 where M isn't 0.
 """
@@ -15,7 +15,8 @@ import sys
 
 from tests.mutants import rattle_functions
 from tests.mutants.crates import Crates
-from tests.mutants.refused import Record
+from tests.mutants.mutants import Mutants
+from tests.mutants.refused import kit_of
 from tests.mutants.unedited import exported, has_body, is_public, sources_of
 
 CLAUSE = re.compile(r"\bensures\s+(\w*)\s*(?=\{)")
@@ -83,9 +84,9 @@ def public_clauses(folder, of_traits):
                     yield function.path, clause
 
 
-def refusals(record):
-    """Returns the function and the goals of each line of a record."""
-    found = [goals.rpartition(" of ") for _, goals in record.lines.values()]
+def refusals(lines):
+    """Returns the function and the goals of each of these lines of a record."""
+    found = [goals.rpartition(" of ") for goals in lines]
     return [(path, goals.split()) for goals, _, path in found]
 
 
@@ -101,8 +102,10 @@ def unbroken(names):
     """
     crates, count, missing = Crates(), 0, []
     of_traits = clauses_of_traits(crates)
+    # The kit that made the records, so that none has to be here.
+    mutants = Mutants(crates, kit_of(crates.folder(crates.names()[0])))
     for name in names or crates.names():
-        refused = refusals(Record(crates.folder(name), ""))
+        refused = refusals(mutants.current(name))
         for path, clause in public_clauses(crates.folder(name), of_traits):
             if is_broken(path, clause, refused):
                 count += 1

@@ -5,41 +5,51 @@ import shutil
 import threading
 from contextlib import contextmanager
 
-from tests.mutants.mutant_files import applied, batches
-from tests.mutants.reports import Report, Verdict, verdict_of
+from tests.mutants.mutant_files import applied, batches, proof_files
+from tests.mutants.reports import Report, Verdict, verdict_of, verdict_with_twin
 from tests.mutants.schedule import Task
 from tests.mutants.work import run_rt, say
 
 ANSWER = re.compile(r"^(?:abbrev )?pub ([\w-]+) :", re.MULTILINE)
 # How many mutants share a check at least, if there are that many, and at most.
-LEAST, MOST = 30, 60
+LEAST, MOST = 60, 120
 
 
 class Trial:
     """The trial of some mutants of one crate, and what became of each: a verdict, and the reason for it.
 
-    `refused` is called with the name of each mutant that is refused, and with the goal that refused it.
+    A twin is judged as its mutant is. A mutant is refused only if its twin is let through.
+    `refused` is called with the name of each mutant that is refused, and with the goals that refused it.
     """
 
-    def __init__(self, name, mutants, work, refused=lambda mutant, goal: None):
+    def __init__(self, name, mutants, work, refused=lambda mutant, goals: None):
         self.name, self.mutants, self.work, self.refused = name, mutants, work, refused
-        self.crate, self.outcomes = work.crates.folder(name), {}
+        self.crate, self.outcomes, self.found = work.crates.folder(name), {}, {}
         self.lock, self.free_copies = threading.Lock(), []
-        for mutant in mutants:
-            if mutant.is_broken():
-                self.settle(mutant, Verdict.BROKEN, mutant.why_broken)
+        for it in self.tried():
+            if it.is_broken():
+                self.settle(it, Verdict.BROKEN, it.why_broken)
 
-    def settle(self, mutant, verdict, why):
-        """Notes what became of a mutant, and prints it."""
+    def tried(self):
+        """Returns the mutants with their twins."""
+        return [it for mutant in self.mutants for it in (mutant, mutant.twin) if it]
+
+    def settle(self, it, verdict, why):
+        """Notes what became of a mutant or a twin, and prints it once both are judged."""
         with self.lock:
-            self.outcomes[mutant.name] = verdict, why
+            self.found[it.label()] = verdict, why
+            mutant = next(mutant for mutant in self.mutants if mutant.name == it.name)
+            both = [self.found.get(it.label()) for it in (mutant, mutant.twin) if it]
+            if mutant.name in self.outcomes or None in both:
+                return
+            verdict, why = self.outcomes[mutant.name] = verdict_with_twin(*both)
             say(f"{self.name}/{mutant.name}: {verdict.value}: {why}")
             if verdict is Verdict.REFUSED:
                 self.refused(mutant, why)
 
     def left(self):
-        """Returns the mutants that are not settled."""
-        return [it for it in self.mutants if it.name not in self.outcomes]
+        """Returns the mutants and twins that are not judged."""
+        return [it for it in self.tried() if it.label() not in self.found]
 
     def tasks(self, jobs):
         """Returns the tasks that try what is left, once the crate is proved. What takes longest goes first: the mutants
@@ -57,38 +67,35 @@ class Trial:
     def judge(self, mutants, has_answers=True):
         """Tries mutants in one check, and returns the tasks that try those again that it doesn't show refused.
 
-        A failing answer hides the other goals of its function. So these are tried once more without the answers, all in
-        one check and then each alone, since another mutant may be the reason. If a check doesn't come to its end, its
-        mutants are tried in two parts.
+        A failing answer hides the other goals of its function. So those whose functions have answers are tried once more
+        without these, all in one check, and then mutants each alone, since another one may be the reason. If a check
+        doesn't come to its end, its mutants are tried in two parts.
         """
         report, half = self.checked(mutants, has_answers), len(mutants) // 2
         if not report.is_whole() and half:
             return [self.again(part, has_answers) for part in [mutants[:half], mutants[half:]]]
         verdicts = [(it, *verdict_of(report, it)) for it in mutants]
-        left = [it for it, verdict, _ in verdicts if verdict is Verdict.LET_THROUGH]
-        if has_answers and any(answers_of(self.crate, it) for it in left):
-            more = [self.again(left, False)]
-        elif half:
-            more = [self.again([it], False) for it in left]
-        else:
-            more = []
+        let_through = [it for it, verdict, _ in verdicts if verdict is Verdict.LET_THROUGH]
+        answered = [it for it in let_through if has_answers and answers_of(self.crate, it)]
+        alone = [it for it in let_through if half and not it.is_twin and it not in answered]
         for it, verdict, why in verdicts:
-            if not more or it not in left:
+            if it not in answered and it not in alone:
                 self.settle(it, verdict, why)
-        return more
+        more = [self.again(answered, False)] if answered else []
+        return more + [self.again([it], has_answers) for it in alone]
 
     def again(self, mutants, has_answers):
         """Returns the task that tries these mutants once more."""
         call = lambda: (True, self.judge(mutants, has_answers))  # noqa: E731
-        return Task((self.name, mutants[0].name, has_answers), call, rank=(1, 0, 0))
+        return Task((self.name, mutants[0].label(), has_answers), call, rank=(1, 0, 0))
 
     def checked(self, mutants, has_answers):
         """Returns the report of a check of the functions that these mutants change, or of all if they change none."""
         texts = {}
         for it in mutants:
-            texts = applied(it.pairs, self.crate, texts)
+            texts = applied(it, self.crate, texts)
         answers = {} if has_answers else {file: goals for it in mutants for file, goals in answers_of(self.crate, it)}
-        paths = sorted({path for it in mutants for path in it.functions})
+        paths = sorted({path for it in mutants for path in it.listed()})
         words = [word for path in paths for word in ("--only", f"{self.name}::{path}")]
         with self.changed({**texts, **dict.fromkeys(answers, "")}) as folder:
             said = run_rt(folder, "check", "--jobs", "1", "--allow-holes", *words)[0]
@@ -111,8 +118,8 @@ class Trial:
 
     def end(self):
         """Settles what was not judged, and returns how many mutants were refused and how many not."""
-        for mutant in self.left():
-            self.settle(mutant, Verdict.NOT_JUDGED, "the crate, or one below it, is not proved without it")
+        for it in self.left():
+            self.settle(it, Verdict.NOT_JUDGED, "the crate, or one below it, is not proved without it")
         refused = sum(verdict is Verdict.REFUSED for verdict, _ in self.outcomes.values())
         return refused, len(self.mutants) - refused
 
@@ -127,12 +134,6 @@ def answers_of(crate, mutant):
     """Returns the proof files with answers to goals of the functions that a mutant changes, and of their closures, each
     with the goals that it answers.
     """
-    found = []
-    for path in sorted(mutant.functions):
-        module, _, name = path.rpartition("::")
-        outer, _, block = module.rpartition("::")
-        folders = [path, *(f"{m}::fn::{f}" for m, f in [(module, name), (outer, f"{block}::{name}")])]
-        for folder in folders:
-            for file in sorted((crate / "proofs" / folder.strip(":").replace("::", "/")).rglob("Answers.antt")):
-                found.append((str(file.relative_to(crate)), frozenset(ANSWER.findall(file.read_text(encoding="utf-8")))))
-    return found
+    files = [it for path in sorted(mutant.listed()) for it in proof_files(crate, path) if it.name == "Answers.antt"]
+    texts = [(str(it.relative_to(crate)), it.read_text(encoding="utf-8")) for it in files]
+    return [(file, frozenset(ANSWER.findall(text))) for file, text in texts]

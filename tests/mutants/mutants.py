@@ -9,14 +9,15 @@ tried on a copy of the sources, over a proof of the crate as it stands. Mutants 
 Names of crates or of mutants select those to try.
 
 A mutant is refused if a goal that has no answer is open in a function whose body it changes; or in any function, if it
-changes a constant, a table or a file of specs/. The crate without it is proved, so that goal is open because of the
-mutant. An answer that no longer proves its goal shows nothing, since it may only not fit the wording.
+changes a constant, a table or a file of specs/; and if its twin, an edit of the same shape that means what the code
+means, opens no such goal. The crate without it is proved, so that goal is open because of the mutant, and by the twin
+because of what it means. An answer that no longer proves its goal shows nothing, since it may only not fit the wording.
 
 Each refusal is a line of the record `crates/NAME/refused.txt`, with a key of the mutant and of what its
 functions promise (mutant_keys.py). Mutants with a current line are not tried again, unless --all is given.
 
 --recorded tries nothing: it fails if a mutant has no current line. --gate proves each crate, tries a sample of its
-mutants that depends on the commit, and writes no record.
+mutants that depends on the commit, compares the goals with the recorded ones, and writes no record.
 
 Its last line is 'N passed, M failed', and it exits with 1 if M isn't 0.
 """
@@ -27,7 +28,7 @@ import subprocess
 
 from tests.mutants.crates import TOP, Crates
 from tests.mutants.mutant_files import mutants_of
-from tests.mutants.mutant_keys import Keys, checksum, kit
+from tests.mutants.mutant_keys import Keys, checksum
 from tests.mutants.mutant_trials import Trial
 from tests.mutants.refused import Record
 from tests.mutants.schedule import run_all
@@ -38,20 +39,30 @@ ONE_IN = 20
 
 
 class Mutants:
-    """The mutants of all crates, with the records of those that were refused."""
+    """The mutants of all crates, with the records of those that were refused, by the kit that is here or another one."""
 
-    def __init__(self, crates):
-        self.crates, self.keys = crates, Keys(crates)
+    def __init__(self, crates, of_kit=None):
+        self.crates, self.keys = crates, Keys(crates, of_kit)
         self.of_crate = {name: mutants_of(crates.folder(name)) for name in crates.names()}
-        self.records = {name: Record(crates.folder(name), kit()) for name in crates.names()}
+        self.records = {name: Record(crates.folder(name), self.keys.kit) for name in crates.names()}
 
-    def key(self, name, mutant):
-        """Returns the key of a mutant; a broken one has none."""
-        return None if mutant.is_broken() else self.keys.key(name, mutant)
+    def key(self, name, mutant, goals):
+        """Returns the key of a mutant that these goals refused; one that is broken, or whose twin is, has none."""
+        is_broken = mutant.is_broken() or (mutant.twin is not None and mutant.twin.is_broken())
+        return None if is_broken else self.keys.key(name, mutant, goals)
 
     def is_current(self, name, mutant):
         """Returns whether the record of a crate has a current line of a mutant."""
-        return self.records[name].is_current(mutant.name, self.key(name, mutant))
+        goals = self.records[name].goals(mutant.name)
+        return goals is not None and self.records[name].is_current(mutant.name, self.key(name, mutant, goals))
+
+    def current(self, name):
+        """Returns the goals of each mutant of a crate that has a current line."""
+        return [self.records[name].goals(it.name) for it in self.of_crate[name] if self.is_current(name, it)]
+
+    def without_twin(self):
+        """Returns the names of the mutants that have no twin."""
+        return [f"{name}/{it.name}" for name, every in self.of_crate.items() for it in every if it.twin is None]
 
     def faults_of_record(self, name):
         """Yields what is wrong with the record of a crate."""
@@ -67,7 +78,12 @@ class Mutants:
 
     def put(self, name, mutant, goals):
         """Records that a mutant was refused."""
-        self.records[name].put(mutant.name, self.key(name, mutant), goals)
+        self.records[name].put(mutant.name, self.key(name, mutant, goals), goals)
+
+    def compare(self, name, mutant, goals):
+        """Returns what is wrong where a mutant is refused by goals that are not those of its line."""
+        recorded = self.records[name].goals(mutant.name)
+        return "" if goals == recorded else f"{name}/{mutant.name} is recorded with other goals: {recorded}"
 
     def sample(self, name, seed):
         """Returns the mutants of a crate that the gate tries."""
@@ -117,6 +133,7 @@ def compare_records(mutants):
         say(fault)
     recorded = sum(mutants.is_current(name, it) for name, every in mutants.of_crate.items() for it in every)
     say(f"{recorded} mutants of {len(mutants.of_crate)} crates are recorded as refused")
+    say(f"{len(mutants.without_twin())} mutants have no twin")
     return recorded, len(faults)
 
 
@@ -126,7 +143,13 @@ def try_sample(mutants, jobs):
     wanted = {name: mutants.sample(name, seed) for name in mutants.of_crate}
     names = [f"{name}/{it.name}" for name, every in wanted.items() for it in every]
     say(f"a sample of {len(names)} mutants: {' '.join(names)}")
-    return try_all(wanted, list(wanted), jobs, lambda *_: None, library_in)
+    faults = []
+    refused = lambda *found: faults.append(mutants.compare(*found))  # noqa: E731
+    passed, failed = try_all(wanted, list(wanted), jobs, refused, library_in)
+    faults = [it for it in faults if it]
+    for fault in faults:
+        say(fault)
+    return passed - len(faults), failed + len(faults)
 
 
 def try_wanted(mutants, options):

@@ -4,6 +4,7 @@ are.
 
 import re
 from dataclasses import dataclass
+from functools import lru_cache
 
 # What a brace group of a function's head begins with; the group after these is the body.
 CLAUSES = re.compile(r"\b(requires|ensures|ghost|decreases)\b")
@@ -16,8 +17,8 @@ class Function:
     """A function: its path below the crate, and the offsets at which its `fn`, its contract and its body begin and its
     body ends.
 
-    It may have `pub` or `pub(..)` before its name, with `extern` after that, and the head of the block that it is in,
-    where it is in one.
+    It may have `pub` or `pub(..)` before its name, with `extern` after that, the head of the block that it is in, where
+    it is in one, and the `tactic` attributes in the lines above it.
     """
 
     path: str
@@ -27,6 +28,7 @@ class Function:
     end: int
     visibility: str = ""
     block: str = ""
+    attributes: tuple = ()
 
 
 def blanked(text):
@@ -45,8 +47,10 @@ def group_end(code, start):
 
 
 def plain_name(type_text):
-    """A type or trait without its arguments, references and path: `&mut io::Cut<T>` is `Cut`."""
-    text = type_text.replace("->", "").split(" where ")[0]
+    """A type or trait without its arguments, references and path: `&mut io::Cut<T>` is `Cut`, and `(P, Q)` is `Tuple2`."""
+    text = type_text.replace("->", "").split(" where ")[0].strip()
+    if text.startswith("("):
+        return f"Tuple{text.count(',') + 1}"
     while re.search(r"<[^<>]*>", text):
         text = re.sub(r"<[^<>]*>", "", text)
     names = re.findall(r"(?<!')\b[A-Za-z]\w*", re.sub(r"\bmut\b", "", text))
@@ -119,8 +123,14 @@ def body_of(code, start):
 
 def functions(text, path, homes):
     """The functions of the file at path, as `src/a/b.rt`, that are in no other; homes are the modules of the types."""
+    return list(functions_once(text, path, tuple((name, tuple(module)) for name, module in homes.items())))
+
+
+@lru_cache(maxsize=400)
+def functions_once(text, path, homes):
+    """`functions`, which reads a text only once."""
     code, found = blanked(text), []
-    walk(code, (0, len(code)), module_of(path), homes, found)
+    walk(code, (0, len(code)), module_of(path), {name: list(module) for name, module in homes}, found)
     return found
 
 
@@ -128,6 +138,12 @@ def visibility_at(code, at):
     """What comes before the `fn` at this offset: `pub` or `pub(..)`, with `extern` where C calls the function."""
     words = re.search(r"\b(pub(?:\([\w: ]*\))?)((?:\s+(?:const|unsafe|extern))*)\s+$", code[max(0, at - 80) : at])
     return words[1] + " extern" * ("extern" in words[2]) if words else ""
+
+
+def attributes_at(code, at):
+    """The `tactic` attributes between the `fn` at this offset and the item before it."""
+    begin = max(code.rfind(it, 0, at) for it in "{};")
+    return tuple(re.findall(r"#\[tactic\b.*?\]", " ".join(code[begin + 1 : at].split())))
 
 
 def walk(code, span, names, homes, found, block=""):
@@ -141,7 +157,8 @@ def walk(code, span, names, homes, found, block=""):
             body = body_of(code, item.end())
             if body:
                 path = "::".join([*names, item["name"]])
-                found.append(Function(path, item.start(), *body, visibility_at(code, item.start()), block))
+                before = visibility_at(code, item.start()), block, attributes_at(code, item.start())
+                found.append(Function(path, item.start(), *body, *before))
             at = body[2] if body else item.end()
             continue
         opens = code.find("{", item.end())

@@ -1,8 +1,14 @@
 """Reads and writes the record of refused mutants, `crates/NAME/refused.txt`.
 
 Its first line identifies the kit. Each further line has a mutant, its key (mutant_keys.py) and the goals that
-refused it with their function, sorted by the mutants' names. Only mutants.py writes it.
+refused it with their function, sorted by the mutants' names. Only mutants.py writes it. The key is also one of the
+goals, so a line that is edited is not current.
 """
+
+
+def kit_of(folder):
+    """Returns what identifies the kit in the record of the crate in a folder."""
+    return (folder / "refused.txt").read_text(encoding="utf-8").partition("\n")[0].partition(" ")[2]
 
 
 class Record:
@@ -15,9 +21,13 @@ class Record:
             name, key, goals = (*line.split(" ", 2), "", "")[:3]
             self.lines[name] = key, goals
 
+    def goals(self, name):
+        """Returns the goals that refused a mutant, as its line has them, or None without a line."""
+        return self.lines.get(name, ("", None))[1]
+
     def is_current(self, name, key):
         """Returns whether a mutant with this key was refused."""
-        return self.lines.get(name, ("", ""))[0] == key
+        return name in self.lines and self.lines[name][0] == key
 
     def put(self, name, key, goals):
         """Adds or replaces the line of a mutant."""

@@ -11,6 +11,8 @@ class Verdict(Enum):
     LET_THROUGH = "LET THROUGH"
     BROKEN = "BROKEN"
     NOT_JUDGED = "NOT JUDGED"
+    TWIN_REFUSED = "TWIN REFUSED"
+    TWIN_BROKEN = "TWIN BROKEN"
 
 
 class Report:
@@ -63,8 +65,21 @@ def verdict_of(report, mutant):
     if not report.is_whole():
         kind = Verdict.NOT_JUDGED if "no verdict" in report.text else Verdict.BROKEN
         return kind, report.first_error()
-    paths = sorted(mutant.functions) or [None]
+    paths = sorted(mutant.listed()) or [None]
+    for path in paths:
+        if path is not None and not report.names(path):
+            return Verdict.BROKEN, f"the check does not list {path}"
+    originals = {copy: path for path, copy in mutant.copies.items()}
     for path in paths:
         for goals in report.open_goals(path):
-            return Verdict.REFUSED, goals
+            return Verdict.REFUSED, goals.replace(f" of {path}", f" of {originals.get(path, path)}")
     return Verdict.LET_THROUGH, f"no goal without an answer is open in {', '.join(map(str, paths))}"
+
+
+def verdict_with_twin(mutant, twin=(Verdict.LET_THROUGH, "")):
+    """Returns the verdict on a mutant, whose own verdict and that of its twin are given, each with the reason."""
+    if mutant[0] is Verdict.REFUSED and twin[0] is Verdict.REFUSED:
+        return Verdict.TWIN_REFUSED, f"its twin has the open goals {twin[1]}"
+    if mutant[0] is Verdict.REFUSED and twin[0] is not Verdict.LET_THROUGH:
+        return Verdict.TWIN_BROKEN, twin[1]
+    return mutant

@@ -16,154 +16,18 @@ import unittest.mock
 from pathlib import Path
 
 from tests.mutants import mutant_keys
-from tests.mutants import rattle_functions
 from tests.mutants import toy_crates
 from tests.mutants.crates import TOP, Crates
 from tests.mutants.definitions import bare, definitions_in, without_comments
-from tests.mutants.mutant_files import Mutant, Pair, batches, functions_at, mutants_of, read_pairs
+from tests.mutants.mutant_files import Mutant, Pair, mutants_of
 from tests.mutants.mutant_keys import Keys
 from tests.mutants.mutant_trials import answers_of
 from tests.mutants.mutants import Mutants
 from tests.mutants.refused import Record
-from tests.mutants.reports import Report, Verdict, verdict_of
+from tests.mutants.reports import Report, Verdict, verdict_of, verdict_with_twin
 from tests.mutants.schedule import Task, run_all
+from tests.mutants.test_mutant_files import in_folder
 from tests.mutants.work import Work, cache_folder, open_work
-
-SOURCE = """
-impl<'a> Reader<'a> {
-    /// A brace in a comment: {
-    pub fn new(text: &'a [u8; 2]) -> Reader<'a>
-        requires { IsShort text.now }
-        ensures { result ≡ reader "}" }
-    {
-        Reader { text, mark: b'{' }
-    }
-}
-
-impl From<Refusal> for Outcome {
-    fn from(refusal: Refusal) -> Outcome {
-        Outcome::Refused(refusal)
-    }
-}
-
-impl<R: Read, A> Copy for &mut Pair<R, u8, A> {
-    fn copy(&mut self) {}
-}
-
-const LIMIT: u16 = 1;
-
-fn front(n: u16) -> u16 {
-    n.min(LIMIT)
-}
-"""
-HOMES = {"Reader": ["readers"], "Outcome": ["outcome"]}
-
-
-def in_folder(test):
-    """Gives a test a folder of its own."""
-
-    def run(self):
-        with tempfile.TemporaryDirectory(prefix="fmtcanon-test-") as folder:
-            test(self, Path(folder))
-
-    return run
-
-
-class Functions(unittest.TestCase):
-    """Where the functions of a file are."""
-
-    def test_paths(self):
-        found = rattle_functions.functions(SOURCE, "src/readers/lines.rt", HOMES)
-        wanted = [
-            "readers::Reader::new",
-            "readers::lines::OutcomeFromRefusal::from",
-            "readers::lines::PairU8Copy::copy",
-            "readers::lines::front",
-        ]
-        self.assertEqual([it.path for it in found], wanted)
-        self.assertEqual([it.path for it in rattle_functions.functions("fn main() {}", "src/main.rt", {})], ["main"])
-
-    def at(self, part):
-        start = SOURCE.index(part)
-        return functions_at(SOURCE, "src/lib.rt", HOMES, start, start + len(part))
-
-    def test_places(self):
-        self.assertEqual(self.at("b'{'"), {"readers::Reader::new"})
-        self.assertEqual(self.at("n.min"), {"front"})
-        self.assertEqual(self.at("u16 = 1"), set())
-        self.assertEqual(self.at("text: &'a [u8; 2]"), set())
-        self.assertEqual(functions_at(SOURCE, "specs/Lib.antt", HOMES, 0, 1), set())
-        with self.assertRaises(ValueError):
-            self.at("IsShort")
-
-
-class Files(unittest.TestCase):
-    """What the files of mutants say."""
-
-    TEXT = "fn a() { 1 }\nfn b() { 1 }\n"
-
-    def test_read(self):
-        text = (
-            "# Mutants.\nfile: src/a.rt\n\nmutant: m\nafter: fn b\nold: 1\nnew: 2\nold: a\nnew:\n"
-            "mutant: n\nold:  b\nnew: c\n"
-        )
-        wanted = {
-            "m": [Pair("src/a.rt", "1", "2", "fn b"), Pair("src/a.rt", "a", "")],
-            "n": [Pair("src/a.rt", " b", "c")],
-        }
-        self.assertEqual(read_pairs(text), wanted)
-        self.assertEqual(read_pairs("file: src/a.rt\nold: 1\nnew: 2\n", "m"), {"m": [Pair("src/a.rt", "1", "2")]})
-
-    def test_not_readable(self):
-        head = "mutant: m\nfile: src/a.rt\nold: 1\nnew: 2\n"
-        for text in [
-            f"{head}3\n",
-            f"{head}what: 3\n",
-            f"{head}{head}",
-            "mutant: m\nnew: 2\n",
-            "file: src/a.rt\nold: 1\nnew: 2\n",
-            f"{head}new: 3\n",
-        ]:
-            with self.assertRaises(ValueError):
-                read_pairs(text)
-
-    def test_applied(self):
-        self.assertEqual(Pair("", "1", "2", "fn b").applied(self.TEXT), "fn a() { 1 }\nfn b() { 2 }\n")
-        self.assertEqual(Pair("", "a()", "c()").applied(self.TEXT), "fn c() { 1 }\nfn b() { 1 }\n")
-
-    def test_not_there_once(self):
-        for pair in [Pair("", "1", "2"), Pair("", "1", "2", "fn"), Pair("", "a", "c", "fn b"), Pair("", "3", "4")]:
-            with self.assertRaises(ValueError):
-                pair.applied(self.TEXT)
-
-    @in_folder
-    def test_both_folders(self, folder):
-        crate = folder / "low"
-        files = {
-            "low/src/lib.rt": "fn a() { 1 }\n",
-            "low/mutants.txt": "mutant: m\nfile: src/lib.rt\nold: 1\nnew: 2\n",
-            "low/must-fail/n.edit": "file: src/lib.rt\nold: 1\nnew: 3\n",
-        }
-        toy_crates.write(folder, files)
-        self.assertEqual([(it.name, it.functions) for it in mutants_of(crate)], [("n", {"a"}), ("m", {"a"})])
-        toy_crates.write(folder, {"low/must-fail/m.edit": "file: src/lib.rt\nold: 1\nnew: 3\n"})
-        with self.assertRaises(ValueError):
-            mutants_of(crate)
-
-    @in_folder
-    def test_batches(self, folder):
-        toy_crates.write(folder, {"src/lib.rt": "fn a() { 1 + 2 }\nfn b() { 3 }\n"})
-        mutants = [
-            Mutant(old, [Pair("src/lib.rt", old, "9")], frozenset(path))
-            for old, path in [("1", "a"), ("2", "a"), ("3", "b")]
-        ]
-        self.assertEqual([[it.name for it in group] for group, _ in batches(mutants, folder, 60)], [["1", "3"], ["2"]])
-        self.assertEqual(
-            [texts["src/lib.rt"] for _, texts in batches(mutants, folder, 60)],
-            ["fn a() { 9 + 2 }\nfn b() { 9 }\n", "fn a() { 1 + 9 }\nfn b() { 3 }\n"],
-        )
-        self.assertEqual([len(group) for group, _ in batches(mutants, folder, 1)], [1, 1, 1])
-
 
 class Reports(unittest.TestCase):
     """What is read from the prover's report."""
@@ -212,6 +76,30 @@ only=3 holes=0
         for functions in [frozenset(["a::Left::new"]), frozenset()]:
             found = verdict_of(Report(text, "pf_x"), Mutant("m", functions=functions))
             self.assertEqual(found[0], Verdict.LET_THROUGH)
+
+    def test_a_copy(self):
+        text = (
+            "fn pf_x::a::b_mutant_m: no proof: expected answers; `search` did not prove `returns`\n"
+            "fn pf_x::a::b: no holes\nonly=1 holes=1\n"
+        )
+        mutant = Mutant("m", functions=frozenset(["a::b"]), copies={"a::b": "a::b_mutant_m"})
+        self.assertEqual(verdict_of(Report(text, "pf_x"), mutant), (Verdict.REFUSED, "returns of a::b"))
+        twin = Mutant("m", functions=frozenset(["a::b"]), copies={"a::b": "a::b_twin_m"}, is_twin=True)
+        self.assertEqual(verdict_of(Report(text, "pf_x"), twin)[0], Verdict.BROKEN)
+
+    def test_twins(self):
+        refused, let_through, broken = ((it, "why") for it in (Verdict.REFUSED, Verdict.LET_THROUGH, Verdict.BROKEN))
+        for mutant, twin, wanted in [
+            (refused, let_through, Verdict.REFUSED),
+            (refused, refused, Verdict.TWIN_REFUSED),
+            (refused, broken, Verdict.TWIN_BROKEN),
+            (refused, (Verdict.NOT_JUDGED, "why"), Verdict.TWIN_BROKEN),
+            (let_through, refused, Verdict.LET_THROUGH),
+            (let_through, let_through, Verdict.LET_THROUGH),
+            (broken, let_through, Verdict.BROKEN),
+        ]:
+            self.assertIs(verdict_with_twin(mutant, twin)[0], wanted)
+        self.assertEqual(verdict_with_twin(refused), refused)
 
     @in_folder
     def test_files_of_answers(self, folder):
@@ -296,6 +184,7 @@ impl Model for Size {
 """,
         "crates/low/src/others.rt": "pub struct First { size: u32 }\n",
         "crates/middle/src/made.rt": MIDDLE,
+        "crates/middle/proofs/made/made/Answers.antt": "pub returns : goal.returns\nreturns c = refl\n",
     }
     MUTANT = Mutant("m", [Pair("src/made.rt", "called(n)", "called(n) + 1")], frozenset(["made::made"]))
     # Edits of one file each that change the key, and that don't.
@@ -311,10 +200,14 @@ impl Model for Size {
         ("crates/low/src/sizes.rt", "{ ℕ }", "{ ℤ }"),
         ("crates/low/src/sizes.rt", "size ≡ n", "n ≡ n"),
         ("crates/low/src/sizes.rt", "size: 2", "size: 3"),
+        ("crates/middle/src/made.rt", "result ≡ n }", "result ≡ n + n }"),
+        ("crates/middle/src/made.rt", "/// Returns something.", "#[tactic(auto, using(lemma))]"),
+        ("crates/middle/src/lib.rt", "#![tactic(auto)]", "#![tactic(none)]"),
+        ("crates/middle/proofs/made/made/Answers.antt", "returns", "returns-else"),
     ]
     NO_CHANGES = [
         ("crates/middle/src/made.rt", "Returns something", "Returns nothing"),
-        ("crates/middle/src/made.rt", "result ≡ n }", "result ≡ n + n }"),
+        ("crates/middle/proofs/made/made/Answers.antt", "refl", "sym"),
         ("crates/low/specs/Doubles.antt", "-- Twice", "-- Two times"),
         ("crates/low/specs/Doubles.antt", "tripled n = n + n + n", "tripled n = n"),
         ("crates/low/proofs/twice/Answers.antt", "refl", "sym"),
@@ -324,7 +217,7 @@ impl Model for Size {
         ("crates/fmtcanon_c/src/lib.rt", "Returns twice", "Returns two times"),
     ]
 
-    def key(self, folder, edit=None, mutant=MUTANT, crate="middle"):
+    def key(self, folder, edit=None, mutant=MUTANT, crate="middle", goals="returns of made::made"):
         """Returns the key of a mutant, with one edit of a file."""
         shutil.rmtree(folder, ignore_errors=True)
         files = dict(self.FILES)
@@ -333,7 +226,7 @@ impl Model for Size {
             self.assertNotEqual(files[path], files[path].replace(old, new) if "proofs" not in path else "")
             files[path] = files[path].replace(old, new, 1)
         toy_crates.write(folder, files)
-        return Keys(Crates(folder)).key(crate, mutant)
+        return Keys(Crates(folder)).key(crate, mutant, goals)
 
     @in_folder
     def test_edits(self, folder):
@@ -351,7 +244,10 @@ impl Model for Size {
             Mutant("m", self.MUTANT.pairs * 2, self.MUTANT.functions),
             Mutant("m", self.MUTANT.pairs, frozenset(["made::called"])),
         ]
-        self.assertEqual(len({self.key(folder / "a", mutant=it) for it in [self.MUTANT, *others]}), 5)
+        with_twin = Mutant("m", self.MUTANT.pairs, self.MUTANT.functions)
+        with_twin.twin = Mutant("m", [Pair("src/made.rt", "called(n)", "(called(n))")], self.MUTANT.functions, is_twin=True)
+        found = {self.key(folder / "a", mutant=it) for it in [self.MUTANT, *others, with_twin]}
+        self.assertEqual(len(found | {self.key(folder / "a", goals="returns of another")}), 7)
 
     @in_folder
     def test_a_constant(self, folder):
@@ -550,8 +446,10 @@ class Whole(unittest.TestCase):
         for name in ["middle", "fmtcanon_c"]:
             toy_crates.write(self.folder, {f"crates/{name}/refused.txt": f"kit {mutant_keys.kit()}\n"})
         self.assertEqual(self.run_script("--recorded"), ({}, "2 passed, 0 failed", 0))
+        self.assertIn("2 mutants have no twin", self.said)
         self.assertEqual(self.run_script("--gate"), (self.sampled(), "1 passed, 0 failed", 0))
         self.assertIn("built over fmtcanon_c", self.said)
+        self.edit_goals()
         self.forge()
 
     def sampled(self):
@@ -559,12 +457,26 @@ class Whole(unittest.TestCase):
         sample = re.search(r"^a sample of 1 mutants: low/(\S+)$", self.said, re.MULTILINE)
         return {sample[1]: Verdict.REFUSED}
 
-    def forge(self):
-        """A line by hand passes where the records are compared, and not where all are tried."""
-        self.has_mutants(["same-meaning"])
+    def edit_goals(self):
+        """A line with other goals is not current."""
+        file = self.folder / "crates/low/refused.txt"
+        text = file.read_text(encoding="utf-8")
+        file.write_text(text.replace(" returns of same", " returns of limit"), encoding="utf-8")
+        self.assertEqual(self.run_script("--recorded"), ({}, "1 passed, 1 failed", 1))
+
+    def put_by_hand(self, name, goals):
+        """Writes the line of a mutant that nobody tried, as the script would."""
+        self.has_mutants([name])
         [mutant], record = mutants_of(self.folder / "crates/low"), Record(self.folder / "crates/low", mutant_keys.kit())
-        record.put(mutant.name, Keys(Crates(self.folder)).key("low", mutant), "returns of same")
+        record.put(mutant.name, Keys(Crates(self.folder)).key("low", mutant, goals), goals)
         record.keep_only({mutant.name})
+
+    def forge(self):
+        """A line by hand passes where the records are compared, and not where the mutant is tried."""
+        self.put_by_hand("no-search", "returns of limit")
+        self.assertEqual(self.run_script("--gate"), ({"no-search": Verdict.REFUSED}, "0 passed, 1 failed", 1))
+        self.assertIn("low/no-search is recorded with other goals: returns of limit", self.said)
+        self.put_by_hand("same-meaning", "returns of same")
         self.assertEqual(self.run_script("--recorded"), ({}, "1 passed, 0 failed", 0))
         let_through = {"same-meaning": Verdict.LET_THROUGH}
         self.assertEqual(self.run_script("--all"), (let_through, "0 passed, 1 failed", 1))
@@ -592,3 +504,27 @@ class Sampling(unittest.TestCase):
             self.assertEqual({len(it) for it in samples}, {wanted})
             self.assertEqual(len({*map(tuple, samples)}) > 1, count > 1)
             self.assertEqual([it.name for it in mutants.sample("low", "a")], samples[0])
+
+
+class Twins(unittest.TestCase):
+    """The twins of this repository's mutants."""
+
+    # How many mutants of a crate have no twin. There are to be no more of them, and none in the end.
+    WITHOUT = {
+        "pf_values": 49,
+        "pf_text": 2,
+        "pf_render": 2,
+        "pf_canon": 57,
+        "pf_compare": 16,
+        "pf_posix": 45,
+        "pf_whole": 25,
+        "fmtcanon": 114,
+        "fmtcanon_c": 39,
+        "uses_low": 8,
+        "uses": 10,
+    }
+
+    def test_each_has_one(self):
+        every = {name: mutants_of(Crates().folder(name)) for name in Crates().names()}
+        counts = {name: sum(it.twin is None for it in found) for name, found in every.items()}
+        self.assertEqual({name: count for name, count in counts.items() if count}, self.WITHOUT)

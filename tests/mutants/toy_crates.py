@@ -123,6 +123,8 @@ pub fn again(n: u8) -> u32 {
 }
 WIDE = "file: src/lib.rt\nafter: pub fn twice\nold: let wide = u32::from(n);\nnew: "
 EVEN = "file: src/lib.rt\nafter: pub fn even\nold: wide + wide\nnew: "
+SEVEN = f"{WIDE}let wide = u32::from(n); if n == 7 {{ return"
+COPY = "file: src/lib.rt\ncopy: twice\nnew: if n == 7 { return"
 # Mutants of low, and what becomes of each.
 MUTANTS = {
     "no-search": ("file: src/lib.rt\nold: let kept = n;\nnew: let kept = 1;", Verdict.REFUSED),
@@ -135,6 +137,12 @@ MUTANTS = {
     "harmless": ("file: src/lib.rt\nold:     n % 65536\nnew:     n % 65536 % 65536", Verdict.LET_THROUGH),
     "renamed": (f"{WIDE}let broad = u32::from(n); let wide = broad;", Verdict.LET_THROUGH),
     "same-meaning": ("file: src/lib.rt\nold: let kept = n;\nnew: let kept = (n);", Verdict.LET_THROUGH),
+    # The twin means the same, and has an open goal, too: its branch would need an answer. In a copy it needs none.
+    "twin-like-it": (f"{SEVEN} 3; }}\nsame: let wide = u32::from(n); if n == 7 {{ return wide + wide; }}", Verdict.TWIN_REFUSED),
+    "copy": (f"{COPY} 3; }} twice(n)\nsame: if n == 7 {{ return twice(n); }} twice(n)", Verdict.REFUSED),
+    "twin": ("file: src/lib.rt\nold: let kept = n;\nnew: let kept = 1;\nsame: let kept = n + 0;", Verdict.REFUSED),
+    "wrong-twin": ("file: src/lib.rt\nold: let kept = n;\nnew: let kept = 1;\nsame: let kept = 2;", Verdict.TWIN_REFUSED),
+    "broken-twin": ("file: src/lib.rt\nold: let kept = n;\nnew: let kept = 1;\nsame: let kept = true;", Verdict.TWIN_BROKEN),
     "not-there": ("file: src/lib.rt\nold: let lost = n;\nnew: let kept = n;", Verdict.BROKEN),
     "contract": ("file: src/lib.rt\nold: result ≡ 100\nnew: 100 ≡ 100", Verdict.BROKEN),
     "another-type": ("file: src/lib.rt\nold: let kept = n;\nnew: let kept = true;", Verdict.BROKEN),

@@ -9,7 +9,7 @@ import re
 
 from tests.mutants import rattle_functions
 from tests.mutants.crates import TOP
-from tests.mutants.mutant_files import pairs_in, places_of
+from tests.mutants.mutant_files import Copy, pairs_in, places_of
 
 # Public functions that have no mutant, each with the reason.
 EXCEPTIONS = {
@@ -65,7 +65,7 @@ def has_body(text, function):
 def turned_by(pairs, crate, homes):
     """Yields the functions in whose bodies a mutant with these pairs changes more than parentheses."""
     for pair, functions in places_of(pairs, crate, homes):
-        if re.sub(r"[()\s]", "", pair.old) != re.sub(r"[()\s]", "", pair.new):
+        if isinstance(pair, Copy) or re.sub(r"[()\s]", "", pair.old) != re.sub(r"[()\s]", "", pair.new):
             yield from functions
 
 
