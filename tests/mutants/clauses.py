@@ -26,9 +26,6 @@ GHOST = re.compile(r"\bghost \w+ = ")
 # Clauses that no mutant breaks, each with the reason.
 EXCEPTIONS = {
     "fmtcanon::answer::Ending::outcome: digit": "it says something of the definition alone",
-    "fmtcanon::input::CountedInput::copy_all: reads": "it hands on what `copy_canonical` ensures",
-    "fmtcanon::input::CountedInput::copy_all: writes": "it hands on what `copy_canonical` ensures",
-    "fmtcanon::input::CountedInput::read_next: bound": "it hands on what `Counted::read` ensures",
     "pf_canon::languages::ProfilePassed::len: left": "of this type it says nothing",
     "pf_posix::argument_types::arguments: length": "no body changes the length of a slice that it is given",
     "pf_posix::directive_spans::directives: length": "no body changes the length of a slice that it is given",
@@ -38,7 +35,6 @@ EXCEPTIONS = {
     "pf_values::counted::Counted::new: device": "the type of its parameter leaves one answer",
     "pf_values::directives::Directive::precision: defined": "what it reads always has it",
     "pf_values::directives::Directive::width: defined": "what it reads always has it",
-    "pf_whole::languages::WholeLanguage::other_at: placed": "it hands on what `opaque_at` ensures",
     "pf_whole::languages::WholePassed::len: left": "of this type it says nothing",
 }
 
