@@ -511,16 +511,16 @@ class Twins(unittest.TestCase):
 
     # How many mutants of a crate have no twin. There are to be no more of them, and none in the end.
     WITHOUT = {
-        "pf_values": 23,
-        "pf_text": 9,
-        "pf_render": 3,
-        "pf_canon": 58,
+        "pf_values": 9,
+        "pf_text": 2,
+        "pf_render": 2,
+        "pf_canon": 57,
         "pf_compare": 1,
         "pf_posix": 45,
-        "pf_whole": 26,
-        "fmtcanon": 115,
-        "fmtcanon_c": 39,
-        "uses_low": 11,
+        "pf_whole": 25,
+        "fmtcanon": 113,
+        "fmtcanon_c": 13,
+        "uses_low": 9,
     }
 
     def test_each_has_one(self):
