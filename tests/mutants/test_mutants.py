@@ -515,12 +515,11 @@ class Twins(unittest.TestCase):
         "pf_text": 2,
         "pf_render": 2,
         "pf_canon": 57,
-        "pf_compare": 1,
         "pf_posix": 45,
-        "pf_whole": 25,
-        "fmtcanon": 43,
+        "pf_whole": 6,
+        "fmtcanon": 9,
         "fmtcanon_c": 13,
-        "uses_low": 9,
+        "uses_low": 1,
     }
 
     def test_each_has_one(self):
