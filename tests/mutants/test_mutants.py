@@ -514,7 +514,7 @@ class Twins(unittest.TestCase):
         "pf_values": 9,
         "pf_text": 2,
         "pf_render": 2,
-        "pf_canon": 57,
+        "pf_canon": 6,
         "pf_posix": 45,
         "pf_whole": 6,
         "fmtcanon": 9,
