@@ -45,8 +45,8 @@ pub fn headline()
     ensures { (model : Model) → WholeHeadline model }
 {}
 
-/// Proves that two texts are alike if and only if, side by side, their stretches print alike and
-/// what is between them has the same normal spelling.
+/// Proves that two texts are alike if and only if, side by side, their stretches print alike, and
+/// the directives and `%m` between them have the same normal spelling.
 pub fn alike_is_corresponding()
     ensures { (model : Model) → AlikeIsCorresponding model }
 {}

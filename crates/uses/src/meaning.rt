@@ -62,8 +62,8 @@ pub fn have_one_canonical_text(
     Some(of_first.as_slice() == of_second.as_slice())
 }
 
-/// Returns whether a format is accepted. If so, by the headline, there is a canonical text of it, which means
-/// the same, and is its own canonical text.
+/// Returns whether a format is accepted. If so, by the headline, it has a canonical text with the same meaning,
+/// and that text is its own canonical text.
 pub fn has_canonical_text(model: Model, format: &[u8]) -> bool
     ensures { IsTrue result → (c : Text) × IsCanonicalOf model format.now c
         × AreEquivalent model format.now c × IsCanonicalOf model c c }

@@ -1,4 +1,4 @@
-//! Where a format is refused, whether it takes no argument, and a line that is printed by one.
+//! Callers that find the refusal of a format, ask whether it takes an argument, and print a line by one.
 ghost use Rattle.std.specs.Prelude.{◌≡◌, ℕ, IfNone, IfSome, IsTrue, List, [], ◌∷◌, codes};
 ghost use Rattle.pf_values.specs.declared.refusals.RefusalKind.{RefusalKind};
 ghost use Rattle.pf_values.specs.meaning.Items.{HasItems, IsAccepted, Item, types};
