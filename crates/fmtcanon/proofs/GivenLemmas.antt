@@ -4,8 +4,8 @@ use Rattle.std.specs.Prelude.{MatchOption, ⊤}
 use Rattle.pf_literals.specs.Answers.{HasNoOffset, IsOffsetOf}
 use Rattle.pf_literals.specs.Sources.{IsSourceOf}
 use Rattle.pf_literals.proofs.HasOffsetLemmas.{has_offset}
-use Rattle.pf_posix.specs.Refusals.{IsPosixRefusedAt}
-use Rattle.pf_posix.specs.Unnumbered.{IsNumberedAt, IsWholeRefusedAt}
+use Rattle.pf_posix.specs.Refusals.{IsWholeRefusedAt}
+use Rattle.pf_posix.specs.Unnumbered.{IsNumberedAt, IsUnnumberedRefusedAt}
 use Rattle.pf_text.specs.declared.refusals.Refusal.{Refusal}
 use Rattle.pf_values.specs.declared.models.Model.{Model}
 use Rattle.pf_values.specs.declared.refusals.RefusalKind.{RefusalKind}
@@ -33,8 +33,8 @@ refused_within bytes kind at h =
     let both = length-append h.front h.rest in
     omega (arith, offset, split, both)
 
-posix_within : (model : Model) (bytes : Text) (kind : RefusalKind) (at : ℕ) → IsPosixRefusedAt model bytes kind at → at ≤ length bytes
-posix_within model bytes kind at h =
+whole_within : (model : Model) (bytes : Text) (kind : RefusalKind) (at : ℕ) → IsWholeRefusedAt model bytes kind at → at ≤ length bytes
+whole_within model bytes kind at h =
     let offset = h.offset in
     let split = ap length h.split in
     let both = length-append h.front h.rest in
@@ -48,9 +48,9 @@ numbered_within bytes at h =
     let both = length-append front (dollar ∷ h.rest) in
     omega (arith, offset, split, both)
 
-unnumbered_within : (model : Model) (bytes : Text) (kind : RefusalKind) (at : ℕ) → IsWholeRefusedAt model bytes kind at → at ≤ length bytes
+unnumbered_within : (model : Model) (bytes : Text) (kind : RefusalKind) (at : ℕ) → IsUnnumberedRefusedAt model bytes kind at → at ≤ length bytes
 unnumbered_within model bytes kinds.Numbered at h = numbered_within bytes at h.0
-unnumbered_within model bytes kind at h = posix_within model bytes kind at h.0
+unnumbered_within model bytes kind at h = whole_within model bytes kind at h.0
 
 offset_there : (text bytes : Text) (index : ℕ) (found : Option ℕ)
     → MatchOption found (HasNoOffset text index) (IsOffsetOf text index) → IsSourceOf text bytes → index ≤ length bytes
@@ -86,7 +86,7 @@ given_fault IsFault given bytes fault reported of gives h is = grind arith
 refusal_within : (language : Language) (model : Model) (bytes : Text) (refusal : Refusal)
     → RefusesText language model bytes refusal.kind refusal.at → refusal.at ≤ length bytes
 refusal_within Profile model bytes refusal h = refused_within bytes refusal.kind refusal.at h
-refusal_within Numbered model bytes refusal h = posix_within model bytes refusal.kind refusal.at h
+refusal_within Numbered model bytes refusal h = whole_within model bytes refusal.kind refusal.at h
 refusal_within Unnumbered model bytes refusal h = unnumbered_within model bytes refusal.kind refusal.at h
 
 format_of_bytes : (language : Language) (model : Model) (bytes : Text) (fault : Outcome)

@@ -1,8 +1,8 @@
 -- The argument types of formats in the whole language, as lines, and whether one format takes the
 -- arguments of another. This project's own.
 use Rattle.std.specs.Prelude.{◌≡◌, ℕ, List, ◌++◌, Option, Some, None, codes, decimal, flat_map}
-use Rattle.pf_posix.specs.declared.types.ArgumentType.{ArgumentType}
-use Rattle.pf_posix.specs.declared.types.ArgumentType.TheVariants.{Profile, Double, LongDouble, WideChar, WideString, Pointer, PointerToSChar, PointerToShort, PointerToInt, PointerToLong, PointerToLongLong}
+use Rattle.pf_posix.specs.declared.types.WholeArgType.{WholeArgType}
+use Rattle.pf_posix.specs.declared.types.WholeArgType.TheVariants.{Profile, Double, LongDouble, WideChar, WideString, Pointer, PointerToSChar, PointerToShort, PointerToInt, PointerToLong, PointerToLongLong}
 use Rattle.pf_posix.specs.Items.{HasArguments}
 use Rattle.pf_values.specs.declared.models.Model.{Model}
 use Rattle.pf_values.specs.meaning.Text.{Text}
@@ -12,7 +12,7 @@ use Rattle.fmtcanon.specs.Lines.{line}
 use Rattle.fmtcanon.specs.TypeLines.{type_name}
 
 -- a type in words
-abbrev pub argument_name : ArgumentType → Text
+abbrev pub argument_name : WholeArgType → Text
 argument_name (Profile type) = type_name type
 argument_name Double = codes "double"
 argument_name LongDouble = codes "long double"
@@ -26,13 +26,13 @@ argument_name PointerToLong = codes "pointer to long"
 argument_name PointerToLongLong = codes "pointer to long long"
 
 -- the words in a line
-abbrev pub argument_line : ArgumentType → Text
+abbrev pub argument_line : WholeArgType → Text
 argument_line type = line (argument_name type)
 
 -- a line for each argument of an accepted format, in order
 abbrev pub HasArgumentLines : Model → Text → Text → Type 0
 HasArgumentLines model format lines =
-    (types : List ArgumentType) × HasArguments model format types
+    (types : List WholeArgType) × HasArguments model format types
     × (lines ≡ flat_map argument_line types)
 
 -- that a format takes the arguments of another, or the index at which it doesn't

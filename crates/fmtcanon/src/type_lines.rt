@@ -8,7 +8,7 @@ ghost use Rattle.fmtcanon.specs.TypeLines.{HasTypeLines, type_line, type_name};
 
 use crate::lines::push_line;
 use crate::outcome::Outcome;
-use pf_posix::{ArgumentType, arguments, arguments_vec};
+use pf_posix::{WholeArgType, arguments, arguments_vec};
 use pf_text::{Signature, check, signature};
 use pf_values::{ArgType, Model};
 use std::alloc::{AllocError, Global};
@@ -70,7 +70,7 @@ pub fn whole_type_lines(alloc: Global, model: Model, format: &[u8]) -> Result<Ve
     ensures { MatchResult result (λ out. HasArgumentLines model format.now out.items)
         (IsFormatFault Numbered model format.now) }
 {
-    let mut types = [ArgumentType::Profile(ArgType::Int); ROOM];
+    let mut types = [WholeArgType::Profile(ArgType::Int); ROOM];
     let count = arguments(model, format, &mut types)?;
     if count > ROOM as u64 {
         return many_type_lines(alloc, model, format);
@@ -88,7 +88,7 @@ fn many_type_lines(alloc: Global, model: Model, format: &[u8]) -> Result<Vec<u8>
     Ok(lines_of_arguments(alloc, &types)?)
 }
 
-fn lines_of_arguments(alloc: Global, types: &[ArgumentType]) -> Result<Vec<u8>, AllocError>
+fn lines_of_arguments(alloc: Global, types: &[WholeArgType]) -> Result<Vec<u8>, AllocError>
     ensures { IfOk result (λ out. out.items ≡ flat_map argument_line types.now) }
 {
     let mut out = Vec::with_capacity(alloc, types.len().saturating_mul(USUAL_LINE))?;
@@ -99,20 +99,20 @@ fn lines_of_arguments(alloc: Global, types: &[ArgumentType]) -> Result<Vec<u8>, 
 }
 
 /// Returns a type in words: as C spells it, except for strings, wide characters and pointers.
-pub fn argument_name(argument_type: ArgumentType) -> &'static str
+pub fn argument_name(argument_type: WholeArgType) -> &'static str
     ensures { result.now ≡ argument_name argument_type }
 {
     match argument_type {
-        ArgumentType::Profile(arg_type) => type_name(arg_type),
-        ArgumentType::Double => "double",
-        ArgumentType::LongDouble => "long double",
-        ArgumentType::WideChar => "wide character",
-        ArgumentType::WideString => "wide string",
-        ArgumentType::Pointer => "pointer",
-        ArgumentType::PointerToSChar => "pointer to signed char",
-        ArgumentType::PointerToShort => "pointer to short",
-        ArgumentType::PointerToInt => "pointer to int",
-        ArgumentType::PointerToLong => "pointer to long",
-        ArgumentType::PointerToLongLong => "pointer to long long",
+        WholeArgType::Profile(arg_type) => type_name(arg_type),
+        WholeArgType::Double => "double",
+        WholeArgType::LongDouble => "long double",
+        WholeArgType::WideChar => "wide character",
+        WholeArgType::WideString => "wide string",
+        WholeArgType::Pointer => "pointer",
+        WholeArgType::PointerToSChar => "pointer to signed char",
+        WholeArgType::PointerToShort => "pointer to short",
+        WholeArgType::PointerToInt => "pointer to int",
+        WholeArgType::PointerToLong => "pointer to long",
+        WholeArgType::PointerToLongLong => "pointer to long long",
     }
 }

@@ -6,7 +6,7 @@ use Rattle.pf_values.specs.meaning.Refusals.{IsRefusedAt}
 use Rattle.pf_values.specs.meaning.Text.{Text}
 use Rattle.pf_text.specs.declared.refusals.TextFault.TheVariants.{Memory}
 use Rattle.pf_canon.proofs.LanguageLemmas.{fault_of_profile, no_front, of_profile}
-use Rattle.pf_posix.specs.Unnumbered.{IsWholeRefusedAt}
+use Rattle.pf_posix.specs.Unnumbered.{IsUnnumberedRefusedAt}
 use Rattle.pf_whole.specs.Fronts.{IsWholeFront}
 use Rattle.pf_whole.proofs.LanguageLemmas.{fault_of_whole, whole_canonical}
 use Rattle.fmtcanon_c.specs.Calls.{PutsCanonical, PutsCanonicalIn, PutsElements, PutsWholeCanonical}
@@ -25,6 +25,6 @@ module _ (model : Model) (t : Text) (out : Text) (error : CError) (code : ℤ) (
       → PutsCanonical model t out error code out_now error_now
   puts_profile = puts_as _ _ _ _ _ _ (of_profile model t) (fault_of_profile model t Memory) out error code out_now error_now
 
-  pub puts_whole : PutsCanonicalIn IsWholeFront IsWholeRefusedAt model t out error code out_now error_now
+  pub puts_whole : PutsCanonicalIn IsWholeFront IsUnnumberedRefusedAt model t out error code out_now error_now
       → PutsWholeCanonical model t out error code out_now error_now
   puts_whole = puts_as _ _ _ _ _ _ (whole_canonical model t) (fault_of_whole model t Memory) out error code out_now error_now

@@ -16,9 +16,9 @@ use Rattle.pf_canon.specs.Languages.{FaultIn, Front, HasCanonicalIn, Refuses}
 use Rattle.pf_canon.specs.Answers.{FaultForCanonical, IsCanonicalFor}
 use Rattle.pf_posix.specs.Directives.{HasDirectives}
 use Rattle.pf_posix.specs.Items.{HasArguments}
-use Rattle.pf_posix.specs.Refusals.{IsPosixRefusedAt}
+use Rattle.pf_posix.specs.Refusals.{IsWholeRefusedAt}
 use Rattle.pf_posix.specs.TypeNumbers.{number_of_type}
-use Rattle.pf_posix.specs.Unnumbered.{IsWholeRefusedAt}
+use Rattle.pf_posix.specs.Unnumbered.{IsUnnumberedRefusedAt}
 use Rattle.pf_whole.specs.Answers.{IsWholeCanonicalFor}
 use Rattle.pf_whole.specs.Faults.{FaultForWholeCanonical}
 use Rattle.fmtcanon_c.specs.declared.directives.CDirective.{CDirective}
@@ -86,7 +86,7 @@ PutsCanonical model t =
 
 -- that of a format of the whole language
 abbrev pub PutsWholeCanonical : Model → Text → Text → CError → ℤ → Text → CError → Type 0
-PutsWholeCanonical model t = PutsElements (IsWholeCanonicalFor model t) with_nul (IsWholeRefusedAt model t)
+PutsWholeCanonical model t = PutsElements (IsWholeCanonicalFor model t) with_nul (IsUnnumberedRefusedAt model t)
     (FaultForWholeCanonical model t Memory)
 
 -- the codes of the types
@@ -100,12 +100,12 @@ HasSome Has = (elements : List _) × Has elements × (elements ≢ [])
 
 -- the numbers of the types in the whole language
 abbrev pub PutsArguments : Model → Text → Text → CError → ℤ → Text → CError → Type 0
-PutsArguments model t = PutsElements (HasArguments model t) (map number_of_type) (IsPosixRefusedAt model t)
+PutsArguments model t = PutsElements (HasArguments model t) (map number_of_type) (IsWholeRefusedAt model t)
     (HasSome (HasArguments model t))
 
 -- the records of the specifications
 abbrev pub PutsDirectives : Model → Text → List CDirective → CError → ℤ → List CDirective → CError → Type 0
-PutsDirectives model t = PutsElements (HasDirectives model t) (map record_of) (IsPosixRefusedAt model t)
+PutsDirectives model t = PutsElements (HasDirectives model t) (map record_of) (IsWholeRefusedAt model t)
     (HasSome (HasDirectives model t))
 
 -- a length as an answer; no memory holds a text with 2^63 bytes

@@ -4,7 +4,7 @@ use Rattle.std.specs.List.{AllByRecursion}
 use Rattle.pf_text.specs.Refusals.{RefusesOne}
 use Rattle.pf_text.specs.declared.refusals.Refusal.{Refusal}
 use Rattle.pf_text.specs.declared.refusals.Side.{Side}
-use Rattle.pf_posix.specs.declared.types.ArgumentType.{ArgumentType}
+use Rattle.pf_posix.specs.declared.types.WholeArgType.{WholeArgType}
 use Rattle.pf_posix.specs.Items.{HasArguments}
 use Rattle.pf_values.specs.declared.models.Model.{Model}
 use Rattle.pf_values.specs.declared.models.TheConstants.Model.{ALL}
@@ -29,12 +29,12 @@ relation_language FitsFewer = Numbered
 
 -- the types of two accepted texts are equal
 abbrev pub Fit : Model → Text → Text → Type 0
-Fit model first second = (types : List ArgumentType) × HasArguments model first types × HasArguments model second types
+Fit model first second = (types : List WholeArgType) × HasArguments model first types × HasArguments model second types
 
 -- the types of the second of two accepted texts are a beginning of those of the first
 abbrev pub FitFewer : Model → Text → Text → Type 0
 FitFewer model first second =
-    (types more : List ArgumentType) × HasArguments model first (types ++ more) × HasArguments model second types
+    (types more : List WholeArgType) × HasArguments model first (types ++ more) × HasArguments model second types
 
 abbrev pub AreRelated : Relation → Model → Text → Text → Type 0
 AreRelated Same model first second = AreEquivalent model first second

@@ -10,12 +10,12 @@ use Rattle.pf_text.specs.declared.refusals.Refusal.{Refusal}
 use Rattle.pf_text.specs.declared.refusals.Side.TheVariants.{First}
 use Rattle.pf_posix.specs.declared.missing_arguments.MissingArgument.{MissingArgument as Missing}
 use Rattle.pf_posix.specs.declared.refused_specifications.RefusedSpecification.{RefusedSpecification}
-use Rattle.pf_posix.specs.declared.refused_specifications.WholeSpecification.{WholeSpecification}
+use Rattle.pf_posix.specs.declared.refused_specifications.ReadSpecification.{ReadSpecification}
 use Rattle.pf_posix.specs.declared.specification_spans.PartOffsets.{PartOffsets}
 use Rattle.pf_posix.specs.declared.specification_spans.SpecificationSpan.{SpecificationSpan}
 use Rattle.pf_posix.specs.MissingArguments.{IsMissingArgument}
 use Rattle.pf_posix.specs.OpaqueParts.{amount_of, parts_of_opaque}
-use Rattle.pf_posix.specs.Refusals.{IsPosixRefusedAt}
+use Rattle.pf_posix.specs.Refusals.{IsWholeRefusedAt}
 use Rattle.pf_posix.specs.RefusedSpecifications.{HasItemsTo, IsRefusedWithin}
 use Rattle.pf_posix.specs.SpecificationSpans.{HasSpecifications}
 use Rattle.pf_posix.specs.Specifications.{Amount, Given, Fetched}
@@ -115,7 +115,7 @@ abbrev pub offsets_at : ℕ → PartOffsets
 offsets_at at = record { flags = at; width = at; precision = at; modifier = at }
 
 -- the end and the parts of a specification, or where the text is rejected
-abbrev pub begun_record : ℕ → ℕ → Option WholeSpecification → CSpecification
+abbrev pub begun_record : ℕ → ℕ → Option ReadSpecification → CSpecification
 begun_record begin at None = known_record begin at (offsets_at at) NO_ARGUMENT
 begun_record begin at (Some whole) = known_record begin whole.end whole.offsets NO_ARGUMENT
 
@@ -133,7 +133,7 @@ IsRejection model t kind at rejected = (found : Option RefusedSpecification)
 
 -- the text is rejected, and the error and the record say why and where
 abbrev pub IsRejectedAs : Model → Text → ℤ → CSpecification → CError → Type 0
-IsRejectedAs model t code rejected error = (refusal : Refusal) × IsPosixRefusedAt model t refusal.kind refusal.at
+IsRejectedAs model t code rejected error = (refusal : Refusal) × IsWholeRefusedAt model t refusal.kind refusal.at
     × IsRefusalCode First refusal code error × IsRejection model t refusal.kind refusal.at rejected
 
 -- The records of the specifications are put, and their number is answered; or the text is rejected.

@@ -4,7 +4,7 @@ ghost use Rattle.fmtcanon_c.specs.Models.{InModel};
 ghost use Rattle.fmtcanon_c.specs.Calls.{PutsArguments, PutsTypes};
 
 use crate::interface::{CError, NO_MEMORY, NO_MODEL, model_of, put_codes, put_refusal};
-use pf_posix::{ArgumentType, arguments, arguments_vec};
+use pf_posix::{WholeArgType, arguments, arguments_vec};
 use pf_text::{Side, TextFault, known_types, signature};
 use pf_values::{ArgType, Model};
 use std::alloc::Global;
@@ -71,7 +71,7 @@ pub extern "C" fn fmtcanon_arguments(
     let Some(model) = model_of(model) else {
         return NO_MODEL;
     };
-    let mut types = [ArgumentType::Profile(ArgType::Int); ROOM];
+    let mut types = [WholeArgType::Profile(ArgType::Int); ROOM];
     match arguments(model, text, &mut types) {
         Ok(count) => {
             if count > ROOM as u64 {

@@ -5,7 +5,7 @@ ghost use Rattle.pf_values.specs.meaning.Text.{Text};
 ghost use Rattle.pf_canon.specs.Answers.{IsCanonicalFor};
 ghost use Rattle.pf_canon.specs.Languages.{FaultIn, HasCanonicalIn};
 ghost use Rattle.pf_canon.specs.VerbatimFronts.{IsVerbatimFront, front_model};
-ghost use Rattle.pf_posix.specs.Unnumbered.{IsWholeRefusedAt};
+ghost use Rattle.pf_posix.specs.Unnumbered.{IsUnnumberedRefusedAt};
 ghost use Rattle.pf_whole.specs.Answers.{IsWholeCanonicalFor};
 ghost use Rattle.fmtcanon_c.specs.Calls.{AnswersCanonical, AnswersLength, Checks, IsLengthAnswer, IsLengthCode, PutsCanonical, PutsCanonicalIn, PutsWholeCanonical};
 ghost use Rattle.fmtcanon_c.specs.Models.{InModel};
@@ -226,7 +226,7 @@ pub extern "C" fn fmtcanon_whole_canonical_length(
     text: &[u8],
     error: &mut CError,
 ) -> i64
-    ensures { InModel model (λ m. AnswersLength (IsWholeCanonicalFor m text.now) (IsWholeRefusedAt m text.now) error.old result error.new)
+    ensures { InModel model (λ m. AnswersLength (IsWholeCanonicalFor m text.now) (IsUnnumberedRefusedAt m text.now) error.old result error.new)
         result (error.new ≡ error.old) }
 {
     let Some(model) = model_of(model) else {

@@ -10,7 +10,7 @@ ghost use Rattle.fmtcanon_c.specs.Models.{model_of};
 ghost use Rattle.fmtcanon_c.specs.Buffers.{put};
 
 use pf_literals::LiteralKind;
-use pf_posix::ArgumentType;
+use pf_posix::WholeArgType;
 use pf_text::{Refusal, Side};
 use pf_values::{ArgType, Model, RefusalKind};
 
@@ -200,7 +200,7 @@ impl Coded<u8> for ArgType {
     }
 }
 
-impl Coded<u8> for ArgumentType {
+impl Coded<u8> for WholeArgType {
     ghost code_of = { number_of_type };
 
     fn code(&self) -> u8 {

@@ -3,7 +3,7 @@ ghost use Rattle.std.specs.Prelude.{◌≡◌, ◌≤◌, [], List, length};
 ghost use Rattle.pf_values.specs.meaning.Text.{Text};
 ghost use Rattle.pf_posix.specs.declared.directive_spans.DirectiveSpan.{DirectiveSpan};
 ghost use Rattle.pf_posix.specs.OpaqueParts.{amount_of};
-ghost use Rattle.pf_posix.specs.Refusals.{IsPosixRefusedAt};
+ghost use Rattle.pf_posix.specs.Refusals.{IsWholeRefusedAt};
 ghost use Rattle.pf_posix.specs.SpecificationSpans.{HasItsParts};
 ghost use Rattle.pf_posix.specs.SpecificationWalks.{IsAhead, IsBefore};
 ghost use Rattle.fmtcanon_c.specs.Models.{InModel};
@@ -180,7 +180,7 @@ fn put_rejected(
     rejected: &mut CSpecification,
     error: &mut CError,
 ) -> i64
-    requires { IsPosixRefusedAt model text.now refusal.kind refusal.at }
+    requires { IsWholeRefusedAt model text.now refusal.kind refusal.at }
     ensures { IsRejectedAs model text.now result rejected.new error.new }
 {
     *rejected = match refusal.kind {

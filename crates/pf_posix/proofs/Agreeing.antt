@@ -9,9 +9,9 @@ use Rattle.pf_values.specs.declared.types.ArgType.TheVariants.{Int}
 use Rattle.pf_values.specs.Laws.{HasEachOnce}
 use Rattle.pf_values.proofs.EachOnce.{once}
 use Rattle.pf_posix.specs.declared.fetches.Fetch.{Fetch}
-use Rattle.pf_posix.specs.declared.types.ArgumentType.{ArgumentType}
-use Rattle.pf_posix.specs.declared.types.ArgumentType.TheVariants.{Profile, Double}
-use Rattle.pf_posix.specs.declared.types.TheConstants.ArgumentType.{ALL as all_types}
+use Rattle.pf_posix.specs.declared.types.WholeArgType.{WholeArgType}
+use Rattle.pf_posix.specs.declared.types.WholeArgType.TheVariants.{Profile, Double}
+use Rattle.pf_posix.specs.declared.types.TheConstants.WholeArgType.{ALL as all_types}
 use Rattle.pf_posix.specs.TypeNumbers.{number_of_type}
 use Rattle.pf_posix.specs.Readings.{conflicts, differs, differs_at, greatest, is_number, listed, wanted_types, wanted_at}
 use Rattle.pf_posix.specs.Refusals.{AreAgreed, Follows, IsOneType, numbering_by, numbering_of, HasGap}
@@ -24,10 +24,10 @@ pub without_number : (o : Option ℕ) → Follows Unnumbered (Some (numbering_by
 without_number o h = grind arith
 
 -- types of equal numbers are equal
-number_tells : (type : ArgumentType) → slice_get all_types (number_of_type type - 1) ≡ Some type
+number_tells : (type : WholeArgType) → slice_get all_types (number_of_type type - 1) ≡ Some type
 number_tells type = grind arith
 
-pub same_type : (a b : ArgumentType) → number_of_type a ≡ number_of_type b → a ≡ b
+pub same_type : (a b : WholeArgType) → number_of_type a ≡ number_of_type b → a ≡ b
 same_type a b e =
     let same : Some a ≡ Some b = sym (number_tells a) ∙ ap (λ n. slice_get all_types (n - 1)) e ∙ number_tells b in cc
 
@@ -137,7 +137,7 @@ agreed_clear seen more f h = conflicts_not seen f (all_front (IsOneType f) seen 
 pub agreed_none : AreAgreed []
 agreed_none = record { one_numbering = tt; one_type = tt }
 
-abbrev type_place : ArgumentType → ℕ
+abbrev type_place : WholeArgType → ℕ
 type_place type = number_of_type type - 1
 
 pub each_type : HasEachOnce all_types
@@ -162,7 +162,7 @@ module _ (place : ℕ) where
     go false e = inr (no_number f.number (place + 1) e, rw e refl)
 
   -- an argument is fetched if and only if it has a first fetch
-  pub fetched_some : (fs : List Fetch) (type : ArgumentType) → wanted_at place fs ≡ Some type → IsFetched place fs
+  pub fetched_some : (fs : List Fetch) (type : WholeArgType) → wanted_at place fs ≡ Some type → IsFetched place fs
   fetched_some [] type e = cc
   fetched_some (f ∷ fs) type e = elim (wanted_cases f fs) [
     | inl here ↦ inl here.0
@@ -177,7 +177,7 @@ module _ (place : ℕ) where
   ]
 
   -- the first fetch has the type of all
-  pub wanted_one : (fs : List Fetch) (g : Fetch) → AllByRecursion (IsOneType g) fs → g.number ≡ Some (place + 1) → (type : ArgumentType)
+  pub wanted_one : (fs : List Fetch) (g : Fetch) → AllByRecursion (IsOneType g) fs → g.number ≡ Some (place + 1) → (type : WholeArgType)
       → wanted_at place fs ≡ Some type → type ≡ g.wanted
   wanted_one [] g h n type e = cc
   wanted_one (f ∷ fs) g h n type e = elim (wanted_cases f fs) [
@@ -195,7 +195,7 @@ all_or_gap fs (suc m) = go (all_or_gap fs m) (wanted_at m fs) refl where
     | inr e ↦ all p (omega arith)
   ]
 
-  go : (((p : ℕ) → p < m → IsFetched p fs) ⊎ ((p : ℕ) × (p < m) × ¬ IsFetched p fs)) → (o : Option ArgumentType) → wanted_at m fs ≡ o
+  go : (((p : ℕ) → p < m → IsFetched p fs) ⊎ ((p : ℕ) × (p < m) × ¬ IsFetched p fs)) → (o : Option WholeArgType) → wanted_at m fs ≡ o
       → ((p : ℕ) → p < suc m → IsFetched p fs) ⊎ ((p : ℕ) × (p < suc m) × ¬ IsFetched p fs)
   go (inr gap) o e = inr (gap.0, omega (arith, gap.1), gap.2)
   go (inl all) None e = inr (m, omega arith, fetched_none m fs e)
@@ -241,7 +241,7 @@ module _ (fs : List Fetch) (agreed : AreAgreed fs) (within : AllByRecursion IsWi
     one : (f : Fetch) → AllByRecursion (IsOneType f) fs → numbering_by f.number ≡ Numbered → IsWithin f → ((n : ℕ) → f.number ≡ Some n → n ≤ greatest fs)
         → HasTypeIn (listed fs 0 (greatest fs)) f
     one f same s w few = go f.number refl s where
-      by_wanted : (place : ℕ) (o : Option ArgumentType) → wanted_at place fs ≡ o → f.number ≡ Some (place + 1) → IsFetched place fs
+      by_wanted : (place : ℕ) (o : Option WholeArgType) → wanted_at place fs ≡ o → f.number ≡ Some (place + 1) → IsFetched place fs
           → unwrap_or o int_type ≡ f.wanted
       by_wanted place None e n h = absurd (fetched_none place fs e h)
       by_wanted place (Some type) e n h = wanted_one place fs f same n type e
@@ -272,21 +272,21 @@ module _ (fs : List Fetch) (agreed : AreAgreed fs) (within : AllByRecursion IsWi
   in_order : AllByRecursion (λ f. numbering_by f.number ≡ Unnumbered) fs → AreInOrder fs (wanted_types fs)
   in_order h = record { unnumbered = all_map _ _ fs (λ f e. grind arith) h; types_are = refl }
 
-pub types_or_gap : (fs : List Fetch) → AreAgreed fs → AllByRecursion IsWithin fs → ((types : List ArgumentType) × HaveTypes fs types) ⊎ HasGap fs
+pub types_or_gap : (fs : List Fetch) → AreAgreed fs → AllByRecursion IsWithin fs → ((types : List WholeArgType) × HaveTypes fs types) ⊎ HasGap fs
 types_or_gap [] agreed within = inl ([], inl (record { unnumbered = tt; types_are = refl }))
 types_or_gap (f ∷ fs) agreed within = go f.number refl where
-  by_number : AllByRecursion (λ g. numbering_by g.number ≡ Numbered) (f ∷ fs) → ((types : List ArgumentType) × HaveTypes (f ∷ fs) types) ⊎ HasGap (f ∷ fs)
+  by_number : AllByRecursion (λ g. numbering_by g.number ≡ Numbered) (f ∷ fs) → ((types : List WholeArgType) × HaveTypes (f ∷ fs) types) ⊎ HasGap (f ∷ fs)
   by_number numbered = elim (all_or_gap (f ∷ fs) (greatest (f ∷ fs))) [
     | inl every ↦ inl (listed (f ∷ fs) 0 (greatest (f ∷ fs)), inr (numbered_types (f ∷ fs) agreed within numbered every))
     | inr gap ↦ inr (gap_is (f ∷ fs) gap.0 gap.1 gap.2)
   ]
 
-  go : (o : Option ℕ) → f.number ≡ o → ((types : List ArgumentType) × HaveTypes (f ∷ fs) types) ⊎ HasGap (f ∷ fs)
+  go : (o : Option ℕ) → f.number ≡ o → ((types : List WholeArgType) × HaveTypes (f ∷ fs) types) ⊎ HasGap (f ∷ fs)
   go None e = inl (wanted_types (f ∷ fs), inl (in_order (f ∷ fs) agreed within (all_map _ _ (f ∷ fs) (λ g s. s ∙ ap numbering_by e) agreed.one_numbering)))
   go (Some n) e = by_number (all_map _ _ (f ∷ fs) (λ g s. s ∙ ap numbering_by e) agreed.one_numbering)
 
 -- all arguments are fetched, as the types show
-pub no_gap : (fs : List Fetch) (types : List ArgumentType) → HaveTypes fs types → ¬ HasGap fs
+pub no_gap : (fs : List Fetch) (types : List WholeArgType) → HaveTypes fs types → ¬ HasGap fs
 no_gap fs types (inl h) g = none fs h.unnumbered g.1 g.3 where
   none : (fs : List Fetch) → AllByRecursion (λ f. f.number ≡ None) fs → (place : ℕ) → IsFetched place fs → ⊥
   none [] h place g = g

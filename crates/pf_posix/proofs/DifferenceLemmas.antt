@@ -10,9 +10,9 @@ use Rattle.std.specs.List.{AllByRecursion}
 use Rattle.pf_values.specs.declared.models.Model.{Model}
 use Rattle.pf_values.specs.meaning.Text.{Text}
 use Rattle.pf_posix.specs.declared.numbered.TheConstants.{ROOM}
-use Rattle.pf_posix.specs.declared.types.ArgumentType.{ArgumentType}
+use Rattle.pf_posix.specs.declared.types.WholeArgType.{WholeArgType}
 use Rattle.pf_posix.specs.declared.comparison.Comparison.{Comparison}
-use Rattle.pf_posix.specs.Items.{HasArguments, PosixItem, ReadsPosix, fetched}
+use Rattle.pf_posix.specs.Items.{HasArguments, WholeItem, ReadsWhole, fetched}
 use Rattle.pf_posix.specs.Types.{int_type, HaveTypes, IsFetched}
 use Rattle.pf_posix.specs.TypeNumbers.{number_of_type}
 use Rattle.pf_posix.specs.Laws.{ComparesArgumentTypes, HasCount, IsFirstDifference, filled, ComparesBeginning, IsFirstExcess}
@@ -26,30 +26,30 @@ use Rattle.pf_posix.proofs.ListLemmas.{length_filled}
 use Rattle.pf_posix.proofs.Unique.{one_list}
 use Rattle.pf_posix.proofs.ItemsOnce.{items_once}
 
-abbrev pub SameUpTo : List ArgumentType → List ArgumentType → ℕ → Type 0
+abbrev pub SameUpTo : List WholeArgType → List WholeArgType → ℕ → Type 0
 SameUpTo a b n = (k : ℕ) → k < n → slice_get a k ≡ slice_get b k
 
-get_filled : (start a : List ArgumentType) (k : ℕ) (d : ArgumentType) → k < length a → k < length start → get_or (filled start a) k d ≡ get_or a k d
+get_filled : (start a : List WholeArgType) (k : ℕ) (d : WholeArgType) → k < length a → k < length start → get_or (filled start a) k d ≡ get_or a k d
 get_filled [] a k d less few = absurd (omega arith)
 get_filled (o ∷ start) [] k d less few = absurd (omega arith)
 get_filled (o ∷ start) (t ∷ a) zero d less few = refl
 get_filled (o ∷ start) (t ∷ a) (suc k) d less few = get_filled start a k d (omega (arith, less)) (omega (arith, few))
 
 -- a place of a slice that holds the front of a list
-pub at_place : (types start a : List ArgumentType) (k : ℕ) (d : ArgumentType) → types ≡ filled start a → k < length types → k < length a
+pub at_place : (types start a : List WholeArgType) (k : ℕ) (d : WholeArgType) → types ≡ filled start a → k < length types → k < length a
     → slice_get a k ≡ Some (get_or types k d)
 at_place types start a k d e room less =
     slice_get-get_or a k d less ∙ ap Some (sym (ap (λ l. get_or l k d) e
     ∙ get_filled start a k d less (omega (arith, room, ap length e, length_filled start a))))
 
-pub same_more : (a b : List ArgumentType) (n : ℕ) → SameUpTo a b n → slice_get a n ≡ slice_get b n → SameUpTo a b (n + 1)
+pub same_more : (a b : List WholeArgType) (n : ℕ) → SameUpTo a b n → slice_get a n ≡ slice_get b n → SameUpTo a b (n + 1)
 same_more a b n h e k less = elim (cases_eq k n) [
   | inl same ↦ subst (λ j. slice_get a j ≡ slice_get b j) (sym same) e
   | inr other ↦ h k (omega arith)
 ]
 
 -- two lists that are the same as far as both go
-pub same_lists : (a b : List ArgumentType) (n : ℕ) → SameUpTo a b n → length a ≡ n → length b ≡ n → a ≡ b
+pub same_lists : (a b : List WholeArgType) (n : ℕ) → SameUpTo a b n → length a ≡ n → length b ≡ n → a ≡ b
 same_lists a b n h x y = ext_get_or int_type a b (x ∙ sym y) at where
   at : (i : ℕ) → i < length a → get_or a i int_type ≡ get_or b i int_type
   at i less =
@@ -57,7 +57,7 @@ same_lists a b n h x y = ext_get_or int_type a b (x ∙ sym y) at where
       ∙ slice_get-get_or b i int_type (omega (arith, less, x, y)) in cc
 
 -- one is a front of the other
-pub one_longer : (a b : List ArgumentType) (n : ℕ) → SameUpTo a b n → (length a ≢ length b) → n ≤ length a → n ≤ length b → ((length a ≤ n) ⊎ (length b ≤ n))
+pub one_longer : (a b : List WholeArgType) (n : ℕ) → SameUpTo a b n → (length a ≢ length b) → n ≤ length a → n ≤ length b → ((length a ≤ n) ⊎ (length b ≤ n))
     → IsFirstDifference a b (Some n)
 one_longer a b n h other x y (inl full) = (
   λ e. let no : None ≡ Some (get_or b n int_type) = sym (slice_get_past a n full) ∙ e
@@ -71,7 +71,7 @@ one_longer a b n h other x y (inr full) = (
 )
 
 -- what follows from the numbers of two types
-module _ (types others start from a b : List ArgumentType) (k : ℕ) (c d : ArgumentType) (x y : ℕ) (e : types ≡ filled start a) (f : others ≡ filled from b)
+module _ (types others start from a b : List WholeArgType) (k : ℕ) (c d : WholeArgType) (x y : ℕ) (e : types ≡ filled start a) (f : others ≡ filled from b)
     (room : k < length types) (room2 : k < length others) (less : k < length a) (less2 : k < length b)
     (p : x ≡ number_of_type (get_or types k c)) (q : y ≡ number_of_type (get_or others k d)) where
   at_a : slice_get a k ≡ Some (get_or types k c)
@@ -99,9 +99,9 @@ pub over_lists : (count second_count k m n : ℕ) → count ≡ m → second_cou
 over_lists count second_count k m n x y h = grind arith
 
 -- what follows from the slices of two texts
-module _ (model : Model) (first second : Text) (old new old2 new2 : List ArgumentType) (count second_count : ℕ) (result : Option ℕ)
+module _ (model : Model) (first second : Text) (old new old2 new2 : List WholeArgType) (count second_count : ℕ) (result : Option ℕ)
     (h : HasCount model first old new count) (k : HasCount model second old2 new2 second_count)
-    (f : (a b start from : List ArgumentType) → new ≡ filled start a → new2 ≡ filled from b → count ≡ length a → second_count ≡ length b
+    (f : (a b start from : List WholeArgType) → new ≡ filled start a → new2 ≡ filled from b → count ≡ length a → second_count ≡ length b
     → (length a ≤ length new) ⊎ (length b ≤ length new) → IsFirstDifference a b result) where
   pub compared : length new ≡ ROOM → AreFew model first second → ComparesArgumentTypes model first second result
   compared long few =
@@ -144,7 +144,7 @@ few_of_counts model first second count second_count h few types others a b = eli
 ]
 
 pub counted : (model : Model) (first second : Text) (found : Comparison) (count : ℕ) → AreCounted model first second count found.second_count
-    → ((types others : List ArgumentType) → HasArguments model first types → HasArguments model second others → IsFirstDifference types others found.difference)
+    → ((types others : List WholeArgType) → HasArguments model first types → HasArguments model second others → IsFirstDifference types others found.difference)
     → IsListComparison model first second found
 counted model first second found count h differ =
     record {
@@ -176,7 +176,7 @@ fetched_few (g ∷ fs) place h (inl e) = let few = (h.0 (place + 1) e).1 in omeg
 fetched_few (g ∷ fs) place h (inr e) = fetched_few fs place h.1 e
 
 -- so the types of many are those that are fetched, in order
-pub many_left : (model : Model) (order : TypesInOrder) (types : List ArgumentType) → order.at ≡ 0 → order.left ≡ 0 → HasArguments model order.text.now types
+pub many_left : (model : Model) (order : TypesInOrder) (types : List WholeArgType) → order.at ≡ 0 → order.left ≡ 0 → HasArguments model order.text.now types
     → ROOM < length types → HasLeft model order types
 many_left model order types start none h many = go h.types_are where
   t : Text
@@ -186,7 +186,7 @@ many_left model order types start none h many = go h.types_are where
   go (inl k) = record {
     within = omega (arith, start);
     items = h.items;
-    reads = subst (λ n. ReadsPosix (drop n order.text.now) h.items) (sym start) h.reads;
+    reads = subst (λ n. ReadsWhole (drop n order.text.now) h.items) (sym start) h.reads;
     types_are = k.types_are ∙ ap (λ n. ints_up_to n order.last ++ wanted_types (fetched model h.items)) (sym none);
   }
   go (inr k) =
@@ -194,10 +194,10 @@ many_left model order types start none h many = go h.types_are where
       absurd (omega (arith, last))
 
 -- at the end there is nothing more
-pub left_none : (model : Model) (order : TypesInOrder) (types : List ArgumentType) → HasLeft model order types → order.left ≡ 0 → length order.text.now ≤ order.at
+pub left_none : (model : Model) (order : TypesInOrder) (types : List WholeArgType) → HasLeft model order types → order.left ≡ 0 → length order.text.now ≤ order.at
     → types ≡ []
 left_none model order types h none over = go h.items h.reads h.types_are where
-  go : (items : List PosixItem) → ReadsPosix (drop order.at order.text.now) items → types ≡ ints_up_to order.left order.last ++ wanted_types (fetched model items)
+  go : (items : List WholeItem) → ReadsWhole (drop order.at order.text.now) items → types ≡ ints_up_to order.left order.last ++ wanted_types (fetched model items)
       → types ≡ []
   go [] reads e = e ∙ ap (λ n. ints_up_to n order.last ++ []) none
   go (item ∷ later) reads e = let no : item ∷ later ≡ [] = items_once _ (item ∷ later) [] reads (drop_all order.at order.text.now over) in cc
@@ -205,9 +205,9 @@ left_none model order types h none over = go h.items h.reads h.types_are where
 -- two texts of these types are compared up to an index
 pub record AreComparedTo (model : Model) (first second : Text) (count second_count : ℕ) (one other : TypesInOrder) (index : ℕ) : Type 0 where
   pub counted : AreCounted model first second count second_count
-  pub done : List ArgumentType
-  pub left : List ArgumentType
-  pub right : List ArgumentType
+  pub done : List WholeArgType
+  pub left : List WholeArgType
+  pub right : List WholeArgType
   pub first_is : counted.types ≡ done ++ left
   pub second_is : counted.others ≡ done ++ right
   pub first_left : HasLeft model one left
@@ -215,7 +215,7 @@ pub record AreComparedTo (model : Model) (first second : Text) (count second_cou
   pub index_is : index ≡ length done
 
 -- lists that differ after a common front
-differ_behind : (xs ys zs : List ArgumentType) → slice_get ys 0 ≢ slice_get zs 0 → IsFirstDifference (xs ++ ys) (xs ++ zs) (Some (length xs))
+differ_behind : (xs ys zs : List WholeArgType) → slice_get ys 0 ≢ slice_get zs 0 → IsFirstDifference (xs ++ ys) (xs ++ zs) (Some (length xs))
 differ_behind [] ys zs other = (other, λ k less. absurd (omega arith))
 differ_behind (x ∷ xs) ys zs other = let rest = differ_behind xs ys zs other in (rest.0, λ k less. at k less rest.1) where
   at : (k : ℕ) → k < suc (length xs) → ((k : ℕ) → k < length xs → slice_get (xs ++ ys) k ≡ slice_get (xs ++ zs) k)
@@ -231,7 +231,7 @@ module _ (model : Model) (first second : Text) (count second_count : ℕ) where
 
   module _ (one other : TypesInOrder) (index : ℕ) (h : AreComparedTo model first second count second_count one other index) where
     -- each text has one list of types
-    told : (result : Option ℕ) → IsFirstDifference h.counted.types h.counted.others result → (types others : List ArgumentType) → HasArguments model first types
+    told : (result : Option ℕ) → IsFirstDifference h.counted.types h.counted.others result → (types others : List WholeArgType) → HasArguments model first types
         → HasArguments model second others → IsFirstDifference types others result
     told result differ types others a b =
         subst (λ l. IsFirstDifference l others result) (one_list model first h.counted.types types h.counted.first_accepted a)
@@ -251,28 +251,28 @@ module _ (model : Model) (first second : Text) (count second_count : ℕ) where
 
     -- after all types of the shorter list
     module _ (over : min count second_count ≤ index) where
-      pub all_same : count ≡ second_count → (types others : List ArgumentType) → HasArguments model first types → HasArguments model second others → types ≡ others
+      pub all_same : count ≡ second_count → (types others : List WholeArgType) → HasArguments model first types → HasArguments model second others → types ≡ others
       all_same e =
           let a : h.left ≡ [] = nil_from_length h.left (omega (arith, sizes, over, e)) in
           let b : h.right ≡ [] = nil_from_length h.right (omega (arith, sizes, over, e)) in
           told None (h.first_is ∙ ap (λ l. h.done ++ l) (a ∙ sym b) ∙ sym h.second_is)
 
-      pub one_shorter : count ≢ second_count → (types others : List ArgumentType) → HasArguments model first types → HasArguments model second others
+      pub one_shorter : count ≢ second_count → (types others : List WholeArgType) → HasArguments model first types → HasArguments model second others
           → IsFirstDifference types others (Some index)
       one_shorter e = told (Some index) (differs (go h.left h.right sizes.0 sizes.1)) where
-        go : (a b : List ArgumentType) → count ≡ index + length a → second_count ≡ index + length b → slice_get a 0 ≢ slice_get b 0
+        go : (a b : List WholeArgType) → count ≡ index + length a → second_count ≡ index + length b → slice_get a 0 ≢ slice_get b 0
         go [] [] x y same = e (omega (arith, x, y))
         go [] (b ∷ r) x y same = cc
         go (a ∷ l) [] x y same = cc
         go (a ∷ l) (b ∷ r) x y same = omega (arith, x, y, over)
 
     -- the next types of both
-    module _ (less : index < min count second_count) (next other_next : TypesInOrder) (a b : ArgumentType)
-        (takes : (x : ArgumentType) (rest : List ArgumentType) → HasLeft model one (x ∷ rest) → (a ≡ x) × HasLeft model next rest)
-        (other_takes : (x : ArgumentType) (rest : List ArgumentType) → HasLeft model other (x ∷ rest) → (b ≡ x) × HasLeft model other_next rest) where
+    module _ (less : index < min count second_count) (next other_next : TypesInOrder) (a b : WholeArgType)
+        (takes : (x : WholeArgType) (rest : List WholeArgType) → HasLeft model one (x ∷ rest) → (a ≡ x) × HasLeft model next rest)
+        (other_takes : (x : WholeArgType) (rest : List WholeArgType) → HasLeft model other (x ∷ rest) → (b ≡ x) × HasLeft model other_next rest) where
       record Heads : Type 0 where
-        rest : List ArgumentType
-        other_rest : List ArgumentType
+        rest : List WholeArgType
+        other_rest : List WholeArgType
         left_is : h.left ≡ a ∷ rest
         right_is : h.right ≡ b ∷ other_rest
         rest_left : HasLeft model next rest
@@ -280,7 +280,7 @@ module _ (model : Model) (first second : Text) (count second_count : ℕ) where
 
       heads : Heads
       heads = go h.left h.right refl refl sizes.0 sizes.1 where
-        go : (l r : List ArgumentType) → h.left ≡ l → h.right ≡ r → count ≡ index + length l → second_count ≡ index + length r → Heads
+        go : (l r : List WholeArgType) → h.left ≡ l → h.right ≡ r → count ≡ index + length l → second_count ≡ index + length r → Heads
         go [] r e f x y = absurd (omega (arith, x, less))
         go (c ∷ l) [] e f x y = absurd (omega (arith, y, less))
         go (c ∷ l) (d ∷ r) e f x y =
@@ -295,7 +295,7 @@ module _ (model : Model) (first second : Text) (count second_count : ℕ) where
               other_left = q.1;
             }
 
-      pub next_differ : number_of_type a ≢ number_of_type b → (types others : List ArgumentType) → HasArguments model first types → HasArguments model second others
+      pub next_differ : number_of_type a ≢ number_of_type b → (types others : List WholeArgType) → HasArguments model first types → HasArguments model second others
           → IsFirstDifference types others (Some index)
       next_differ apart =
           let n = heads in
@@ -322,7 +322,7 @@ module _ (model : Model) (first second : Text) (count second_count : ℕ) where
           }
 
 -- a list that another has at each of its places is a beginning of that
-pub beginning : (a b : List ArgumentType) → ((k : ℕ) → k < length b → slice_get a k ≡ slice_get b k) → (more : List ArgumentType) × (a ≡ b ++ more)
+pub beginning : (a b : List WholeArgType) → ((k : ℕ) → k < length b → slice_get a k ≡ slice_get b k) → (more : List WholeArgType) × (a ≡ b ++ more)
 beginning a [] h = (a, refl)
 beginning [] (y ∷ b) h = let none = h 0 (omega arith) in cc
 beginning (x ∷ a) (y ∷ b) h =
@@ -332,22 +332,22 @@ beginning (x ∷ a) (y ∷ b) h =
     (rest.0, ap₂ (λ z l. z ∷ l) same rest.1)
 
 -- and so is one that ends where they differ first
-pub ends_first : (a b : List ArgumentType) (index : ℕ) → IsFirstDifference a b (Some index) → length b ≤ index → IsFirstExcess a b None
+pub ends_first : (a b : List WholeArgType) (index : ℕ) → IsFirstDifference a b (Some index) → length b ≤ index → IsFirstExcess a b None
 ends_first a b index h over = beginning a b (λ k less. h.1 k (omega (arith, less, over)))
 
-pub within_beginning : (a more : List ArgumentType) (k : ℕ) → k < length a → slice_get (a ++ more) k ≡ slice_get a k
+pub within_beginning : (a more : List WholeArgType) (k : ℕ) → k < length a → slice_get (a ++ more) k ≡ slice_get a k
 within_beginning [] more k less = absurd (omega (arith, less))
 within_beginning (x ∷ a) more zero less = refl
 within_beginning (x ∷ a) more (suc k) less = within_beginning a more k (omega (arith, less))
 
 -- two lists that are beginnings of each other
-pub both_beginnings : (a b : List ArgumentType) → IsFirstExcess a b None → IsFirstExcess b a None → a ≡ b
+pub both_beginnings : (a b : List WholeArgType) → IsFirstExcess a b None → IsFirstExcess b a None → a ≡ b
 both_beginnings a b (m, e) (n, f) =
     let none = nil_from_length m (omega (arith, ap length e, ap length f, length-append b m, length-append a n)) in
     e ∙ ap (λ l. b ++ l) none ∙ append-nil b
 
 -- there is one such place
-pub one_excess : (a b : List ArgumentType) (index other : Option ℕ) → IsFirstExcess a b index → IsFirstExcess a b other → index ≡ other
+pub one_excess : (a b : List WholeArgType) (index other : Option ℕ) → IsFirstExcess a b index → IsFirstExcess a b other → index ≡ other
 one_excess a b None None h k = refl
 one_excess a b None (Some j) h k = absurd (k.1.0 (ap (λ l. slice_get l j) h.1 ∙ within_beginning b h.0 j k.0))
 one_excess a b (Some i) None h k = absurd (h.1.0 (ap (λ l. slice_get l i) k.1 ∙ within_beginning b k.0 i h.0))

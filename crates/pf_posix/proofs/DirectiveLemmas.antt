@@ -10,13 +10,13 @@ use Rattle.pf_values.specs.declared.models.Model.{Model}
 use Rattle.pf_values.specs.meaning.Text.{Text}
 use Rattle.pf_posix.specs.declared.directive_spans.DirectiveSpan.{DirectiveSpan}
 use Rattle.pf_posix.specs.declared.specifications.Specification.{Specification as Read}
-use Rattle.pf_posix.specs.declared.types.ArgumentType.{ArgumentType}
+use Rattle.pf_posix.specs.declared.types.WholeArgType.{WholeArgType}
 use Rattle.pf_text.specs.Walks.{HasPassed, IsPercent, IsWalkOver}
 use Rattle.pf_text.specs.declared.walk.Walk.{Walk}
 use Rattle.pf_text.proofs.ReadingLemmas.{moved_over}
 use Rattle.pf_posix.specs.Directives.{HasDirectiveCount, HasDirectives, TakesFrom, directive_between, directives_from}
 use Rattle.pf_posix.specs.DirectivesInText.{IsBehindItem, IsListedBehind, IsListedTo}
-use Rattle.pf_posix.specs.Items.{Byte, Errno, HasArguments, PosixItem, ReadsPosix, Specification, errno}
+use Rattle.pf_posix.specs.Items.{Byte, Errno, HasArguments, WholeItem, ReadsWhole, Specification, errno}
 use Rattle.pf_posix.specs.Laws.{filled}
 use Rattle.pf_posix.specs.PartsInText.{IsSpecificationAt, specification_read}
 use Rattle.pf_posix.specs.Halts.{BeginsNoneAfter}
@@ -43,19 +43,19 @@ pub errno_split : (t : Text) (at : ℕ) → get_or t at 0 ≡ 37 → (get_or t (
 errno_split t at = two_split t at 109
 
 -- what comes after an item of a text that is read from an offset on
-item_there : (t : Text) (at stop : ℕ) (item : PosixItem) (first : Text) → HasText item first → drop at t ≡ first ++ drop stop t → (items : List PosixItem)
-    → ReadsPosix (drop at t) items → BeginsWith item (drop stop t) items
-item_there t at stop item first text split items reads = first_item item first (drop stop t) items text (subst (λ u. ReadsPosix u items) split reads)
+item_there : (t : Text) (at stop : ℕ) (item : WholeItem) (first : Text) → HasText item first → drop at t ≡ first ++ drop stop t → (items : List WholeItem)
+    → ReadsWhole (drop at t) items → BeginsWith item (drop stop t) items
+item_there t at stop item first text split items reads = first_item item first (drop stop t) items text (subst (λ u. ReadsWhole u items) split reads)
 
 module _ (t : Text) (at : ℕ) (less : at < length t) where
   -- a `%` and another byte are the beginning of a specification
-  no_byte : (x : ℕ) (later : List PosixItem) → ReadsPosix (drop at t) (Byte x ∷ later) → get_or t at 0 ≡ 37 → (get_or t (at + 1) 0 == 37) ≢ false
+  no_byte : (x : ℕ) (later : List WholeItem) → ReadsWhole (drop at t) (Byte x ∷ later) → get_or t at 0 ≡ 37 → (get_or t (at + 1) 0 == 37) ≢ false
   no_byte x later reads percent other =
       let twice = percent_twice x reads.1 (drop (at + 1) t) (sym (ap (λ u. u ++ reads.1) (text_there reads.0 (Byte x) reads.2)) ∙ sym reads.4
       ∙ drop_more t at 0 less ∙ ap (λ b. b ∷ drop (at + 1) t) percent) in
       bool_no (ap (λ b. b == 37) (head_at t (at + 1) 37 reads.1 twice)) other
 
-  pub some_specification : (items : List PosixItem) → ReadsPosix (drop at t) items → get_or t at 0 ≡ 37 → (get_or t (at + 1) 0 == 37) ≡ false
+  pub some_specification : (items : List WholeItem) → ReadsWhole (drop at t) items → get_or t at 0 ≡ 37 → (get_or t (at + 1) 0 == 37) ≡ false
       → (get_or t (at + 1) 0 == 109) ≡ false → BeginsNoneAfter Undecided (drop at t) → ⊥
   some_specification [] reads percent other letter none = omega (arith, less, ap length reads, length-drop at t)
   some_specification (Byte x ∷ later) reads percent other letter none = no_byte x later reads percent other
@@ -68,34 +68,34 @@ module _ (t : Text) (at : ℕ) (less : at < length t) where
   byte_text other = rw other refl
 
   -- so it is after the first item
-  pub item_byte : (get_or t at 0 == 37) ≡ false → (items : List PosixItem) → ReadsPosix (drop at t) items → IsBehindItem t items None (at + 1)
+  pub item_byte : (get_or t at 0 == 37) ≡ false → (items : List WholeItem) → ReadsWhole (drop at t) items → IsBehindItem t items None (at + 1)
   item_byte other items reads =
       let byte = get_or t at 0 in
       let front = item_there t at (at + 1) (Byte byte) (byte ∷ []) (byte_text other) (drop_more t at 0 less) items reads in
       (Byte byte, front.later, tt, front.items_are, front.reads, omega (arith, less))
 
   module _ (percent : get_or t at 0 ≡ 37) where
-    pub item_percent : (get_or t (at + 1) 0 == 37) ≡ true → at + 1 < length t → (items : List PosixItem) → ReadsPosix (drop at t) items
+    pub item_percent : (get_or t (at + 1) 0 == 37) ≡ true → at + 1 < length t → (items : List WholeItem) → ReadsWhole (drop at t) items
         → IsBehindItem t items None (at + 2)
     item_percent second more items reads =
         let front = item_there t at (at + 2) (Byte 37) (37 ∷ 37 ∷ []) refl (percent_split t at percent second more) items reads in
         (Byte 37, front.later, tt, front.items_are, front.reads, omega (arith, more))
 
-    pub item_errno : (get_or t (at + 1) 0 == 109) ≡ true → at + 1 < length t → (items : List PosixItem) → ReadsPosix (drop at t) items
+    pub item_errno : (get_or t (at + 1) 0 == 109) ≡ true → at + 1 < length t → (items : List WholeItem) → ReadsWhole (drop at t) items
         → IsBehindItem t items None (at + 2)
     item_errno second more items reads =
         let front = item_there t at (at + 2) Errno errno refl (errno_split t at percent second more) items reads in
         (Errno, front.later, tt, front.items_are, front.reads, omega (arith, more))
 
-    pub item_specification : (read : Read) (stop : ℕ) → (get_or t (at + 1) 0 == 37) ≡ false → IsSpecificationAt t at (read, stop) → (items : List PosixItem)
-        → ReadsPosix (drop at t) items → IsBehindItem t items (Some read) stop
+    pub item_specification : (read : Read) (stop : ℕ) → (get_or t (at + 1) 0 == 37) ≡ false → IsSpecificationAt t at (read, stop) → (items : List WholeItem)
+        → ReadsWhole (drop at t) items → IsBehindItem t items (Some read) stop
     item_specification read stop other found items reads =
         let split = parted t at stop (omega (arith, found.some)) in
         let front = item_there t at stop (Specification (specification_read read)) (take (stop - at) (drop at t)) found.spelled split items reads in
         (front.later, front.items_are, front.reads, found.within)
 
 module _ (model : Model) (t : Text) (all done : List DirectiveSpan) (at next : ℕ) (h : IsListedTo model t all at next done) where
-  abbrev After : PosixItem → ℕ → Type 0
+  abbrev After : WholeItem → ℕ → Type 0
   After (Byte x) stop = IsListedTo model t all stop next done
   After Errno stop = IsListedTo model t all stop next done
   After (Specification s) stop = IsListedTo model t all stop (next + length (fetches model s)) (done ++ directive_between model at stop next s ∷ [])
@@ -105,10 +105,10 @@ module _ (model : Model) (t : Text) (all done : List DirectiveSpan) (at next : �
     ends : (first rest : Text) → drop at t ≡ first ++ rest → rest ≡ drop stop t → at + length first ≡ stop
     ends first rest e same = omega (arith, h.within, within, ap length e, length-append first rest, length-drop at t, ap length same, length-drop stop t)
 
-    moved : (end fetched : ℕ) (spans : List DirectiveSpan) (rest : Text) (later : List PosixItem) (reads : ReadsPosix rest later)
+    moved : (end fetched : ℕ) (spans : List DirectiveSpan) (rest : Text) (later : List WholeItem) (reads : ReadsWhole rest later)
         → end ≡ stop → rest ≡ drop stop t → all ≡ spans ++ directives_from model end fetched rest later reads → IsListedTo model t all stop fetched spans
     moved end fetched spans rest later reads place same are =
-        let now = subst (λ u. ReadsPosix u later) same reads in
+        let now = subst (λ u. ReadsWhole u later) same reads in
         record {
           items = later;
           reads = now;
@@ -116,7 +116,7 @@ module _ (model : Model) (t : Text) (all done : List DirectiveSpan) (at next : �
           all_are = are ∙ ap (λ l. spans ++ l) (same_from model end stop fetched rest (drop stop t) later reads now place same);
         }
 
-    after_first : (item : PosixItem) (later : List PosixItem) (reads : ReadsPosix (drop at t) (item ∷ later)) → reads.1 ≡ drop stop t
+    after_first : (item : WholeItem) (later : List WholeItem) (reads : ReadsWhole (drop at t) (item ∷ later)) → reads.1 ≡ drop stop t
         → all ≡ done ++ directives_from model at next (drop at t) (item ∷ later) reads → After item stop
     after_first (Byte x) later reads rest e =
         moved (at + length reads.0) next done reads.1 later reads.3 (ends reads.0 reads.1 reads.4 rest) rest e
@@ -131,10 +131,10 @@ module _ (model : Model) (t : Text) (all done : List DirectiveSpan) (at next : �
         moved end fetched (done ++ span ∷ []) reads.1 later reads.3 place rest
         (e ∙ ap (λ k. done ++ directive_between model at k next s ∷ tail) place ∙ sym (append_assoc done (span ∷ []) tail))
 
-    listed_item : (item : PosixItem) (first : Text) → HasText item first → drop at t ≡ first ++ drop stop t → After item stop
+    listed_item : (item : WholeItem) (first : Text) → HasText item first → drop at t ≡ first ++ drop stop t → After item stop
     listed_item item first text split =
         let front = item_there t at stop item first text split h.items h.reads in
-        subst (λ items. (reads : ReadsPosix (drop at t) items) → all ≡ done ++ directives_from model at next (drop at t) items reads → After item stop)
+        subst (λ items. (reads : ReadsWhole (drop at t) items) → all ≡ done ++ directives_from model at next (drop at t) items reads → After item stop)
         (sym front.items_are) (λ reads e. after_first item front.later reads
         (item_once item item reads.0 reads.1 first (drop stop t) (text_there reads.0 item reads.2) text (sym reads.4 ∙ split)).1 e) h.reads h.all_are
 
@@ -168,7 +168,7 @@ pub other_byte : (byte : ℕ) → byte ≢ 37 → (byte == 37) ≡ false
 other_byte byte h = grind (arith, nat_tests)
 
 -- all that are listed are the specifications of the text
-pub has_listed : (model : Model) (t : Text) (types : List ArgumentType) (given : HasArguments model t types) (done : List DirectiveSpan)
+pub has_listed : (model : Model) (t : Text) (types : List WholeArgType) (given : HasArguments model t types) (done : List DirectiveSpan)
     → done ≡ directives_from model 0 0 t given.items given.reads → HasDirectives model t done
 has_listed model t types given done are = record {
   types = types;
@@ -179,7 +179,7 @@ has_listed model t types given done are = record {
 
 -- a walk through an accepted text, whose specifications by then are at the front of a slice
 pub record IsListing (model : Model) (t : Text) (walk : Walk) (fetched count : ℕ) (old new : List DirectiveSpan) : Type 0 where
-  pub types : List ArgumentType
+  pub types : List WholeArgType
   pub given : HasArguments model t types
   pub done : List DirectiveSpan
   pub listed : IsListedTo model t (directives_from model 0 0 t given.items given.reads) walk.at fetched done
@@ -191,7 +191,7 @@ pub record IsListing (model : Model) (t : Text) (walk : Walk) (fetched count : �
 
 module _ (model : Model) (t : Text) where
   -- before the first item
-  unfoldable pub listing_starts : (types : List ArgumentType) → HasArguments model t types → (walk : Walk) → IsWalkOver t walk → walk.at ≡ 0 → (old : List DirectiveSpan)
+  unfoldable pub listing_starts : (types : List WholeArgType) → HasArguments model t types → (walk : Walk) → IsWalkOver t walk → walk.at ≡ 0 → (old : List DirectiveSpan)
       → IsListing model t walk 0 0 old old
   listing_starts types given walk over start old =
       let all = directives_from model 0 0 t given.items given.reads in
@@ -258,7 +258,7 @@ module _ (model : Model) (t : Text) where
     -- after the last item, all are listed
     pub all_listed : length t ≤ walk.at → h.done ≡ all
     all_listed over = go h.listed.items h.listed.reads h.listed.all_are where
-      go : (items : List PosixItem) (reads : ReadsPosix (drop walk.at t) items)
+      go : (items : List WholeItem) (reads : ReadsWhole (drop walk.at t) items)
           → all ≡ h.done ++ directives_from model walk.at fetched (drop walk.at t) items reads → h.done ≡ all
       go (item ∷ later) reads e = let no : item ∷ later ≡ [] = items_once _ (item ∷ later) [] reads (drop_all walk.at t over) in cc
       go [] reads e = sym (append-nil h.done) ∙ sym e

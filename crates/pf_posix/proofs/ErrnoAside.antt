@@ -3,7 +3,7 @@ use Rattle.std.proofs.Common.{◌≡◌, List, [], ◌∷◌, ◌++◌, sym, ap,
 use Rattle.std.specs.List.{AllByRecursion}
 use Rattle.std.proofs.lemmas.List.{append_assoc}
 use Rattle.pf_values.specs.meaning.Text.{Text}
-use Rattle.pf_posix.specs.Items.{Byte, Errno, PosixItem, ReadsPosix, Specification, errno}
+use Rattle.pf_posix.specs.Items.{Byte, Errno, WholeItem, ReadsWhole, Specification, errno}
 use Rattle.pf_posix.specs.Laws.{HasNoPartOfErrno, IsOfFprintf, IsWithoutErrno}
 
 -- what comes after an item is without it, too
@@ -11,7 +11,7 @@ rest_without : (t first rest : Text) → t ≡ first ++ rest → IsWithoutErrno 
 rest_without t first rest e h front more f =
     h (first ++ front) more (e ∙ ap (λ u. first ++ u) f ∙ sym (append_assoc first (front ++ errno) more) ∙ ap (λ u. u ++ more) (sym (append_assoc first front errno)))
 
-others : (t : Text) (items : List PosixItem) → IsWithoutErrno t → ReadsPosix t items → AllByRecursion IsOfFprintf items
+others : (t : Text) (items : List WholeItem) → IsWithoutErrno t → ReadsWhole t items → AllByRecursion IsOfFprintf items
 others t [] h reads = tt
 others t (Byte byte ∷ items) h reads = (tt, others reads.1 items (rest_without t reads.0 reads.1 reads.4 h) reads.3)
 others t (Specification s ∷ items) h reads = (tt, others reads.1 items (rest_without t reads.0 reads.1 reads.4 h) reads.3)

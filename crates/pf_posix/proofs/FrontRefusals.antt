@@ -21,18 +21,18 @@ use Rattle.pf_posix.specs.declared.fetches.Fetch.{Fetch}
 use Rattle.pf_posix.specs.declared.specifications.Numbering.{Numbering}
 use Rattle.pf_posix.specs.declared.specifications.Numbering.TheVariants.{Numbered}
 use Rattle.pf_posix.specs.declared.specifications.Specification.{Specification as Read}
-use Rattle.pf_posix.specs.declared.types.ArgumentType.{ArgumentType}
+use Rattle.pf_posix.specs.declared.types.WholeArgType.{WholeArgType}
 use Rattle.pf_posix.specs.Beginnings.{IsBegunAs, IsUndecided, TakesAmount}
 use Rattle.pf_posix.specs.Endings.{end_refusal, refusal_of_long}
 use Rattle.pf_posix.specs.Halts.{FollowsBy, IsDefinedAt, IsHalt, IsStarAt}
-use Rattle.pf_posix.specs.Items.{PosixItem, ReadsPosix, SpellsPosixItem, errno_letter, fetched}
+use Rattle.pf_posix.specs.Items.{WholeItem, ReadsWhole, IsWholeReadAs, errno_letter, fetched}
 use Rattle.pf_posix.specs.Laws.{HasCount}
 use Rattle.pf_posix.specs.PartsInText.{specification_read}
 use Rattle.pf_posix.specs.Readings.{conflicts}
-use Rattle.pf_posix.specs.Refusals.{AreAgreed, FetchesLast, FetchesStar, IsGoodPosixFront, IsOneType, IsPosixRefusalCause, IsPosixRefusedAt, IsPosixRefusedByte}
+use Rattle.pf_posix.specs.Refusals.{AreAgreed, FetchesLast, FetchesStar, IsGoodWholeFront, IsOneType, IsWholeRefusalCause, IsWholeRefusedAt, IsWholeRefusedByte}
 use Rattle.pf_posix.specs.Refusals.{MayFollow, numbering_by, numbering_of}
-use Rattle.pf_posix.specs.Specifications.{PosixSpecification, conversion_letter, modifier_letters}
-use Rattle.pf_posix.specs.Spelling.{SpellsPosix, SpellsStar}
+use Rattle.pf_posix.specs.Specifications.{WholeSpecification, conversion_letter, modifier_letters}
+use Rattle.pf_posix.specs.Spelling.{SpellsWhole, SpellsStar}
 use Rattle.pf_posix.specs.Tables.{HaveOneType}
 use Rattle.pf_posix.specs.Types.{conversion_type, fetch, int_type, star_fetches}
 use Rattle.pf_posix.proofs.Agreeing.{agreed_none, all_back, all_map, conflicts_not}
@@ -100,11 +100,11 @@ follows_own fs (f ∷ own) position same agreed h =
     inr (sym (all_back (λ g. numbering_by g.number ≡ numbering_of (fs ++ f ∷ own)) fs (f ∷ own) agreed.one_numbering).0 ∙ same.0)
 
 abbrev pub IsRefused : Model → Text → Refusal → Type 0
-IsRefused model t refusal = IsPosixRefusedAt model t refusal.kind refusal.at
+IsRefused model t refusal = IsWholeRefusedAt model t refusal.kind refusal.at
 
 -- a text is refused after a front
-refused_after : (model : Model) (t : Text) (at : ℕ) (kind : RefusalKind) (fetches : List Fetch) (part : Text) → IsGoodPosixFront model (take at t) fetches part
-    → at ≤ length t → at ≤ MAX_TEXT_LEN → IsPosixRefusalCause model fetches part at (drop at t) kind → IsPosixRefusedAt model t kind at
+refused_after : (model : Model) (t : Text) (at : ℕ) (kind : RefusalKind) (fetches : List Fetch) (part : Text) → IsGoodWholeFront model (take at t) fetches part
+    → at ≤ length t → at ≤ MAX_TEXT_LEN → IsWholeRefusalCause model fetches part at (drop at t) kind → IsWholeRefusedAt model t kind at
 refused_after model t at kind fetches part good within limit cause =
     record {
       front = take at t;
@@ -119,13 +119,13 @@ refused_after model t at kind fetches part good within limit cause =
     }
 
 -- items, and then the beginning of one more
-module _ (model : Model) (t : Text) (start : ℕ) (items : List PosixItem) (short : length t ≤ MAX_TEXT_LEN) (reads : ReadsPosix (take start t) items) where
+module _ (model : Model) (t : Text) (start : ℕ) (items : List WholeItem) (short : length t ≤ MAX_TEXT_LEN) (reads : ReadsWhole (take start t) items) where
   abbrev seen : List Fetch
   seen = fetched model items
 
   module _ (at : ℕ) (part : Text) (own : List Fetch) (bytes : HasBytes t start at part) (agreed : AreAgreed (seen ++ own))
       (begun : MayFollow (numbering_of (seen ++ own)) part own) where
-    good_front : IsGoodPosixFront model (take at t) (seen ++ own) part
+    good_front : IsGoodWholeFront model (take at t) (seen ++ own) part
     good_front = record {
       items = items;
       whole = take start t;
@@ -137,16 +137,16 @@ module _ (model : Model) (t : Text) (start : ℕ) (items : List PosixItem) (shor
       begun = begun;
     }
 
-    refused_at_end : length t ≤ at → part ≢ [] → IsPosixRefusedAt model t Truncated at
+    refused_at_end : length t ≤ at → part ≢ [] → IsWholeRefusedAt model t Truncated at
     refused_at_end over some =
         refused_after model t at Truncated (seen ++ own) part good_front bytes.within (omega (arith, short, bytes.within))
-        (subst (λ r. IsPosixRefusalCause model (seen ++ own) part at r Truncated) (sym (drop_all at t over)) (inl (refl, some)))
+        (subst (λ r. IsWholeRefusalCause model (seen ++ own) part at r Truncated) (sym (drop_all at t over)) (inl (refl, some)))
 
-    refused_at_byte : (kind : RefusalKind) → at < length t → IsPosixRefusedByte model (seen ++ own) part (get_or t at 0) kind → IsPosixRefusedAt model t kind at
+    refused_at_byte : (kind : RefusalKind) → at < length t → IsWholeRefusedByte model (seen ++ own) part (get_or t at 0) kind → IsWholeRefusedAt model t kind at
     refused_at_byte kind less cause =
         let below = ne_eqb at MAX_TEXT_LEN (λ e. absurd (omega (arith, less, short, e))) in
         refused_after model t at kind (seen ++ own) part good_front bytes.within (omega (arith, short, bytes.within))
-        (subst (λ r. IsPosixRefusalCause model (seen ++ own) part at r kind) (sym (drop_more t at 0 less)) (rw below cause))
+        (subst (λ r. IsWholeRefusalCause model (seen ++ own) part at r kind) (sym (drop_more t at 0 less)) (rw below cause))
 
   -- a beginning that halts
   pub halt_refused : (position : Option ℕ) (own : List Fetch) (refusal : Refusal) → AreAgreed (seen ++ own)
@@ -155,7 +155,7 @@ module _ (model : Model) (t : Text) (start : ℕ) (items : List PosixItem) (shor
       elim (cases_lt refusal.at (length t)) [
         | inl less ↦ refused_at_byte refusal.at h.part own h.bytes agreed (inr (position, h.begun, follows h.follows)) refusal.kind less
             (h.byte less model (seen ++ own) (λ e. ap (λ l. numbering_of (seen ++ l)) e ∙ ap numbering_of (append-nil seen)) (follows h.follows))
-        | inr over ↦ subst (λ kind. IsPosixRefusedAt model t kind refusal.at) (sym (h.ended over))
+        | inr over ↦ subst (λ kind. IsWholeRefusedAt model t kind refusal.at) (sym (h.ended over))
             (refused_at_end refusal.at h.part own h.bytes agreed (inr (position, h.begun, follows h.follows)) over some)
       ] where
         follows : IsUndecided h.part ⊎ FollowsBy (numbering_of seen) position → IsUndecided h.part ⊎ FollowsBy (numbering_of (seen ++ own)) position
@@ -177,10 +177,10 @@ module _ (model : Model) (t : Text) (start : ℕ) (items : List PosixItem) (shor
   conflict_refused : (at : ℕ) (part : Text) (position : Option ℕ) (own : List Fetch) (byte : ℕ) (f : Fetch) → HasBytes t start at part
       → IsBegunAs part position own → AreAgreed (seen ++ own) → FollowsBy (numbering_of seen) position → get_or t at 0 ≡ byte → byte ≢ 0 → byte ≢ percent → byte ≢ errno_letter
       → (FollowsBy (numbering_of (seen ++ own)) position → FetchesStar part byte f ⊎ FetchesLast model (numbering_of (seen ++ own)) part byte f)
-      → conflicts (seen ++ own) f ≡ true → IsPosixRefusedAt model t TwoTypes at
+      → conflicts (seen ++ own) f ≡ true → IsWholeRefusedAt model t TwoTypes at
   conflict_refused at part position own byte f bytes begun agreed before there nul other errno fetches c =
       refused_at_byte at part own bytes agreed (inr (position, begun, inr follows)) TwoTypes less
-      (subst (λ b. IsPosixRefusedByte model (seen ++ own) part b TwoTypes) (sym there) cause) where
+      (subst (λ b. IsWholeRefusedByte model (seen ++ own) part b TwoTypes) (sym there) cause) where
         follows : FollowsBy (numbering_of (seen ++ own)) position
         follows = follows_own seen own position (begun_numbering part position own begun) agreed before
 
@@ -190,7 +190,7 @@ module _ (model : Model) (t : Text) (start : ℕ) (items : List PosixItem) (shor
         no_type : ¬ AllByRecursion (IsOneType f) (seen ++ own)
         no_type all = let none = conflicts_not (seen ++ own) f all in let no : true ≡ false = sym c ∙ none in cc
 
-        cause : IsPosixRefusedByte model (seen ++ own) part byte TwoTypes
+        cause : IsWholeRefusedByte model (seen ++ own) part byte TwoTypes
         cause =
             let no_nul = ne_eqb byte 0 nul in
             let no_percent = ne_eqb byte percent other in
@@ -198,7 +198,7 @@ module _ (model : Model) (t : Text) (start : ℕ) (items : List PosixItem) (shor
 
   -- at the `$` of a `*`
   pub star_conflict : (position : Option ℕ) (own : List Fetch) (stop n : ℕ) → IsStarAt t start stop n position own → AreAgreed (seen ++ own)
-      → FollowsBy (numbering_of seen) position → conflicts (seen ++ own) (fetch (Some n) int_type) ≡ true → IsPosixRefusedAt model t TwoTypes (stop - 1)
+      → FollowsBy (numbering_of seen) position → conflicts (seen ++ own) (fetch (Some n) int_type) ≡ true → IsWholeRefusedAt model t TwoTypes (stop - 1)
   star_conflict position own stop n star agreed follows c =
       conflict_refused (stop - 1) star.part position own dollar (fetch (Some n) int_type) star.bytes (inr (inr (star.kind, n, star.digits))) agreed follows
       star.dollar_is (λ e. omega (arith, e)) (λ e. omega (arith, e)) (λ e. omega (arith, e)) (λ f. inl (star.kind, n, position, own, star.digits, refl, refl)) c
@@ -207,14 +207,14 @@ module _ (model : Model) (t : Text) (start : ℕ) (items : List PosixItem) (shor
   pub last_conflict : (read : Read) (stop : ℕ) → IsDefinedAt t start (numbering_of seen) (read, stop)
       → AreAgreed (seen ++ (star_fetches (specification_read read).width ++ star_fetches (specification_read read).precision))
       → conflicts (seen ++ (star_fetches (specification_read read).width ++ star_fetches (specification_read read).precision))
-      (fetch read.position (conversion_type model read.parts.modifier read.parts.conversion)) ≡ true → IsPosixRefusedAt model t TwoTypes (stop - 1)
+      (fetch read.position (conversion_type model read.parts.modifier read.parts.conversion)) ≡ true → IsWholeRefusedAt model t TwoTypes (stop - 1)
   last_conflict read stop h agreed c =
       conflict_refused (stop - 1) part s.position (star_fetches s.width ++ star_fetches s.precision) letter
       (fetch s.position (conversion_type model s.modifier s.conversion))
       (record { from = omega (arith, h.is.read.some); within = omega (arith, h.is.read.within); whole = last.0 }) begins agreed h.is.follows last.1
       (λ e. omega (arith, e, high)) (λ e. omega (arith, e, high)) (letter_tests s.conversion).no_errno
       (λ follows. inr (record { s = s; spelled = spelled; follows = follows }, h.defined, refl)) c where
-        s : PosixSpecification
+        s : WholeSpecification
         s = specification_read read
 
         letter : ℕ
@@ -226,7 +226,7 @@ module _ (model : Model) (t : Text) (start : ℕ) (items : List PosixItem) (shor
         part : Text
         part = h.is.read.spelled.before ++ modifier_letters s.modifier
 
-        spelled : SpellsPosix (part ++ letter ∷ []) s
+        spelled : SpellsWhole (part ++ letter ∷ []) s
         spelled = record { before = h.is.read.spelled.before; before_is = h.is.read.spelled.before_is; whole = refl }
 
         begins : IsBegunAs part s.position (star_fetches s.width ++ star_fetches s.precision)
@@ -260,7 +260,7 @@ module _ (model : Model) (t : Text) (start : ℕ) (items : List PosixItem) (shor
     go (inr (inl nul)) =
         let known : (get_or t start 0 == 0) ≡ true = grind (arith, nat_tests) in
         rw known (refused_at_byte start [] [] (bytes_none t start (omega (arith, less))) agrees (inl (refl, refl)) NulByte less
-        (subst (λ b. IsPosixRefusedByte model (seen ++ []) [] b NulByte) (sym nul) refl))
+        (subst (λ b. IsWholeRefusedByte model (seen ++ []) [] b NulByte) (sym nul) refl))
     go (inr (inr h)) =
         let other : (get_or t start 0 == 0) ≡ false = ne_eqb (get_or t start 0) 0 (λ e. absurd (omega (arith, e, h.1))) in
         let end : start + 1 ≡ length t = omega (arith, less, h.0) in
@@ -269,21 +269,21 @@ module _ (model : Model) (t : Text) (start : ℕ) (items : List PosixItem) (shor
         (inr (None, begun_of Opened one refl, inl (inl refl))) (omega arith) (λ e. cc))
 
 -- an item more
-pub whole_item : (t : Text) (start stop : ℕ) (items : List PosixItem) (item : PosixItem) → start ≤ stop → ReadsPosix (take start t) items
-    → SpellsPosixItem (take (stop - start) (drop start t)) item → ReadsPosix (take stop t) (items ++ item ∷ [])
+pub whole_item : (t : Text) (start stop : ℕ) (items : List WholeItem) (item : WholeItem) → start ≤ stop → ReadsWhole (take start t) items
+    → IsWholeReadAs (take (stop - start) (drop start t)) item → ReadsWhole (take stop t) (items ++ item ∷ [])
 whole_item t start stop items item from reads h =
-    subst (λ u. ReadsPosix u (items ++ item ∷ [])) (sym (take_between t start stop from))
+    subst (λ u. ReadsWhole u (items ++ item ∷ [])) (sym (take_between t start stop from))
     (reads_push (take start t) (take (stop - start) (drop start t)) items item reads h)
 
 -- a text goes on after a good front of as many bytes as are allowed
-too_long : (model : Model) (t : Text) (fetches : List Fetch) (part : Text) → IsGoodPosixFront model (take MAX_TEXT_LEN t) fetches part → MAX_TEXT_LEN < length t
-    → IsPosixRefusedAt model t TooLong MAX_TEXT_LEN
+too_long : (model : Model) (t : Text) (fetches : List Fetch) (part : Text) → IsGoodWholeFront model (take MAX_TEXT_LEN t) fetches part → MAX_TEXT_LEN < length t
+    → IsWholeRefusedAt model t TooLong MAX_TEXT_LEN
 too_long model t fetches part good long =
     refused_after model t MAX_TEXT_LEN TooLong fetches part good (omega (arith, long)) (omega arith)
-    (subst (λ r. IsPosixRefusalCause model fetches part MAX_TEXT_LEN r TooLong) (sym (drop_more t MAX_TEXT_LEN 0 long)) refl)
+    (subst (λ r. IsWholeRefusalCause model fetches part MAX_TEXT_LEN r TooLong) (sym (drop_more t MAX_TEXT_LEN 0 long)) refl)
 
-pub long_accepted : (model : Model) (t : Text) (old new : List ArgumentType) (count : ℕ) → HasCount model (take MAX_TEXT_LEN t) old new count
-    → MAX_TEXT_LEN < length t → IsPosixRefusedAt model t TooLong MAX_TEXT_LEN
+pub long_accepted : (model : Model) (t : Text) (old new : List WholeArgType) (count : ℕ) → HasCount model (take MAX_TEXT_LEN t) old new count
+    → MAX_TEXT_LEN < length t → IsWholeRefusedAt model t TooLong MAX_TEXT_LEN
 long_accepted model t old new count h long =
     let seen = fetched model h.accepted.items in
     let agreed : AreAgreed (seen ++ []) = subst AreAgreed (sym (append-nil seen)) (types_agreed seen h.types h.accepted.types_are) in
@@ -306,9 +306,9 @@ long_refused model t refusal h = go (nat_lt MAX_TEXT_LEN (length t)) (nat_le MAX
   front = take MAX_TEXT_LEN t
 
   -- all of the front is read
-  at_limit : MAX_TEXT_LEN < length t → MAX_TEXT_LEN ≤ refusal.at → (rest : Text) → front ≡ h.front ++ rest → IsPosixRefusedAt model t TooLong MAX_TEXT_LEN
+  at_limit : MAX_TEXT_LEN < length t → MAX_TEXT_LEN ≤ refusal.at → (rest : Text) → front ≡ h.front ++ rest → IsWholeRefusedAt model t TooLong MAX_TEXT_LEN
   at_limit long over [] e =
-      too_long model t h.fetches h.part (subst (λ f. IsGoodPosixFront model f h.fetches h.part) (sym (e ∙ append-nil h.front)) h.good) long
+      too_long model t h.fetches h.part (subst (λ f. IsGoodWholeFront model f h.fetches h.part) (sym (e ∙ append-nil h.front)) h.good) long
   at_limit long over (byte ∷ rest) e =
       absurd (omega (arith, over, h.offset, ap length e, length-append h.front (byte ∷ rest), length-take-le MAX_TEXT_LEN t (omega (arith, long))))
 

@@ -11,11 +11,11 @@ use Rattle.pf_posix.specs.declared.fetches.Fetch.{Fetch}
 use Rattle.pf_posix.specs.declared.specifications.Numbering.{Numbering}
 use Rattle.pf_posix.specs.Beginnings.{IsUndecided}
 use Rattle.pf_posix.specs.Defined.{undefined_of}
-use Rattle.pf_posix.specs.Items.{Byte, Errno, PosixItem, ReadsPosix, Specification, SpellsPosixItem, errno_letter, fetched}
+use Rattle.pf_posix.specs.Items.{Byte, Errno, WholeItem, ReadsWhole, Specification, IsWholeReadAs, errno_letter, fetched}
 use Rattle.pf_posix.specs.Readings.{conflicts}
-use Rattle.pf_posix.specs.Refusals.{AreAgreed, Follows, IsGoodPosixFront, IsPosixRefusedByte, IsWrong, MayFollow, numbering_by, numbering_of}
-use Rattle.pf_posix.specs.Specifications.{PosixSpecification, conversion_letter, modifier_letters}
-use Rattle.pf_posix.specs.Spelling.{SpellsPosix}
+use Rattle.pf_posix.specs.Refusals.{AreAgreed, Follows, IsGoodWholeFront, IsWholeRefusedByte, IsWrong, MayFollow, numbering_by, numbering_of}
+use Rattle.pf_posix.specs.Specifications.{WholeSpecification, conversion_letter, modifier_letters}
+use Rattle.pf_posix.specs.Spelling.{SpellsWhole}
 use Rattle.pf_posix.specs.Types.{star_fetches, fetches}
 use Rattle.pf_posix.proofs.Agreeing.{agreed_clear, agreed_follows, agreed_front, agreed_push, numbering_push}
 use Rattle.pf_posix.proofs.Growing.{finishes, grows}
@@ -31,19 +31,19 @@ use Rattle.pf_text.proofs.Texts.{split_last}
 
 -- a text is read as items that fetch this
 pub record Taken (model : Model) (t : Text) (seen : List Fetch) : Type 0 where
-  pub items : List PosixItem
-  pub reads : ReadsPosix t items
+  pub items : List WholeItem
+  pub reads : ReadsWhole t items
   pub seen_are : seen ≡ fetched model items
   pub agreed : AreAgreed seen
   pub limit : length t ≤ MAX_TEXT_LEN
 
-pub reads_push : (whole first : Text) (items : List PosixItem) (item : PosixItem) → ReadsPosix whole items → SpellsPosixItem first item
-    → ReadsPosix (whole ++ first) (items ++ item ∷ [])
+pub reads_push : (whole first : Text) (items : List WholeItem) (item : WholeItem) → ReadsWhole whole items → IsWholeReadAs first item
+    → ReadsWhole (whole ++ first) (items ++ item ∷ [])
 reads_push whole first [] item h g = (first, [], g, refl, ap (λ w. w ++ first) h ∙ sym (append-nil first))
 reads_push whole first (i ∷ items) item h g =
     (h.0, h.1 ++ first, h.2, reads_push h.1 first items item h.3 g, ap (λ w. w ++ first) h.4 ∙ append_assoc h.0 h.1 first)
 
-pub fetched_append : (model : Model) (items more : List PosixItem) → fetched model (items ++ more) ≡ fetched model items ++ fetched model more
+pub fetched_append : (model : Model) (items more : List WholeItem) → fetched model (items ++ more) ≡ fetched model items ++ fetched model more
 fetched_append model [] more = refl
 fetched_append model (Byte c ∷ items) more = fetched_append model items more
 fetched_append model (Errno ∷ items) more = fetched_append model items more
@@ -54,7 +54,7 @@ pub none_both : (t u : Text) → t ++ u ≡ [] → (t ≡ []) × (u ≡ [])
 none_both [] u e = (refl, e)
 none_both (b ∷ t) u e = cc
 
-pub item_some : (t : Text) (item : PosixItem) → SpellsPosixItem t item → t ≢ []
+pub item_some : (t : Text) (item : WholeItem) → IsWholeReadAs t item → t ≢ []
 item_some t (Byte b) h = go (b == percent) h where
   go : (c : Bool) → MatchBool c (t ≡ percent ∷ percent ∷ []) ((b ≢ 0) × (t ≡ b ∷ [])) → t ≢ []
   go true e = λ none. cc
@@ -74,11 +74,11 @@ pushed front byte whole last e some =
     (cut.0, cut.2 ∙ ap (λ b. cut.0 ++ b ∷ []) (sym same.1), same.0)
 
 -- the last item, with its text and what comes before it
-abbrev HasLast : Text → List PosixItem → Type 0
-HasLast t items = (earlier : List PosixItem) × (item : PosixItem) × (whole last : Text) × (items ≡ earlier ++ item ∷ []) × ReadsPosix whole earlier
-    × SpellsPosixItem last item × (t ≡ whole ++ last)
+abbrev HasLast : Text → List WholeItem → Type 0
+HasLast t items = (earlier : List WholeItem) × (item : WholeItem) × (whole last : Text) × (items ≡ earlier ++ item ∷ []) × ReadsWhole whole earlier
+    × IsWholeReadAs last item × (t ≡ whole ++ last)
 
-last_item : (t : Text) (items : List PosixItem) → ReadsPosix t items → ((t ≡ []) × (items ≡ [])) ⊎ HasLast t items
+last_item : (t : Text) (items : List WholeItem) → ReadsWhole t items → ((t ≡ []) × (items ≡ [])) ⊎ HasLast t items
 last_item t [] h = inl (h, refl)
 last_item t (i ∷ items) h = inr (go (last_item h.1 items h.3)) where
   go : ((h.1 ≡ []) × (items ≡ [])) ⊎ HasLast h.1 items → HasLast t (i ∷ items)
@@ -119,24 +119,24 @@ IsPart numbering (Some state) part = IsStateAfter state part × MayGoOn numberin
 
 -- a good front by its state, after what was fetched before it
 pub record IsFrontIn (model : Model) (before : List Fetch) (front : Text) (fetches : List Fetch) (state : Option State) : Type 0 where
-  pub items : List PosixItem
+  pub items : List WholeItem
   pub whole : Text
   pub part : Text
-  pub reads : ReadsPosix whole items
+  pub reads : ReadsWhole whole items
   pub split : front ≡ whole ++ part
   pub fetches_are : fetches ≡ before ++ fetched model items ++ own_at state
   pub agreed : AreAgreed fetches
   pub begun : IsPart (numbering_of fetches) state part
 
 abbrev pub front_by : {model : Model} {before : List Fetch} {front : Text} {fetches : List Fetch} {state : Option State}
-    → (items : List PosixItem) (whole part : Text)
-    → ReadsPosix whole items → front ≡ whole ++ part → fetches ≡ before ++ fetched model items ++ own_at state → AreAgreed fetches
+    → (items : List WholeItem) (whole part : Text)
+    → ReadsWhole whole items → front ≡ whole ++ part → fetches ≡ before ++ fetched model items ++ own_at state → AreAgreed fetches
     → IsPart (numbering_of fetches) state part → IsFrontIn model before front fetches state
 front_by items whole part reads split fetches_are agreed begun =
     record { items = items; whole = whole; part = part; reads = reads; split = split; fetches_are = fetches_are; agreed = agreed; begun = begun }
 
 -- by its parts
-pub state_there : (model : Model) (front : Text) (fetches : List Fetch) (part : Text) → IsGoodPosixFront model front fetches part
+pub state_there : (model : Model) (front : Text) (fetches : List Fetch) (part : Text) → IsGoodWholeFront model front fetches part
     → (state : Option State) × (good : IsFrontIn model [] front fetches state) × (good.part ≡ part)
 state_there model front fetches part g = go g.begun where
   by : (state : Option State) → g.own ≡ own_at state → IsPart (numbering_of fetches) state part
@@ -152,7 +152,7 @@ state_there model front fetches part g = go g.begun where
       by (Some s.state) (sym s.own_is) (s.after, may_go_on s.state part (numbering_of fetches) s.after follows)
 
 pub good_front : (model : Model) (front : Text) (fetches : List Fetch) (state : Option State) (g : IsFrontIn model [] front fetches state)
-    → IsGoodPosixFront model front fetches g.part
+    → IsGoodWholeFront model front fetches g.part
 good_front model front fetches state g = record {
   items = g.items;
   whole = g.whole;
@@ -171,7 +171,7 @@ with_own : (seen own : List Fetch) (o : Option Fetch) → with_fetch (seen ++ ow
 with_own seen own None = refl
 with_own seen own (Some f) = append_assoc seen own (f ∷ [])
 
-with_last : (model : Model) (before : List Fetch) (items : List PosixItem) (s : PosixSpecification) (own : List Fetch)
+with_last : (model : Model) (before : List Fetch) (items : List WholeItem) (s : WholeSpecification) (own : List Fetch)
     → own ≡ star_fetches s.width ++ star_fetches s.precision
     → before ++ (fetched model items ++ fetched model (Specification s ∷ [])) ≡ before ++ fetched model items ++ own ++ last_fetch model s ∷ []
 with_last model before items s own e = rw e (grind (arith, append_assoc, append-nil))
@@ -181,7 +181,7 @@ star_numbered (StarDigits place n) part h = h.4
 star_numbered _ part h = tt
 
 -- between two items nothing but NUL is refused
-never_whole : (byte : ℕ) (s : PosixSpecification) → SpellsPosix (byte ∷ []) s → ⊥
+never_whole : (byte : ℕ) (s : WholeSpecification) → SpellsWhole (byte ∷ []) s → ⊥
 never_whole byte s h = let e = ends [] byte s h in never_empty e.state e.after
 
 never_wrong : (model : Model) (fetches : List Fetch) (byte : ℕ) (kind : RefusalKind) → IsWrong model fetches [] byte kind → ⊥
@@ -226,7 +226,7 @@ module _ (model : Model) (before : List Fetch) where
     Advances (Halts kind) = ⊤
 
     -- it ends an item
-    with_item : (item : PosixItem) (now : List Fetch) → SpellsPosixItem (g.part ++ byte ∷ []) item
+    with_item : (item : WholeItem) (now : List Fetch) → IsWholeReadAs (g.part ++ byte ∷ []) item
         → now ≡ before ++ (fetched model g.items ++ fetched model (item ∷ [])) → AreAgreed now → Advances (Goes now None)
     with_item item now spelled e agreed = front_by (g.items ++ item ∷ []) (g.whole ++ (g.part ++ byte ∷ [])) []
         (reads_push g.whole (g.part ++ byte ∷ []) g.items item g.reads spelled) (longer ∙ sym (append-nil _))
@@ -278,7 +278,7 @@ module _ (model : Model) (before : List Fetch) where
           (own_step state to sign e ∙ ap (with_fetch (own_in state)) k) (agreed_push fetches f g.agreed follows clear)
           (follows_fetch (numbering_of (fetches ++ f ∷ [])) state to sign e f k some (inr (numbering_push fetches f follows)))) (conflicts fetches f) refl
 
-      by_defined : (s : PosixSpecification) → finish state sign ≡ Some s → (o : Option RefusalKind) → undefined_of s ≡ o → Comes (ended model fetches s o)
+      by_defined : (s : WholeSpecification) → finish state sign ≡ Some s → (o : Option RefusalKind) → undefined_of s ≡ o → Comes (ended model fetches s o)
       by_defined s e None d = by_conflict (last_fetch model s) (Ends s (last_fetch model s)) (λ clear.
           with_item front fetches (Some state) byte g (Specification s) (fetches ++ last_fetch model s ∷ []) (finishes state g.part byte s g.begun.0 e, d)
           (ap (λ l. l ++ last_fetch model s ∷ []) g.fetches_are ∙ sym (with_last model before g.items s (own_in state) (own_end state sign s e)))
@@ -286,7 +286,7 @@ module _ (model : Model) (before : List Fetch) where
           (conflicts fetches (last_fetch model s)) refl
       by_defined s e (Some kind) d = tt
 
-      by_end : (o : Option PosixSpecification) → finish state sign ≡ o → Comes (finished model fetches o)
+      by_end : (o : Option WholeSpecification) → finish state sign ≡ o → Comes (finished model fetches o)
       by_end None e = tt
       by_end (Some s) e = by_defined s e (undefined_of s) refl
 
@@ -359,12 +359,12 @@ module _ (model : Model) (before : List Fetch) where
     whole_is : front ++ byte ∷ [] ≡ g.whole
     whole_is = g.split ∙ ap (λ u. g.whole ++ u) g.begun ∙ append-nil g.whole
 
-    module _ (earlier : List PosixItem) (whole last less : Text) (reads : ReadsPosix whole earlier) (last_is : last ≡ less ++ byte ∷ [])
+    module _ (earlier : List WholeItem) (whole last less : Text) (reads : ReadsWhole whole earlier) (last_is : last ≡ less ++ byte ∷ [])
         (front_is : front ≡ whole ++ less) where
-      now_is : (item : PosixItem) → g.items ≡ earlier ++ item ∷ [] → now ≡ before ++ (fetched model earlier ++ fetched model (item ∷ []))
+      now_is : (item : WholeItem) → g.items ≡ earlier ++ item ∷ [] → now ≡ before ++ (fetched model earlier ++ fetched model (item ∷ []))
       now_is item e = g.fetches_are ∙ append-nil _ ∙ ap (λ k. before ++ fetched model k) e ∙ ap (λ k. before ++ k) (fetched_append model earlier (item ∷ []))
 
-      by_byte : (b : ℕ) (item : PosixItem) → fetched model (item ∷ []) ≡ [] → g.items ≡ earlier ++ item ∷ [] → (state : Option State) (part : Text)
+      by_byte : (b : ℕ) (item : WholeItem) → fetched model (item ∷ []) ≡ [] → g.items ≡ earlier ++ item ∷ [] → (state : Option State) (part : Text)
           → last ≡ part ++ b ∷ [] → own_at state ≡ []
           → ((numbering : Numbering) → IsPart numbering state part) → ((f : List Fetch) → next model f state b ≡ Goes f None) → Retreats front byte now None
       by_byte b item none e state part is own begun goes =
@@ -378,7 +378,7 @@ module _ (model : Model) (before : List Fetch) where
             ap (next model now state) (sym same.1) ∙ goes now,
           )
 
-      by_item : (item : PosixItem) → g.items ≡ earlier ++ item ∷ [] → SpellsPosixItem last item → Retreats front byte now None
+      by_item : (item : WholeItem) → g.items ≡ earlier ++ item ∷ [] → IsWholeReadAs last item → Retreats front byte now None
       by_item (Byte b) e h = by_percent (b == percent) refl h where
         by_percent : (c : Bool) → (b == percent) ≡ c → MatchBool c (last ≡ percent ∷ percent ∷ []) ((b ≢ 0) × (last ≡ b ∷ [])) → Retreats front byte now None
         by_percent true c h = by_byte b (Byte b) refl e (Some Opened) (percent ∷ []) (h ∙ ap (λ k. percent ∷ k ∷ []) (sym (eqb-true b percent c))) refl (λ n. (refl, tt))
@@ -386,7 +386,7 @@ module _ (model : Model) (before : List Fetch) where
         by_percent false c h = let some = ne_eqb b 0 h.0 in by_byte b (Byte b) refl e None [] h.1 refl (λ n. refl) (λ f. rw (some, c) refl)
       by_item Errno e h = by_byte errno_letter Errno refl e (Some Opened) (percent ∷ []) h refl (λ n. (refl, tt)) (λ f. refl)
       by_item (Specification s) e h =
-          let end = ends less byte s (subst (λ u. SpellsPosix u s) last_is h.0) in
+          let end = ends less byte s (subst (λ u. SpellsWhole u s) last_is h.0) in
           let ending = last_fetch model s in
           let f = before ++ fetched model earlier ++ own_in end.state in
           let same : now ≡ f ++ ending ∷ [] = now_is (Specification s) e
@@ -414,7 +414,7 @@ module _ (model : Model) (before : List Fetch) where
 
   -- a byte is refused where it can't follow
   pub halts : (front : Text) (fetches : List Fetch) (state : Option State) (byte : ℕ) (kind : RefusalKind) (g : IsFrontIn model before front fetches state)
-      → next model fetches state byte ≡ Halts kind → IsPosixRefusedByte model fetches g.part byte kind
+      → next model fetches state byte ≡ Halts kind → IsWholeRefusedByte model fetches g.part byte kind
   halts front fetches (Some state) byte kind g e = refuses model fetches g.part state byte kind g.begun.0 g.begun.1
       (go (outcome model fetches state byte) e) where
         go : (o : Outcome) → next_of fetches o ≡ Halts kind → o ≡ Refuses kind
@@ -422,8 +422,8 @@ module _ (model : Model) (before : List Fetch) where
   halts front fetches None byte kind g e = grind arith
 
   pub halted : (front : Text) (fetches : List Fetch) (state : Option State) (byte : ℕ) (kind : RefusalKind) (g : IsFrontIn model before front fetches state)
-      → IsPosixRefusedByte model fetches g.part byte kind → next model fetches state byte ≡ Halts kind
+      → IsWholeRefusedByte model fetches g.part byte kind → next model fetches state byte ≡ Halts kind
   halted front fetches (Some state) byte kind g r = ap (next_of fetches) (refused model fetches g.part state byte kind g.begun.0 r)
   halted front fetches None byte kind g r = none g.part g.begun r where
-    none : (part : Text) → part ≡ [] → IsPosixRefusedByte model fetches part byte kind → next model fetches None byte ≡ Halts kind
+    none : (part : Text) → part ≡ [] → IsWholeRefusedByte model fetches part byte kind → next model fetches None byte ≡ Halts kind
     none part e r = grind (arith, never_wrong model fetches byte kind)

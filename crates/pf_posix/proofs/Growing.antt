@@ -18,11 +18,11 @@ use Rattle.pf_values.specs.declared.lengths.Length.TheVariants as lengths
 use Rattle.pf_values.specs.meaning.Flags.{flag_byte, no_flags, with_flag}
 use Rattle.pf_text.proofs.NumberDigits.{another_digit, digits_push, first_above_zero, one_digit}
 use Rattle.pf_text.proofs.Texts.{split_last}
-use Rattle.pf_posix.specs.declared.conversions.Conversion.{Conversion}
-use Rattle.pf_posix.specs.declared.conversions.Modifier.{Modifier}
-use Rattle.pf_posix.specs.declared.conversions.Modifier.TheVariants.{Integer}
-use Rattle.pf_posix.specs.Specifications.{Amount, Given, Fetched, PosixSpecification, conversion_letter, modifier_letters}
-use Rattle.pf_posix.specs.Spelling.{SpellsPosix, SpellsPosixPrecision, SpellsPosixWidth, SpellsStar, SpellsUpToFlags, SpellsUpToPrecision, SpellsUpToWidth}
+use Rattle.pf_posix.specs.declared.conversions.WholeConv.{WholeConv}
+use Rattle.pf_posix.specs.declared.conversions.WholeLength.{WholeLength}
+use Rattle.pf_posix.specs.declared.conversions.WholeLength.TheVariants.{Integer}
+use Rattle.pf_posix.specs.Specifications.{Amount, Given, Fetched, WholeSpecification, conversion_letter, modifier_letters}
+use Rattle.pf_posix.specs.Spelling.{SpellsWhole, SpellsWholePrecision, SpellsWholeWidth, SpellsStar, SpellsUpToFlags, SpellsUpToPrecision, SpellsUpToWidth}
 use Rattle.pf_posix.proofs.Steps.{Place, Width, Precision, SpellsDigits, IsBefore, IsStateAfter, Numbers, State, Sign, filled, finish, numbers_by, numbers_in}
 use Rattle.pf_posix.proofs.Steps.{Opened, First, Flags, Digits, Star, StarDigits, Placed, Point, Modified, place_in, position_of, sign_of, step, with_digit, Digit}
 use Rattle.pf_posix.proofs.Steps.{Dollar, Asterisk, Dot, Mark, Letter, Last, after_star, number_after, on_digit, on_dollar, on_dot, on_last, on_letter, on_mark}
@@ -139,12 +139,12 @@ opening : (t : Text) → t ≡ 37 ∷ [] → SpellsUpToFlags t None no_flags
 opening t e = record { number = []; flags = []; number_is = refl; set_is = refl; whole = e }
 
 with_precision : (t before text : Text) (position : Option ℕ) (set : FlagSet) (width precision : Option Amount) → SpellsUpToWidth before position set width
-    → SpellsPosixPrecision text position precision → t ≡ before ++ text → SpellsNumbers t (numbers_by position set width precision)
+    → SpellsWholePrecision text position precision → t ≡ before ++ text → SpellsNumbers t (numbers_by position set width precision)
 with_precision t before text position set width precision h p e =
     record { before = before; text = text; before_is = h; precision_is = p; whole = e }
 
 with_width : (t before text : Text) (position : Option ℕ) (set : FlagSet) (width : Option Amount) → SpellsUpToFlags before position set
-    → SpellsPosixWidth text position width → t ≡ before ++ text → SpellsNumbers t (numbers_by position set width None)
+    → SpellsWholeWidth text position width → t ≡ before ++ text → SpellsNumbers t (numbers_by position set width None)
 with_width t before text position set width h w e = with_precision t t [] position set width None
     (record { before = before; text = text; before_is = h; width_is = w; whole = e }) refl (sym (append-nil t))
 
@@ -205,11 +205,11 @@ module _ (t : Text) (byte : ℕ) where
     go true e = tt
     go false e = f (grind (arith, nat_tests))
 
-  with_letter : (modifier : Modifier) (state : State) (numbers : Option Numbers) → HasSign (Letter modifier) byte → IsStateAfter state t
+  with_letter : (modifier : WholeLength) (state : State) (numbers : Option Numbers) → HasSign (Letter modifier) byte → IsStateAfter state t
       → IfSome numbers (SpellsNumbers t) → Grows (on_letter state numbers modifier)
   with_letter modifier state (Some numbers) s h n = (t, n, ap (λ u. t ++ u) (sym s.0), s.1)
   with_letter modifier (Modified numbers first) None s h n = go first modifier h s where
-    go : (first second : Modifier) → IsStateAfter (Modified numbers first) t → HasSign (Letter second) byte → Grows (second_letter numbers first second)
+    go : (first second : WholeLength) → IsStateAfter (Modified numbers first) t → HasSign (Letter second) byte → Grows (second_letter numbers first second)
     go (Integer lengths.H) (Integer lengths.H) h s =
         (h.0, h.1, ap (λ u. u ++ byte ∷ []) h.2 ∙ append_assoc h.0 (104 ∷ []) (byte ∷ []) ∙ ap (λ u. h.0 ++ 104 ∷ u) (sym s.0), λ e. cc)
     go (Integer lengths.L) (Integer lengths.L) h s =
@@ -217,8 +217,8 @@ module _ (t : Text) (byte : ℕ) where
     go _ _ h s = tt
   with_letter modifier _ None s h n = tt
 
-  with_last : (conversion : Conversion) (state : State) (numbers : Option Numbers) → byte ≡ conversion_letter conversion → IsStateAfter state t
-      → IfSome numbers (SpellsNumbers t) → IfSome (on_last state numbers conversion) (SpellsPosix (t ++ byte ∷ []))
+  with_last : (conversion : WholeConv) (state : State) (numbers : Option Numbers) → byte ≡ conversion_letter conversion → IsStateAfter state t
+      → IfSome numbers (SpellsNumbers t) → IfSome (on_last state numbers conversion) (SpellsWhole (t ++ byte ∷ []))
   with_last conversion state (Some numbers) s h n =
       record { before = t; before_is = n; whole = ap (λ b. t ++ b ∷ []) s ∙ ap (λ u. u ++ conversion_letter conversion ∷ []) (sym (append-nil t)) }
   with_last conversion (Modified numbers modifier) None s h n =
@@ -281,7 +281,7 @@ with_star _ t h = tt
 
 with_dot : (t : Text) (numbers : Option Numbers) → IfSome numbers (SpellsNumbers t) → Grows t 46 (on_dot numbers)
 with_dot t (Some numbers) n = go numbers.precision n.precision_is where
-  go : (precision : Option Amount) → SpellsPosixPrecision n.text numbers.position precision
+  go : (precision : Option Amount) → SpellsWholePrecision n.text numbers.position precision
       → Grows t 46 (if is_some precision then None else Some (Point numbers.position numbers.flags numbers.width))
   go None e = (n.before, n.before_is, ap (λ u. u ++ 46 ∷ []) (n.whole ∙ ap (λ v. n.before ++ v) e ∙ append-nil n.before))
   go (Some amount) e = tt
@@ -299,9 +299,9 @@ grown state t byte _ s h = tt
 pub grows : (state to : State) (t : Text) (byte : ℕ) → IsStateAfter state t → step state (sign_of byte) ≡ Some to → IsStateAfter to (t ++ byte ∷ [])
 grows state to t byte h e = subst (Grows t byte) e (grown state t byte (sign_of byte) (has_sign byte) h)
 
-pub finishes : (state : State) (t : Text) (byte : ℕ) (s : PosixSpecification) → IsStateAfter state t → finish state (sign_of byte) ≡ Some s
-    → SpellsPosix (t ++ byte ∷ []) s
-finishes state t byte s h e = subst (λ o. IfSome o (SpellsPosix (t ++ byte ∷ []))) e (go (sign_of byte) (has_sign byte)) where
-  go : (sign : Sign) → HasSign sign byte → IfSome (finish state sign) (SpellsPosix (t ++ byte ∷ []))
+pub finishes : (state : State) (t : Text) (byte : ℕ) (s : WholeSpecification) → IsStateAfter state t → finish state (sign_of byte) ≡ Some s
+    → SpellsWhole (t ++ byte ∷ []) s
+finishes state t byte s h e = subst (λ o. IfSome o (SpellsWhole (t ++ byte ∷ []))) e (go (sign_of byte) (has_sign byte)) where
+  go : (sign : Sign) → HasSign sign byte → IfSome (finish state sign) (SpellsWhole (t ++ byte ∷ []))
   go (Last conversion) s = with_last t byte conversion state (numbers_in state) s h (spelled state t h)
   go _ s = tt

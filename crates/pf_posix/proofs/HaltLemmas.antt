@@ -26,9 +26,9 @@ use Rattle.pf_posix.specs.declared.specifications.Numbering.{Numbering}
 use Rattle.pf_posix.specs.declared.specifications.Numbering.TheVariants.{Undecided, Unnumbered, Numbered}
 use Rattle.pf_posix.specs.Beginnings.{EndsInFirst, EndsInStar, EndsInStarDigits, IsBegunAs, IsUndecided, SpellsAmount, TakesAmount}
 use Rattle.pf_posix.specs.Halts.{FollowsBy, Halts, IsHalt, IsStrayAt, stray, BeginsNoAfter, BeginsNoneAfter, is_of_combination}
-use Rattle.pf_posix.specs.Refusals.{IsPosixRefusedByte, IsWrong, MixesStar, PassesLimit, numbering_of}
-use Rattle.pf_posix.specs.Specifications.{Amount, PosixSpecification}
-use Rattle.pf_posix.specs.Spelling.{SpellsUpToFlags, SpellsUpToWidth, SpellsPosix}
+use Rattle.pf_posix.specs.Refusals.{IsWholeRefusedByte, IsWrong, MixesStar, PassesLimit, numbering_of}
+use Rattle.pf_posix.specs.Specifications.{Amount, WholeSpecification}
+use Rattle.pf_posix.specs.Spelling.{SpellsUpToFlags, SpellsUpToWidth, SpellsWhole}
 use Rattle.pf_posix.specs.Types.{star_fetches, fetch, int_type}
 use Rattle.pf_posix.proofs.OneState.{never_empty, one_state, ends_here, from_end, ends, shrinks}
 use Rattle.pf_posix.proofs.OutcomeLemmas.{digits_begun, digits_there, first_too_large, star_digits_at, refused, begins, completes, end_back, step_back, unmixed}
@@ -39,8 +39,8 @@ use Rattle.pf_posix.proofs.Steps.{too_large, finish, sign_of, step}
 use Rattle.pf_values.specs.declared.models.Model.TheVariants.{Lp64}
 use Rattle.pf_text.proofs.Sound.{find_holds}
 use Rattle.pf_text.proofs.Unique.{Cuts, Later, Sooner, cuts}
-use Rattle.pf_posix.specs.declared.conversions.Conversion.{Conversion}
-use Rattle.pf_posix.specs.declared.conversions.Modifier.{Modifier}
+use Rattle.pf_posix.specs.declared.conversions.WholeConv.{WholeConv}
+use Rattle.pf_posix.specs.declared.conversions.WholeLength.{WholeLength}
 use Rattle.pf_posix.specs.Defined.{is_undefined_as, undefined_of}
 use Rattle.pf_posix.specs.Readings.{conflicts}
 use Rattle.pf_posix.proofs.Outcomes.{Begins, Ends, MayGoOn, Refuses, begun, ended, fetched_on, last_fetch, mixes}
@@ -64,7 +64,7 @@ IsNoOther part byte = part ≡ 37 ∷ [] → (byte ≡ 37) ⊎ (byte ≡ 109) �
 
 -- a byte that isn't allowed where it is, with kinds of their own for NUL and `%`
 stray_refused : (model : Model) (fetches : List Fetch) (part : Text) (byte : ℕ) (kind : RefusalKind) → part ≢ [] → IsNoOther part byte
-    → IsWrong model fetches part byte kind → IsPosixRefusedByte model fetches part byte (stray byte kind)
+    → IsWrong model fetches part byte kind → IsWholeRefusedByte model fetches part byte (stray byte kind)
 stray_refused model fetches part byte kind some more wrong = go (byte == 0) (byte == 37) (λ e one. more one (inl (eqb-true byte 37 e))) where
   go : (zero percent : Bool) → (percent ≡ true → part ≢ 37 ∷ []) → MatchBool zero ((if zero then NulByte else if percent then BadPercent else kind) ≡ NulByte)
       (MatchBool percent (((if zero then NulByte else if percent then BadPercent else kind) ≡ BadPercent) × (part ≢ []) × (part ≢ 37 ∷ []))
@@ -96,8 +96,8 @@ module _ (t : Text) (begin : ℕ) (numbering : Numbering) (part : Text) (positio
         ended = λ over. s.ended (subst (λ k. length t ≤ k) s.at_is over);
         byte = λ less model fetches same f.
             let inside : stop < length t = subst (λ k. k < length t) s.at_is less in
-            subst (λ k. IsPosixRefusedByte model fetches part (get_or t k 0) refusal.kind) (sym s.at_is)
-            (subst (IsPosixRefusedByte model fetches part (get_or t stop 0)) (sym (s.inside inside))
+            subst (λ k. IsWholeRefusedByte model fetches part (get_or t k 0) refusal.kind) (sym s.at_is)
+            (subst (IsWholeRefusedByte model fetches part (get_or t stop 0)) (sym (s.inside inside))
             (stray_refused model fetches part (get_or t stop 0) kind some more (wrong inside model fetches same f)));
       } where
         some : part ≢ []
@@ -307,9 +307,9 @@ module _ (numbering : Numbering) (t : Text) (some : t ≢ []) where
         none_front [] more some e = some refl
         none_front (byte ∷ t) more some e = cc
 
-  spelled_front : (s : PosixSpecification) → FollowsBy numbering s.position → (more : Text) → SpellsPosix (t ++ more) s → (more ≡ []) ⊎ IsBegun numbering t
-  spelled_front s follows = from_end (λ more. SpellsPosix (t ++ more) s → (more ≡ []) ⊎ IsBegun numbering t) (λ h. inl refl) (λ more byte earlier h.
-      let a = ends (t ++ more) byte s (subst (λ u. SpellsPosix u s) (sym (append_assoc t more (byte ∷ []))) h) in
+  spelled_front : (s : WholeSpecification) → FollowsBy numbering s.position → (more : Text) → SpellsWhole (t ++ more) s → (more ≡ []) ⊎ IsBegun numbering t
+  spelled_front s follows = from_end (λ more. SpellsWhole (t ++ more) s → (more ≡ []) ⊎ IsBegun numbering t) (λ h. inl refl) (λ more byte earlier h.
+      let a = ends (t ++ more) byte s (subst (λ u. SpellsWhole u s) (sym (append_assoc t more (byte ∷ []))) h) in
       inr (begun_front more (record { state = a.state; after = a.after; follows = (end_back a.state (sign_of byte) s a.goes numbering follows).1 })))
 
 -- earlier fetches of a numbering that give no argument of a fetch another type
@@ -327,7 +327,7 @@ harmless Numbered f = (other f ∷ [], refl, go f.number refl) where
   go o e = grind (arith, nat_tests)
 
 module _ (numbering : Numbering) (part : Text) (byte : ℕ) (state : State) (at : IsStateAfter state part) (kind : RefusalKind)
-    (refused_byte : (fetches : List Fetch) → numbering_of fetches ≡ numbering → IsPosixRefusedByte Lp64 fetches part byte kind) where
+    (refused_byte : (fetches : List Fetch) → numbering_of fetches ≡ numbering → IsWholeRefusedByte Lp64 fetches part byte kind) where
   -- the byte isn't refused that goes on
   goes_on : (to : State) → step state (sign_of byte) ≡ Some to → MayGoOn numbering to → ⊥
   goes_on to e follows = go (fetched_on (sign_of byte) state) refl where
@@ -343,7 +343,7 @@ module _ (numbering : Numbering) (part : Text) (byte : ℕ) (state : State) (at 
     go (Some f) k = let h = harmless numbering f in let clear = h.2 in never (Some f) h.0 h.1 k (rw clear refl)
 
   -- nor is the one that ends a specification, unless that is undefined for this reason
-  ends_so : (s : PosixSpecification) → finish state (sign_of byte) ≡ Some s → FollowsBy numbering s.position → undefined_of s ≢ Some kind → ⊥
+  ends_so : (s : WholeSpecification) → finish state (sign_of byte) ≡ Some s → FollowsBy numbering s.position → undefined_of s ≢ Some kind → ⊥
   ends_so s e follows other = go (undefined_of s) refl where
     last : Fetch
     last = last_fetch Lp64 s
@@ -366,7 +366,7 @@ module _ (numbering : Numbering) (part : Text) (byte : ℕ) (state : State) (at 
 
 -- a specification that begins there is undefined for the reason that is given
 pub halt_begins : (t : Text) (start : ℕ) (numbering : Numbering) (position : Option ℕ) (own : List Fetch) (refusal : Refusal)
-    → IsHalt t start numbering position own refusal → (text rest : Text) (s : PosixSpecification) → SpellsPosix text s → drop start t ≡ text ++ rest
+    → IsHalt t start numbering position own refusal → (text rest : Text) (s : WholeSpecification) → SpellsWhole text s → drop start t ≡ text ++ rest
     → FollowsBy numbering s.position → undefined_of s ≢ Some refusal.kind → ⊥
 halt_begins t start numbering position own refusal h text rest s spelled e follows other =
     go (cuts text rest h.part (drop refusal.at t) (sym e ∙ bytes_rest t start refusal.at h.part h.bytes)) where
@@ -380,7 +380,7 @@ halt_begins t start numbering position own refusal h text rest s spelled e follo
       go (Later x same back) = never x same
       go (Sooner [] same back) = never [] (sym (same ∙ append-nil h.part) ∙ sym (append-nil text))
       go (Sooner (byte ∷ more) same back) = elim (spelled_front numbering (h.part ++ byte ∷ []) some s follows more whole) [
-        | inl none ↦ ended_here (subst (λ u. SpellsPosix u s) (ap (λ m. (h.part ++ byte ∷ []) ++ m) none ∙ append-nil (h.part ++ byte ∷ [])) whole)
+        | inl none ↦ ended_here (subst (λ u. SpellsWhole u s) (ap (λ m. (h.part ++ byte ∷ []) ++ m) none ∙ append-nil (h.part ++ byte ∷ [])) whole)
         | inr to ↦ elim (shrinks to.state h.part byte to.after) [
           | inl none ↦ never_empty b.state (subst (IsStateAfter b.state) none.0 b.after)
           | inr a ↦ goes_on numbering h.part byte a.state a.after refusal.kind refused_here to.state a.goes to.follows
@@ -389,16 +389,16 @@ halt_begins t start numbering position own refusal h text rest s spelled e follo
         some : h.part ++ byte ∷ [] ≢ []
         some none = omega (arith, ap length none, length_push h.part byte)
 
-        whole : SpellsPosix ((h.part ++ byte ∷ []) ++ more) s
-        whole = subst (λ u. SpellsPosix u s) (same ∙ sym (append_assoc h.part (byte ∷ []) more)) spelled
+        whole : SpellsWhole ((h.part ++ byte ∷ []) ++ more) s
+        whole = subst (λ u. SpellsWhole u s) (same ∙ sym (append_assoc h.part (byte ∷ []) more)) spelled
 
-        refused_here : (fetches : List Fetch) → numbering_of fetches ≡ numbering → IsPosixRefusedByte Lp64 fetches h.part byte refusal.kind
+        refused_here : (fetches : List Fetch) → numbering_of fetches ≡ numbering → IsWholeRefusedByte Lp64 fetches h.part byte refusal.kind
         refused_here fetches q =
-            subst (λ c. IsPosixRefusedByte Lp64 fetches h.part c refusal.kind) (head_at t refusal.at byte (more ++ rest) back)
+            subst (λ c. IsWholeRefusedByte Lp64 fetches h.part c refusal.kind) (head_at t refusal.at byte (more ++ rest) back)
             (h.byte (inside_at t refusal.at byte (more ++ rest) back) Lp64 fetches (λ none. q)
             (subst (λ n. IsUndecided h.part ⊎ FollowsBy n position) (sym q) h.follows))
 
-        ended_here : SpellsPosix (h.part ++ byte ∷ []) s → ⊥
+        ended_here : SpellsWhole (h.part ++ byte ∷ []) s → ⊥
         ended_here k = let a = ends h.part byte s k in ends_so numbering h.part byte a.state a.after refusal.kind refused_here s a.goes follows other
 
 pub halt_begins_none : (t : Text) (start : ℕ) (numbering : Numbering) (position : Option ℕ) (own : List Fetch) (refusal : Refusal)
@@ -416,7 +416,7 @@ halt_begins_no t start numbering position own refusal h early text rest s spelle
       combinations : List RefusalKind
       combinations = AltUndefined ∷ ZeroUndefined ∷ GroupUndefined ∷ PrecisionUndefined ∷ LengthUndefined ∷ CountUndefined ∷ []
 
-      of_combination : (set : FlagSet) (width precision : Bool) (modifier : Modifier) (conversion : Conversion) (kind : RefusalKind)
+      of_combination : (set : FlagSet) (width precision : Bool) (modifier : WholeLength) (conversion : WholeConv) (kind : RefusalKind)
           → is_undefined_as set width precision modifier conversion kind ≡ true → is_of_combination kind ≡ true
       of_combination set width precision modifier conversion kind h = grind arith
 

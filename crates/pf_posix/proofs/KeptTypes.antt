@@ -20,18 +20,18 @@ use Rattle.pf_values.specs.meaning.Specification.{Specification as ProfileSpecif
 use Rattle.pf_values.specs.meaning.Spelling.{Spells, SpellsPrecision, SpellsWidth as SpellsProfileWidth}
 use Rattle.pf_values.specs.meaning.Text.{Text}
 use Rattle.pf_values.proofs.DefinedLemmas.{none_broken}
-use Rattle.pf_posix.specs.declared.conversions.Conversion.TheVariants.{Profile}
-use Rattle.pf_posix.specs.declared.conversions.Modifier.TheVariants.{Integer}
-use Rattle.pf_posix.specs.declared.types.ArgumentType.{ArgumentType}
-use Rattle.pf_posix.specs.Defined.{IsPosixDefined}
-use Rattle.pf_posix.specs.Items.{Byte, Errno, HasArguments, SpellsPosixItem, ReadsPosix, Specification, PosixItem, fetched}
+use Rattle.pf_posix.specs.declared.conversions.WholeConv.TheVariants.{Profile}
+use Rattle.pf_posix.specs.declared.conversions.WholeLength.TheVariants.{Integer}
+use Rattle.pf_posix.specs.declared.types.WholeArgType.{WholeArgType}
+use Rattle.pf_posix.specs.Defined.{IsWholeDefined}
+use Rattle.pf_posix.specs.Items.{Byte, Errno, HasArguments, IsWholeReadAs, ReadsWhole, Specification, WholeItem, fetched}
 use Rattle.pf_posix.specs.Opaque.{OpaqueErrno, OpaqueItem, OpaqueSpecification, SpellsOpaqueItem}
 use Rattle.pf_posix.specs.Laws.{ComparesArgumentTypes}
-use Rattle.pf_posix.specs.Specifications.{Amount, Given, PosixSpecification}
-use Rattle.pf_posix.specs.Spelling.{SpellsPosixPrecision, SpellsPosix, SpellsPosixWidth}
+use Rattle.pf_posix.specs.Specifications.{Amount, Given, WholeSpecification}
+use Rattle.pf_posix.specs.Spelling.{SpellsWholePrecision, SpellsWhole, SpellsWholeWidth}
 use Rattle.pf_posix.specs.Types.{fetch, fetches, kind_type, star_fetches, widened, conversion_type}
-use Rattle.pf_posix.specs.Unnumbered.{IsAcceptedUnnumbered, IsUnnumbered, TypesAreKept}
-use Rattle.pf_posix.specs.Stretches.{Stretches, Last, Before, IsWholeAccepted, ReadsWhole, types_of_opaque, whole_types}
+use Rattle.pf_posix.specs.Unnumbered.{IsReadUnnumbered, IsUnnumbered, TypesAreKept}
+use Rattle.pf_posix.specs.Stretches.{Stretches, Last, Before, IsUnnumberedAccepted, ReadsStretches, types_of_opaque, whole_types}
 use Rattle.pf_posix.proofs.Bounds.{all_append, stars_fetch}
 use Rattle.pf_posix.proofs.GoodFronts.{fetched_append}
 use Rattle.pf_posix.proofs.SpecificationsOnce.{no_number}
@@ -41,7 +41,7 @@ given None = None
 given (Some n) = Some (Given n)
 
 -- a directive of the profile
-abbrev pub whole_of : ProfileSpecification → PosixSpecification
+abbrev pub whole_of : ProfileSpecification → WholeSpecification
 whole_of s = record {
   position = None;
   flags = s.flags;
@@ -51,7 +51,7 @@ whole_of s = record {
   conversion = Profile s.conv;
 }
 
-abbrev pub item_of : Item → PosixItem
+abbrev pub item_of : Item → WholeItem
 item_of (ProfileByte byte) = Byte byte
 item_of (Directive s) = Specification (whole_of s)
 
@@ -71,7 +71,7 @@ module _ (s : ProfileSpecification) (h : IsProfileDefined s) where
   some_given : (o : Option ℕ) → is_some (given o) ≡ is_some o
   some_given o = grind arith
 
-  defined_here : IsPosixDefined (whole_of s)
+  defined_here : IsWholeDefined (whole_of s)
   defined_here =
       let wide = all.1.1.0 in
       let alt = turned (has_alternative_form s.conv) (has s.flags Alt) all.1.1.1.0 in
@@ -82,16 +82,16 @@ module _ (s : ProfileSpecification) (h : IsProfileDefined s) where
       let same = some_given s.precision in
       rw same (rw (alt, zero_flag, group, precision, modifier) refl)
 
-width_spelled : (t : Text) (width : Option ℕ) → SpellsProfileWidth t width → is_above_limit width ≡ false → SpellsPosixWidth t None (given width)
+width_spelled : (t : Text) (width : Option ℕ) → SpellsProfileWidth t width → is_above_limit width ≡ false → SpellsWholeWidth t None (given width)
 width_spelled t None h e = h
 width_spelled t (Some n) h e = record { some = h.0; numeral = h.1; within = grind (arith, nat_tests) }
 
 precision_spelled : (t : Text) (precision : Option ℕ) → SpellsPrecision t precision → is_above_limit precision ≡ false
-    → SpellsPosixPrecision t None (given precision)
+    → SpellsWholePrecision t None (given precision)
 precision_spelled t None h e = h
 precision_spelled t (Some n) h e = (h, grind (arith, nat_tests))
 
-pub spelled_here : (t : Text) (s : ProfileSpecification) → Spells t s → IsProfileDefined s → SpellsPosix t (whole_of s)
+pub spelled_here : (t : Text) (s : ProfileSpecification) → Spells t s → IsProfileDefined s → SpellsWhole t (whole_of s)
 spelled_here t s h d =
     let flags = 37 ∷ map flag_byte h.flags in
     let limits = all s d in
@@ -113,11 +113,11 @@ spelled_here t s h d =
       whole = h.whole;
     }
 
-pub read_here : (t : Text) (item : Item) → IsProfileReadAs t item → SpellsPosixItem t (item_of item)
+pub read_here : (t : Text) (item : Item) → IsProfileReadAs t item → IsWholeReadAs t (item_of item)
 read_here t (ProfileByte byte) h = h
 read_here t (Directive s) h = (spelled_here t s h.0 h.1, defined_here s h.1)
 
-pub reads_here : (t : Text) (items : List Item) → ProfileReads t items → ReadsPosix t (map item_of items)
+pub reads_here : (t : Text) (items : List Item) → ProfileReads t items → ReadsWhole t (map item_of items)
 reads_here t [] h = h
 reads_here t (item ∷ items) h = (h.0, h.1, read_here h.0 item h.2, reads_here h.1 items h.3, h.4)
 
@@ -140,51 +140,51 @@ fetched_here model t [] h = refl
 fetched_here model t (ProfileByte byte ∷ items) h = fetched_here model h.1 items h.3
 fetched_here model t (Directive s ∷ items) h = ap₂ (λ a b. a ++ b) (fetches_here model s h.2.1) (fetched_here model h.1 items h.3)
 
-pub wanted_here : {X : Type 0} (f : X → ArgumentType) (xs : List X) → map f xs ≡ map (λ g. g.wanted) (map (λ x. fetch None (f x)) xs)
+pub wanted_here : {X : Type 0} (f : X → WholeArgType) (xs : List X) → map f xs ≡ map (λ g. g.wanted) (map (λ x. fetch None (f x)) xs)
 wanted_here f [] = refl
 wanted_here f (x ∷ xs) = ap (λ l. f x ∷ l) (wanted_here f xs)
 
-abbrev pub posix_item : OpaqueItem → PosixItem
-posix_item (OpaqueSpecification s) = Specification s
-posix_item OpaqueErrno = Errno
+abbrev pub whole_item : OpaqueItem → WholeItem
+whole_item (OpaqueSpecification s) = Specification s
+whole_item OpaqueErrno = Errno
 
-pub other_spelled : (t : Text) (other : OpaqueItem) → SpellsOpaqueItem t other → SpellsPosixItem t (posix_item other)
+pub other_spelled : (t : Text) (other : OpaqueItem) → SpellsOpaqueItem t other → IsWholeReadAs t (whole_item other)
 other_spelled t (OpaqueSpecification s) h = (h.spelled, h.defined)
 other_spelled t OpaqueErrno h = h
 
-pub other_unnumbered : (t : Text) (other : OpaqueItem) → SpellsOpaqueItem t other → IsUnnumbered (posix_item other)
+pub other_unnumbered : (t : Text) (other : OpaqueItem) → SpellsOpaqueItem t other → IsUnnumbered (whole_item other)
 other_unnumbered t (OpaqueSpecification s) h = h.unnumbered
 other_unnumbered t OpaqueErrno h = tt
 
 -- the items of stretches and what is between them, in one list
-abbrev pub flat : Stretches → List PosixItem
+abbrev pub flat : Stretches → List WholeItem
 flat (Last items) = map item_of items
-flat (Before items other rest) = map item_of items ++ posix_item other ∷ flat rest
+flat (Before items other rest) = map item_of items ++ whole_item other ∷ flat rest
 
-pub posix_append : (t u : Text) (a b : List PosixItem) → ReadsPosix t a → ReadsPosix u b → ReadsPosix (t ++ u) (a ++ b)
-posix_append t u [] b h g = rw h g
-posix_append t u (item ∷ a) b h g = (h.0, h.1 ++ u, h.2, posix_append h.1 u a b h.3 g, ap (λ l. l ++ u) h.4 ∙ append_assoc h.0 h.1 u)
+pub whole_append : (t u : Text) (a b : List WholeItem) → ReadsWhole t a → ReadsWhole u b → ReadsWhole (t ++ u) (a ++ b)
+whole_append t u [] b h g = rw h g
+whole_append t u (item ∷ a) b h g = (h.0, h.1 ++ u, h.2, whole_append h.1 u a b h.3 g, ap (λ l. l ++ u) h.4 ∙ append_assoc h.0 h.1 u)
 
-pub posix_reads : (t : Text) (a : Stretches) → ReadsWhole t a → ReadsPosix t (flat a)
-posix_reads t (Last items) h = reads_here t items h
-posix_reads t (Before items other rest) h =
-    rw (h.6, append_assoc h.0 h.1 h.2) (posix_append h.0 (h.1 ++ h.2) (map item_of items) (posix_item other ∷ flat rest) (reads_here h.0 items h.3)
-    (h.1, h.2, other_spelled h.1 other h.4, posix_reads h.2 rest h.5, refl))
+pub whole_reads : (t : Text) (a : Stretches) → ReadsStretches t a → ReadsWhole t (flat a)
+whole_reads t (Last items) h = reads_here t items h
+whole_reads t (Before items other rest) h =
+    rw (h.6, append_assoc h.0 h.1 h.2) (whole_append h.0 (h.1 ++ h.2) (map item_of items) (whole_item other ∷ flat rest) (reads_here h.0 items h.3)
+    (h.1, h.2, other_spelled h.1 other h.4, whole_reads h.2 rest h.5, refl))
 
 pub items_unnumbered : (items : List Item) → AllByRecursion IsUnnumbered (map item_of items)
 items_unnumbered [] = tt
 items_unnumbered (ProfileByte byte ∷ items) = (tt, items_unnumbered items)
 items_unnumbered (Directive s ∷ items) = (refl, items_unnumbered items)
 
-pub unnumbered : (t : Text) (a : Stretches) → ReadsWhole t a → AllByRecursion IsUnnumbered (flat a)
+pub unnumbered : (t : Text) (a : Stretches) → ReadsStretches t a → AllByRecursion IsUnnumbered (flat a)
 unnumbered t (Last items) h = items_unnumbered items
-unnumbered t (Before items other rest) h = all_append IsUnnumbered (map item_of items) (posix_item other ∷ flat rest) (items_unnumbered items)
+unnumbered t (Before items other rest) h = all_append IsUnnumbered (map item_of items) (whole_item other ∷ flat rest) (items_unnumbered items)
     (other_unnumbered h.1 other h.4, unnumbered h.2 rest h.5)
 
-pub accepted_there : (t : Text) → IsWholeAccepted t → IsAcceptedUnnumbered t
+pub accepted_there : (t : Text) → IsUnnumberedAccepted t → IsReadUnnumbered t
 accepted_there t h = record {
   items = flat h.stretches;
-  reads = posix_reads t h.stretches h.reads;
+  reads = whole_reads t h.stretches h.reads;
   unnumbered = unnumbered t h.stretches h.reads;
   limit = h.limit;
 }
@@ -193,19 +193,19 @@ wanted_items : (model : Model) (t : Text) (items : List Item) → ProfileReads t
     → map (λ f. f.wanted) (fetched model (map item_of items)) ≡ map widened (types model items)
 wanted_items model t items h = ap (map (λ f. f.wanted)) (fetched_here model t items h) ∙ sym (wanted_here widened (types model items))
 
-wanted : (model : Model) (t : Text) (a : Stretches) → ReadsWhole t a → map (λ f. f.wanted) (fetched model (flat a)) ≡ whole_types model a
+wanted : (model : Model) (t : Text) (a : Stretches) → ReadsStretches t a → map (λ f. f.wanted) (fetched model (flat a)) ≡ whole_types model a
 wanted model t (Last items) h = wanted_items model t items h
 wanted model t (Before items other rest) h =
-    ap (map (λ f. f.wanted)) (fetched_append model (map item_of items) (posix_item other ∷ flat rest))
-    ∙ map-append (λ f. f.wanted) (fetched model (map item_of items)) (fetched model (posix_item other ∷ flat rest))
+    ap (map (λ f. f.wanted)) (fetched_append model (map item_of items) (whole_item other ∷ flat rest))
+    ∙ map-append (λ f. f.wanted) (fetched model (map item_of items)) (fetched model (whole_item other ∷ flat rest))
     ∙ ap₂ (λ x y. x ++ y) (wanted_items model h.0 items h.3)
     (of_other other (flat rest) ∙ ap (λ l. types_of_opaque model other ++ l) (wanted model h.2 rest h.5)) where
-      of_other : (other : OpaqueItem) (later : List PosixItem)
-          → map (λ f. f.wanted) (fetched model (posix_item other ∷ later)) ≡ types_of_opaque model other ++ map (λ f. f.wanted) (fetched model later)
+      of_other : (other : OpaqueItem) (later : List WholeItem)
+          → map (λ f. f.wanted) (fetched model (whole_item other ∷ later)) ≡ types_of_opaque model other ++ map (λ f. f.wanted) (fetched model later)
       of_other (OpaqueSpecification s) later = map-append (λ f. f.wanted) (fetches model s) (fetched model later)
       of_other OpaqueErrno later = refl
 
-pub own_unnumbered : (model : Model) (t : Text) (s : PosixSpecification) → SpellsPosix t s → s.position ≡ None
+pub own_unnumbered : (model : Model) (t : Text) (s : WholeSpecification) → SpellsWhole t s → s.position ≡ None
     → AllByRecursion (λ f. f.number ≡ None) (fetches model s)
 own_unnumbered model t s h e =
     all_append (λ f. f.number ≡ None) (star_fetches s.width ++ star_fetches s.precision) (fetch s.position (conversion_type model s.modifier s.conversion) ∷ [])
@@ -213,7 +213,7 @@ own_unnumbered model t s h e =
     h.before_is)
     (e, tt)
 
-pub items_free : (model : Model) (t : Text) (items : List PosixItem) → ReadsPosix t items → AllByRecursion IsUnnumbered items
+pub items_free : (model : Model) (t : Text) (items : List WholeItem) → ReadsWhole t items → AllByRecursion IsUnnumbered items
     → AllByRecursion (λ f. f.number ≡ None) (fetched model items)
 items_free model t [] h u = tt
 items_free model t (Byte byte ∷ items) h u = items_free model h.1 items h.3 u.1
@@ -224,10 +224,10 @@ items_free model t (Specification s ∷ items) h u =
 pub types_are_kept : (model : Model) → TypesAreKept model
 types_are_kept model t a h few = record {
   items = flat a;
-  reads = posix_reads t a h;
+  reads = whole_reads t a h;
   limit = few;
   types_are = inl (record {
-    unnumbered = items_free model t (flat a) (posix_reads t a h) (unnumbered t a h);
+    unnumbered = items_free model t (flat a) (whole_reads t a h) (unnumbered t a h);
     types_are = sym (wanted model t a h);
   });
 }

@@ -11,8 +11,8 @@ use Rattle.pf_values.specs.declared.refusals.RefusalKind.{RefusalKind}
 use Rattle.pf_text.proofs.Complete.{digit_is}
 use Rattle.pf_text.proofs.NumberDigits.{digit_of as small_digit}
 use Rattle.pf_text.specs.States.{is_digit}
-use Rattle.pf_posix.specs.declared.conversions.Conversion.{Conversion}
-use Rattle.pf_posix.specs.declared.conversions.Modifier.TheVariants.{Integer}
+use Rattle.pf_posix.specs.declared.conversions.WholeConv.{WholeConv}
+use Rattle.pf_posix.specs.declared.conversions.WholeLength.TheVariants.{Integer}
 use Rattle.pf_posix.specs.Items.{errno_letter}
 use Rattle.pf_posix.specs.Letters.{conversion_of, length_modifier_of, is_first_digit}
 use Rattle.pf_posix.specs.Specifications.{conversion_letter, modifier_letters}
@@ -22,7 +22,7 @@ use Rattle.pf_posix.specs.Refusals.{MixesFirst, MixesStar, PassesLimit}
 use Rattle.pf_posix.proofs.Steps.{Sign, Digit, Dollar, Asterisk, Dot, Mark, Letter, Last, Strange, sign_of}
 use Rattle.pf_posix.proofs.Outcomes.{mixes_first, mixes_opened, mixes_star, mixes_star_digits, passes}
 
-pub record LetterTests (conversion : Conversion) : Type 0 where
+pub record LetterTests (conversion : WholeConv) : Type 0 where
   pub modifier : length_modifier_of (conversion_letter conversion) ≡ None
   pub no_h : (conversion_letter conversion == 104) ≡ false
   pub no_l : (conversion_letter conversion == 108) ≡ false
@@ -31,11 +31,11 @@ pub record LetterTests (conversion : Conversion) : Type 0 where
   pub conversion_is : conversion_of (conversion_letter conversion) ≡ Some conversion
   pub sign_is : sign_of (conversion_letter conversion) ≡ Last conversion
 
-pub letter_tests : (conversion : Conversion) → LetterTests conversion
+pub letter_tests : (conversion : WholeConv) → LetterTests conversion
 letter_tests conversion =
     record { modifier = grind arith; no_h = grind arith; no_l = grind arith; high = grind arith; no_errno = λ e. grind arith; conversion_is = grind arith; sign_is = grind arith }
 
-pub byte_of_conversion : (byte : ℕ) (conversion : Conversion) → conversion_of byte ≡ Some conversion → byte ≡ conversion_letter conversion
+pub byte_of_conversion : (byte : ℕ) (conversion : WholeConv) → conversion_of byte ≡ Some conversion → byte ≡ conversion_letter conversion
 byte_of_conversion byte conversion e = grind (arith, nat_tests)
 
 -- the bytes with a sign

@@ -5,9 +5,9 @@ use Rattle.pf_values.specs.meaning.Text.{Text}
 use Rattle.pf_posix.specs.Laws.{filled, HasCount}
 use Rattle.pf_posix.specs.declared.directive_spans.DirectiveSpan.{DirectiveSpan}
 use Rattle.pf_posix.specs.Directives.{HasDirectives, directive_between, directives_from, HasDirectiveCount}
-use Rattle.pf_posix.specs.Items.{Byte, Errno, PosixItem, ReadsPosix, Specification, SpellsPosixItem, HasArguments}
+use Rattle.pf_posix.specs.Items.{Byte, Errno, WholeItem, ReadsWhole, Specification, IsWholeReadAs, HasArguments}
 use Rattle.pf_posix.specs.Types.{fetches}
-use Rattle.pf_posix.specs.declared.types.ArgumentType.{ArgumentType}
+use Rattle.pf_posix.specs.declared.types.WholeArgType.{WholeArgType}
 use Rattle.pf_posix.proofs.ItemsOnce.{item_once, items_once, text_there}
 use Rattle.pf_posix.proofs.Unique.{one_list}
 
@@ -31,14 +31,14 @@ filled_full [] before more full = refl
 filled_full (o ∷ old) [] more full = absurd (omega arith)
 filled_full (o ∷ old) (y ∷ before) more full = ap (λ l. y ∷ l) (filled_full old before more (omega (arith, full)))
 
-ends : (at from : ℕ) (item : PosixItem) (first rest other more : Text) → SpellsPosixItem first item → SpellsPosixItem other item → at ≡ from
+ends : (at from : ℕ) (item : WholeItem) (first rest other more : Text) → IsWholeReadAs first item → IsWholeReadAs other item → at ≡ from
     → first ++ rest ≡ other ++ more → (at + length first ≡ from + length other) × (rest ≡ more)
 ends at from item first rest other more h k a e =
     let same = (item_once item item first rest other more (text_there first item h) (text_there other item k) e).1 in
     (omega (arith, a, ap length e, length-append first rest, length-append other more, ap length same), same)
 
 module _ (model : Model) where
-  pub same_from : (at from next : ℕ) (t u : Text) (items : List PosixItem) (h : ReadsPosix t items) (k : ReadsPosix u items) → at ≡ from → t ≡ u
+  pub same_from : (at from next : ℕ) (t u : Text) (items : List WholeItem) (h : ReadsWhole t items) (k : ReadsWhole u items) → at ≡ from → t ≡ u
       → directives_from model at next t items h ≡ directives_from model from next u items k
   same_from at from next t u [] h k a e = refl
   same_from at from next t u (Byte x ∷ items) h k a e =
@@ -56,7 +56,7 @@ module _ (model : Model) where
   directives_once t ds es h k =
       let same = items_once t h.accepted.items k.accepted.items h.accepted.reads k.accepted.reads in
       h.directives_are
-      ∙ subst (λ items. (reads : ReadsPosix t items) → directives_from model 0 0 t h.accepted.items h.accepted.reads ≡ directives_from model 0 0 t items reads)
+      ∙ subst (λ items. (reads : ReadsWhole t items) → directives_from model 0 0 t h.accepted.items h.accepted.reads ≡ directives_from model 0 0 t items reads)
       same (λ reads. same_from 0 0 0 t t h.accepted.items h.accepted.reads reads refl refl) k.accepted.reads ∙ sym k.directives_are
 
 pub all_filled : {X : Type 0} (old all : List X) → length old ≡ length all → filled old all ≡ all
@@ -70,7 +70,7 @@ room_taken : {X : Type 0} (old all again new : List X) (count : ℕ) → count �
     → new ≡ again
 room_taken old all again new count counted same room front = front ∙ all_filled old again (room ∙ counted ∙ ap length same)
 
-pub all_there : (model : Model) (t : Text) (none made old new : List ArgumentType) (count again : ℕ) → HasCount model t none made count → length old ≡ count
+pub all_there : (model : Model) (t : Text) (none made old new : List WholeArgType) (count again : ℕ) → HasCount model t none made count → length old ≡ count
     → HasCount model t old new again → HasArguments model t new
 all_there model t none made old new count again first room second =
     let same = one_list model t first.types second.types first.accepted second.accepted in

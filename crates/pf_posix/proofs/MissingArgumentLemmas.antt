@@ -15,12 +15,12 @@ use Rattle.pf_posix.specs.declared.numbered.TheConstants.{ROOM}
 use Rattle.pf_posix.specs.declared.specifications.Numbering.{Numbering}
 use Rattle.pf_posix.specs.declared.specifications.Numbering.TheVariants.{Numbered}
 use Rattle.pf_posix.specs.Directives.{argument_index, directive_between, directives_from, star_index}
-use Rattle.pf_posix.specs.Items.{Byte, Errno, PosixItem, ReadsPosix, Specification, errno_letter, fetched}
+use Rattle.pf_posix.specs.Items.{Byte, Errno, WholeItem, ReadsWhole, Specification, errno_letter, fetched}
 use Rattle.pf_posix.specs.MissingArguments.{AreMarked, IsFirstLater, is_index, takes, takes_any, takes_later}
-use Rattle.pf_posix.specs.Refusals.{HasGap, IsPosixRefusalCause, IsPosixRefusedAt, IsWrong, MayFollow, numbering_by, numbering_of}
+use Rattle.pf_posix.specs.Refusals.{HasGap, IsWholeRefusalCause, IsWholeRefusedAt, IsWrong, MayFollow, numbering_by, numbering_of}
 use Rattle.pf_posix.specs.SpecificationWalks.{IsAhead}
 use Rattle.pf_posix.specs.declared.specification_walk.SpecificationWalk.{SpecificationWalk}
-use Rattle.pf_posix.specs.Specifications.{Amount, Fetched, Given, PosixSpecification}
+use Rattle.pf_posix.specs.Specifications.{Amount, Fetched, Given, WholeSpecification}
 use Rattle.pf_posix.specs.Types.{IsFetched, conversion_type, fetch, fetches, star_fetches}
 use Rattle.pf_text.proofs.Sound.{find_holds}
 use Rattle.pf_posix.specs.Defined.{is_undefined_as}
@@ -100,7 +100,7 @@ module _ (k : ℕ) where
   star_taken (Some (Fetched number)) next (inl e) = number_index number next e
   star_taken (Some (Fetched number)) next (inr h) = absurd h
 
-  module _ (model : Model) (begin end next : ℕ) (s : PosixSpecification) where
+  module _ (model : Model) (begin end next : ℕ) (s : WholeSpecification) where
     one_taken : IsFetched k (fetches model s) → takes (directive_between model begin end next s) k ≡ true
     one_taken h = elim (in_either (star_fetches s.width ++ star_fetches s.precision) _ h) [
       | inl stars ↦ elim (in_either (star_fetches s.width) (star_fetches s.precision) stars) [
@@ -143,7 +143,7 @@ module _ (k : ℕ) where
   star_fetched (Some (Given n)) next numbered is = cc
   star_fetched (Some (Fetched number)) next numbered is = inl (index_number number next numbered.0.0 numbered.0.1 is)
 
-  module _ (model : Model) (begin end next : ℕ) (s : PosixSpecification) (numbered : AllByRecursion HasNumber (fetches model s)) where
+  module _ (model : Model) (begin end next : ℕ) (s : WholeSpecification) (numbered : AllByRecursion HasNumber (fetches model s)) where
     one_fetched : takes (directive_between model begin end next s) k ≡ true → IsFetched k (fetches model s)
     one_fetched is = elim (either _ _ _ is) [
       | inl a ↦ in_back k stars last (inl (index_number s.position _ back.0.0 back.0.1 a))
@@ -178,7 +178,7 @@ module _ (k : ℕ) where
 
 -- so it is for all specifications of a text
 module _ (model : Model) (k : ℕ) where
-  any_taken : (at next : ℕ) (t : Text) (items : List PosixItem) (reads : ReadsPosix t items) → IsFetched k (fetched model items)
+  any_taken : (at next : ℕ) (t : Text) (items : List WholeItem) (reads : ReadsWhole t items) → IsFetched k (fetched model items)
       → takes_any (directives_from model at next t items reads) k ≡ true
   any_taken at next t [] reads h = absurd h
   any_taken at next t (Byte byte ∷ items) reads h = any_taken (at + length reads.0) next reads.1 items reads.3 h
@@ -193,7 +193,7 @@ module _ (model : Model) (k : ℕ) where
     second : (a b : Bool) → b ≡ true → (a || b) ≡ true
     second a b e = grind arith
 
-  any_fetched : (at next : ℕ) (t : Text) (items : List PosixItem) (reads : ReadsPosix t items) → AllByRecursion HasNumber (fetched model items)
+  any_fetched : (at next : ℕ) (t : Text) (items : List WholeItem) (reads : ReadsWhole t items) → AllByRecursion HasNumber (fetched model items)
       → takes_any (directives_from model at next t items reads) k ≡ true → IsFetched k (fetched model items)
   any_fetched at next t [] reads numbered is = cc
   any_fetched at next t (Byte byte ∷ items) reads numbered is = any_fetched (at + length reads.0) next reads.1 items reads.3 numbered is
@@ -234,7 +234,7 @@ module _ (model : Model) (fetches : List Fetch) (part : Text) (at : ℕ) where
   wrong byte (inr (inr (inr (inl t)))) = cc
   wrong byte (inr (inr (inr (inr x)))) = cc
 
-  missing_at_end : (rest : Text) → IsPosixRefusalCause model fetches part at rest MissingArgument → (rest ≡ []) × (part ≡ []) × HasGap fetches
+  missing_at_end : (rest : Text) → IsWholeRefusalCause model fetches part at rest MissingArgument → (rest ≡ []) × (part ≡ []) × HasGap fetches
   missing_at_end [] (inl h) = cc
   missing_at_end [] (inr h) = (refl, h.1, h.2)
   missing_at_end (byte ∷ rest) h = absurd (never (at == MAX_TEXT_LEN) (byte == 0) (byte == 37) h) where
@@ -248,8 +248,8 @@ module _ (model : Model) (fetches : List Fetch) (part : Text) (at : ℕ) where
 
 -- the items of a text that is refused so
 pub record LeavesOut (model : Model) (t : Text) : Type 0 where
-  pub items : List PosixItem
-  pub reads : ReadsPosix t items
+  pub items : List WholeItem
+  pub reads : ReadsWhole t items
   pub limit : length t ≤ MAX_TEXT_LEN
   pub numbered : AllByRecursion HasNumber (fetched model items)
   pub index : ℕ
@@ -259,7 +259,7 @@ pub record LeavesOut (model : Model) (t : Text) : Type 0 where
   pub there : IsFetched later (fetched model items)
   pub not_there : ¬ IsFetched index (fetched model items)
 
-pub leaves_out : (model : Model) (t : Text) (at : ℕ) → IsPosixRefusedAt model t MissingArgument at → LeavesOut model t
+pub leaves_out : (model : Model) (t : Text) (at : ℕ) → IsWholeRefusedAt model t MissingArgument at → LeavesOut model t
 leaves_out model t at h =
     let good = h.good in
     let end = missing_at_end model h.fetches h.part at h.rest h.cause in
@@ -267,7 +267,7 @@ leaves_out model t at h =
     let whole : t ≡ good.whole =
     h.split ∙ ap₂ (λ u v. u ++ v) good.split end.0 ∙ append-nil (good.whole ++ h.part) ∙ ap (λ p. good.whole ++ p) end.1 ∙ append-nil good.whole in
     let all : h.fetches ≡ fetched model good.items = good.fetches_are ∙ ap (λ own. fetched model good.items ++ own) (own_none good.begun end.1) ∙ append-nil _ in
-    let reads = subst (λ u. ReadsPosix u good.items) (sym whole) good.reads in
+    let reads = subst (λ u. ReadsWhole u good.items) (sym whole) good.reads in
     let within = items_within model t good.items reads in
     let there = subst (IsFetched gap.1) all gap.3 in
     let one = subst (λ fs. AllByRecursion (λ f. numbering_by f.number ≡ numbering_of h.fetches) fs) all good.agreed.one_numbering in

@@ -16,16 +16,16 @@ use Rattle.pf_posix.specs.declared.specifications.Numbering.TheVariants.{Numbere
 use Rattle.pf_posix.specs.declared.specifications.Refused.{Refused}
 use Rattle.pf_posix.specs.declared.specifications.Specification.{Specification as Read}
 use Rattle.pf_posix.specs.declared.specifications.Stars.{Stars}
-use Rattle.pf_posix.specs.declared.types.ArgumentType.{ArgumentType}
+use Rattle.pf_posix.specs.declared.types.WholeArgType.{WholeArgType}
 use Rattle.pf_posix.specs.Beginnings.{IsUndecided}
 use Rattle.pf_posix.specs.Endings.{end_refusal}
 use Rattle.pf_posix.specs.Halts.{FollowsBy, HasStar, HasStars, IsDefinedAt, IsHalt, IsRefusedIn, IsStarAt, one_fetch}
-use Rattle.pf_posix.specs.Items.{Errno, errno_letter, PosixItem, ReadsPosix, Specification, fetched}
+use Rattle.pf_posix.specs.Items.{Errno, errno_letter, WholeItem, ReadsWhole, Specification, fetched}
 use Rattle.pf_posix.specs.Laws.{HasCount, filled}
 use Rattle.pf_posix.specs.PartsInText.{specification_read}
 use Rattle.pf_posix.specs.Readings.{conflicts, listed}
-use Rattle.pf_posix.specs.Refusals.{AreAgreed, HasGap, IsPosixRefusedAt, numbering_by, numbering_of}
-use Rattle.pf_posix.specs.Specifications.{PosixSpecification}
+use Rattle.pf_posix.specs.Refusals.{AreAgreed, HasGap, IsWholeRefusedAt, numbering_by, numbering_of}
+use Rattle.pf_posix.specs.Specifications.{WholeSpecification}
 use Rattle.pf_posix.specs.Tables.{HasConflict, HaveOneType, IsConflict, IsNumberedFirst, Keeps, KeepsSpecification, KeepsStars, TableHolds, of_stars}
 use Rattle.pf_posix.specs.Types.{AreNumbered, IsFetched, conversion_type, fetch, fetches, int_type, star_fetches}
 use Rattle.pf_posix.proofs.Bounds.{all_append, items_within}
@@ -38,8 +38,8 @@ use Rattle.pf_posix.proofs.Unique.{missing}
 
 -- the text up to an offset is items whose arguments are numbered, and are in a table
 pub record IsTabledTo (model : Model) (t : Text) (at : ℕ) (table : Table) : Type 0 where
-  pub items : List PosixItem
-  pub reads : ReadsPosix (take at t) items
+  pub items : List WholeItem
+  pub reads : ReadsWhole (take at t) items
   pub within : at ≤ length t
   pub some : numbering_of (fetched model items) ≡ Numbered
   pub numbered : AllByRecursion (λ g. numbering_by g.number ≡ Numbered) (fetched model items)
@@ -55,7 +55,7 @@ IsAdded model t stop new r = MatchResult r (λ _. IsTabledTo model t stop new) (
 follows_numbered : (o : Option ℕ) → FollowsBy Numbered o → is_some o ≡ true
 follows_numbered o h = grind arith
 
-one_numbered : (o : Option ℕ) (type : ArgumentType) → AreAllNumbered (one_fetch o type)
+one_numbered : (o : Option ℕ) (type : WholeArgType) → AreAllNumbered (one_fetch o type)
 one_numbered None type = tt
 one_numbered (Some n) type = (refl, tt)
 
@@ -63,14 +63,14 @@ stars_numbered : (stars : Stars) → AreAllNumbered (of_stars stars)
 stars_numbered stars = all_append _ (one_fetch stars.width int_type) (one_fetch stars.precision int_type) (one_numbered stars.width int_type)
     (one_numbered stars.precision int_type)
 
-some_numbered : (fs : List Fetch) (o : Option ℕ) (type : ArgumentType) → is_some o ≡ true → AreAllNumbered (fs ++ one_fetch o type)
+some_numbered : (fs : List Fetch) (o : Option ℕ) (type : WholeArgType) → is_some o ≡ true → AreAllNumbered (fs ++ one_fetch o type)
     → numbering_of (fs ++ one_fetch o type) ≡ Numbered
 some_numbered fs None type e all = cc
 some_numbered [] (Some n) type e all = refl
 some_numbered (g ∷ fs) (Some n) type e all = all.0
 
 -- items whose arguments are numbered, and are in a table
-module _ (model : Model) (t : Text) (at : ℕ) (items : List PosixItem) (short : length t ≤ MAX_TEXT_LEN) (reads : ReadsPosix (take at t) items)
+module _ (model : Model) (t : Text) (at : ℕ) (items : List WholeItem) (short : length t ≤ MAX_TEXT_LEN) (reads : ReadsWhole (take at t) items)
     (numbered : AreAllNumbered (fetched model items)) where
   abbrev seen : List Fetch
   seen = fetched model items
@@ -101,10 +101,10 @@ module _ (model : Model) (t : Text) (at : ℕ) (items : List PosixItem) (short :
   -- one more specification
   module _ (read : Read) (stop : ℕ) (h : IsDefinedAt t at (numbering_of seen) (read, stop)) (some : is_some read.position ≡ true) (old : Table)
       (holds : TableHolds old seen) where
-    abbrev s : PosixSpecification
+    abbrev s : WholeSpecification
     s = specification_read read
 
-    abbrev type : ArgumentType
+    abbrev type : WholeArgType
     type = conversion_type model read.parts.modifier read.parts.conversion
 
     abbrev before : List Fetch
@@ -204,13 +204,13 @@ module _ (model : Model) (t : Text) (at : ℕ) (table : Table) (h : IsTabledTo m
     taken : Taken model t there
     taken = record {
       items = h.items;
-      reads = subst (λ u. ReadsPosix u h.items) (take_all at t end) h.reads;
+      reads = subst (λ u. ReadsWhole u h.items) (take_all at t end) h.reads;
       seen_are = refl;
       agreed = agreed_there;
       limit = short;
     }
 
-    pub finished : (old new : List ArgumentType) → ((index : ℕ) → index < table.count → IsFetched index there)
+    pub finished : (old new : List WholeArgType) → ((index : ℕ) → index < table.count → IsFetched index there)
         → ((seen : List Fetch) → TableHolds table seen → new ≡ filled old (listed seen 0 table.count)) → HasCount model t old new table.count
     unfolding taken
     finished old new all front =
@@ -231,7 +231,7 @@ module _ (model : Model) (t : Text) (at : ℕ) (table : Table) (h : IsTabledTo m
     pub gap_refused : (refusal : Refusal) → refusal ≡ record { kind = MissingArgument; at = at } → HasGap there → IsRefused model t refusal
     gap_refused refusal e gap =
         let place : at ≡ length t = omega (arith, end, h.within) in
-        subst (IsRefused model t) (sym e) (subst (IsPosixRefusedAt model t MissingArgument) (sym place) (missing model t there taken gap))
+        subst (IsRefused model t) (sym e) (subst (IsWholeRefusedAt model t MissingArgument) (sym place) (missing model t there taken gap))
 
 -- the walk goes on
 pub tabled_walked : (model : Model) (before after : Walk) (table : Table) → HasPassed IsPercent before after
@@ -264,7 +264,7 @@ module _ (model : Model) (t : Text) (at : ℕ) (first : IsNumberedFirst model t 
       (subst (AllByRecursion (λ f. f.number ≡ None)) (sym first.nothing) tt) (subst (λ n. IsHalt t at n h.position h.own refused.refusal) none_yet h.halt)
 
 -- the last argument of a specification
-pub add_last : (seen : List Fetch) (stars : Stars) (position : Option ℕ) (wanted type : ArgumentType) (stop : ℕ) (old new : Table)
+pub add_last : (seen : List Fetch) (stars : Stars) (position : Option ℕ) (wanted type : WholeArgType) (stop : ℕ) (old new : Table)
     (r : Result (Unit {0}) Refusal) → TableHolds old (seen ++ of_stars stars) → wanted ≡ type → Keeps old position wanted stop r new
     → MatchResult r (λ _. TableHolds new ((seen ++ of_stars stars) ++ one_fetch position type)) (λ refusal. HasConflict seen stars refusal
     ⊎ (HaveOneType (seen ++ of_stars stars) × IsConflict (seen ++ of_stars stars) position type stop refusal))

@@ -13,10 +13,10 @@ use Rattle.pf_values.specs.meaning.Digits.{AreDigits}
 use Rattle.pf_values.specs.meaning.Flags.{flag_byte, flag_set, no_flags, with_flag}
 use Rattle.pf_values.specs.meaning.Text.{Text}
 use Rattle.pf_text.proofs.Complete.{small}
-use Rattle.pf_posix.specs.declared.conversions.Modifier.{Modifier}
-use Rattle.pf_posix.specs.declared.conversions.Modifier.TheVariants.{Integer, LongDouble}
-use Rattle.pf_posix.specs.Specifications.{Amount, Given, Fetched, PosixSpecification, conversion_letter, modifier_letters}
-use Rattle.pf_posix.specs.Spelling.{SpellsPosition, SpellsPositive, SpellsPosix, SpellsStar, SpellsUpToFlags, SpellsUpToPrecision, SpellsUpToWidth}
+use Rattle.pf_posix.specs.declared.conversions.WholeLength.{WholeLength}
+use Rattle.pf_posix.specs.declared.conversions.WholeLength.TheVariants.{Integer, LongDouble}
+use Rattle.pf_posix.specs.Specifications.{Amount, Given, Fetched, WholeSpecification, conversion_letter, modifier_letters}
+use Rattle.pf_posix.specs.Spelling.{SpellsPosition, SpellsPositive, SpellsWhole, SpellsStar, SpellsUpToFlags, SpellsUpToPrecision, SpellsUpToWidth}
 use Rattle.pf_posix.proofs.LetterLemmas.{digit_sign, letter_tests}
 use Rattle.pf_posix.proofs.Growing.{LastDigit, MayBegin, last_digit}
 use Rattle.pf_posix.proofs.Steps.{IsBefore, IsStateAfter, Numbers, Place, SpellsDigits, State, Width, Precision, finish, numbers_by, numbers_in, Opened, First}
@@ -189,30 +189,30 @@ shrinks (Placed place n) t byte h =
 shrinks (Point position set width) t byte h =
     let p = at_width h.0 position set width h.1 in inr (earlier (Point position set width) t byte h.0 46 p.state p.after (ap on_dot p.has) h.2)
 shrinks (Modified numbers modifier) t byte h = inr (go modifier h.2 h.3) where
-  one : (modifier : Modifier) (last : ℕ) → t ++ byte ∷ [] ≡ h.0 ++ last ∷ [] → sign_of last ≡ Letter modifier → Earlier (Modified numbers modifier) t byte
+  one : (modifier : WholeLength) (last : ℕ) → t ++ byte ∷ [] ≡ h.0 ++ last ∷ [] → sign_of last ≡ Letter modifier → Earlier (Modified numbers modifier) t byte
   one modifier last e s =
       let p = state_of_numbers h.0 numbers h.1 in
       earlier (Modified numbers modifier) t byte h.0 last p.state p.after (ap (step p.state) s ∙ ap (λ o. on_letter p.state o modifier) p.has) e
 
-  two : (first second : Modifier) (last : ℕ) → modifier_letters first ≡ last ∷ [] → first ≢ Integer lengths.None
+  two : (first second : WholeLength) (last : ℕ) → modifier_letters first ≡ last ∷ [] → first ≢ Integer lengths.None
       → step (Modified numbers first) (sign_of last) ≡ Some (Modified numbers second) → t ++ byte ∷ [] ≡ h.0 ++ last ∷ last ∷ []
       → Earlier (Modified numbers second) t byte
   two first second last m some g e = earlier (Modified numbers second) t byte (h.0 ++ last ∷ []) last (Modified numbers first)
       (h.0, h.1, ap (λ u. h.0 ++ u) (sym m), some) g (e ∙ sym (append_assoc h.0 (last ∷ []) (last ∷ [])))
 
-  go : (modifier : Modifier) → t ++ byte ∷ [] ≡ h.0 ++ modifier_letters modifier → modifier ≢ Integer lengths.None → Earlier (Modified numbers modifier) t byte
+  go : (modifier : WholeLength) → t ++ byte ∷ [] ≡ h.0 ++ modifier_letters modifier → modifier ≢ Integer lengths.None → Earlier (Modified numbers modifier) t byte
   go LongDouble e some = one LongDouble 76 e refl
   go (Integer lengths.None) e some = absurd (some refl)
   go (Integer lengths.Hh) e some = two (Integer lengths.H) (Integer lengths.Hh) 104 refl (λ f. cc) refl e
   go (Integer lengths.Ll) e some = two (Integer lengths.L) (Integer lengths.Ll) 108 refl (λ f. cc) refl e
   go (Integer _) e some = one _ _ e refl
 
-pub record Ending (t : Text) (byte : ℕ) (s : PosixSpecification) : Type 0 where
+pub record Ending (t : Text) (byte : ℕ) (s : WholeSpecification) : Type 0 where
   pub state : State
   pub after : IsStateAfter state t
   pub goes : finish state (sign_of byte) ≡ Some s
 
-pub ends : (t : Text) (byte : ℕ) (s : PosixSpecification) → SpellsPosix (t ++ byte ∷ []) s → Ending t byte s
+pub ends : (t : Text) (byte : ℕ) (s : WholeSpecification) → SpellsWhole (t ++ byte ∷ []) s → Ending t byte s
 ends t byte s h = go s.modifier refl where
   same : (t ≡ h.before ++ modifier_letters s.modifier) × (byte ≡ conversion_letter s.conversion)
   same = same_from_push t (h.before ++ modifier_letters s.modifier) byte (conversion_letter s.conversion) h.whole
@@ -227,7 +227,7 @@ ends t byte s h = go s.modifier refl where
     goes = ap (finish (Modified (numbers_by s.position s.flags s.width s.precision) s.modifier)) sign;
   }
 
-  go : (modifier : Modifier) → s.modifier ≡ modifier → Ending t byte s
+  go : (modifier : WholeLength) → s.modifier ≡ modifier → Ending t byte s
   go (Integer lengths.None) none =
       let whole : t ≡ h.before = same.0 ∙ ap (λ m. h.before ++ modifier_letters m) none ∙ append-nil h.before in
       let p = state_of_numbers t (numbers_by s.position s.flags s.width s.precision)
@@ -287,35 +287,35 @@ one_state s q t = from_end (λ t. (s q : State) → IsStateAfter s t → IsState
       | inr a ↦ equal a (shrinks_more t byte q k (some a.state a.after))
     ]) t s q
 
-pub some_spelled : (t : Text) (s : PosixSpecification) → SpellsPosix t s → 0 < length t
+pub some_spelled : (t : Text) (s : WholeSpecification) → SpellsWhole t s → 0 < length t
 some_spelled t s h = omega (arith, ap length h.whole, length_push (h.before ++ modifier_letters s.modifier) (conversion_letter s.conversion))
 
-pub one_spelled : (t : Text) (s u : PosixSpecification) → SpellsPosix t s → SpellsPosix t u → s ≡ u
-one_spelled t s u = from_end (λ t. SpellsPosix t s → SpellsPosix t u → s ≡ u) (λ h k. absurd (omega (arith, some_spelled [] s h))) (λ t byte same h k.
+pub one_spelled : (t : Text) (s u : WholeSpecification) → SpellsWhole t s → SpellsWhole t u → s ≡ u
+one_spelled t s u = from_end (λ t. SpellsWhole t s → SpellsWhole t u → s ≡ u) (λ h k. absurd (omega (arith, some_spelled [] s h))) (λ t byte same h k.
     let a = ends t byte s h in
     let b = ends t byte u k in
     let both : Some s ≡ Some u = sym a.goes ∙ ap (λ state. finish state (sign_of byte)) (one_state a.state b.state t a.after b.after) ∙ b.goes in cc) t
 
-goes_or_ends : (state to : State) (sign : Sign) (s : PosixSpecification) → step state sign ≡ Some to → finish state sign ≡ Some s → ⊥
+goes_or_ends : (state to : State) (sign : Sign) (s : WholeSpecification) → step state sign ≡ Some to → finish state sign ≡ Some s → ⊥
 goes_or_ends state to (Last conversion) s e f = cc
 goes_or_ends state to _ s e f = cc
 
-ended : (t : Text) (s : PosixSpecification) (state : State) → SpellsPosix t s → ¬ IsStateAfter state t
-ended t s state = from_end (λ t. SpellsPosix t s → ¬ IsStateAfter state t) (λ h k. never_empty state k) (λ t byte same h k.
+ended : (t : Text) (s : WholeSpecification) (state : State) → SpellsWhole t s → ¬ IsStateAfter state t
+ended t s state = from_end (λ t. SpellsWhole t s → ¬ IsStateAfter state t) (λ h k. never_empty state k) (λ t byte same h k.
     let a = ends t byte s h in
     let b = shrinks_more t byte state k (λ e. never_empty a.state (subst (IsStateAfter a.state) e a.after)) in
     goes_or_ends a.state state (sign_of byte) s
     (ap (λ state. step state (sign_of byte)) (one_state a.state b.state t a.after b.after) ∙ b.goes) a.goes) t
 
 -- what goes on after a specification is neither the beginning of one nor one
-pub ends_here : (t more : Text) (s : PosixSpecification) (state : State) → SpellsPosix t s → ¬ IsStateAfter state (t ++ more)
+pub ends_here : (t more : Text) (s : WholeSpecification) (state : State) → SpellsWhole t s → ¬ IsStateAfter state (t ++ more)
 ends_here t more s state h = from_end (λ more. (state : State) → ¬ IsStateAfter state (t ++ more))
     (λ state k. ended t s state h (subst (IsStateAfter state) (append-nil t) k)) (λ more byte none state k.
     let b = shrinks_more (t ++ more) byte state (subst (IsStateAfter state) (sym (append_assoc t more (byte ∷ []))) k)
     (λ e. omega (arith, ap length e, length-append t more, some_spelled t s h)) in
     none b.state b.after) more state
 
-pub no_longer : (t more : Text) (s u : PosixSpecification) → SpellsPosix t s → SpellsPosix (t ++ more) u → more ≡ []
-no_longer t more s u h = from_end (λ more. SpellsPosix (t ++ more) u → more ≡ []) (λ k. refl) (λ more byte same k.
-    let a = ends (t ++ more) byte u (subst (λ v. SpellsPosix v u) (sym (append_assoc t more (byte ∷ []))) k) in
+pub no_longer : (t more : Text) (s u : WholeSpecification) → SpellsWhole t s → SpellsWhole (t ++ more) u → more ≡ []
+no_longer t more s u h = from_end (λ more. SpellsWhole (t ++ more) u → more ≡ []) (λ k. refl) (λ more byte same k.
+    let a = ends (t ++ more) byte u (subst (λ v. SpellsWhole v u) (sym (append_assoc t more (byte ∷ []))) k) in
     absurd (ends_here t more s a.state h a.after)) more

@@ -18,9 +18,9 @@ use Rattle.pf_posix.specs.declared.specifications.Numbering.{Numbering}
 use Rattle.pf_posix.specs.Beginnings.{EndsInDigits, EndsInFirst, EndsInStar, EndsInStarDigits, IsBegunAs, SpellsAmount}
 use Rattle.pf_posix.specs.Defined.{undefined_of}
 use Rattle.pf_posix.specs.Readings.{conflicts}
-use Rattle.pf_posix.specs.Refusals.{CompletesSpecification, FetchesStar, IsMixed, IsNumberTooLarge, IsOneType, IsPosixRefusedByte, IsUnexpected, IsWrong}
+use Rattle.pf_posix.specs.Refusals.{CompletesSpecification, FetchesStar, IsMixed, IsNumberTooLarge, IsOneType, IsWholeRefusedByte, IsUnexpected, IsWrong}
 use Rattle.pf_posix.specs.Refusals.{PassesLimit, numbering_of, Follows, numbering_by}
-use Rattle.pf_posix.specs.Specifications.{PosixSpecification}
+use Rattle.pf_posix.specs.Specifications.{WholeSpecification}
 use Rattle.pf_posix.specs.Spelling.{SpellsUpToFlags}
 use Rattle.pf_posix.specs.Types.{fetch, int_type, star_fetches}
 use Rattle.pf_posix.proofs.Agreeing.{conflicts_no, conflicts_not}
@@ -73,7 +73,7 @@ step_forth numbering (Star place) to sign e h m = grind arith
 step_forth numbering state to sign e h m = grind arith
 
 -- at its end
-module _ (state : State) (sign : Sign) (s : PosixSpecification) (e : finish state sign ≡ Some s) where
+module _ (state : State) (sign : Sign) (s : WholeSpecification) (e : finish state sign ≡ Some s) where
   pub own_end : own_in state ≡ star_fetches s.width ++ star_fetches s.precision
   own_end = grind arith
 
@@ -93,7 +93,7 @@ no_errno state byte known = false_from_ne_true (ends_errno state byte) (λ e. kn
 
 -- what is refused for no mixing begins or ends as its sign says, which is neither NUL nor `%`
 module _ (model : Model) (fetches : List Fetch) (state : State) where
-  pub completes_sign : (sign : Sign) → mixes state (numbering_of fetches) sign ≡ false → (s : PosixSpecification) → finish state sign ≡ Some s
+  pub completes_sign : (sign : Sign) → mixes state (numbering_of fetches) sign ≡ false → (s : WholeSpecification) → finish state sign ≡ Some s
       → by_sign model fetches state sign ≡ ended model fetches s (undefined_of s)
   completes_sign sign m s e = grind arith
 
@@ -103,7 +103,7 @@ module _ (model : Model) (fetches : List Fetch) (state : State) where
         let signed = no_errno state byte (λ strange. let no = sym e ∙ ap (step state) strange in cc) in
         rw signed (grind (arith, nat_tests))
 
-    pub completes : (s : PosixSpecification) → finish state (sign_of byte) ≡ Some s → outcome model fetches state byte ≡ ended model fetches s (undefined_of s)
+    pub completes : (s : WholeSpecification) → finish state (sign_of byte) ≡ Some s → outcome model fetches state byte ≡ ended model fetches s (undefined_of s)
     completes s e =
         let signed = no_errno state byte (λ strange. let no = sym e ∙ ap (finish state) strange in cc) in
         rw signed (grind (arith, nat_tests))
@@ -307,7 +307,7 @@ module _ (part : Text) (state : State) (byte : ℕ) (h : IsStateAfter state part
     conflict_begun to None e = cc
     conflict_begun to (Some f) e = let two = two_types f (Begins to (Some f)) e (λ f. cc) in (f, refl, two.0, two.1)
 
-    wrong_end : (s : PosixSpecification) → MayGoOn numbering state → mixes state numbering sign ≡ false → finish state sign ≡ Some s
+    wrong_end : (s : WholeSpecification) → MayGoOn numbering state → mixes state numbering sign ≡ false → finish state sign ≡ Some s
         → ended model fetches s (undefined_of s) ≡ Refuses kind → IsWrong model fetches part byte kind
     wrong_end s follows m f e = go (undefined_of s) refl e where
       there : CompletesSpecification numbering part byte
@@ -378,7 +378,7 @@ module _ (part : Text) (state : State) (byte : ℕ) (h : IsStateAfter state part
         rw (m, x, s, f) (ap Refuses (sym k))
 
 pub refuses : (model : Model) (fetches : List Fetch) (part : Text) (state : State) (byte : ℕ) (kind : RefusalKind) → IsStateAfter state part
-    → MayGoOn (numbering_of fetches) state → outcome model fetches state byte ≡ Refuses kind → IsPosixRefusedByte model fetches part byte kind
+    → MayGoOn (numbering_of fetches) state → outcome model fetches state byte ≡ Refuses kind → IsWholeRefusedByte model fetches part byte kind
 refuses model fetches part state byte kind h follows e =
     on_test (byte == 0) (Refuses NulByte) _ _ e (λ z. cc)
     (λ e. on_test (byte == 37) (on_percent state) _ _ e percent (other (ends_errno state byte) refl)) where
@@ -402,7 +402,7 @@ refuses model fetches part state byte kind h follows e =
       )
 
 pub refused : (model : Model) (fetches : List Fetch) (part : Text) (state : State) (byte : ℕ) (kind : RefusalKind) → IsStateAfter state part
-    → IsPosixRefusedByte model fetches part byte kind → outcome model fetches state byte ≡ Refuses kind
+    → IsWholeRefusedByte model fetches part byte kind → outcome model fetches state byte ≡ Refuses kind
 refused model fetches part state byte kind h r =
     by_test (byte == 0) (Refuses NulByte) _ _ r (λ k. ap Refuses (sym k))
     (λ r. by_test (byte == 37) (on_percent state) _ _ r (percent state h) other) where

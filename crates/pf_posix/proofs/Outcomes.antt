@@ -12,7 +12,7 @@ use Rattle.pf_posix.specs.Defined.{undefined_of}
 use Rattle.pf_posix.specs.Items.{errno_letter}
 use Rattle.pf_posix.specs.Readings.{conflicts}
 use Rattle.pf_posix.specs.Refusals.{Follows, numbering_by, numbering_of}
-use Rattle.pf_posix.specs.Specifications.{PosixSpecification}
+use Rattle.pf_posix.specs.Specifications.{WholeSpecification}
 use Rattle.pf_posix.specs.Types.{conversion_type, fetch, int_type}
 use Rattle.pf_posix.proofs.Steps.{Place, State, Opened, First, Flags, Digits, Star, StarDigits, Placed, Point, Modified, Sign, Digit, Dollar, Asterisk, finish}
 use Rattle.pf_posix.proofs.Steps.{place_in, position_of, sign_of, step, too_large}
@@ -22,7 +22,7 @@ pub data Outcome : Type 0 where
   -- more of a specification has begun, and this is fetched
   Begins : (state : State) (fetched : Option Fetch) → Outcome
   -- it has ended, and its last argument is fetched
-  Ends : (s : PosixSpecification) (last : Fetch) → Outcome
+  Ends : (s : WholeSpecification) (last : Fetch) → Outcome
   -- it is `%%` or `%m`
   EndsOther : Outcome
   Refuses : (kind : RefusalKind) → Outcome
@@ -96,15 +96,15 @@ abbrev pub begun : List Fetch → State → Option Fetch → Outcome
 begun fetches to None = Begins to None
 begun fetches to (Some f) = if conflicts fetches f then Refuses TwoTypes else Begins to (Some f)
 
-abbrev pub last_fetch : Model → PosixSpecification → Fetch
+abbrev pub last_fetch : Model → WholeSpecification → Fetch
 last_fetch model s = fetch s.position (conversion_type model s.modifier s.conversion)
 
-abbrev pub ended : Model → List Fetch → PosixSpecification → Option RefusalKind → Outcome
+abbrev pub ended : Model → List Fetch → WholeSpecification → Option RefusalKind → Outcome
 ended model fetches s (Some kind) = Refuses kind
 ended model fetches s None =
     if conflicts fetches (last_fetch model s) then Refuses TwoTypes else Ends s (last_fetch model s)
 
-abbrev pub finished : Model → List Fetch → Option PosixSpecification → Outcome
+abbrev pub finished : Model → List Fetch → Option WholeSpecification → Outcome
 finished model fetches None = Refuses Unexpected
 finished model fetches (Some s) = ended model fetches s (undefined_of s)
 

@@ -23,7 +23,7 @@ use Rattle.pf_text.proofs.SpecificationLemmas.{bytes_join, bytes_one}
 use Rattle.pf_posix.specs.Letters.{is_first_digit}
 use Rattle.pf_posix.specs.PartsInText.{IsFirstWidth}
 use Rattle.pf_posix.specs.Specifications.{Given}
-use Rattle.pf_posix.specs.Spelling.{SpellsPosition, SpellsPositive, SpellsPosixPrecision}
+use Rattle.pf_posix.specs.Spelling.{SpellsPosition, SpellsPositive, SpellsWholePrecision}
 
 -- the byte at a place, and what comes after it
 head_of : (t : Text) (at : ℕ) → get_or (drop at t) 0 0 ≡ get_or t at 0
@@ -113,7 +113,7 @@ module _ (t : Text) (start : ℕ) where
 -- digits after the point of a precision
 pub point_bytes : (t : Text) (start : ℕ) (position : Option ℕ) (n stop : ℕ) → n ≤ MAX_NUMBER
     → (bytes : Text) × ContinuesNumber 0 bytes n × HasBytes t start stop bytes
-    → (bytes : Text) × SpellsPosixPrecision (46 ∷ bytes) position (Some (Given n)) × HasBytes t start stop bytes
+    → (bytes : Text) × SpellsWholePrecision (46 ∷ bytes) position (Some (Given n)) × HasBytes t start stop bytes
 point_bytes t start position n stop few read =
     let g = read.1 in (
       read.0,

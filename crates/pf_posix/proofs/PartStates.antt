@@ -8,8 +8,8 @@ use Rattle.pf_values.specs.declared.refusals.RefusalKind.{RefusalKind}
 use Rattle.pf_values.specs.declared.refusals.RefusalKind.TheVariants.{WidthTooLarge, PrecisionTooLarge}
 use Rattle.pf_values.specs.meaning.Flags.{no_flags}
 use Rattle.pf_values.specs.meaning.Text.{Text}
-use Rattle.pf_posix.specs.declared.conversions.Modifier.{Modifier}
-use Rattle.pf_posix.specs.declared.conversions.Modifier.TheVariants.{Integer}
+use Rattle.pf_posix.specs.declared.conversions.WholeLength.{WholeLength}
+use Rattle.pf_posix.specs.declared.conversions.WholeLength.TheVariants.{Integer}
 use Rattle.pf_posix.specs.declared.fetches.Fetch.{Fetch}
 use Rattle.pf_posix.specs.declared.specifications.Numbering.{Numbering}
 use Rattle.pf_posix.specs.Beginnings.{EndsInPart, IsBegunAs, IsUndecided, TakesAmount}
@@ -55,7 +55,7 @@ more_than t position set h = let s = state_of_place t (Width position set) h in 
   go (Flags other more) k e = inl k.1
   go _ k e = cc
 
-pub in_part : (t part : Text) (numbers : Numbers) (modifier : Modifier) → SpellsUpToPrecision t numbers.position numbers.flags numbers.width numbers.precision
+pub in_part : (t part : Text) (numbers : Numbers) (modifier : WholeLength) → SpellsUpToPrecision t numbers.position numbers.flags numbers.width numbers.precision
     → part ≡ t ++ modifier_letters modifier → EndsInPart part numbers.position (own_of numbers)
 in_part t part n modifier h e =
     record { before = t; set = n.flags; width = n.width; precision = n.precision; modifier = modifier; before_is = h; whole = e; own_is = refl }
@@ -85,11 +85,11 @@ pub record StateOf (part : Text) (position : Option ℕ) (own : List Fetch) : Ty
   pub position_is : position_in state ≡ position
   pub own_is : own_in state ≡ own
 
-none_or_some : (modifier : Modifier) → (modifier ≡ Integer lengths.None) ⊎ (modifier ≢ Integer lengths.None)
+none_or_some : (modifier : WholeLength) → (modifier ≡ Integer lengths.None) ⊎ (modifier ≢ Integer lengths.None)
 none_or_some (Integer lengths.None) = inl refl
 none_or_some _ = inr (λ e. cc)
 
-state_of_part : (part before : Text) (numbers : Numbers) (modifier : Modifier)
+state_of_part : (part before : Text) (numbers : Numbers) (modifier : WholeLength)
     → SpellsUpToPrecision before numbers.position numbers.flags numbers.width numbers.precision → part ≡ before ++ modifier_letters modifier
     → (modifier ≡ Integer lengths.None) ⊎ (modifier ≢ Integer lengths.None) → StateOf part numbers.position (own_of numbers)
 state_of_part part before numbers modifier h e (inr some) =

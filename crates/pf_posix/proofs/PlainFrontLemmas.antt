@@ -18,15 +18,15 @@ use Rattle.pf_text.specs.Walks.{BeginsNothing, HasPassed, HasPercent, IsPercent}
 use Rattle.pf_text.specs.declared.specification.FoundDirective.{FoundDirective}
 use Rattle.pf_text.specs.declared.walk.Walk.{Walk}
 use Rattle.pf_text.proofs.WalkLemmas.{run_is_read, run_takes_none, two_bytes}
-use Rattle.pf_posix.specs.declared.conversions.Conversion.{Conversion}
-use Rattle.pf_posix.specs.declared.conversions.Modifier.TheVariants.{Integer}
+use Rattle.pf_posix.specs.declared.conversions.WholeConv.{WholeConv}
+use Rattle.pf_posix.specs.declared.conversions.WholeLength.TheVariants.{Integer}
 use Rattle.pf_posix.specs.declared.fetches.Fetch.{Fetch}
 use Rattle.pf_posix.specs.declared.argument_types.PlainFront.{PlainFront}
 use Rattle.pf_posix.specs.declared.specifications.Specification.{Specification as Read}
-use Rattle.pf_posix.specs.declared.types.ArgumentType.{ArgumentType}
-use Rattle.pf_posix.specs.declared.types.ArgumentType.TheVariants.{Profile}
+use Rattle.pf_posix.specs.declared.types.WholeArgType.{WholeArgType}
+use Rattle.pf_posix.specs.declared.types.WholeArgType.TheVariants.{Profile}
 use Rattle.pf_posix.specs.Defined.{undefined_of}
-use Rattle.pf_posix.specs.Items.{Byte, Errno, PosixItem, ReadsPosix, Specification, SpellsPosixItem, errno_letter, fetched}
+use Rattle.pf_posix.specs.Items.{Byte, Errno, WholeItem, ReadsWhole, Specification, IsWholeReadAs, errno_letter, fetched}
 use Rattle.pf_posix.specs.Laws.{HasCount, filled}
 use Rattle.pf_posix.specs.Letters.{conversion_of}
 use Rattle.pf_posix.specs.OpaqueParts.{bare, parts_of_opaque}
@@ -40,14 +40,14 @@ use Rattle.pf_text.proofs.RefusalLemmas.{take_between}
 use Rattle.pf_posix.proofs.FrontRefusals.{IsRefused, agreed_plain, end_refused, halt_refused_plain, whole_item}
 use Rattle.pf_posix.specs.Plain.{HasPlainItems, HasTypeAt, IsPlain, IsPlainFront, IsPut, IsPutAt, numbering_after}
 use Rattle.pf_posix.specs.Readings.{wanted_types}
-use Rattle.pf_posix.specs.Refusals.{IsPosixRefusedAt, numbering_of}
+use Rattle.pf_posix.specs.Refusals.{IsWholeRefusedAt, numbering_of}
 use Rattle.pf_posix.specs.StretchesInText.{HasPartsAt}
-use Rattle.pf_posix.specs.Specifications.{Amount, Given, Fetched, PosixSpecification, conversion_letter, modifier_letters}
-use Rattle.pf_posix.specs.Spelling.{SpellsPosix, SpellsPosixPrecision, SpellsPosixWidth}
+use Rattle.pf_posix.specs.Specifications.{Amount, Given, Fetched, WholeSpecification, conversion_letter, modifier_letters}
+use Rattle.pf_posix.specs.Spelling.{SpellsWhole, SpellsWholePrecision, SpellsWholeWidth}
 use Rattle.pf_posix.specs.Types.{conversion_type, fetch, fetches, star_fetches, widened}
 use Rattle.pf_posix.proofs.Bounds.{all_append}
 use Rattle.pf_posix.proofs.Growing.{finishes}
-use Rattle.pf_posix.proofs.KeptTypes.{items_free, posix_append, fetched_here, fetches_here, item_of, read_here, reads_here, whole_of}
+use Rattle.pf_posix.proofs.KeptTypes.{items_free, whole_append, fetched_here, fetches_here, item_of, read_here, reads_here, whole_of}
 use Rattle.pf_posix.proofs.LetterLemmas.{byte_of_conversion, letter_tests}
 use Rattle.pf_posix.proofs.ListLemmas.{filled_none}
 use Rattle.pf_posix.proofs.SpecificationsOnce.{same_there, unnumbered_parts}
@@ -69,21 +69,21 @@ typed_profile model t at found wanted h e =
       fetches_are = fetches_here model found.directive h.read.1 ∙ ap (λ w. fetch None (Profile w) ∷ []) (sym e);
     }
 
-abbrev bare_of : Conversion → PosixSpecification
+abbrev bare_of : WholeConv → WholeSpecification
 bare_of conversion = specification_by (numbers_by None no_flags None None) (Integer lengths.None) conversion
 
-pub bare_spelled : (t : Text) (at : ℕ) (conversion : Conversion) → HasPercent t at → conversion_of (get_or t (at + 1) 0) ≡ Some conversion
-    → SpellsPosix (take (at + 2 - at) (drop at t)) (bare_of conversion)
+pub bare_spelled : (t : Text) (at : ℕ) (conversion : WholeConv) → HasPercent t at → conversion_of (get_or t (at + 1) 0) ≡ Some conversion
+    → SpellsWhole (take (at + 2 - at) (drop at t)) (bare_of conversion)
 bare_spelled t at conversion h known =
     let letter = conversion_letter conversion in
     let two : 2 ≡ at + 2 - at = omega arith in
     let text : 37 ∷ letter ∷ [] ≡ take (at + 2 - at) (drop at t) =
     sym (two_bytes t at h ∙ ap (λ b. 37 ∷ b ∷ []) (byte_of_conversion (get_or t (at + 1) 0) conversion known)) ∙ ap (λ n. take n (drop at t)) two in
-    subst (λ u. SpellsPosix u (bare_of conversion)) text
+    subst (λ u. SpellsWhole u (bare_of conversion)) text
     (finishes Opened (37 ∷ []) letter (bare_of conversion) refl (ap (finish Opened) (letter_tests conversion).sign_is))
 
 -- so it is the specification at its offset
-pub bare_at : (t : Text) (at : ℕ) (conversion : Conversion) → HasPercent t at → conversion_of (get_or t (at + 1) 0) ≡ Some conversion
+pub bare_at : (t : Text) (at : ℕ) (conversion : WholeConv) → HasPercent t at → conversion_of (get_or t (at + 1) 0) ≡ Some conversion
     → HasPartsAt t at (bare conversion, at + 2)
 bare_at t at conversion h known = (
   record {
@@ -97,10 +97,10 @@ bare_at t at conversion h known = (
   refl,
 )
 
-pub typed_bare : (model : Model) (t : Text) (at : ℕ) (wanted : ArgumentType) → HasPercent t at
+pub typed_bare : (model : Model) (t : Text) (at : ℕ) (wanted : WholeArgType) → HasPercent t at
     → Some wanted ≡ option_map (conversion_type model (Integer lengths.None)) (conversion_of (get_or t (at + 1) 0)) → HasTypeAt model t at (wanted, at + 2)
 typed_bare model t at wanted h e = go (conversion_of (get_or t (at + 1) 0)) refl e where
-  go : (found : Option Conversion) → conversion_of (get_or t (at + 1) 0) ≡ found → Some wanted ≡ option_map (conversion_type model (Integer lengths.None)) found
+  go : (found : Option WholeConv) → conversion_of (get_or t (at + 1) 0) ≡ found → Some wanted ≡ option_map (conversion_type model (Integer lengths.None)) found
       → HasTypeAt model t at (wanted, at + 2)
   go None known e = cc
   go (Some conversion) known e =
@@ -118,9 +118,9 @@ typed_bare model t at wanted h e = go (conversion_of (get_or t (at + 1) 0)) refl
       }
 
 -- its type is put
-pub typed_put : (model : Model) (t : Text) (at : ℕ) (wanted : ArgumentType) (stop : ℕ) (old new : List ArgumentType) (count : ℕ)
+pub typed_put : (model : Model) (t : Text) (at : ℕ) (wanted : WholeArgType) (stop : ℕ) (old new : List WholeArgType) (count : ℕ)
     → HasTypeAt model t at (wanted, stop)
-    → ((first before : List ArgumentType) → old ≡ filled first before → count ≡ length before → new ≡ filled first (before ++ wanted ∷ []))
+    → ((first before : List WholeArgType) → old ≡ filled first before → count ≡ length before → new ≡ filled first (before ++ wanted ∷ []))
     → length new ≡ length old → IsPutAt model t at old new count (record { at = stop; count = count + 1 })
 typed_put model t at wanted stop old new count h puts long =
     let same : fetched model (Specification h.s ∷ []) ≡ fetch None wanted ∷ [] = append-nil (fetches model h.s) ∙ h.fetches_are in
@@ -141,7 +141,7 @@ plain_there t at numbering read stop h e =
     record {
       some = h.is.read.some;
       within = h.is.read.within;
-      spelled = (subst (SpellsPosix text) (sym same) h.is.read.spelled, ap undefined_of same ∙ h.defined);
+      spelled = (subst (SpellsWhole text) (sym same) h.is.read.spelled, ap undefined_of same ∙ h.defined);
       unnumbered = refl;
     }
 
@@ -162,18 +162,18 @@ none_there t at numbering refused h found k e = h.none (take (found.1 - at) (dro
     k.is.read.spelled (sym (take-append-drop (found.1 - at) (drop at t))) k.is.follows k.defined
 
 -- a specification fetches no more arguments than it has bytes
-star_bytes : (t : Text) (position : Option ℕ) (width : Option Amount) → SpellsPosixWidth t position width → length (star_fetches width) ≤ length t
+star_bytes : (t : Text) (position : Option ℕ) (width : Option Amount) → SpellsWholeWidth t position width → length (star_fetches width) ≤ length t
 star_bytes t position None h = omega arith
 star_bytes t position (Some (Given n)) h = omega arith
 star_bytes t position (Some (Fetched number)) h = omega (arith, ap length h.whole)
 
-point_bytes : (t : Text) (position : Option ℕ) (precision : Option Amount) → SpellsPosixPrecision t position precision
+point_bytes : (t : Text) (position : Option ℕ) (precision : Option Amount) → SpellsWholePrecision t position precision
     → length (star_fetches precision) ≤ length t
 point_bytes t position None h = omega arith
 point_bytes t position (Some (Given n)) h = omega arith
 point_bytes t position (Some (Fetched number)) h = omega (arith, ap length h.2, ap length h.1.whole)
 
-fetches_few : (model : Model) (t : Text) (s : PosixSpecification) → SpellsPosix t s → length (fetches model s) ≤ length t
+fetches_few : (model : Model) (t : Text) (s : WholeSpecification) → SpellsWhole t s → length (fetches model s) ≤ length t
 fetches_few model t s h =
     let p = h.before_is in
     let w = p.before_is in
@@ -203,7 +203,7 @@ plain_errno t at h letter =
       unnumbered = tt;
     }
 
-pub errno_put : (model : Model) (t : Text) (at : ℕ) (old : List ArgumentType) (count : ℕ) → HasPercent t at → get_or t (at + 1) 0 ≡ errno_letter
+pub errno_put : (model : Model) (t : Text) (at : ℕ) (old : List WholeArgType) (count : ℕ) → HasPercent t at → get_or t (at + 1) 0 ≡ errno_letter
     → IsPutAt model t at old old count (record { at = at + 2; count = count })
 errno_put model t at old count h letter =
     record {
@@ -215,7 +215,7 @@ errno_put model t at old count h letter =
     }
 
 -- types were put if and only if an item was read
-module _ (model : Model) (t : Text) (at : ℕ) (old new : List ArgumentType) (count : ℕ) (read : PlainFront) where
+module _ (model : Model) (t : Text) (at : ℕ) (old new : List WholeArgType) (count : ℕ) (read : PlainFront) where
   pub was_put : IsPut model t at old new count read → read.at ≢ at → IsPutAt model t at old new count read
   was_put (inl h) other = absurd (other h.0)
   was_put (inr h) other = h
@@ -226,25 +226,25 @@ module _ (model : Model) (t : Text) (at : ℕ) (old new : List ArgumentType) (co
   none_put (inl h) same = (h.1, h.2, h.3, h.4)
   none_put (inr h) same = absurd (omega (arith, h.plain.some, same))
 
-item_few : (model : Model) (t : Text) (item : PosixItem) → SpellsPosixItem t item → length (fetched model (item ∷ [])) ≤ length t
+item_few : (model : Model) (t : Text) (item : WholeItem) → IsWholeReadAs t item → length (fetched model (item ∷ [])) ≤ length t
 item_few model t (Byte byte) h = omega arith
 item_few model t Errno h = omega arith
 item_few model t (Specification s) h = subst (λ l. length l ≤ length t) (sym (append-nil (fetches model s))) (fetches_few model t s h.0)
 
-pub put_few : (model : Model) (t : Text) (at : ℕ) (old new : List ArgumentType) (count stop after : ℕ)
+pub put_few : (model : Model) (t : Text) (at : ℕ) (old new : List WholeArgType) (count stop after : ℕ)
     → IsPutAt model t at old new count (record { at = stop; count = after }) → count ≤ at → after ≤ stop
 put_few model t at old new count stop after h few =
     let text = take (stop - at) (drop at t) in
     let long = length-take-le (stop - at) (drop at t) (omega (arith, h.plain.within, length-drop at t)) in
     omega (arith, few, h.more, h.plain.some, long, item_few model text h.item h.plain.spelled)
 
-pub no_front : (model : Model) (t : Text) (old : List ArgumentType) → IsPlainFront model t 0 old old 0
+pub no_front : (model : Model) (t : Text) (old : List WholeArgType) → IsPlainFront model t 0 old old 0
 no_front model t old = record { plain = record { items = []; reads = refl; unnumbered = tt; count_is = refl }; front = sym (filled_none old) }
 
 -- what a walk has passed takes no argument
-pub passed_more : (model : Model) (before after : Walk) (items : List PosixItem) → HasPassed IsPercent before after
-    → ReadsPosix (take before.at before.text.now) items → before.at ≤ length before.text.now
-    → (more : List PosixItem) × ReadsPosix (take after.at after.text.now) more × (fetched model more ≡ fetched model items) × (after.at ≤ length after.text.now)
+pub passed_more : (model : Model) (before after : Walk) (items : List WholeItem) → HasPassed IsPercent before after
+    → ReadsWhole (take before.at before.text.now) items → before.at ≤ length before.text.now
+    → (more : List WholeItem) × ReadsWhole (take after.at after.text.now) more × (fetched model more ≡ fetched model items) × (after.at ≤ length after.text.now)
 passed_more model before after items h reads low =
     let t = after.text.now in
     let bytes = take (after.at - before.at) (drop before.at t) in
@@ -253,8 +253,8 @@ passed_more model before after items h reads low =
     let none : fetched model (map item_of h.items) ≡ [] =
     fetched_here model bytes h.items passed ∙ ap (map (λ w. fetch None (widened w))) (run_takes_none model h.items h.run.passed) in (
       more,
-      subst (λ u. ReadsPosix u more) (sym (take_between t before.at after.at h.from)) (posix_append (take before.at t) bytes items (map item_of h.items)
-          (subst (λ u. ReadsPosix (take before.at u) items) (sym h.text) reads) (reads_here bytes h.items passed)),
+      subst (λ u. ReadsWhole u more) (sym (take_between t before.at after.at h.from)) (whole_append (take before.at t) bytes items (map item_of h.items)
+          (subst (λ u. ReadsWhole (take before.at u) items) (sym h.text) reads) (reads_here bytes h.items passed)),
       fetched_append model items (map item_of h.items) ∙ ap (λ l. fetched model items ++ l) none ∙ append-nil (fetched model items),
       omega (arith, h.within, low, ap length h.text),
     )
@@ -264,7 +264,7 @@ plain_numbering : (fs : List Fetch) → AllByRecursion (λ f. f.number ≡ None)
 plain_numbering [] h = refl
 plain_numbering (f ∷ fs) h = grind (arith, nat_tests, h.0)
 
-module _ (model : Model) (old new : List ArgumentType) (count : ℕ) where
+module _ (model : Model) (old new : List WholeArgType) (count : ℕ) where
   pub front_walked : (before after : Walk) → HasPassed IsPercent before after → IsPlainFront model before.text.now before.at old new count
       → before.at ≤ length before.text.now → IsPlainFront model after.text.now after.at old new count × (after.at ≤ length after.text.now)
   front_walked before after h front low =
@@ -281,12 +281,12 @@ module _ (model : Model) (old new : List ArgumentType) (count : ℕ) where
         more.3,
       )
 
-module _ (model : Model) (t : Text) (at : ℕ) (old new : List ArgumentType) (count : ℕ) (h : IsPlainFront model t at old new count) where
+module _ (model : Model) (t : Text) (at : ℕ) (old new : List WholeArgType) (count : ℕ) (h : IsPlainFront model t at old new count) where
   abbrev seen : List Fetch
   seen = fetched model h.plain.items
 
   -- an item more
-  pub front_put : (more : List ArgumentType) (stop after : ℕ) → IsPutAt model t at new more count (record { at = stop; count = after })
+  pub front_put : (more : List WholeArgType) (stop after : ℕ) → IsPutAt model t at new more count (record { at = stop; count = after })
       → IsPlainFront model t stop old more after
   front_put more stop after p =
       let own = fetched model (p.item ∷ []) in
@@ -315,7 +315,7 @@ module _ (model : Model) (t : Text) (at : ℕ) (old new : List ArgumentType) (co
         types = wanted_types seen;
         accepted = record {
           items = h.plain.items;
-          reads = subst (λ u. ReadsPosix u h.plain.items) (take_all at t end) h.plain.reads;
+          reads = subst (λ u. ReadsWhole u h.plain.items) (take_all at t end) h.plain.reads;
           limit = few;
           types_are = inl (record { unnumbered = h.plain.unnumbered; types_are = refl });
         };
@@ -328,9 +328,9 @@ module _ (model : Model) (t : Text) (at : ℕ) (old new : List ArgumentType) (co
   front_ended few less nothing = end_refused model t at h.plain.items few h.plain.reads (agreed_plain seen h.plain.unnumbered) less nothing
 
   -- and where something else does
-  pub front_others : (last : List ArgumentType) (r : Result ℕ Refusal)
-      → MatchResult r (λ count. HasCount model t new last count) (λ refusal. IsPosixRefusedAt model t refusal.kind refusal.at) → IfOk r (λ _. count ≡ 0)
-      → MatchResult r (λ count. HasCount model t old last count) (λ refusal. IsPosixRefusedAt model t refusal.kind refusal.at)
+  pub front_others : (last : List WholeArgType) (r : Result ℕ Refusal)
+      → MatchResult r (λ count. HasCount model t new last count) (λ refusal. IsWholeRefusedAt model t refusal.kind refusal.at) → IfOk r (λ _. count ≡ 0)
+      → MatchResult r (λ count. HasCount model t old last count) (λ refusal. IsWholeRefusedAt model t refusal.kind refusal.at)
   front_others last (Ok n) k none =
       let nothing = nil_from_length seen (sym h.plain.count_is ∙ none) in
       subst (λ l. HasCount model t l last n) (h.front ∙ ap (λ l. filled old (wanted_types l)) nothing ∙ filled_none old) k

@@ -11,19 +11,19 @@ use Rattle.pf_text.specs.FoundDirectives.{BeginsNoItem}
 use Rattle.pf_posix.specs.declared.opaque_directives.Opaque.TheVariants.{Directive as OpaqueDirective, Errno as OpaqueErrno}
 use Rattle.pf_posix.specs.declared.specifications.Numbering.TheVariants.{Unnumbered}
 use Rattle.pf_posix.specs.declared.specifications.Specification.{Specification as Read}
-use Rattle.pf_posix.specs.Defined.{IsPosixDefined, undefined_of}
+use Rattle.pf_posix.specs.Defined.{IsWholeDefined, undefined_of}
 use Rattle.pf_posix.specs.PartsInText.{IsSpecificationAt, specification_read}
 use Rattle.pf_posix.specs.Heads.{IsOpaqueAt}
 use Rattle.pf_posix.specs.Items.{errno}
 use Rattle.pf_posix.specs.Opaque.{SpellsOpaque, is_opaque}
 use Rattle.pf_posix.specs.OpaqueParts.{parts_of_opaque}
-use Rattle.pf_posix.specs.Specifications.{PosixSpecification}
+use Rattle.pf_posix.specs.Specifications.{WholeSpecification}
 use Rattle.pf_posix.proofs.SpecificationsOnce.{parted, unnumbered_parts}
 use Rattle.pf_posix.proofs.Narrowed.{narrowed}
 use Rattle.pf_posix.specs.OpaqueParts.{narrow}
 use Rattle.pf_posix.proofs.Agreeing.{without_number}
 use Rattle.pf_posix.specs.Halts.{IsDefinedAt}
-use Rattle.pf_posix.specs.Spelling.{SpellsPosix}
+use Rattle.pf_posix.specs.Spelling.{SpellsWhole}
 
 -- A specification that was read in the front of a text up to the limit isn't one of the profile, if no item of that
 -- begins there and ends within the limit.
@@ -36,16 +36,16 @@ opaque_read t at read stop none h = go (is_opaque s) refl where
   text : Text
   text = take (stop - at) (drop at (take MAX_TEXT_LEN t))
 
-  s : PosixSpecification
+  s : WholeSpecification
   s = parts_of_opaque read.parts
 
   same : s ≡ specification_read read
   same = unnumbered_parts text read found.spelled (without_number read.position h.is.follows)
 
-  spelled : SpellsPosix text s
-  spelled = subst (SpellsPosix text) (sym same) found.spelled
+  spelled : SpellsWhole text s
+  spelled = subst (SpellsWhole text) (sym same) found.spelled
 
-  defined : IsPosixDefined s
+  defined : IsWholeDefined s
   defined = ap undefined_of same ∙ h.defined
 
   go : (b : Bool) → is_opaque s ≡ b → IsOpaqueAt t at (OpaqueDirective read.parts, stop)

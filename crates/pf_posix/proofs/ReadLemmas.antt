@@ -22,9 +22,9 @@ use Rattle.pf_text.specs.States.{is_digit}
 use Rattle.pf_text.specs.declared.refusals.Refusal.{Refusal}
 use Rattle.pf_text.proofs.NoDirectiveLemmas.{bytes_rest, same_place}
 use Rattle.pf_text.proofs.SpecificationLemmas.{bytes_join, bytes_one}
-use Rattle.pf_posix.specs.declared.conversions.Conversion.{Conversion}
-use Rattle.pf_posix.specs.declared.conversions.Modifier.{Modifier}
-use Rattle.pf_posix.specs.declared.conversions.Modifier.TheVariants.{Integer, LongDouble}
+use Rattle.pf_posix.specs.declared.conversions.WholeConv.{WholeConv}
+use Rattle.pf_posix.specs.declared.conversions.WholeLength.{WholeLength}
+use Rattle.pf_posix.specs.declared.conversions.WholeLength.TheVariants.{Integer, LongDouble}
 use Rattle.pf_posix.specs.declared.fetches.Fetch.{Fetch}
 use Rattle.pf_posix.specs.declared.opaque_directives.OpaqueAmount.{OpaqueAmount}
 use Rattle.pf_posix.specs.declared.opaque_directives.OpaqueAmount.TheVariants as amounts
@@ -40,7 +40,7 @@ use Rattle.pf_posix.specs.OpaqueParts.{amount_at, parts_of_opaque}
 use Rattle.pf_posix.specs.PartsInText.{IsFirstWidth, ModifierEnds, NumbersStar, PrecisionEnds, WidthEnds, second_modifier, specification_read}
 use Rattle.pf_posix.specs.Refusals.{numbering_of, IsUnexpected}
 use Rattle.pf_posix.specs.Specifications.{Amount, Fetched, conversion_letter, modifier_letters}
-use Rattle.pf_posix.specs.Spelling.{SpellsPosition, SpellsPosix, SpellsPositive, SpellsPosixPrecision, SpellsPosixWidth, SpellsStar, SpellsUpToFlags}
+use Rattle.pf_posix.specs.Spelling.{SpellsPosition, SpellsWhole, SpellsPositive, SpellsWholePrecision, SpellsWholeWidth, SpellsStar, SpellsUpToFlags}
 use Rattle.pf_posix.specs.Spelling.{SpellsUpToPrecision, SpellsUpToWidth}
 use Rattle.pf_posix.specs.Types.{int_type, star_fetches}
 use Rattle.pf_posix.specs.Beginnings.{IsBegunAs, IsUndecided}
@@ -126,7 +126,7 @@ EndsPlace (Precision position set width) byte = ⊤
 
 -- a byte that is neither part of a number nor of anything after it
 module _ (byte : ℕ) (q : Numbering) (none : conversion_of byte ≡ None) where
-  quiet_modified : (numbers : Numbers) (modifier : Modifier) → second_modifier modifier byte ≡ None
+  quiet_modified : (numbers : Numbers) (modifier : WholeLength) → second_modifier modifier byte ≡ None
       → allows (Modified numbers modifier) q (sign_of byte) ≡ false
   quiet_modified numbers (Integer lengths.H) e = grind (arith, nat_tests)
   quiet_modified numbers (Integer lengths.L) e = grind (arith, nat_tests)
@@ -241,7 +241,7 @@ module _ (t : Text) (start : ℕ) (numbering : Numbering) (position : Option ℕ
       refuse t start numbering position h.0 refusal _ refused is h.1 (record { width = tt; precision = tt; own_is = h.2 })
 
   module _ (width : Option OpaqueAmount) (width_number : Option ℕ) (b : ℕ)
-      (width_read : (bytes : Text) × SpellsPosixWidth bytes position (amount_at width width_number) × HasBytes t a b bytes)
+      (width_read : (bytes : Text) × SpellsWholeWidth bytes position (amount_at width width_number) × HasBytes t a b bytes)
       (width_alone : NumbersStar width width_number) where
     abbrev wide : Text
     wide = before ++ width_read.0
@@ -255,8 +255,8 @@ module _ (t : Text) (start : ℕ) (numbering : Numbering) (position : Option ℕ
     wide_bytes : HasBytes t start b wide
     wide_bytes = bytes_join t start a b before width_read.0 before_bytes width_read.2
 
-    width_spelled : (amount : Amount) → wide_amount ≡ Some amount → SpellsPosixWidth width_read.0 position (Some amount)
-    width_spelled amount e = subst (SpellsPosixWidth width_read.0 position) e width_read.1
+    width_spelled : (amount : Amount) → wide_amount ≡ Some amount → SpellsWholeWidth width_read.0 position (Some amount)
+    width_spelled amount e = subst (SpellsWholeWidth width_read.0 position) e width_read.1
 
     width_star : HasStar t start position width_number b []
     width_star = star_there t start b position [] width width_number width_alone
@@ -274,7 +274,7 @@ module _ (t : Text) (start : ℕ) (numbering : Numbering) (position : Option ℕ
         (record { width = width_star; precision = tt; own_is = λ has. h.2 has ∙ width_own has ∙ sym (append-nil (one_fetch width_number int_type)) })
 
     module _ (precision : Option OpaqueAmount) (precision_number : Option ℕ) (c : ℕ)
-        (precision_read : (bytes : Text) × SpellsPosixPrecision bytes position (amount_at precision precision_number) × HasBytes t b c bytes)
+        (precision_read : (bytes : Text) × SpellsWholePrecision bytes position (amount_at precision precision_number) × HasBytes t b c bytes)
         (precision_alone : NumbersStar precision precision_number) where
       abbrev precise : Text
       precise = wide ++ precision_read.0
@@ -295,8 +295,8 @@ module _ (t : Text) (start : ℕ) (numbering : Numbering) (position : Option ℕ
       pointed : (rest : Text) → precision_read.0 ≡ 46 ∷ rest → precise ≡ (wide ++ 46 ∷ []) ++ rest
       pointed rest e = ap (λ u. wide ++ u) e ∙ sym (append_assoc wide (46 ∷ []) rest)
 
-      precision_spelled : (amount : Amount) → precise_amount ≡ Some amount → SpellsPosixPrecision precision_read.0 position (Some amount)
-      precision_spelled amount e = subst (SpellsPosixPrecision precision_read.0 position) e precision_read.1
+      precision_spelled : (amount : Amount) → precise_amount ≡ Some amount → SpellsWholePrecision precision_read.0 position (Some amount)
+      precision_spelled amount e = subst (SpellsWholePrecision precision_read.0 position) e precision_read.1
 
       precision_star : HasStar t start position precision_number c (one_fetch width_number int_type)
       precision_star = star_there t start c position (one_fetch width_number int_type) precision precision_number precision_alone (λ n e.
@@ -316,14 +316,14 @@ module _ (t : Text) (start : ℕ) (numbering : Numbering) (position : Option ℕ
             own_is = λ has. ap (λ l. l ++ star_fetches precise_amount) (width_own has) ∙ ap (λ l. one_fetch width_number int_type ++ l) (precision_own has);
           }
 
-      module _ (modifier : Modifier) (d : ℕ) (modifier_read : HasBytes t c d (modifier_letters modifier)) where
+      module _ (modifier : WholeLength) (d : ℕ) (modifier_read : HasBytes t c d (modifier_letters modifier)) where
         abbrev part : Text
         part = precise ++ modifier_letters modifier
 
         part_bytes : HasBytes t start d part
         part_bytes = bytes_join t start c d precise (modifier_letters modifier) precise_bytes modifier_read
 
-        pub read_there : (conversion : Conversion) (read : Specification) → read ≡ record {
+        pub read_there : (conversion : WholeConv) (read : Specification) → read ≡ record {
           position = position;
           flags_start = k;
           flags_stop = a;
@@ -335,7 +335,7 @@ module _ (t : Text) (start : ℕ) (numbering : Numbering) (position : Option ℕ
               read = record {
                 some = omega (arith, part_bytes.from);
                 within = letter.within;
-                spelled = subst (λ u. SpellsPosix u (specification_read made)) (sym (bytes_between t _ start (d + 1) whole)) (record {
+                spelled = subst (λ u. SpellsWhole u (specification_read made)) (sym (bytes_between t _ start (d + 1) whole)) (record {
                   before = precise;
                   before_is = precise_is;
                   whole = refl;
@@ -377,7 +377,7 @@ module _ (t : Text) (start : ℕ) (numbering : Numbering) (position : Option ℕ
           part_begun = inl (in_part precise part (numbers_by position set wide_amount precise_amount) modifier precise_is refl)
 
           module _ (none : conversion_of byte ≡ None) where
-            modified : (same : Modifier) → modifier ≡ same → same ≢ Integer lengths.None → second_modifier same byte ≡ None → Stops numbering byte part
+            modified : (same : WholeLength) → modifier ≡ same → same ≢ Integer lengths.None → second_modifier same byte ≡ None → Stops numbering byte part
             modified same e some second =
                 let numbers = numbers_by position set wide_amount precise_amount in
                 stops_in numbering byte (Modified numbers same) part (precise, precise_is, ap (λ m. precise ++ modifier_letters m) e, some) (λ is f. cc)
@@ -430,7 +430,7 @@ module _ (t : Text) (start : ℕ) (numbering : Numbering) (position : Option ℕ
                   go (inr (one, alone)) = stops_in numbering byte Opened before one (λ same. ends_none one here)
                       (λ q same. quiet_opened byte q none plain point digit flag (ne_eqb byte 42 star) (unnumbered alone q (same (inl one))))
 
-                width_stops : (width : Option OpaqueAmount) (number : Option ℕ) → SpellsPosixWidth width_read.0 position (amount_at width number)
+                width_stops : (width : Option OpaqueAmount) (number : Option ℕ) → SpellsWholeWidth width_read.0 position (amount_at width number)
                     → WidthEnds t d position width → Stops numbering byte wide
                 width_stops (Some amounts.Star) number s ends =
                     star_stops numbering byte none plain (Width position set) before width_read.0 number point before_is s ends
@@ -454,7 +454,7 @@ module _ (t : Text) (start : ℕ) (numbering : Numbering) (position : Option ℕ
                   (λ q same. quiet_digits byte q none plain (Precision position set wide_amount) n tt digit)
 
               precision_stops : c ≡ d → (precision : Option OpaqueAmount) (number : Option ℕ)
-                  → SpellsPosixPrecision precision_read.0 position (amount_at precision number) → PrecisionEnds t b d position precision
+                  → SpellsWholePrecision precision_read.0 position (amount_at precision number) → PrecisionEnds t b d position precision
                   → Stops numbering byte precise
               precision_stops place (Some amounts.Star) number s ends =
                   stops_like numbering byte precise ((wide ++ 46 ∷ []) ++ s.0) (pointed s.0 s.2)
@@ -467,7 +467,7 @@ module _ (t : Text) (start : ℕ) (numbering : Numbering) (position : Option ℕ
 
             stops : Stops numbering byte part
             stops = go modifier refl modifier_ends where
-              go : (same : Modifier) → modifier ≡ same → ModifierEnds t d same → Stops numbering byte part
+              go : (same : WholeLength) → modifier ≡ same → ModifierEnds t d same → Stops numbering byte part
               go (Integer lengths.None) e plain =
                   let place = same_place t c d (subst (λ m. HasBytes t c d (modifier_letters m)) e modifier_read) in
                   let ends = subst (λ k. PrecisionEnds t b k position precision) place precision_ends in
@@ -499,7 +499,7 @@ refused_position t start numbering refusal less percent halts refused is =
     let h = halts start (bytes_one t start 37 less (sym percent)) in
     refuse t start numbering None [] refusal _ refused is h (record { width = tt; precision = tt; own_is = λ has. refl })
 
-conversion_plain : (conversion : Conversion) → (conversion_letter conversion == 0 || (conversion_letter conversion == 37 || conversion_letter conversion == 109)) ≡ false
+conversion_plain : (conversion : WholeConv) → (conversion_letter conversion == 0 || (conversion_letter conversion == 37 || conversion_letter conversion == 109)) ≡ false
 conversion_plain conversion = grind arith
 
 -- a specification that was read, but isn't defined
@@ -517,7 +517,7 @@ refused_undefined t start numbering read stop kind is undefined refused made =
       why : undefined_of (specification_read read) ≡ Some kind
       why = same_kind read ∙ undefined
 
-      s : SpellsPosix (take (stop - start) (drop start t)) (specification_read read)
+      s : SpellsWhole (take (stop - start) (drop start t)) (specification_read read)
       s = is.read.spelled
 
       part : Text
@@ -542,7 +542,7 @@ refused_undefined t start numbering read stop kind is undefined refused made =
       last : HasBytes t start (stop - 1) part × (get_or t (stop - 1) 0 ≡ conversion_letter read.parts.conversion) × (stop ≡ stop - 1 + 1)
       last = bytes_but_last t start stop part (conversion_letter read.parts.conversion) (subst (HasBytes t start stop) s.whole bytes)
 
-      spelled : SpellsPosix (part ++ get_or t (stop - 1) 0 ∷ []) (specification_read read)
+      spelled : SpellsWhole (part ++ get_or t (stop - 1) 0 ∷ []) (specification_read read)
       spelled = rw (last.1) (rw s.whole at s)
 
       later : Model → (fetches : List Fetch) → (own ≡ [] → numbering_of fetches ≡ numbering) → IsUndecided part ⊎ FollowsBy (numbering_of fetches) read.position

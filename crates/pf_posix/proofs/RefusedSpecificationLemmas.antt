@@ -8,7 +8,7 @@ use Rattle.pf_values.specs.meaning.Text.{Text}
 use Rattle.pf_posix.specs.declared.specifications.Numbering.TheVariants.{Undecided}
 use Rattle.pf_posix.specs.declared.specifications.Specification.{Specification as Read}
 use Rattle.pf_posix.specs.Halts.{BeginsNoneAfter}
-use Rattle.pf_posix.specs.Items.{Byte, Errno, PosixItem, ReadsPosix, Specification, SpellsPosixItem, errno}
+use Rattle.pf_posix.specs.Items.{Byte, Errno, WholeItem, ReadsWhole, Specification, IsWholeReadAs, errno}
 use Rattle.pf_posix.specs.PartsInText.{IsSpecificationAt, specification_read}
 use Rattle.pf_posix.specs.RefusedSpecifications.{BeginsNoSpecification, IsAtPart, IsBeforePart, IsPartOfOne}
 use Rattle.pf_posix.proofs.DirectiveLemmas.{errno_split, percent_split}
@@ -20,7 +20,7 @@ use Rattle.pf_posix.proofs.SpecificationsOnce.{HasSecond, begins_known, parted, 
 use Rattle.pf_posix.proofs.Steps.{IsStateAfter, State, Strange, sign_of}
 
 -- no item, defined or not, begins what has begun
-no_item : (state : State) (item : PosixItem) (first more : Text) → HasText item first → ¬ IsStateAfter state (first ++ more)
+no_item : (state : State) (item : WholeItem) (first more : Text) → HasText item first → ¬ IsStateAfter state (first ++ more)
 no_item state (Specification s) first more h a = ends_here first more s state h a
 no_item state (Byte x) first more h a = go (x == 37) refl (second_begun _ state (subst (λ u. IsStateAfter state (u ++ more)) h a)) where
   go : (b : Bool) → (x == 37) ≡ b → ((if b then 37 ∷ 37 ∷ [] else x ∷ []) ++ more ≡ 37 ∷ []) ⊎ HasSecond ((if b then 37 ∷ 37 ∷ [] else x ∷ []) ++ more) → ⊥
@@ -33,7 +33,7 @@ no_item state Errno first more h a = go (second_begun _ state (subst (λ u. IsSt
   go (inl one) = cc
   go (inr two) = let second : two.0 ≡ 109 = let t = two.3 in cc in two.2 (ap sign_of second)
 
-part_some : (part first rest : Text) (item : PosixItem) → IsPartOfOne part → HasText item first → part ≡ first ++ rest → (part ≡ [])
+part_some : (part first rest : Text) (item : WholeItem) → IsPartOfOne part → HasText item first → part ≡ first ++ rest → (part ≡ [])
 part_some part first rest item (inl none) h e = none
 part_some part first rest item (inr begun) h e =
     let s = state_of part begun.0 begun.1 begun.2 in absurd (no_item s.state item first rest h (subst (IsStateAfter s.state) e s.after))
@@ -43,11 +43,11 @@ module _ (t : Text) (at : ℕ) (h : IsBeforePart t at) where
   rest_is = ap (drop at) h.split ∙ drop-append-le at h.whole h.part h.within
 
   -- what comes after an item
-  module _ (stop : ℕ) (item : PosixItem) (first : Text) (text : HasText item first) (split : drop at t ≡ first ++ drop stop t) (low : at < stop)
+  module _ (stop : ℕ) (item : WholeItem) (first : Text) (text : HasText item first) (split : drop at t ≡ first ++ drop stop t) (low : at < stop)
       (high : stop ≤ length t) where
     pub passed : IsBeforePart t stop
     passed = go h.left h.reads_left where
-      go : (left : List PosixItem) → ReadsPosix (drop at h.whole) left → IsBeforePart t stop
+      go : (left : List WholeItem) → ReadsWhole (drop at h.whole) left → IsBeforePart t stop
       go [] reads =
           let part : drop at t ≡ h.part = rest_is ∙ ap (λ u. u ++ h.part) reads in
           let none = part_some h.part first (drop stop t) item h.begun text (sym part ∙ split) in
@@ -70,13 +70,13 @@ module _ (t : Text) (at : ℕ) (h : IsBeforePart t at) where
             reads = h.reads;
             begun = h.begun;
             within = omega (arith, long);
-            reads_left = subst (λ u. ReadsPosix u left) rest reads.3;
+            reads_left = subst (λ u. ReadsWhole u left) rest reads.3;
           }
 
   -- where no item begins
-  pub at_part : ((item : PosixItem) (first rest : Text) → SpellsPosixItem first item → drop at t ≢ first ++ rest) → IsAtPart t at
+  pub at_part : ((item : WholeItem) (first rest : Text) → IsWholeReadAs first item → drop at t ≢ first ++ rest) → IsAtPart t at
   at_part none = (h, go h.left h.reads_left) where
-    go : (left : List PosixItem) → ReadsPosix (drop at h.whole) left → at ≡ length h.whole
+    go : (left : List WholeItem) → ReadsWhole (drop at h.whole) left → at ≡ length h.whole
     go [] reads = omega (arith, h.within, ap length reads, length-drop at h.whole)
     go (i ∷ left) reads = absurd (none i reads.0 (reads.1 ++ h.part) reads.2 (rest_is ∙ ap (λ u. u ++ h.part) reads.4 ∙ append_assoc reads.0 reads.1 h.part))
 
@@ -110,7 +110,7 @@ module _ (t : Text) (at : ℕ) (h : IsBeforePart t at) where
         first_is : drop at t ≡ 37 ∷ drop (at + 1) t
         first_is = drop_more t at 0 less ∙ ap (λ b. b ∷ drop (at + 1) t) percent
 
-        go : (item : PosixItem) (first rest : Text) → SpellsPosixItem first item → drop at t ≢ first ++ rest
+        go : (item : WholeItem) (first rest : Text) → IsWholeReadAs first item → drop at t ≢ first ++ rest
         go (Specification s) first rest h e = none first rest s h.0 e (inl refl) h.1
         go (Byte x) first rest h e =
             let twice = percent_twice x rest (drop (at + 1) t) (sym (ap (λ u. u ++ rest) (text_there first (Byte x) h)) ∙ sym e ∙ first_is) in

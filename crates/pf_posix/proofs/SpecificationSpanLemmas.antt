@@ -7,12 +7,12 @@ use Rattle.pf_posix.specs.declared.opaque_directives.OpaqueAmount.{OpaqueAmount}
 use Rattle.pf_posix.specs.declared.opaque_directives.OpaqueAmount.TheVariants as amounts
 use Rattle.pf_posix.specs.declared.specification_spans.SpecificationSpan.{SpecificationSpan}
 use Rattle.pf_posix.specs.declared.specifications.Specification.{Specification as Read}
-use Rattle.pf_posix.specs.Defined.{IsPosixDefined}
+use Rattle.pf_posix.specs.Defined.{IsWholeDefined}
 use Rattle.pf_posix.specs.Directives.{directive_between}
 use Rattle.pf_posix.specs.Halts.{offsets_read}
 use Rattle.pf_posix.specs.OpaqueParts.{amount_at, amount_of, parts_of_opaque}
 use Rattle.pf_posix.specs.PartsInText.{specification_read}
-use Rattle.pf_posix.specs.SpecificationSpans.{ArePosixPartsAt, HasItsParts, alone, without_number}
+use Rattle.pf_posix.specs.SpecificationSpans.{AreWholePartsAt, HasItsParts, alone, without_number}
 use Rattle.pf_posix.proofs.SpecificationsOnce.{same_fields}
 
 -- what the code has read, alone
@@ -26,8 +26,8 @@ read_alone read =
       amount (Some amounts.Star) number = refl
 
 -- the parts of a specification that the code has read
-pub its_parts : (model : Model) (t : Text) (begin end next : ℕ) (read : Read) → IsPosixDefined (specification_read read)
-    → ArePosixPartsAt t begin end (offsets_read read) (specification_read read)
+pub its_parts : (model : Model) (t : Text) (begin end next : ℕ) (read : Read) → IsWholeDefined (specification_read read)
+    → AreWholePartsAt t begin end (offsets_read read) (specification_read read)
     → (span : SpecificationSpan) → span.directive ≡ directive_between model begin end next (specification_read read)
     → span.parts ≡ read.parts → span.offsets ≡ offsets_read read → HasItsParts t span
 its_parts model t begin end next read defined places span spanned parts offsets = record {

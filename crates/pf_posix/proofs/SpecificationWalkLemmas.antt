@@ -16,12 +16,12 @@ use Rattle.pf_posix.specs.declared.specifications.Specification.{Specification a
 use Rattle.pf_posix.specs.Directives.{directive_between, directives_from}
 use Rattle.pf_posix.specs.DirectivesInText.{IsBehindItem, IsListedBehind, IsListedTo}
 use Rattle.pf_posix.specs.Halts.{offsets_read}
-use Rattle.pf_posix.specs.Items.{Byte, Errno, PosixItem, ReadsPosix, Specification}
+use Rattle.pf_posix.specs.Items.{Byte, Errno, WholeItem, ReadsWhole, Specification}
 use Rattle.pf_posix.specs.PartsInText.{specification_read}
-use Rattle.pf_posix.specs.SpecificationSpans.{ArePosixPartsAt, HasItsParts, HasSpecifications}
+use Rattle.pf_posix.specs.SpecificationSpans.{AreWholePartsAt, HasItsParts, HasSpecifications}
 use Rattle.pf_posix.specs.SpecificationWalks.{AreTheRest, IsAhead, IsBefore}
-use Rattle.pf_posix.specs.Specifications.{PosixSpecification, conversion_letter, modifier_letters}
-use Rattle.pf_posix.specs.Spelling.{SpellsPosix}
+use Rattle.pf_posix.specs.Specifications.{WholeSpecification, conversion_letter, modifier_letters}
+use Rattle.pf_posix.specs.Spelling.{SpellsWhole}
 use Rattle.pf_posix.specs.Types.{fetches}
 use Rattle.pf_posix.proofs.Agreeing.{all_push}
 use Rattle.pf_posix.proofs.DirectiveLemmas.{has_listed, listed_byte, listed_percent, other_byte}
@@ -33,11 +33,11 @@ abbrev pub directive_of : SpecificationSpan → DirectiveSpan
 directive_of span = span.directive
 
 -- a specification has two bytes at least
-two_bytes : {t : Text} {begin end : ℕ} (read : Read) → ArePosixPartsAt t begin end (offsets_read read) (specification_read read) → begin + 2 ≤ end
+two_bytes : {t : Text} {begin end : ℕ} (read : Read) → AreWholePartsAt t begin end (offsets_read read) (specification_read read) → begin + 2 ≤ end
 two_bytes read parts = omega (arith, parts.number.2.from, parts.flags.2.from, parts.width.2.from, parts.precision.2.from, parts.modifier.from)
 
 module _ (t : Text) where
-  pub ahead_start : (model : Model) (items : List PosixItem) (reads : ReadsPosix t items) → length t ≤ MAX_TEXT_LEN → (walk : SpecificationWalk)
+  pub ahead_start : (model : Model) (items : List WholeItem) (reads : ReadsWhole t items) → length t ≤ MAX_TEXT_LEN → (walk : SpecificationWalk)
       → walk.model ≡ model → walk.text.now ≡ t → IsWalkOver t walk.walk → walk.walk.at ≡ 0 → walk.fetched ≡ 0
       → IsAhead t walk (directives_from model 0 0 t items reads) []
   ahead_start model items reads limit walk same text over start none =
@@ -76,7 +76,7 @@ module _ (t : Text) where
 
       -- a specification
       pub ahead_found : (read : Read) → IsListedBehind walk.model t all walk.walk.at walk.fetched done (Some read) end
-          → IsBehindItem t h.listed.items (Some read) end → ArePosixPartsAt t walk.walk.at end (offsets_read read) (specification_read read)
+          → IsBehindItem t h.listed.items (Some read) end → AreWholePartsAt t walk.walk.at end (offsets_read read) (specification_read read)
           → (span : SpecificationSpan) → span.directive ≡ directive_between walk.model walk.walk.at end walk.fetched (specification_read read)
           → span.parts ≡ read.parts → span.offsets ≡ offsets_read read
           → (more : ℕ) → more ≡ length (fetches walk.model (specification_read read)) → more ≤ 3
@@ -92,13 +92,13 @@ module _ (t : Text) where
               few = omega (arith, h.few, low, many);
               apart = omega (arith, h.apart, length_push done span.directive, two_bytes read places);
             },
-            its_parts walk.model t walk.walk.at end walk.fetched read ((subst (ReadsPosix (drop walk.walk.at t)) behind.1 h.listed.reads).2.1) places span
+            its_parts walk.model t walk.walk.at end walk.fetched read ((subst (ReadsWhole (drop walk.walk.at t)) behind.1 h.listed.reads).2.1) places span
                 spanned parts offsets,
           )
 
     pub ahead_ends : length t ≤ walk.walk.at → done ≡ all
     ahead_ends over = go h.listed.items h.listed.reads h.listed.all_are where
-      go : (items : List PosixItem) (reads : ReadsPosix (drop walk.walk.at t) items)
+      go : (items : List WholeItem) (reads : ReadsWhole (drop walk.walk.at t) items)
           → all ≡ done ++ directives_from walk.model walk.walk.at walk.fetched (drop walk.walk.at t) items reads → done ≡ all
       go (item ∷ later) reads e = let no : item ∷ later ≡ [] = items_once _ (item ∷ later) [] reads (drop_all walk.walk.at t over) in cc
       go [] reads e = sym (append-nil done) ∙ sym e
@@ -113,7 +113,7 @@ module _ (t : Text) (walk : SpecificationWalk) (all done : List DirectiveSpan) (
 
   pub own_found : (read : Read) → IsListedBehind walk.model walk.text.now all walk.walk.at walk.fetched done (Some read) end
       → IsBehindItem walk.text.now (own_text t walk all done h).listed.items (Some read) end
-      → ArePosixPartsAt walk.text.now walk.walk.at end (offsets_read read) (specification_read read)
+      → AreWholePartsAt walk.text.now walk.walk.at end (offsets_read read) (specification_read read)
       → (span : SpecificationSpan) → span.directive ≡ directive_between walk.model walk.walk.at end walk.fetched (specification_read read)
       → span.parts ≡ read.parts → span.offsets ≡ offsets_read read
       → (more : ℕ) → more ≡ length (fetches walk.model (specification_read read)) → more ≤ 3
@@ -124,7 +124,7 @@ module _ (t : Text) (walk : SpecificationWalk) (all done : List DirectiveSpan) (
       (ahead_found walk.text.now walk all done (own_text t walk all done h) end low read listed behind places span spanned parts offsets more counted many)
 
 -- so its spelling has
-spelled_long : {first : Text} {s : PosixSpecification} → SpellsPosix first s → 2 ≤ length first
+spelled_long : {first : Text} {s : WholeSpecification} → SpellsWhole first s → 2 ≤ length first
 spelled_long {first} {s} h =
     let b = h.before_is in
     let w = b.before_is in
@@ -137,7 +137,7 @@ spelled_long {first} {s} h =
     omega (arith, whole, letters, precise, wide, begun)
 
 -- a text has at most one for two of its bytes
-pub spans_few : (model : Model) (at next : ℕ) (t : Text) (items : List PosixItem) (reads : ReadsPosix t items)
+pub spans_few : (model : Model) (at next : ℕ) (t : Text) (items : List WholeItem) (reads : ReadsWhole t items)
     → 2 * length (directives_from model at next t items reads) ≤ length t
 spans_few model at next t [] reads = omega arith
 spans_few model at next t (Byte byte ∷ items) reads =

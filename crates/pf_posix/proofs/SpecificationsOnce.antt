@@ -9,10 +9,10 @@ use Rattle.pf_values.specs.meaning.Text.{Text}
 use Rattle.pf_values.specs.declared.flags.Flag.TheVariants.{Alt, Zero, Group}
 use Rattle.pf_values.proofs.DefinedLemmas.{none_first}
 use Rattle.pf_text.proofs.Unique.{Cuts, Later, Sooner, cuts}
-use Rattle.pf_posix.specs.declared.conversions.Conversion.{Conversion}
-use Rattle.pf_posix.specs.declared.conversions.Modifier.{Modifier}
-use Rattle.pf_posix.specs.Specifications.{Amount, PosixSpecification, conversion_letter, modifier_letters, Fetched}
-use Rattle.pf_posix.specs.Spelling.{SpellsPosix, SpellsPosixPrecision, SpellsPosixWidth, SpellsPosition}
+use Rattle.pf_posix.specs.declared.conversions.WholeConv.{WholeConv}
+use Rattle.pf_posix.specs.declared.conversions.WholeLength.{WholeLength}
+use Rattle.pf_posix.specs.Specifications.{Amount, WholeSpecification, conversion_letter, modifier_letters, Fetched}
+use Rattle.pf_posix.specs.Spelling.{SpellsWhole, SpellsWholePrecision, SpellsWholeWidth, SpellsPosition}
 use Rattle.pf_posix.specs.declared.opaque_directives.OpaqueAmount.{OpaqueAmount}
 use Rattle.pf_posix.specs.declared.opaque_directives.OpaqueAmount.TheVariants as amounts
 use Rattle.pf_posix.specs.declared.specifications.Specification.{Specification}
@@ -26,18 +26,18 @@ pub regrouped : (f w p m c : Text) → (((f ++ w) ++ p) ++ m) ++ c ≡ f ++ (w +
 regrouped f w p m c = append_assoc ((f ++ w) ++ p) m c ∙ append_assoc (f ++ w) p (m ++ c) ∙ append_assoc f w (p ++ (m ++ c))
 
 -- the parts of an unnumbered specification
-pub record HasParts (t : Text) (s : PosixSpecification) : Type 0 where
-  pub spelled : SpellsPosix t s
+pub record HasParts (t : Text) (s : WholeSpecification) : Type 0 where
+  pub spelled : SpellsWhole t s
   pub flags : List Flag
   pub width : Text
   pub precision : Text
   pub unnumbered : s.position ≡ None
   pub set_is : s.flags ≡ flag_set flags
-  pub width_is : SpellsPosixWidth width None s.width
-  pub precision_is : SpellsPosixPrecision precision None s.precision
+  pub width_is : SpellsWholeWidth width None s.width
+  pub precision_is : SpellsWholePrecision precision None s.precision
   pub whole : t ≡ 37 ∷ (map flag_byte flags ++ (width ++ (precision ++ (modifier_letters s.modifier ++ conversion_letter s.conversion ∷ []))))
 
-pub parts_of : (t : Text) (s : PosixSpecification) → SpellsPosix t s → s.position ≡ None → HasParts t s
+pub parts_of : (t : Text) (s : WholeSpecification) → SpellsWhole t s → s.position ≡ None → HasParts t s
 parts_of t s h e =
     let front = h.before_is in
     let first = front.before_is.before_is in
@@ -51,8 +51,8 @@ parts_of t s h e =
       precision = front.text;
       unnumbered = e;
       set_is = first.set_is;
-      width_is = subst (λ p. SpellsPosixWidth front.before_is.text p s.width) e front.before_is.width_is;
-      precision_is = subst (λ p. SpellsPosixPrecision front.text p s.precision) e front.precision_is;
+      width_is = subst (λ p. SpellsWholeWidth front.before_is.text p s.width) e front.before_is.width_is;
+      precision_is = subst (λ p. SpellsWholePrecision front.text p s.precision) e front.precision_is;
       whole = h.whole
           ∙ ap (λ u. (u ++ m) ++ c) (front.whole ∙ ap (λ u. u ++ front.text) (front.before_is.whole
           ∙ ap (λ u. u ++ front.before_is.text) (first.whole ∙ ap (λ n. 37 ∷ n ++ map flag_byte first.flags) none)))
@@ -63,29 +63,29 @@ pub no_number : (number : Option ℕ) → is_some number ≡ false → number �
 no_number None e = refl
 no_number (Some n) e = cc
 
-abbrev pub made : Option ℕ → FlagSet → Option Amount → Option Amount → Modifier → Conversion → PosixSpecification
+abbrev pub made : Option ℕ → FlagSet → Option Amount → Option Amount → WholeLength → WholeConv → WholeSpecification
 made position flags width precision modifier conversion =
     record { position = position; flags = flags; width = width; precision = precision; modifier = modifier; conversion = conversion }
 
-pub same_fields : (a b : PosixSpecification) → a.position ≡ b.position → a.flags ≡ b.flags → a.width ≡ b.width → a.precision ≡ b.precision
+pub same_fields : (a b : WholeSpecification) → a.position ≡ b.position → a.flags ≡ b.flags → a.width ≡ b.width → a.precision ≡ b.precision
     → a.modifier ≡ b.modifier → a.conversion ≡ b.conversion → a ≡ b
 same_fields a b p f w q m c = grind arith
 
 -- a specification and what begins with it
-once : (t u x y z : Text) (a b : PosixSpecification) → SpellsPosix t a → SpellsPosix u b → u ≡ t ++ z → x ≡ z ++ y → (a ≡ b) × (x ≡ y)
+once : (t u x y z : Text) (a b : WholeSpecification) → SpellsWhole t a → SpellsWhole u b → u ≡ t ++ z → x ≡ z ++ y → (a ≡ b) × (x ≡ y)
 once t u x y z a b h g e f =
-    let none = no_longer t z a b h (subst (λ v. SpellsPosix v b) e g) in
+    let none = no_longer t z a b h (subst (λ v. SpellsWhole v b) e g) in
     let same : u ≡ t = e ∙ ap (λ v. t ++ v) none ∙ append-nil t in
-    (one_spelled t a b h (subst (λ v. SpellsPosix v b) same g), f ∙ ap (λ v. v ++ y) none)
+    (one_spelled t a b h (subst (λ v. SpellsWhole v b) same g), f ∙ ap (λ v. v ++ y) none)
 
 -- two specifications that begin the same text have the same parts, and end at the same byte
-pub specification_once : (t u x y : Text) (a b : PosixSpecification) → SpellsPosix t a → SpellsPosix u b → t ++ x ≡ u ++ y → (a ≡ b) × (x ≡ y)
+pub specification_once : (t u x y : Text) (a b : WholeSpecification) → SpellsWhole t a → SpellsWhole u b → t ++ x ≡ u ++ y → (a ≡ b) × (x ≡ y)
 specification_once t u x y a b h g e = go (cuts t x u y e) where
   go : Cuts t x u y → (a ≡ b) × (x ≡ y)
   go (Later z e f) = once t u x y z a b h g e f
   go (Sooner z e f) = let same = once u t y x z b a g h e f in (sym same.0, sym same.1)
 
-pub one_specification : (t u x y : Text) (a b : PosixSpecification) → HasParts t a → HasParts u b → t ++ x ≡ u ++ y → (a ≡ b) × (x ≡ y)
+pub one_specification : (t u x y : Text) (a b : WholeSpecification) → HasParts t a → HasParts u b → t ++ x ≡ u ++ y → (a ≡ b) × (x ≡ y)
 one_specification t u x y a b h g e = specification_once t u x y a b h.spelled g.spelled e
 
 abbrev pub HasSecond : Text → Type 0
@@ -106,25 +106,25 @@ second_begun = from_end (λ t. (state : State) → IsStateAfter state t → (t �
     ])
 
 -- the text of a specification begins with `%`, and its second byte is neither another one nor the letter of `%m`
-pub begins_known : (t : Text) (s : PosixSpecification) → SpellsPosix t s
+pub begins_known : (t : Text) (s : WholeSpecification) → SpellsWhole t s
     → (second : ℕ) × (more : Text) × (sign_of second ≢ Strange) × (t ≡ 37 ∷ (second ∷ more))
-begins_known t s = from_end (λ t. SpellsPosix t s → HasSecond t) (λ h. absurd (omega (arith, some_spelled [] s h))) (λ t byte same h.
+begins_known t s = from_end (λ t. SpellsWhole t s → HasSecond t) (λ h. absurd (omega (arith, some_spelled [] s h))) (λ t byte same h.
     let a = ends t byte s h in second_pushed t byte (second_begun t a.state a.after) (known_sign (sign_of byte) (finish a.state) s refl a.goes)) t
 
 -- as opaque parts
-pub unnumbered_parts : (t : Text) (read : Specification) → SpellsPosix t (specification_read read) → read.position ≡ None
+pub unnumbered_parts : (t : Text) (read : Specification) → SpellsWhole t (specification_read read) → read.position ≡ None
     → parts_of_opaque read.parts ≡ specification_read read
 unnumbered_parts t read h e =
     let parts = parts_of t (specification_read read) h e in
     same_fields _ (specification_read read) (sym e) refl (width_is read.parts.width parts.width parts.width_is)
     (precision_is read.parts.precision parts.precision parts.precision_is) refl refl where
-      width_is : (amount : Option OpaqueAmount) (text : Text) → SpellsPosixWidth text None (amount_at amount read.stars.width)
+      width_is : (amount : Option OpaqueAmount) (text : Text) → SpellsWholeWidth text None (amount_at amount read.stars.width)
           → amount_of amount ≡ amount_at amount read.stars.width
       width_is (Some amounts.Star) text w = ap (λ k. Some (Fetched k)) (sym (no_number read.stars.width w.numbering))
       width_is (Some _) text w = refl
       width_is None text w = refl
 
-      precision_is : (amount : Option OpaqueAmount) (text : Text) → SpellsPosixPrecision text None (amount_at amount read.stars.precision)
+      precision_is : (amount : Option OpaqueAmount) (text : Text) → SpellsWholePrecision text None (amount_at amount read.stars.precision)
           → amount_of amount ≡ amount_at amount read.stars.precision
       precision_is (Some amounts.Star) text p = ap (λ k. Some (Fetched k)) (sym (no_number read.stars.precision p.1.numbering))
       precision_is (Some _) text p = refl
@@ -138,8 +138,8 @@ parted t start stop low =
     ∙ ap (λ u. take (stop - start) (drop start t) ++ u) (drop-drop (stop - start) start t ∙ ap (λ k. drop k t) place)
 
 -- a specification that is spelled where one was read is this one
-pub same_there : (t : Text) (start : ℕ) (found : Specification × ℕ) → IsSpecificationAt t start found → (text rest : Text) (s : PosixSpecification)
-    → SpellsPosix text s → drop start t ≡ text ++ rest → (specification_read found.0 ≡ s) × (drop found.1 t ≡ rest)
+pub same_there : (t : Text) (start : ℕ) (found : Specification × ℕ) → IsSpecificationAt t start found → (text rest : Text) (s : WholeSpecification)
+    → SpellsWhole text s → drop start t ≡ text ++ rest → (specification_read found.0 ≡ s) × (drop found.1 t ≡ rest)
 same_there t start found h text rest s spelled e =
     let stop = found.1 in
     let place : start + (stop - start) ≡ stop = omega (arith, h.some) in
@@ -150,7 +150,7 @@ same_there t start found h text rest s spelled e =
     (same.0, same.1)
 
 -- no reason holds
-pub record HasNoReason (set : FlagSet) (width precision : Bool) (modifier : Modifier) (conversion : Conversion) : Type 0 where
+pub record HasNoReason (set : FlagSet) (width precision : Bool) (modifier : WholeLength) (conversion : WholeConv) : Type 0 where
   pub alt : (has set Alt && not (takes_alt conversion)) ≡ false
   pub zero_flag : (has set Zero && not (takes_zero conversion)) ≡ false
   pub group : (has set Group && not (takes_group conversion)) ≡ false
@@ -158,7 +158,7 @@ pub record HasNoReason (set : FlagSet) (width precision : Bool) (modifier : Modi
   pub modifier_is : not (takes_modifier conversion modifier) ≡ false
   pub count : (is_count conversion && (has_any_flag set || width || precision)) ≡ false
 
-pub no_reason : (set : FlagSet) (width precision : Bool) (modifier : Modifier) (conversion : Conversion)
+pub no_reason : (set : FlagSet) (width precision : Bool) (modifier : WholeLength) (conversion : WholeConv)
     → undefined_as set width precision modifier conversion ≡ None → HasNoReason set width precision modifier conversion
 no_reason set width precision modifier conversion e =
     let a = none_first _ _ _ e in
@@ -169,6 +169,6 @@ no_reason set width precision modifier conversion e =
     let g = none_first _ _ _ f.1 in
     record { alt = a.0; zero_flag = b.0; group = c.0; precision_is = d.0; modifier_is = f.0; count = g.0 }
 
-pub is_defined : (set : FlagSet) (width precision : Bool) (modifier : Modifier) (conversion : Conversion) → HasNoReason set width precision modifier conversion
+pub is_defined : (set : FlagSet) (width precision : Bool) (modifier : WholeLength) (conversion : WholeConv) → HasNoReason set width precision modifier conversion
     → undefined_as set width precision modifier conversion ≡ None
 is_defined set width precision modifier conversion h = rw (h.alt, h.zero_flag, h.group, h.precision_is, h.modifier_is, h.count) refl

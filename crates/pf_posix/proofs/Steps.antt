@@ -15,12 +15,12 @@ use Rattle.pf_values.specs.meaning.Flags.{with_flag, no_flags}
 use Rattle.pf_values.specs.meaning.Text.{Text, dollar, percent, point, star, zero_digit}
 use Rattle.pf_text.specs.Letters.{flag_of}
 use Rattle.pf_text.specs.States.{is_digit}
-use Rattle.pf_posix.specs.declared.conversions.Conversion.{Conversion}
-use Rattle.pf_posix.specs.declared.conversions.Modifier.{Modifier}
-use Rattle.pf_posix.specs.declared.conversions.Modifier.TheVariants.{Integer}
+use Rattle.pf_posix.specs.declared.conversions.WholeConv.{WholeConv}
+use Rattle.pf_posix.specs.declared.conversions.WholeLength.{WholeLength}
+use Rattle.pf_posix.specs.declared.conversions.WholeLength.TheVariants.{Integer}
 use Rattle.pf_posix.specs.declared.fetches.Fetch.{Fetch}
 use Rattle.pf_posix.specs.Letters.{conversion_of, length_modifier_of}
-use Rattle.pf_posix.specs.Specifications.{Amount, Given, Fetched, PosixSpecification, modifier_letters}
+use Rattle.pf_posix.specs.Specifications.{Amount, Given, Fetched, WholeSpecification, modifier_letters}
 use Rattle.pf_posix.specs.Spelling.{SpellsPositive, SpellsUpToFlags, SpellsUpToPrecision, SpellsUpToWidth}
 use Rattle.pf_posix.specs.Types.{star_fetches}
 
@@ -54,7 +54,7 @@ pub data State : Type 0 where
   -- the `.` of a precision
   Point : (position : Option ℕ) (set : FlagSet) (width : Option Amount) → State
   -- letters of a modifier
-  Modified : (numbers : Numbers) (modifier : Modifier) → State
+  Modified : (numbers : Numbers) (modifier : WholeLength) → State
 
 abbrev pub position_of : Place → Option ℕ
 position_of (Width position set) = position
@@ -137,15 +137,15 @@ pub data Sign : Type 0 where
   Asterisk : Sign
   Dot : Sign
   Mark : (flag : Flag) → Sign
-  Letter : (modifier : Modifier) → Sign
-  Last : (conversion : Conversion) → Sign
+  Letter : (modifier : WholeLength) → Sign
+  Last : (conversion : WholeConv) → Sign
   Strange : Sign
 
-abbrev pub last_of : Option Conversion → Sign
+abbrev pub last_of : Option WholeConv → Sign
 last_of (Some conversion) = Last conversion
 last_of None = Strange
 
-abbrev pub letter_of : Option Modifier → Option Conversion → Sign
+abbrev pub letter_of : Option WholeLength → Option WholeConv → Sign
 letter_of (Some modifier) conversion = Letter modifier
 letter_of None conversion = last_of conversion
 
@@ -201,12 +201,12 @@ on_dot (Some numbers) = if is_some numbers.precision then None else
     Some (Point numbers.position numbers.flags numbers.width)
 
 -- the second letter of `hh` and `ll` (C11 7.21.6.1 p7), or the first of a modifier
-abbrev pub second_letter : Numbers → Modifier → Modifier → Option State
+abbrev pub second_letter : Numbers → WholeLength → WholeLength → Option State
 second_letter numbers (Integer lengths.H) (Integer lengths.H) = Some (Modified numbers (Integer lengths.Hh))
 second_letter numbers (Integer lengths.L) (Integer lengths.L) = Some (Modified numbers (Integer lengths.Ll))
 second_letter numbers first second = None
 
-abbrev pub on_letter : State → Option Numbers → Modifier → Option State
+abbrev pub on_letter : State → Option Numbers → WholeLength → Option State
 on_letter state (Some numbers) letter = Some (Modified numbers letter)
 on_letter (Modified numbers modifier) None letter = second_letter numbers modifier letter
 on_letter state None letter = None
@@ -221,7 +221,7 @@ step state (Mark flag) = on_mark state flag
 step state (Letter letter) = on_letter state (numbers_in state) letter
 step state _ = None
 
-abbrev pub specification_by : Numbers → Modifier → Conversion → PosixSpecification
+abbrev pub specification_by : Numbers → WholeLength → WholeConv → WholeSpecification
 specification_by numbers modifier conversion =
     record {
       position = numbers.position;
@@ -232,13 +232,13 @@ specification_by numbers modifier conversion =
       conversion = conversion;
     }
 
-abbrev pub on_last : State → Option Numbers → Conversion → Option PosixSpecification
+abbrev pub on_last : State → Option Numbers → WholeConv → Option WholeSpecification
 on_last state (Some numbers) conversion = Some (specification_by numbers (Integer lengths.None) conversion)
 on_last (Modified numbers modifier) None conversion = Some (specification_by numbers modifier conversion)
 on_last state None conversion = None
 
 -- what ends with the byte
-abbrev pub finish : State → Sign → Option PosixSpecification
+abbrev pub finish : State → Sign → Option WholeSpecification
 finish state (Last conversion) = on_last state (numbers_in state) conversion
 finish state _ = None
 

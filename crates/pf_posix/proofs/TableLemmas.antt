@@ -9,7 +9,7 @@ use Rattle.std.proofs.lemmas.List.{get_or-set_other, get_or-set_same, length-set
 use Rattle.pf_posix.specs.declared.fetches.Fetch.{Fetch}
 use Rattle.pf_posix.specs.declared.numbered.Table.{Table}
 use Rattle.pf_posix.specs.declared.numbered.TheConstants.{ROOM}
-use Rattle.pf_posix.specs.declared.types.ArgumentType.{ArgumentType}
+use Rattle.pf_posix.specs.declared.types.WholeArgType.{WholeArgType}
 use Rattle.pf_posix.specs.Types.{int_type, IsFetched, fetch}
 use Rattle.pf_posix.specs.TypeNumbers.{number_of_type}
 use Rattle.pf_posix.specs.Readings.{conflicts, greatest, is_number, listed, wanted_at}
@@ -18,7 +18,7 @@ use Rattle.pf_posix.specs.Tables.{TableHolds}
 use Rattle.pf_posix.proofs.Agreeing.{all_map, conflicts_no, conflicts_not, one_type_push, same_type, fetched_none, fetched_some, gap_is, length_listed, wanted_one}
 
 -- the type of the first fetch, or else of one more
-abbrev first_of : Option ArgumentType → Option ArgumentType → Option ArgumentType
+abbrev first_of : Option WholeArgType → Option WholeArgType → Option WholeArgType
 first_of (Some type) o = Some type
 first_of None o = o
 
@@ -39,7 +39,7 @@ none_same index (g ∷ seen) f n none = (
   none_same index seen f n (λ h. none (inr h)),
 )
 
-module _ (table : Table) (seen : List Fetch) (h : TableHolds table seen) (index : ℕ) (wanted : ArgumentType) (room : index < ROOM) where
+module _ (table : Table) (seen : List Fetch) (h : TableHolds table seen) (index : ℕ) (wanted : WholeArgType) (room : index < ROOM) where
   abbrev f : Fetch
   f = fetch (Some (index + 1)) wanted
 
@@ -50,7 +50,7 @@ module _ (table : Table) (seen : List Fetch) (h : TableHolds table seen) (index 
       sym (wanted_push p seen f ∙ ap (λ b. first_of (wanted_at p seen) (if b then Some wanted else None)) other ∙ grind arith)
 
   -- the argument has this type, and no other
-  kept : (types : List (Option ArgumentType)) → AllByRecursion (IsOneType f) seen → length types ≡ ROOM
+  kept : (types : List (Option WholeArgType)) → AllByRecursion (IsOneType f) seen → length types ≡ ROOM
       → ((p : ℕ) → p < ROOM → slice_index_or types p None ≡ wanted_at p (seen ++ f ∷ []))
       → (conflicts seen f ≡ false) × TableHolds (record { types = types; count = max table.count (index + 1) }) (seen ++ f ∷ [])
   kept types clear full each = (
@@ -90,7 +90,7 @@ module _ (table : Table) (seen : List Fetch) (h : TableHolds table seen) (index 
         at p less (inr q) = get_or-set_other table.types index p (Some wanted) None q ∙ h.types p less ∙ wanted_other p q
 
   -- an argument that is there with a type, which may be another one
-  pub told_some : (there : ArgumentType) (a b : ℕ) → get_or table.types index None ≡ Some there → a ≡ number_of_type there → b ≡ number_of_type wanted
+  pub told_some : (there : WholeArgType) (a b : ℕ) → get_or table.types index None ≡ Some there → a ≡ number_of_type there → b ≡ number_of_type wanted
       → MatchBool (a == b) ((conflicts seen f ≡ false) × TableHolds (record table { count = max table.count (index + 1) }) (seen ++ f ∷ []))
       (conflicts seen f ≡ true)
   told_some there a b e x y = go (a == b) refl (conflicts seen f) refl where
@@ -136,6 +136,6 @@ module _ (table : Table) (seen : List Fetch) (h : TableHolds table seen) (index 
     | inl e ↦ subst (λ k. IsFetched k seen) (sym e) (here (wanted_at index seen) refl)
     | inr e ↦ all p (omega arith)
   ] where
-    here : (o : Option ArgumentType) → wanted_at index seen ≡ o → IsFetched index seen
+    here : (o : Option WholeArgType) → wanted_at index seen ≡ o → IsFetched index seen
     here None e = let no : is_some (get_or table.types index None) ≡ false = ap is_some (at_index ∙ e) in cc
     here (Some type) e = fetched_some index seen type e

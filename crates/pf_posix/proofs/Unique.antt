@@ -9,10 +9,10 @@ use Rattle.pf_values.specs.declared.models.Model.{Model}
 use Rattle.pf_values.specs.meaning.Text.{Text, percent}
 use Rattle.pf_posix.specs.declared.fetches.Fetch.{Fetch}
 use Rattle.pf_values.specs.declared.refusals.RefusalKind.{RefusalKind}
-use Rattle.pf_posix.specs.declared.types.ArgumentType.{ArgumentType}
+use Rattle.pf_posix.specs.declared.types.WholeArgType.{WholeArgType}
 use Rattle.pf_posix.specs.Types.{int_type, AreInOrder, AreNumbered, HaveTypes, IsFetched, HasTypeIn}
-use Rattle.pf_posix.specs.Items.{HasArguments, errno_letter, fetched, ReadsPosix}
-use Rattle.pf_posix.specs.Refusals.{AreAgreed, HasGap, IsPosixRefusalCause, IsOneType, IsPosixRefusedAt, numbering_by, numbering_of, IsWrong}
+use Rattle.pf_posix.specs.Items.{HasArguments, errno_letter, fetched, ReadsWhole}
+use Rattle.pf_posix.specs.Refusals.{AreAgreed, HasGap, IsWholeRefusalCause, IsOneType, IsWholeRefusedAt, numbering_by, numbering_of, IsWrong}
 use Rattle.pf_posix.proofs.Agreeing.{all_map, agreed_none, no_gap, types_or_gap}
 use Rattle.pf_posix.proofs.GoodFronts.{front_by, Advances, Goes, Halts, IsFrontIn, Next, Taken, advance, front_empty, front_none, good_front, halted, halts, next}
 use Rattle.pf_posix.proofs.GoodFronts.{retreat, state_there}
@@ -23,11 +23,11 @@ use Rattle.pf_values.specs.declared.refusals.RefusalKind.TheVariants.{AltUndefin
 use Rattle.pf_values.specs.declared.refusals.RefusalKind.TheVariants.{CountUndefined, Mixed, MissingArgument, TwoTypes}
 use Rattle.pf_values.specs.RefusalKinds.{is_profile_alone}
 use Rattle.pf_text.proofs.Sound.{find_holds}
-use Rattle.pf_posix.specs.declared.conversions.Conversion.{Conversion}
-use Rattle.pf_posix.specs.declared.conversions.Modifier.{Modifier}
+use Rattle.pf_posix.specs.declared.conversions.WholeConv.{WholeConv}
+use Rattle.pf_posix.specs.declared.conversions.WholeLength.{WholeLength}
 use Rattle.pf_posix.specs.Defined.{is_undefined_as}
 use Rattle.pf_posix.specs.Beginnings.{TakesAmount}
-use Rattle.pf_posix.specs.Unnumbered.{IsWholeRefusedAt}
+use Rattle.pf_posix.specs.Unnumbered.{IsUnnumberedRefusedAt}
 use Rattle.std.proofs.lemmas.Bool.Decides.{nat_tests}
 use Rattle.pf_text.proofs.Texts.{split_last}
 use Rattle.pf_posix.specs.Laws.{IsAcceptedOrRefused}
@@ -175,12 +175,12 @@ not_before model (byte ∷ rest) at fetches state = let more = not_before model 
 -- what can't go on is a cause of a refusal, and the other way
 module _ (model : Model) (front : Text) (at : ℕ) (fetches : List Fetch) (kind : RefusalKind) where
   cause : (rest : Text) (state : Option State) (g : IsFrontIn model [] front fetches state) → halts_at model rest at fetches state ≡ Some kind
-      → (is_end state rest ≡ true → HasGap fetches) → IsPosixRefusalCause model fetches g.part at rest kind
+      → (is_end state rest ≡ true → HasGap fetches) → IsWholeRefusalCause model fetches g.part at rest kind
   cause [] None g h gap = inr (cc, g.begun, gap refl)
   cause [] (Some state) g h gap = inl (cc, λ none. never_empty state (subst (IsStateAfter state) none g.begun.0))
   cause (byte ∷ rest) state g h gap = grind (arith, halts model [] front fetches state byte kind g, halts_by)
 
-  caused : (rest : Text) (state : Option State) (g : IsFrontIn model [] front fetches state) → IsPosixRefusalCause model fetches g.part at rest kind
+  caused : (rest : Text) (state : Option State) (g : IsFrontIn model [] front fetches state) → IsWholeRefusalCause model fetches g.part at rest kind
       → (halts_at model rest at fetches state ≡ Some kind) × (is_end state rest ≡ true → HasGap fetches)
   caused [] None g (inl h) = absurd (h.1 g.begun)
   caused [] None g (inr h) = (ap Some (sym h.0), λ e. h.2)
@@ -192,7 +192,7 @@ module _ (model : Model) (front : Text) (at : ℕ) (fetches : List Fetch) (kind 
 
 -- a text is refused where it stops
 pub refused_there : (model : Model) (t : Text) (s : Stop) (kind : RefusalKind) → IsStopped model [] t s kind
-    → (is_end s.state s.rest ≡ true → HasGap s.fetches) → IsPosixRefusedAt model t kind s.at
+    → (is_end s.state s.rest ≡ true → HasGap s.fetches) → IsWholeRefusedAt model t kind s.at
 refused_there model t s kind h gap = record {
   front = h.front;
   rest = s.rest;
@@ -206,12 +206,12 @@ refused_there model t s kind h gap = record {
 }
 
 -- and a refused text stops there
-pub said : (model : Model) (t : Text) (kind : RefusalKind) (at : ℕ) → IsPosixRefusedAt model t kind at → (fetches : List Fetch) × (state : Option State)
+pub said : (model : Model) (t : Text) (kind : RefusalKind) (at : ℕ) → IsWholeRefusedAt model t kind at → (fetches : List Fetch) × (state : Option State)
     × (rest : Text) × IsStopped model [] t (stop at fetches state rest) kind × (is_end state rest ≡ true → HasGap fetches)
 said model t kind at h =
     let there = state_there model h.front h.fetches h.part h.good in
     let c = caused model h.front at h.fetches kind h.rest there.0 there.1
-    (subst (λ p. IsPosixRefusalCause model h.fetches p at h.rest kind) (sym there.2) h.cause) in (
+    (subst (λ p. IsWholeRefusalCause model h.fetches p at h.rest kind) (sym there.2) h.cause) in (
       h.fetches,
       there.0,
       h.rest,
@@ -221,15 +221,15 @@ said model t kind at h =
 
 -- the front of a text between two items is their text
 pub front_read : {model : Model} {before : List Fetch} {front : Text} {fetches : List Fetch} → (g : IsFrontIn model before front fetches None)
-    → ReadsPosix front g.items
-front_read g = subst (λ u. ReadsPosix u g.items) (sym (g.split ∙ ap (λ u. g.whole ++ u) g.begun ∙ append-nil g.whole)) g.reads
+    → ReadsWhole front g.items
+front_read g = subst (λ u. ReadsWhole u g.items) (sym (g.split ∙ ap (λ u. g.whole ++ u) g.begun ∙ append-nil g.whole)) g.reads
 
 -- what is read is accepted with its types, or an argument is missing
 module _ (model : Model) (t : Text) (fs : List Fetch) (h : Taken model t fs) where
-  accepted : (types : List ArgumentType) → HaveTypes fs types → HasArguments model t types
+  accepted : (types : List WholeArgType) → HaveTypes fs types → HasArguments model t types
   accepted types g = record { items = h.items; reads = h.reads; limit = h.limit; types_are = subst (λ f. HaveTypes f types) h.seen_are g }
 
-  pub missing : HasGap fs → IsPosixRefusedAt model t MissingArgument (length t)
+  pub missing : HasGap fs → IsWholeRefusedAt model t MissingArgument (length t)
   missing gap = refused_there model t (stop (length t) fs None []) MissingArgument (record {
     front = t;
     split = sym (append-nil t);
@@ -268,7 +268,7 @@ two_of P fs gs same h k = all_map _ _ fs (λ f p. all_map _ _ gs (λ g q. same f
 one_place : (p q : ℕ) → Some (p + 1) ≡ Some (q + 1) → p ≡ q
 one_place p q e = let next : p + 1 ≡ q + 1 = cc in omega (arith, next)
 
-pub types_agreed : (fs : List Fetch) (types : List ArgumentType) → HaveTypes fs types → AreAgreed fs
+pub types_agreed : (fs : List Fetch) (types : List WholeArgType) → HaveTypes fs types → AreAgreed fs
 types_agreed fs types (inl h) =
     record {
       one_numbering = numbering_head fs (λ f. f.number ≡ None) (λ o. o ≡ None) h.unnumbered (λ f g p q. ap numbering_by (p ∙ sym q));
@@ -285,7 +285,7 @@ types_agreed fs types (inr h) =
           let wanted : Some f.wanted ≡ Some g.wanted = sym p.2 ∙ ap (slice_get types) place ∙ q.2 in cc
 
 -- a place of a numbered list has the type of its fetch
-place_type : (fs : List Fetch) (types others : List ArgumentType) (place : ℕ) → AllByRecursion (HasTypeIn types) fs → AllByRecursion (HasTypeIn others) fs
+place_type : (fs : List Fetch) (types others : List WholeArgType) (place : ℕ) → AllByRecursion (HasTypeIn types) fs → AllByRecursion (HasTypeIn others) fs
     → IsFetched place fs → slice_get types place ≡ slice_get others place
 place_type [] types others place h k f = absurd f
 place_type (g ∷ fs) types others place h k (inl e) =
@@ -293,14 +293,14 @@ place_type (g ∷ fs) types others place h k (inl e) =
     ∙ ap (slice_get others) (one_place k.0.0 place (sym k.0.1 ∙ e))
 place_type (g ∷ fs) types others place h k (inr e) = place_type fs types others place h.1 k.1 e
 
-length_least : (types others : List ArgumentType) → ((p : ℕ) → p < length types → p < length others) → length types ≤ length others
+length_least : (types others : List WholeArgType) → ((p : ℕ) → p < length types → p < length others) → length types ≤ length others
 length_least [] others h = omega arith
 length_least (t ∷ types) others h = let last = h (length types) (omega arith) in omega (arith, last)
 
-numbered_unique : (fs : List Fetch) (types others : List ArgumentType) → AreNumbered fs types → AreNumbered fs others → types ≡ others
+numbered_unique : (fs : List Fetch) (types others : List WholeArgType) → AreNumbered fs types → AreNumbered fs others → types ≡ others
 numbered_unique fs types others h k = ext_get_or int_type types others
     (omega (arith, length_least types others (there types others h k), length_least others types (there others types k h))) at where
-      there : (a b : List ArgumentType) → AreNumbered fs a → AreNumbered fs b → (p : ℕ) → p < length a → p < length b
+      there : (a b : List WholeArgType) → AreNumbered fs a → AreNumbered fs b → (p : ℕ) → p < length a → p < length b
       there a b x y p less =
           let same = place_type fs a b p x.each y.each (x.all p less) in
           slice_get_within b p (get_or a p int_type) (sym same ∙ slice_get-get_or a p int_type less)
@@ -311,32 +311,32 @@ numbered_unique fs types others h k = ext_get_or int_type types others
           let both : Some (get_or types i int_type) ≡ Some (get_or others i int_type) = sym (slice_get-get_or types i int_type less) ∙ same
           ∙ slice_get-get_or others i int_type (there types others h k i less) in cc
 
-mixed_unique : (fs : List Fetch) (types others : List ArgumentType) → AreInOrder fs types → AreNumbered fs others → types ≡ others
+mixed_unique : (fs : List Fetch) (types others : List WholeArgType) → AreInOrder fs types → AreNumbered fs others → types ≡ others
 mixed_unique [] types [] h k = h.types_are
 mixed_unique [] types (o ∷ others) h k = absurd (k.all 0 (omega arith))
 mixed_unique (f ∷ fs) types others h k = let no : None ≡ Some (k.each.0.0 + 1) = sym h.unnumbered.0 ∙ k.each.0.1 in cc
 
-pub types_unique : (fs : List Fetch) (types others : List ArgumentType) → HaveTypes fs types → HaveTypes fs others → types ≡ others
+pub types_unique : (fs : List Fetch) (types others : List WholeArgType) → HaveTypes fs types → HaveTypes fs others → types ≡ others
 types_unique fs types others (inl h) (inl k) = h.types_are ∙ sym k.types_are
 types_unique fs types others (inl h) (inr k) = mixed_unique fs types others h k
 types_unique fs types others (inr h) (inl k) = sym (mixed_unique fs others types k h)
 types_unique fs types others (inr h) (inr k) = numbered_unique fs types others h k
 
 -- an accepted text stops at its end
-accepted_stop : (model : Model) (t : Text) (types : List ArgumentType) (h : HasArguments model t types)
+accepted_stop : (model : Model) (t : Text) (types : List WholeArgType) (h : HasArguments model t types)
     → stop_from model t 0 [] None ≡ stop (length t) (fetched model h.items) None []
 accepted_stop model t types h =
     let seen = fetched model h.items in
     whole_stop model [] t seen
     (front_by h.items t [] h.reads (sym (append-nil t)) (sym (append-nil seen)) (types_agreed seen types h.types_are) refl) h.limit
 
-pub one_list : (model : Model) (t : Text) (types others : List ArgumentType) → HasArguments model t types → HasArguments model t others → types ≡ others
+pub one_list : (model : Model) (t : Text) (types others : List WholeArgType) → HasArguments model t types → HasArguments model t others → types ≡ others
 one_list model t types others h k =
     let same = ap Stop.fetches (sym (accepted_stop model t others k) ∙ accepted_stop model t types h) in
     types_unique (fetched model h.items) types others h.types_are (subst (λ f. HaveTypes f others) same k.types_are)
 
-pub never_both : (model : Model) (t : Text) (types : List ArgumentType) (kind : RefusalKind) (at : ℕ) → HasArguments model t types
-    → IsPosixRefusedAt model t kind at → ⊥
+pub never_both : (model : Model) (t : Text) (types : List WholeArgType) (kind : RefusalKind) (at : ℕ) → HasArguments model t types
+    → IsWholeRefusedAt model t kind at → ⊥
 never_both model t types kind at h r =
     let (fetches, state, rest, stopped, gap) = said model t kind at r in
     let same : stop (length t) (fetched model h.items) None [] ≡ stop at fetches state rest =
@@ -344,7 +344,7 @@ never_both model t types kind at h r =
     no_gap (fetched model h.items) types h.types_are (subst HasGap (sym (ap Stop.fetches same))
     (gap (ap (λ s. is_end (Stop.state s) (Stop.rest s)) (sym same))))
 
-pub one_refusal : (model : Model) (t : Text) (kind other : RefusalKind) (p q : ℕ) → IsPosixRefusedAt model t kind p → IsPosixRefusedAt model t other q
+pub one_refusal : (model : Model) (t : Text) (kind other : RefusalKind) (p q : ℕ) → IsWholeRefusedAt model t kind p → IsWholeRefusedAt model t other q
     → (kind ≡ other) × (p ≡ q)
 one_refusal model t kind other p q h k =
     let a = said model t kind p h in
@@ -353,10 +353,10 @@ one_refusal model t kind other p q h k =
     let kinds : Some kind ≡ Some other = sym a.3.halts ∙ ap (halts_in model) same ∙ b.3.halts in
     (cc, ap Stop.at same)
 
-pub refused_longer : (model : Model) (t more : Text) (kind : RefusalKind) (at : ℕ) → IsPosixRefusedAt model t kind at → at < length t
-    → IsPosixRefusedAt model (t ++ more) kind at
+pub refused_longer : (model : Model) (t more : Text) (kind : RefusalKind) (at : ℕ) → IsWholeRefusedAt model t kind at → at < length t
+    → IsWholeRefusedAt model (t ++ more) kind at
 refused_longer model t more kind at h less = go h.rest h.split h.cause where
-  go : (rest : Text) → t ≡ h.front ++ rest → IsPosixRefusalCause model h.fetches h.part at rest kind → IsPosixRefusedAt model (t ++ more) kind at
+  go : (rest : Text) → t ≡ h.front ++ rest → IsWholeRefusalCause model h.fetches h.part at rest kind → IsWholeRefusedAt model (t ++ more) kind at
   go [] e c = absurd (omega (arith, less, h.offset, ap length e, length-append h.front []))
   go (byte ∷ rest) e c =
       record {
@@ -378,7 +378,7 @@ IsNumberedKind kind = (is_profile_alone kind ≡ false) × (kind ≢ Numbered)
 by_kind : (kind known : RefusalKind) → kind ≡ known → IsNumberedKind known → IsNumberedKind kind
 by_kind kind known e h = subst IsNumberedKind (sym e) h
 
-undefined_kind : (set : FlagSet) (width precision : Bool) (modifier : Modifier) (conversion : Conversion) (kind : RefusalKind)
+undefined_kind : (set : FlagSet) (width precision : Bool) (modifier : WholeLength) (conversion : WholeConv) (kind : RefusalKind)
     → is_undefined_as set width precision modifier conversion kind ≡ true → IsNumberedKind kind
 undefined_kind set width precision modifier conversion kind h = (grind arith, λ e. grind arith)
 
@@ -400,7 +400,7 @@ module _ (model : Model) (fetches : List Fetch) (part : Text) (kind : RefusalKin
   wrong_kind byte (inr (inr (inr (inl h)))) = by_kind kind TwoTypes h.0 (refl, λ e. cc)
   wrong_kind byte (inr (inr (inr (inr h)))) = by_kind kind Unexpected h.0 (refl, λ e. cc)
 
-  cause_kind : (at : ℕ) (rest : Text) → IsPosixRefusalCause model fetches part at rest kind → IsNumberedKind kind
+  cause_kind : (at : ℕ) (rest : Text) → IsWholeRefusalCause model fetches part at rest kind → IsNumberedKind kind
   cause_kind at [] (inl h) = by_kind kind Truncated h.0 (refl, λ e. cc)
   cause_kind at [] (inr h) = by_kind kind MissingArgument h.0 (refl, λ e. cc)
   cause_kind at (byte ∷ rest) h = by_tests (at == MAX_TEXT_LEN) (byte == 0) (byte == percent) h where
@@ -412,10 +412,10 @@ module _ (model : Model) (fetches : List Fetch) (part : Text) (kind : RefusalKin
     by_tests false false true h = by_kind kind BadPercent h.0 (refl, λ e. cc)
     by_tests false false false h = wrong_kind byte h.1
 
-pub numbered_kind : (model : Model) (t : Text) (kind : RefusalKind) (at : ℕ) → IsPosixRefusedAt model t kind at → IsNumberedKind kind
+pub numbered_kind : (model : Model) (t : Text) (kind : RefusalKind) (at : ℕ) → IsWholeRefusedAt model t kind at → IsNumberedKind kind
 numbered_kind model t kind at h = cause_kind model h.fetches h.part kind at h.rest h.cause
 
-pub unnumbered_kind : (model : Model) (t : Text) (kind : RefusalKind) (at : ℕ) → IsWholeRefusedAt model t kind at → is_profile_alone kind ≡ false
+pub unnumbered_kind : (model : Model) (t : Text) (kind : RefusalKind) (at : ℕ) → IsUnnumberedRefusedAt model t kind at → is_profile_alone kind ≡ false
 unnumbered_kind model t Numbered at h = refl
 unnumbered_kind model t NulByte at h = (numbered_kind model t NulByte at h.0).0
 unnumbered_kind model t kind at h = (numbered_kind model t kind at h.0).0

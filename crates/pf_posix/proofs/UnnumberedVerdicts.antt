@@ -14,11 +14,11 @@ use Rattle.pf_values.specs.meaning.Text.{Text, dollar, percent}
 use Rattle.pf_posix.specs.declared.fetches.Fetch.{Fetch}
 use Rattle.pf_posix.specs.declared.specifications.Numbering.{Numbering}
 use Rattle.pf_posix.specs.declared.specifications.Numbering.TheVariants.{Undecided, Unnumbered}
-use Rattle.pf_posix.specs.Items.{Byte, Errno, PosixItem, ReadsPosix, Specification, fetched}
-use Rattle.pf_posix.specs.Refusals.{IsPosixRefusedAt, numbering_by, numbering_of}
-use Rattle.pf_posix.specs.Stretches.{IsWholeAccepted, whole_types}
+use Rattle.pf_posix.specs.Items.{Byte, Errno, WholeItem, ReadsWhole, Specification, fetched}
+use Rattle.pf_posix.specs.Refusals.{IsWholeRefusedAt, numbering_by, numbering_of}
+use Rattle.pf_posix.specs.Stretches.{IsUnnumberedAccepted, whole_types}
 use Rattle.pf_posix.specs.Types.{conversion_type, fetch, fetches, int_type, star_fetches}
-use Rattle.pf_posix.specs.Unnumbered.{IsJudged, IsNumberedAt, IsUnnumbered, IsWholeRefusedAt, IsAcceptedUnnumbered}
+use Rattle.pf_posix.specs.Unnumbered.{IsJudged, IsNumberedAt, IsUnnumbered, IsUnnumberedRefusedAt, IsReadUnnumbered}
 use Rattle.pf_posix.proofs.Agreeing.{all_back, all_front, all_map, without_number}
 use Rattle.pf_posix.proofs.Bounds.{all_append}
 use Rattle.pf_posix.proofs.FrontRefusals.{agreed_plain, begun_numbering, undecided_own}
@@ -53,7 +53,7 @@ abbrev pub AreFree : List Fetch → Type 0
 AreFree seen = AllByRecursion (λ f. f.number ≡ None) seen
 
 -- items that fetch by no number have none
-free_items : (model : Model) (items : List PosixItem) → AreFree (fetched model items) → AllByRecursion IsUnnumbered items
+free_items : (model : Model) (items : List WholeItem) → AreFree (fetched model items) → AllByRecursion IsUnnumbered items
 free_items model [] h = tt
 free_items model (Byte byte ∷ items) h = (tt, free_items model items h)
 free_items model (Errno ∷ items) h = (tt, free_items model items h)
@@ -107,7 +107,7 @@ dollar_found false _ sign h = cc
 
 module _ (model : Model) where
   -- the front of a text, with items that aren't numbered
-  abbrev pub plain_front : (front whole part : Text) (items : List PosixItem) (state : Option State) → ReadsPosix whole items → AllByRecursion IsUnnumbered items
+  abbrev pub plain_front : (front whole part : Text) (items : List WholeItem) (state : Option State) → ReadsWhole whole items → AllByRecursion IsUnnumbered items
       → front ≡ whole ++ part → AreFree (own_at state) → IsPart Unnumbered state part
       → IsFrontIn model ahead front (first_one ∷ (fetched model items ++ own_at state)) state
   plain_front front whole part items state reads unnumbered split own begun = front_by items whole part reads split refl
@@ -153,7 +153,7 @@ module _ (model : Model) where
           (record { front = base; split = h.split; offset = h.offset; limit = omega (arith, h.limit); good = dollar_front; halts = rw room refl })
 
       -- and as ever no earlier
-      no_earlier : (kind : RefusalKind) (place : ℕ) → IsPosixRefusedAt model t kind place → ¬ (place < at)
+      no_earlier : (kind : RefusalKind) (place : ℕ) → IsWholeRefusedAt model t kind place → ¬ (place < at)
       no_earlier kind place r = λ less.
           let q = said model t kind place r in
           let there : stop place q.0 q.1 q.2 ≡ stop_from model (dollar ∷ h.rest) at seen (Some (First h.n)) =
@@ -198,12 +198,12 @@ module _ (model : Model) where
         go true e other = e
         go false e other = sym (same_kind model more q byte (behind_free h.front s.fetches s.state h.good) other) ∙ e
 
-      as_there : (kind : RefusalKind) → IsPosixRefusedAt model t kind s.at → ((place : ℕ) → IsNumberedAt t place → s.at < place)
-          → IsWholeRefusedAt model t kind s.at
+      as_there : (kind : RefusalKind) → IsWholeRefusedAt model t kind s.at → ((place : ℕ) → IsNumberedAt t place → s.at < place)
+          → IsUnnumberedRefusedAt model t kind s.at
       as_there Numbered r first = absurd ((numbered_kind model t Numbered s.at r).1 refl)
       as_there kind r first = (r, first)
 
-      pub ends_refused : is_end s.state s.rest ≡ false → IsWholeRefusedAt model t (if numbers_at s.at s.state s.rest then Numbered else kind) s.at
+      pub ends_refused : is_end s.state s.rest ≡ false → IsUnnumberedRefusedAt model t (if numbers_at s.at s.state s.rest then Numbered else kind) s.at
       ends_refused w = go (numbers_at s.at s.state s.rest) refl where
         first : numbers_at s.at s.state s.rest ≡ false → (place : ℕ) → IsNumberedAt t place → s.at < place
         first other place n =
@@ -212,7 +212,7 @@ module _ (model : Model) where
             let numbered : numbers_at s.at s.state s.rest ≡ true = ap (λ s. numbers_at (Stop.at s) (Stop.state s) (Stop.rest s)) same ∙ rw room refl in
             let no : true ≡ false = sym numbered ∙ other in cc
 
-        go : (b : Bool) → numbers_at s.at s.state s.rest ≡ b → IsWholeRefusedAt model t (if b then Numbered else kind) s.at
+        go : (b : Bool) → numbers_at s.at s.state s.rest ≡ b → IsUnnumberedRefusedAt model t (if b then Numbered else kind) s.at
         go true n = let there = numbered_there s.rest h.split n in (there, no_earlier s.at there)
         go false n = as_there kind (refused_there model t (stop s.at more s.state s.rest) kind (record {
           front = h.front;
@@ -223,7 +223,7 @@ module _ (model : Model) where
           halts = halts_ever s.rest s.state (subst (λ l. halts_at model s.rest s.at l s.state ≡ Some kind) h.good.fetches_are h.halts) n;
         }) (λ whole. let no : true ≡ false = sym whole ∙ w in cc)) (first n)
 
-    accepted_or_refused : IsWholeAccepted t ⊎ ((kind : RefusalKind) × (at : ℕ) × IsWholeRefusedAt model t kind at)
+    accepted_or_refused : IsUnnumberedAccepted t ⊎ ((kind : RefusalKind) × (at : ℕ) × IsUnnumberedRefusedAt model t kind at)
     accepted_or_refused = elim (ends_or_halts model ahead t (agreed_plain ahead (refl, tt))) [
       | inl (fetches, g, limit) ↦ inl (accepted_here t
           (record { items = g.items; reads = front_read g; unnumbered = items_plain t fetches None g; limit = limit }))
@@ -232,14 +232,14 @@ module _ (model : Model) where
 
     -- the two ways of a refusal
     abbrev IsEither : RefusalKind → ℕ → Type 0
-    IsEither kind at = ((kind ≡ Numbered) × IsNumberedAt t at × ((k : RefusalKind) (other : ℕ) → IsPosixRefusedAt model t k other → ¬ (other < at)))
-        ⊎ (IsPosixRefusedAt model t kind at × ((other : ℕ) → IsNumberedAt t other → at < other))
+    IsEither kind at = ((kind ≡ Numbered) × IsNumberedAt t at × ((k : RefusalKind) (other : ℕ) → IsWholeRefusedAt model t k other → ¬ (other < at)))
+        ⊎ (IsWholeRefusedAt model t kind at × ((other : ℕ) → IsNumberedAt t other → at < other))
 
-    either : (kind : RefusalKind) (at : ℕ) → IsWholeRefusedAt model t kind at → IsEither kind at
+    either : (kind : RefusalKind) (at : ℕ) → IsUnnumberedRefusedAt model t kind at → IsEither kind at
     either Numbered at h = inl (refl, h.0, h.1)
     either kind at h = inr h
 
-    not_accepted : (kind : RefusalKind) (at : ℕ) → IsWholeRefusedAt model t kind at → ¬ IsWholeAccepted t
+    not_accepted : (kind : RefusalKind) (at : ℕ) → IsUnnumberedRefusedAt model t kind at → ¬ IsUnnumberedAccepted t
     not_accepted kind at h a = go (either kind at h) where
       go : IsEither kind at → ⊥
       go (inl n) =
@@ -251,7 +251,7 @@ module _ (model : Model) where
     pub judged : IsJudged model t
     judged = (accepted_or_refused, not_accepted)
 
-    pub refused_whole_once : (kind other : RefusalKind) (p q : ℕ) → IsWholeRefusedAt model t kind p → IsWholeRefusedAt model t other q
+    pub refused_whole_once : (kind other : RefusalKind) (p q : ℕ) → IsUnnumberedRefusedAt model t kind p → IsUnnumberedRefusedAt model t other q
         → (kind ≡ other) × (p ≡ q)
     refused_whole_once kind other p q h k = go (either kind p h) (either other q k) where
       go : IsEither kind p → IsEither other q → (kind ≡ other) × (p ≡ q)
@@ -279,15 +279,15 @@ module _ (t : Text) (made : Refusal) where
   cut more past = grind (arith, nat_tests)
 
 -- where no specification begins
-module _ (model : Model) (t : Text) (at : ℕ) (within : at ≤ length t) (front : IsWholeAccepted (take at t)) where
-  abbrev before : IsAcceptedUnnumbered (take at t)
+module _ (model : Model) (t : Text) (at : ℕ) (within : at ≤ length t) (front : IsUnnumberedAccepted (take at t)) where
+  abbrev before : IsReadUnnumbered (take at t)
   before = accepted_there (take at t) front
 
   -- after them, and the beginning of one more, if there is one
   stopped_at : (place : ℕ) (part rest : Text) (state : Option State) → HasBytes t at place part → place ≤ MAX_TEXT_LEN → AreFree (own_at state)
       → IsPart Unnumbered state part → drop place t ≡ rest → (kind : RefusalKind)
       → halts_at model rest place (first_one ∷ (fetched model before.items ++ own_at state)) state ≡ Some kind → is_end state rest ≡ false
-      → IsWholeRefusedAt model t (if numbers_at place state rest then Numbered else kind) place
+      → IsUnnumberedRefusedAt model t (if numbers_at place state rest then Numbered else kind) place
   stopped_at place part rest state bytes few own begun e kind halts w = ends_refused model t (stop place _ state rest) kind (record {
     front = take place t;
     split = sym (take-append-drop place t) ∙ ap (λ u. take place t ++ u) e;
@@ -298,19 +298,19 @@ module _ (model : Model) (t : Text) (at : ℕ) (within : at ≤ length t) (front
   }) w
 
   begins_here : at < length t → (byte : ℕ) → get_or t at 0 ≡ byte → (kind : RefusalKind)
-      → halts_at model (byte ∷ drop (at + 1) t) at (first_one ∷ (fetched model before.items ++ [])) None ≡ Some kind → IsWholeRefusedAt model t kind at
-  begins_here less byte e kind h = subst (λ b. IsWholeRefusedAt model t (if b then Numbered else kind) at) (none (at == MAX_TEXT_LEN))
+      → halts_at model (byte ∷ drop (at + 1) t) at (first_one ∷ (fetched model before.items ++ [])) None ≡ Some kind → IsUnnumberedRefusedAt model t kind at
+  begins_here less byte e kind h = subst (λ b. IsUnnumberedRefusedAt model t (if b then Numbered else kind) at) (none (at == MAX_TEXT_LEN))
       (stopped_at at [] (byte ∷ drop (at + 1) t) None (bytes_none t at within) (omega (arith, length-take-le at t within, front.limit)) tt refl
       (drop_more t at 0 less ∙ ap (λ b. b ∷ drop (at + 1) t) e) kind h refl) where
         none : (b : Bool) → (if b then false else false) ≡ false
         none b = grind arith
 
-  pub whole_too_long : at ≡ length (take MAX_TEXT_LEN t) → at ≢ length t → IsWholeRefusedAt model t TooLong MAX_TEXT_LEN
+  pub whole_too_long : at ≡ length (take MAX_TEXT_LEN t) → at ≢ length t → IsUnnumberedRefusedAt model t TooLong MAX_TEXT_LEN
   whole_too_long end other =
       let limit : at ≡ MAX_TEXT_LEN = omega (arith, end, other, within, length-take MAX_TEXT_LEN t) in
       let full = eq-eqb at MAX_TEXT_LEN limit in
       let less : at < length t = omega (arith, other, within) in
-      subst (IsWholeRefusedAt model t TooLong) limit (begins_here less (get_or t at 0) refl TooLong (rw full refl))
+      subst (IsUnnumberedRefusedAt model t TooLong) limit (begins_here less (get_or t at 0) refl TooLong (rw full refl))
 
   pub inside_front : (u : Text) → u ≡ take MAX_TEXT_LEN t → at ≢ length u → at < length (take MAX_TEXT_LEN t)
   inside_front u e other = omega (arith, within, other, ap length e, length-take MAX_TEXT_LEN t, front.limit, length-take-le at t within)
@@ -337,7 +337,7 @@ module _ (model : Model) (t : Text) (at : ℕ) (within : at ≤ length t) (front
       | inr over ↦ (let no : 0 ≡ 37 = sym (get_or_past (take MAX_TEXT_LEN t) (at + 1) 0 over) ∙ second in absurd (omega (arith, no)))
     ]
 
-    pub whole_nul : first ≢ 37 → IsWholeRefusedAt model t NulByte at
+    pub whole_nul : first ≢ 37 → IsUnnumberedRefusedAt model t NulByte at
     whole_nul other =
         let room = not_full at inside.1 in
         begins_here inside.0 0 (sym (get_or-take MAX_TEXT_LEN t at 0 inside.1) ∙ zero_there other) NulByte (rw room refl)
@@ -368,7 +368,7 @@ instead_there model rest state byte kind t at follows e there = instead kind ∙
   elsewhere other Mixed = let no = ne_eqb byte 36 other in rw no refl
   elsewhere other kind = refl
 
-module _ (model : Model) (t : Text) (at : ℕ) (within : at ≤ length t) (front : IsWholeAccepted (take at t)) (position : Option ℕ) (own : List Fetch)
+module _ (model : Model) (t : Text) (at : ℕ) (within : at ≤ length t) (front : IsUnnumberedAccepted (take at t)) (position : Option ℕ) (own : List Fetch)
     (refusal : Refusal) (h : IsHalt (take MAX_TEXT_LEN t) at Unnumbered position own refusal) where
   abbrev u : Text
   u = take MAX_TEXT_LEN t
@@ -394,17 +394,17 @@ module _ (model : Model) (t : Text) (at : ℕ) (within : at ≤ length t) (front
 
   stopped : (rest : Text) → drop place t ≡ rest → (kind : RefusalKind) → halts_at model rest place (first_one ∷ taken) (Some s.state) ≡ Some kind
       → (result now : Refusal) → result ≡ now → (if numbers_at place (Some s.state) rest then Numbered else kind) ≡ now.kind → now.at ≡ place
-      → IsWholeRefusedAt model t result.kind result.at
+      → IsUnnumberedRefusedAt model t result.kind result.at
   stopped rest e kind halts result now is kind_is at_is =
       let few = h.bytes.within in
-      subst (λ r. IsWholeRefusedAt model t (Refusal.kind r) (Refusal.at r)) (sym is) (subst (IsWholeRefusedAt model t now.kind) (sym at_is)
-      (subst (λ k. IsWholeRefusedAt model t k place) kind_is
+      subst (λ r. IsUnnumberedRefusedAt model t (Refusal.kind r) (Refusal.at r)) (sym is) (subst (IsUnnumberedRefusedAt model t now.kind) (sym at_is)
+      (subst (λ k. IsUnnumberedRefusedAt model t k place) kind_is
       (stopped_at model t at within front place h.part rest (Some s.state) (bytes_whole t at place h.part h.bytes)
       (omega (arith, few, length-take MAX_TEXT_LEN t)) (subst AreFree (sym s.own_is) own_none) (s.after, follows) e kind halts refl)))
 
   -- the refusal of the text
   pub whole_refused : (made result : Refusal) → made.at ≡ place → made.kind ≡ numbered_instead u refusal.kind place → result ≡ refusal_of_long t made
-      → IsWholeRefusedAt model t result.kind result.at
+      → IsUnnumberedRefusedAt model t result.kind result.at
   whole_refused made result same instead is = elim (cases_lt place (length u)) [
     | inl less ↦ at_byte less
     | inr over ↦ elim (cases_lt MAX_TEXT_LEN (length t)) [
@@ -413,7 +413,7 @@ module _ (model : Model) (t : Text) (at : ℕ) (within : at ≤ length t) (front
           (is ∙ lasting t made (inr short)) (sym (instead ∙ ap (λ k. numbered_instead u k place) (h.ended over))) same
     ]
   ] where
-    at_byte : place < length u → IsWholeRefusedAt model t result.kind result.at
+    at_byte : place < length u → IsUnnumberedRefusedAt model t result.kind result.at
     at_byte less =
         let under : place < MAX_TEXT_LEN = omega (arith, less, length-take MAX_TEXT_LEN t) in
         let byte = get_or u place 0 in
@@ -426,7 +426,7 @@ module _ (model : Model) (t : Text) (at : ℕ) (within : at ≤ length t) (front
         refusal.kind (rw (room, halts) refl) result made (is ∙ lasting t made (inl (omega (arith, same, under))))
         (rw room (sym (instead_there model taken s.state byte refusal.kind u place follows halts refl) ∙ sym instead)) same
 
-    too_long : place ≡ MAX_TEXT_LEN → MAX_TEXT_LEN < length t → IsWholeRefusedAt model t result.kind result.at
+    too_long : place ≡ MAX_TEXT_LEN → MAX_TEXT_LEN < length t → IsUnnumberedRefusedAt model t result.kind result.at
     too_long past more =
         let full = eq-eqb place MAX_TEXT_LEN past in
         stopped (get_or t place 0 ∷ drop (place + 1) t) (drop_more t place 0 (omega (arith, past, more))) TooLong (rw full refl) result

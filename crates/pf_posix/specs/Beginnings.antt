@@ -7,7 +7,7 @@ use Rattle.pf_values.specs.declared.refusals.RefusalKind.{RefusalKind}
 use Rattle.pf_values.specs.declared.refusals.RefusalKind.TheVariants.{WidthTooLarge, PrecisionTooLarge}
 use Rattle.pf_values.specs.meaning.Spelling.{SpellsPrecision}
 use Rattle.pf_values.specs.meaning.Text.{Text, percent, point, star}
-use Rattle.pf_posix.specs.declared.conversions.Modifier.{Modifier}
+use Rattle.pf_posix.specs.declared.conversions.WholeLength.{WholeLength}
 use Rattle.pf_posix.specs.declared.fetches.Fetch.{Fetch}
 use Rattle.pf_posix.specs.Specifications.{Amount, modifier_letters}
 use Rattle.pf_posix.specs.Spelling.{SpellsUpToFlags, SpellsUpToWidth, SpellsUpToPrecision, SpellsPositive}
@@ -62,7 +62,7 @@ pub record EndsInPart (part : Text) (position : Option ℕ) (own : List Fetch) :
   pub set : FlagSet
   pub width : Option Amount
   pub precision : Option Amount
-  pub modifier : Modifier
+  pub modifier : WholeLength
   pub before_is : SpellsUpToPrecision before position set width precision
   pub whole : part ≡ before ++ modifier_letters modifier
   pub own_is : own ≡ star_fetches width ++ star_fetches precision

@@ -14,14 +14,14 @@ use Rattle.pf_posix.specs.declared.specifications.Refused.{Refused}
 use Rattle.pf_posix.specs.declared.specifications.Specification.{Specification}
 use Rattle.pf_posix.specs.declared.specifications.Stars.{Stars}
 use Rattle.pf_posix.specs.declared.specification_spans.PartOffsets.{PartOffsets}
-use Rattle.pf_posix.specs.declared.types.ArgumentType.{ArgumentType}
+use Rattle.pf_posix.specs.declared.types.WholeArgType.{WholeArgType}
 use Rattle.pf_posix.specs.Beginnings.{EndsInStarDigits, IsBegunAs, IsUndecided, TakesAmount}
-use Rattle.pf_posix.specs.Defined.{IsPosixDefined}
+use Rattle.pf_posix.specs.Defined.{IsWholeDefined}
 use Rattle.pf_posix.specs.PartsInText.{IsSpecificationAt, specification_read}
-use Rattle.pf_posix.specs.Refusals.{Follows, IsPosixRefusedByte, numbering_by, numbering_of}
-use Rattle.pf_posix.specs.SpecificationSpans.{ArePosixPartsAt}
-use Rattle.pf_posix.specs.Specifications.{Amount, PosixSpecification}
-use Rattle.pf_posix.specs.Spelling.{SpellsPosix, SpellsUpToFlags, SpellsUpToWidth}
+use Rattle.pf_posix.specs.Refusals.{Follows, IsWholeRefusedByte, numbering_by, numbering_of}
+use Rattle.pf_posix.specs.SpecificationSpans.{AreWholePartsAt}
+use Rattle.pf_posix.specs.Specifications.{Amount, WholeSpecification}
+use Rattle.pf_posix.specs.Spelling.{SpellsWhole, SpellsUpToFlags, SpellsUpToWidth}
 use Rattle.pf_posix.specs.Types.{fetch, int_type, star_fetches}
 
 -- why a byte is refused where it isn't allowed: NUL and `%` have kinds of their own
@@ -50,7 +50,7 @@ pub record IsHalt (t : Text) (start : ℕ) (numbering : Numbering) (position : O
   pub byte : refusal.at < length t → (model : Model) (fetches : List Fetch)
       → (own ≡ [] → numbering_of fetches ≡ numbering)
       → IsUndecided part ⊎ FollowsBy (numbering_of fetches) position
-      → IsPosixRefusedByte model fetches part (get_or t refusal.at 0) refusal.kind
+      → IsWholeRefusedByte model fetches part (get_or t refusal.at 0) refusal.kind
 
 -- so it does, and a numbered specification has fetched no more than this
 abbrev pub Halts : Text → ℕ → Numbering → Option ℕ → List Fetch → Refusal → Type 0
@@ -59,12 +59,12 @@ Halts t start numbering position own refusal = (now : List Fetch)
 
 -- no defined specification begins a text that may follow others of a numbering
 abbrev pub BeginsNoneAfter : Numbering → Text → Type 0
-BeginsNoneAfter numbering t = (text rest : Text) (s : PosixSpecification) → SpellsPosix text s
-    → t ≡ text ++ rest → FollowsBy numbering s.position → IsPosixDefined s → ⊥
+BeginsNoneAfter numbering t = (text rest : Text) (s : WholeSpecification) → SpellsWhole text s
+    → t ≡ text ++ rest → FollowsBy numbering s.position → IsWholeDefined s → ⊥
 
 -- nor does one that isn't
 abbrev pub BeginsNoAfter : Numbering → Text → Type 0
-BeginsNoAfter numbering t = (text rest : Text) (s : PosixSpecification) → SpellsPosix text s
+BeginsNoAfter numbering t = (text rest : Text) (s : WholeSpecification) → SpellsWhole text s
     → t ≡ text ++ rest → FollowsBy numbering s.position → ⊥
 
 -- kinds of refusals for parts that aren't defined together
@@ -108,7 +108,7 @@ HaltsAtPoint t start position refusal = (begin : ℕ) (numbering : Numbering) (b
     → Halts t begin numbering position (star_fetches width) refusal
 
 -- the argument of a number, if there is one
-abbrev pub one_fetch : Option ℕ → ArgumentType → List Fetch
+abbrev pub one_fetch : Option ℕ → WholeArgType → List Fetch
 one_fetch None type = []
 one_fetch (Some n) type = fetch (Some n) type ∷ []
 
@@ -145,7 +145,7 @@ offsets_read read = record {
 -- a specification that may follow others of a numbering is the bytes from an offset up to where it ends
 pub record IsReadAt (t : Text) (start : ℕ) (numbering : Numbering) (found : Specification × ℕ) : Type 0 where
   pub read : IsSpecificationAt t start found
-  pub parts : ArePosixPartsAt t start found.1 (offsets_read found.0) (specification_read found.0)
+  pub parts : AreWholePartsAt t start found.1 (offsets_read found.0) (specification_read found.0)
   pub follows : FollowsBy numbering found.0.position
   pub stars : HasStars t start found.0.position found.0.stars
       (star_fetches (specification_read found.0).width ++ star_fetches (specification_read found.0).precision)
@@ -153,7 +153,7 @@ pub record IsReadAt (t : Text) (start : ℕ) (numbering : Numbering) (found : Sp
 -- and it is defined
 pub record IsDefinedAt (t : Text) (start : ℕ) (numbering : Numbering) (found : Specification × ℕ) : Type 0 where
   pub is : IsReadAt t start numbering found
-  pub defined : IsPosixDefined (specification_read found.0)
+  pub defined : IsWholeDefined (specification_read found.0)
 
 -- no such specification begins there: it can't go on where the text is refused
 pub record IsRefusedIn (t : Text) (start : ℕ) (numbering : Numbering) (refused : Refused) : Type 0 where

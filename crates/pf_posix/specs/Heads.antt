@@ -7,7 +7,7 @@ use Rattle.pf_posix.specs.declared.opaque_directives.Opaque.{Opaque}
 use Rattle.pf_posix.specs.declared.stretches.Stretch.{Stretch}
 use Rattle.pf_posix.specs.Opaque.{SpellsOpaqueItem}
 use Rattle.pf_posix.specs.OpaqueParts.{item_of_opaque}
-use Rattle.pf_posix.specs.Stretches.{Stretches, Last, Before, ReadsWhole}
+use Rattle.pf_posix.specs.Stretches.{Stretches, Last, Before, ReadsStretches}
 
 -- The stretch begins the text from this offset on, which is read so. Its items are read from its bytes;
 -- the last stretch ends the text, and each other one ends where an opaque directive or `%m` begins.
@@ -18,7 +18,7 @@ IsHead t from (Before items other rest) stretch =
     IsSomeAnd stretch.opaque (λ opaque. item_of_opaque opaque ≡ other)
     × Reads (take (stretch.end - from) (drop from t)) items
     × SpellsOpaqueItem (take (stretch.after - stretch.end) (drop stretch.end t)) other
-    × ReadsWhole (drop stretch.after t) rest
+    × ReadsStretches (drop stretch.after t) rest
 
 -- an opaque directive or `%m` is the bytes from an offset up to where it ends, within the limit
 pub record IsOpaqueAt (t : Text) (at : ℕ) (found : Opaque × ℕ) : Type 0 where

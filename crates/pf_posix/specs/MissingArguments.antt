@@ -6,7 +6,7 @@ use Rattle.pf_values.specs.meaning.Text.{Text}
 use Rattle.pf_posix.specs.declared.directive_spans.DirectiveSpan.{DirectiveSpan}
 use Rattle.pf_posix.specs.declared.missing_arguments.MissingArgument.{MissingArgument}
 use Rattle.pf_posix.specs.Directives.{directives_from}
-use Rattle.pf_posix.specs.Items.{PosixItem, ReadsPosix}
+use Rattle.pf_posix.specs.Items.{WholeItem, ReadsWhole}
 use Rattle.pf_posix.specs.SpecificationSpans.{HasItsParts}
 
 abbrev pub is_index : Option ℕ → ℕ → Bool
@@ -41,8 +41,8 @@ pub record IsFirstLater (directives : List DirectiveSpan) (index : ℕ) (first :
 -- Of a text that is read as items, it is the first argument that no specification takes, and the first specification
 -- that takes a later one (POSIX fprintf on `%n$`).
 pub record IsMissingArgument (model : Model) (t : Text) (missing : MissingArgument) : Type 0 where
-  pub items : List PosixItem
-  pub reads : ReadsPosix t items
+  pub items : List WholeItem
+  pub reads : ReadsWhole t items
   pub none : takes_any (directives_from model 0 0 t items reads) missing.argument ≡ false
   pub all_before : (index : ℕ) → index < missing.argument → takes_any (directives_from model 0 0 t items reads) index ≡ true
   pub first : IsFirstLater (directives_from model 0 0 t items reads) missing.argument missing.specification.directive

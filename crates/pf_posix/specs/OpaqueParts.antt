@@ -5,11 +5,11 @@ use Rattle.pf_values.specs.declared.conversions.Conv.TheVariants.{D}
 use Rattle.pf_values.specs.declared.lengths.Length.TheVariants as lengths
 use Rattle.pf_values.specs.meaning.Flags.{no_flags}
 use Rattle.pf_values.specs.meaning.Specification.{Specification}
-use Rattle.pf_posix.specs.declared.conversions.Conversion.{Conversion}
-use Rattle.pf_posix.specs.declared.conversions.Conversion.TheVariants.{Profile}
-use Rattle.pf_posix.specs.declared.conversions.Modifier.TheVariants.{Integer}
+use Rattle.pf_posix.specs.declared.conversions.WholeConv.{WholeConv}
+use Rattle.pf_posix.specs.declared.conversions.WholeConv.TheVariants.{Profile}
+use Rattle.pf_posix.specs.declared.conversions.WholeLength.TheVariants.{Integer}
 use Rattle.pf_posix.specs.Opaque.{OpaqueErrno, OpaqueItem, OpaqueSpecification}
-use Rattle.pf_posix.specs.Specifications.{Amount, Given, Fetched, PosixSpecification}
+use Rattle.pf_posix.specs.Specifications.{Amount, Given, Fetched, WholeSpecification}
 use Rattle.pf_posix.specs.Types.{integer_length}
 use Rattle.pf_posix.specs.declared.opaque_directives.Opaque.{Opaque}
 use Rattle.pf_posix.specs.declared.opaque_directives.Opaque.TheVariants as opaques
@@ -28,7 +28,7 @@ abbrev pub amount_of : Option OpaqueAmount → Option Amount
 amount_of amount = amount_at amount None
 
 -- the specification with the directive's parts
-abbrev pub parts_of_opaque : OpaqueDirective → PosixSpecification
+abbrev pub parts_of_opaque : OpaqueDirective → WholeSpecification
 parts_of_opaque d = record {
   position = None;
   flags = d.flags;
@@ -39,7 +39,7 @@ parts_of_opaque d = record {
 }
 
 -- a conversion alone
-abbrev pub bare : Conversion → OpaqueDirective
+abbrev pub bare : WholeConv → OpaqueDirective
 bare conversion = record {
   flags = no_flags;
   width = None;
@@ -59,11 +59,11 @@ amount_back None = None
 amount_back (Some (Given n)) = Some n
 amount_back (Some (Fetched number)) = None
 
-abbrev pub conv_back : Conversion → Conv
+abbrev pub conv_back : WholeConv → Conv
 conv_back (Profile conv) = conv
 conv_back _ = D
 
-abbrev pub narrow : PosixSpecification → Specification
+abbrev pub narrow : WholeSpecification → Specification
 narrow s = record {
   flags = s.flags;
   width = amount_back s.width;

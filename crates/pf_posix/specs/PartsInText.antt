@@ -4,19 +4,19 @@ use Rattle.std.specs.Prelude.{◌≡◌, ℕ, ◌≢◌, ◌+◌, ◌-◌, ◌<�
 use Rattle.pf_values.specs.declared.lengths.Length.TheVariants as lengths
 use Rattle.pf_values.specs.meaning.Text.{Text, dollar, point, star}
 use Rattle.pf_text.specs.States.{is_digit}
-use Rattle.pf_posix.specs.declared.conversions.Modifier.{Modifier}
-use Rattle.pf_posix.specs.declared.conversions.Modifier.TheVariants.{Integer}
+use Rattle.pf_posix.specs.declared.conversions.WholeLength.{WholeLength}
+use Rattle.pf_posix.specs.declared.conversions.WholeLength.TheVariants.{Integer}
 use Rattle.pf_text.specs.Offsets.{EndsWidth, HasBytes}
 use Rattle.pf_posix.specs.declared.opaque_directives.OpaqueAmount.{OpaqueAmount}
 use Rattle.pf_posix.specs.declared.opaque_directives.OpaqueAmount.TheVariants as amounts
 use Rattle.pf_posix.specs.declared.specifications.Specification.{Specification}
 use Rattle.pf_posix.specs.Letters.{length_modifier_of}
 use Rattle.pf_posix.specs.OpaqueParts.{amount_at}
-use Rattle.pf_posix.specs.Specifications.{PosixSpecification}
-use Rattle.pf_posix.specs.Spelling.{SpellsPosix, SpellsPositive}
+use Rattle.pf_posix.specs.Specifications.{WholeSpecification}
+use Rattle.pf_posix.specs.Spelling.{SpellsWhole, SpellsPositive}
 
 -- the parts that the code has read
-abbrev pub specification_read : Specification → PosixSpecification
+abbrev pub specification_read : Specification → WholeSpecification
 specification_read read = record {
   position = read.position;
   flags = read.parts.flags;
@@ -50,13 +50,13 @@ NumbersStar (Some amounts.Star) number = ⊤
 NumbersStar amount number = number ≡ None
 
 -- the modifier of two letters that this byte ends, if it does (C11 7.21.6.1 p7)
-abbrev pub second_modifier : Modifier → ℕ → Option Modifier
+abbrev pub second_modifier : WholeLength → ℕ → Option WholeLength
 second_modifier (Integer lengths.H) byte = if byte == 104 then Some (Integer lengths.Hh) else None
 second_modifier (Integer lengths.L) byte = if byte == 108 then Some (Integer lengths.Ll) else None
 second_modifier _ byte = None
 
 -- after a modifier, or in place of one
-abbrev pub ModifierEnds : Text → ℕ → Modifier → Type 0
+abbrev pub ModifierEnds : Text → ℕ → WholeLength → Type 0
 ModifierEnds t at (Integer lengths.None) = length_modifier_of (get_or t at 0) ≡ None
 ModifierEnds t at modifier = second_modifier modifier (get_or t at 0) ≡ None
 
@@ -64,4 +64,4 @@ ModifierEnds t at modifier = second_modifier modifier (get_or t at 0) ≡ None
 pub record IsSpecificationAt (t : Text) (start : ℕ) (found : Specification × ℕ) : Type 0 where
   pub some : start < found.1
   pub within : found.1 ≤ length t
-  pub spelled : SpellsPosix (take (found.1 - start) (drop start t)) (specification_read found.0)
+  pub spelled : SpellsWhole (take (found.1 - start) (drop start t)) (specification_read found.0)

@@ -1,7 +1,7 @@
 -- The types of the arguments that are fetched, and whether one has two.
 use Rattle.std.specs.Prelude.{ℕ, zero, suc, ◌+◌, Bool, false, ◌&&◌, ◌||◌, not, ◌==◌, List, [], ◌∷◌, Option, Some, None, if◌then◌else◌, map, max, unwrap_or}
 use Rattle.pf_posix.specs.declared.fetches.Fetch.{Fetch}
-use Rattle.pf_posix.specs.declared.types.ArgumentType.{ArgumentType}
+use Rattle.pf_posix.specs.declared.types.WholeArgType.{WholeArgType}
 use Rattle.pf_posix.specs.Types.{int_type}
 use Rattle.pf_posix.specs.TypeNumbers.{number_of_type}
 
@@ -19,7 +19,7 @@ conflicts [] f = false
 conflicts (g ∷ fetched) f = differs g f || conflicts fetched f
 
 -- the types that are fetched, in order
-abbrev pub wanted_types : List Fetch → List ArgumentType
+abbrev pub wanted_types : List Fetch → List WholeArgType
 wanted_types fetched = map (λ f. f.wanted) fetched
 
 -- there is a number, and it is this one
@@ -28,7 +28,7 @@ is_number None n = false
 is_number (Some m) n = m == n
 
 -- the type of the first fetch of the argument with an index, counted from 0
-abbrev pub wanted_at : ℕ → List Fetch → Option ArgumentType
+abbrev pub wanted_at : ℕ → List Fetch → Option WholeArgType
 wanted_at index [] = None
 wanted_at index (f ∷ fetched) =
     if is_number f.number (index + 1) then Some f.wanted else wanted_at index fetched
@@ -39,7 +39,7 @@ greatest [] = 0
 greatest (f ∷ fetched) = max (unwrap_or f.number 0) (greatest fetched)
 
 -- `n` types, from an index on
-abbrev pub listed : List Fetch → ℕ → ℕ → List ArgumentType
+abbrev pub listed : List Fetch → ℕ → ℕ → List WholeArgType
 listed fetched index zero = []
 listed fetched index (suc n) =
     unwrap_or (wanted_at index fetched) int_type ∷ listed fetched (index + 1) n

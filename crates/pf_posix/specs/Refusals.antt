@@ -12,11 +12,11 @@ use Rattle.pf_values.specs.declared.refusals.RefusalKind.TheVariants.{NulByte, T
 use Rattle.pf_posix.specs.declared.specifications.Numbering.{Numbering}
 use Rattle.pf_posix.specs.declared.specifications.Numbering.TheVariants.{Undecided, Unnumbered, Numbered}
 use Rattle.pf_posix.specs.Beginnings.{EndsInDigits, EndsInFirst, EndsInStar, EndsInStarDigits, IsBegunAs, IsUndecided}
-use Rattle.pf_posix.specs.Defined.{IsPosixDefined, undefined_of}
-use Rattle.pf_posix.specs.Items.{PosixItem, ReadsPosix, errno_letter, fetched}
+use Rattle.pf_posix.specs.Defined.{IsWholeDefined, undefined_of}
+use Rattle.pf_posix.specs.Items.{WholeItem, ReadsWhole, errno_letter, fetched}
 use Rattle.pf_posix.specs.Letters.{is_first_digit}
-use Rattle.pf_posix.specs.Specifications.{PosixSpecification}
-use Rattle.pf_posix.specs.Spelling.{SpellsPosix}
+use Rattle.pf_posix.specs.Specifications.{WholeSpecification}
+use Rattle.pf_posix.specs.Spelling.{SpellsWhole}
 use Rattle.pf_posix.specs.Types.{IsFetched, conversion_type, fetch, int_type}
 
 -- whether an argument is fetched by its number
@@ -56,11 +56,11 @@ MayFollow numbering part own = ((part ≡ []) × (own ≡ []))
 
 -- Items, and then `part`, the beginning of one more. Each is defined, its numbers are within the limits, and
 -- what was fetched agrees.
-pub record IsGoodPosixFront (model : Model) (front : Text) (fetches : List Fetch) (part : Text) : Type 0 where
-  pub items : List PosixItem
+pub record IsGoodWholeFront (model : Model) (front : Text) (fetches : List Fetch) (part : Text) : Type 0 where
+  pub items : List WholeItem
   pub whole : Text
   pub own : List Fetch
-  pub reads : ReadsPosix whole items
+  pub reads : ReadsWhole whole items
   pub split : front ≡ whole ++ part
   pub fetches_are : fetches ≡ fetched model items ++ own
   pub agreed : AreAgreed fetches
@@ -102,8 +102,8 @@ IsNumberTooLarge part byte kind = (n : ℕ) × PassesLimit n byte
 
 -- the byte ends a specification
 pub record CompletesSpecification (numbering : Numbering) (part : Text) (byte : ℕ) : Type 0 where
-  pub s : PosixSpecification
-  pub spelled : SpellsPosix (part ++ byte ∷ []) s
+  pub s : WholeSpecification
+  pub spelled : SpellsWhole (part ++ byte ∷ []) s
   pub follows : Follows numbering (Some (numbering_by s.position))
 
 -- the byte ends a specification that isn't defined, for this reason first (C11 7.21.6.1 p4 to p9)
@@ -118,7 +118,7 @@ FetchesStar part byte f = (kind : RefusalKind) × (n : ℕ) × (position : Optio
 
 -- the byte is the conversion, which fetches the last argument of a specification
 abbrev pub FetchesLast : Model → Numbering → Text → ℕ → Fetch → Type 0
-FetchesLast model numbering part byte f = (end : CompletesSpecification numbering part byte) × IsPosixDefined end.s
+FetchesLast model numbering part byte f = (end : CompletesSpecification numbering part byte) × IsWholeDefined end.s
     × (f ≡ fetch end.s.position (conversion_type model end.s.modifier end.s.conversion))
 
 -- the byte isn't allowed where it is, and no other reason holds: with it, the part is neither a specification
@@ -127,7 +127,7 @@ pub record IsUnexpected (numbering : Numbering) (part : Text) (byte : ℕ) : Typ
   pub begun : part ≢ []
   pub one_kind : ¬ IsMixed part numbering byte
   pub small : (kind : RefusalKind) → ¬ IsNumberTooLarge part byte kind
-  pub no_whole : (s : PosixSpecification) → ¬ SpellsPosix (part ++ byte ∷ []) s
+  pub no_whole : (s : WholeSpecification) → ¬ SpellsWhole (part ++ byte ∷ []) s
   pub no_part : (position : Option ℕ) (own : List Fetch) → ¬ IsBegunAs (part ++ byte ∷ []) position own
 
 -- why a byte is refused that is neither zero nor `%`
@@ -143,20 +143,20 @@ IsWrong model fetches part byte kind =
 
 -- why a byte is refused after a front: NUL everywhere, `%` inside a specification, and others, but not
 -- the letter of `%m`
-abbrev pub IsPosixRefusedByte : Model → List Fetch → Text → ℕ → RefusalKind → Type 0
-IsPosixRefusedByte model fetches part byte kind = MatchBool (byte == 0) (kind ≡ NulByte)
+abbrev pub IsWholeRefusedByte : Model → List Fetch → Text → ℕ → RefusalKind → Type 0
+IsWholeRefusedByte model fetches part byte kind = MatchBool (byte == 0) (kind ≡ NulByte)
     (MatchBool (byte == percent) ((kind ≡ BadPercent) × (part ≢ []) × (part ≢ percent ∷ []))
     ((part ≡ percent ∷ [] → byte ≢ errno_letter) × IsWrong model fetches part byte kind))
 
 -- why a text is refused after a good front of `at` bytes
-abbrev pub IsPosixRefusalCause : Model → List Fetch → Text → ℕ → Text → RefusalKind → Type 0
-IsPosixRefusalCause model fetches part at [] kind = ((kind ≡ Truncated) × (part ≢ []))
+abbrev pub IsWholeRefusalCause : Model → List Fetch → Text → ℕ → Text → RefusalKind → Type 0
+IsWholeRefusalCause model fetches part at [] kind = ((kind ≡ Truncated) × (part ≢ []))
     ⊎ ((kind ≡ MissingArgument) × (part ≡ []) × HasGap fetches)
-IsPosixRefusalCause model fetches part at (byte ∷ rest) kind =
-    MatchBool (at == MAX_TEXT_LEN) (kind ≡ TooLong) (IsPosixRefusedByte model fetches part byte kind)
+IsWholeRefusalCause model fetches part at (byte ∷ rest) kind =
+    MatchBool (at == MAX_TEXT_LEN) (kind ≡ TooLong) (IsWholeRefusedByte model fetches part byte kind)
 
 -- the text is refused after a good front
-pub record IsPosixRefusedAt (model : Model) (t : Text) (kind : RefusalKind) (at : ℕ) : Type 0 where
+pub record IsWholeRefusedAt (model : Model) (t : Text) (kind : RefusalKind) (at : ℕ) : Type 0 where
   pub front : Text
   pub rest : Text
   pub part : Text
@@ -164,5 +164,5 @@ pub record IsPosixRefusedAt (model : Model) (t : Text) (kind : RefusalKind) (at 
   pub split : t ≡ front ++ rest
   pub offset : at ≡ length front
   pub limit : at ≤ MAX_TEXT_LEN
-  pub good : IsGoodPosixFront model front fetches part
-  pub cause : IsPosixRefusalCause model fetches part at rest kind
+  pub good : IsGoodWholeFront model front fetches part
+  pub cause : IsWholeRefusalCause model fetches part at rest kind

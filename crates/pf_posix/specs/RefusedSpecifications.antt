@@ -4,16 +4,16 @@ use Rattle.pf_values.specs.meaning.Text.{Text}
 use Rattle.pf_text.specs.Offsets.{HasBytes}
 use Rattle.pf_posix.specs.declared.fetches.Fetch.{Fetch}
 use Rattle.pf_posix.specs.declared.refused_specifications.RefusedSpecification.{RefusedSpecification}
-use Rattle.pf_posix.specs.declared.refused_specifications.WholeSpecification.{WholeSpecification}
+use Rattle.pf_posix.specs.declared.refused_specifications.ReadSpecification.{ReadSpecification}
 use Rattle.pf_posix.specs.Beginnings.{IsBegunAs}
-use Rattle.pf_posix.specs.Items.{PosixItem, ReadsPosix}
-use Rattle.pf_posix.specs.SpecificationSpans.{ArePosixPartsAt}
-use Rattle.pf_posix.specs.Specifications.{PosixSpecification}
-use Rattle.pf_posix.specs.Spelling.{SpellsPosix}
+use Rattle.pf_posix.specs.Items.{WholeItem, ReadsWhole}
+use Rattle.pf_posix.specs.SpecificationSpans.{AreWholePartsAt}
+use Rattle.pf_posix.specs.Specifications.{WholeSpecification}
+use Rattle.pf_posix.specs.Spelling.{SpellsWhole}
 
 -- a text is items up to an offset (C11 7.21.6.1 p3)
 abbrev pub HasItemsTo : Text → ℕ → Type 0
-HasItemsTo t at = (items : List PosixItem) × ReadsPosix (take at t) items
+HasItemsTo t at = (items : List WholeItem) × ReadsWhole (take at t) items
 
 -- the bytes from one offset up to another are the beginning of a specification, and not all of it
 abbrev pub IsBegunAt : Text → ℕ → ℕ → Type 0
@@ -22,11 +22,11 @@ IsBegunAt t begin at = (part : Text) × HasBytes t begin at part
 
 -- no specification begins a text, defined or not
 abbrev pub BeginsNoSpecification : Text → Type 0
-BeginsNoSpecification t = (text rest : Text) (s : PosixSpecification) → SpellsPosix text s → t ≢ text ++ rest
+BeginsNoSpecification t = (text rest : Text) (s : WholeSpecification) → SpellsWhole text s → t ≢ text ++ rest
 
 -- the specification that begins at an offset can be read up to its end, and these are its parts
-abbrev pub IsWholeFrom : Text → ℕ → WholeSpecification → Type 0
-IsWholeFrom t begin whole = (s : PosixSpecification) × ArePosixPartsAt t begin whole.end whole.offsets s
+abbrev pub IsWholeFrom : Text → ℕ → ReadSpecification → Type 0
+IsWholeFrom t begin whole = (s : WholeSpecification) × AreWholePartsAt t begin whole.end whole.offsets s
 
 -- A text that is refused at an offset is items before a specification, which has begun by then. It can be read up to its
 -- end, defined or not, and has these parts; or it can't.
@@ -45,13 +45,13 @@ IsPartOfOne part = (part ≡ []) ⊎ ((position : Option ℕ) × (own : List Fet
 pub record IsBeforePart (t : Text) (at : ℕ) : Type 0 where
   pub whole : Text
   pub part : Text
-  pub items : List PosixItem
-  pub left : List PosixItem
+  pub items : List WholeItem
+  pub left : List WholeItem
   pub split : t ≡ whole ++ part
-  pub reads : ReadsPosix whole items
+  pub reads : ReadsWhole whole items
   pub begun : IsPartOfOne part
   pub within : at ≤ length whole
-  pub reads_left : ReadsPosix (drop at whole) left
+  pub reads_left : ReadsWhole (drop at whole) left
 
 -- and there that beginning is
 abbrev pub IsAtPart : Text → ℕ → Type 0

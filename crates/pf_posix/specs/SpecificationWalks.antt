@@ -8,10 +8,10 @@ use Rattle.pf_text.specs.Walks.{IsWalkOver}
 use Rattle.pf_posix.specs.declared.directive_spans.DirectiveSpan.{DirectiveSpan}
 use Rattle.pf_posix.specs.declared.specification_spans.SpecificationSpan.{SpecificationSpan}
 use Rattle.pf_posix.specs.declared.specification_walk.SpecificationWalk.{SpecificationWalk}
-use Rattle.pf_posix.specs.declared.types.ArgumentType.{ArgumentType}
+use Rattle.pf_posix.specs.declared.types.WholeArgType.{WholeArgType}
 use Rattle.pf_posix.specs.Directives.{directives_from}
 use Rattle.pf_posix.specs.DirectivesInText.{IsListedTo}
-use Rattle.pf_posix.specs.Items.{HasArguments, PosixItem, ReadsPosix}
+use Rattle.pf_posix.specs.Items.{HasArguments, WholeItem, ReadsWhole}
 use Rattle.pf_posix.specs.SpecificationSpans.{HasItsParts}
 
 -- A text within the limit is read as items, and `all` are its specifications. A walk over it has gone past those that
@@ -31,10 +31,10 @@ pub record AreTheRest (t : Text) (all done : List DirectiveSpan) (spans : List S
 
 -- a text is accepted, and all its specifications are ahead of a walk
 pub record IsBefore (model : Model) (t : Text) (walk : SpecificationWalk) : Type 0 where
-  pub types : List ArgumentType
+  pub types : List WholeArgType
   pub accepted : HasArguments model t types
   pub ahead : IsAhead t walk (directives_from model 0 0 t accepted.items accepted.reads) []
 
 -- a text within the limit is read as items
 abbrev pub IsReadable : Text → Type 0
-IsReadable t = (items : List PosixItem) × ReadsPosix t items × (length t ≤ MAX_TEXT_LEN)
+IsReadable t = (items : List WholeItem) × ReadsWhole t items × (length t ≤ MAX_TEXT_LEN)

@@ -4,12 +4,12 @@ use Rattle.pf_values.specs.declared.flags.FlagSet.{FlagSet}
 use Rattle.pf_values.specs.meaning.Conversions.{conv_letter}
 use Rattle.pf_values.specs.meaning.Lengths.{length_letters}
 use Rattle.pf_values.specs.meaning.Text.{Text}
-use Rattle.pf_posix.specs.declared.conversions.Conversion.{Conversion}
-use Rattle.pf_posix.specs.declared.conversions.Conversion.TheVariants.{Profile, Float, UpperC, UpperS, Pointer, Count}
+use Rattle.pf_posix.specs.declared.conversions.WholeConv.{WholeConv}
+use Rattle.pf_posix.specs.declared.conversions.WholeConv.TheVariants.{Profile, Float, UpperC, UpperS, Pointer, Count}
 use Rattle.pf_posix.specs.declared.conversions.Floating.{Floating}
 use Rattle.pf_posix.specs.declared.conversions.Floating.TheVariants as floats
-use Rattle.pf_posix.specs.declared.conversions.Modifier.{Modifier}
-use Rattle.pf_posix.specs.declared.conversions.Modifier.TheVariants.{Integer, LongDouble}
+use Rattle.pf_posix.specs.declared.conversions.WholeLength.{WholeLength}
+use Rattle.pf_posix.specs.declared.conversions.WholeLength.TheVariants.{Integer, LongDouble}
 
 -- A field width or a precision: a number, or an argument, which has a number of its own in a
 -- numbered specification (C11 7.21.6.1 p4 and p5; POSIX fprintf on `*m$`).
@@ -19,13 +19,13 @@ pub data Amount : Type 0 where
 
 -- The parts of a specification (C11 7.21.6.1 p4); in a numbered one, the number of its argument
 -- (POSIX fprintf on `%n$`).
-pub record PosixSpecification : Type 0 where
+pub record WholeSpecification : Type 0 where
   pub position : Option ℕ
   pub flags : FlagSet
   pub width : Option Amount
   pub precision : Option Amount
-  pub modifier : Modifier
-  pub conversion : Conversion
+  pub modifier : WholeLength
+  pub conversion : WholeConv
 
 -- `f F e E g G a A` (C11 7.21.6.1 p8)
 abbrev pub floating_letter : Floating → ℕ
@@ -39,7 +39,7 @@ floating_letter floats.A = 97
 floating_letter floats.UpperA = 65
 
 -- those of the profile, `p` and `n` (C11 7.21.6.1 p8), `C` and `S` (POSIX fprintf)
-abbrev pub conversion_letter : Conversion → ℕ
+abbrev pub conversion_letter : WholeConv → ℕ
 conversion_letter (Profile conv) = conv_letter conv
 conversion_letter (Float floating) = floating_letter floating
 conversion_letter UpperC = 67
@@ -48,6 +48,6 @@ conversion_letter Pointer = 112
 conversion_letter Count = 110
 
 -- (C11 7.21.6.1 p7)
-abbrev pub modifier_letters : Modifier → Text
+abbrev pub modifier_letters : WholeLength → Text
 modifier_letters (Integer length) = length_letters length
 modifier_letters LongDouble = codes "L"

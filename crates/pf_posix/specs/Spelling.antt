@@ -7,7 +7,7 @@ use Rattle.pf_values.specs.meaning.Digits.{IsNumeral}
 use Rattle.pf_values.specs.meaning.Flags.{flag_byte, flag_set}
 use Rattle.pf_values.specs.meaning.Spelling.{SpellsPrecision}
 use Rattle.pf_values.specs.meaning.Text.{Text, dollar, percent, point, star}
-use Rattle.pf_posix.specs.Specifications.{Amount, Given, Fetched, PosixSpecification, conversion_letter, modifier_letters}
+use Rattle.pf_posix.specs.Specifications.{Amount, Given, Fetched, WholeSpecification, conversion_letter, modifier_letters}
 
 -- a number from 1 on within the limit; its digits don't begin with 0, which is a flag
 -- (C11 7.21.6.1 p4, POSIX fprintf)
@@ -30,16 +30,16 @@ pub record SpellsStar (t : Text) (position number : Option ℕ) : Type 0 where
   pub whole : t ≡ star ∷ digits
 
 -- a number, `*`, or nothing (C11 7.21.6.1 p4)
-abbrev pub SpellsPosixWidth : Text → Option ℕ → Option Amount → Type 0
-SpellsPosixWidth t position None = t ≡ []
-SpellsPosixWidth t position (Some (Given n)) = SpellsPositive t n
-SpellsPosixWidth t position (Some (Fetched number)) = SpellsStar t position number
+abbrev pub SpellsWholeWidth : Text → Option ℕ → Option Amount → Type 0
+SpellsWholeWidth t position None = t ≡ []
+SpellsWholeWidth t position (Some (Given n)) = SpellsPositive t n
+SpellsWholeWidth t position (Some (Fetched number)) = SpellsStar t position number
 
 -- a point and any number of digits or `*`, or nothing (C11 7.21.6.1 p4)
-abbrev pub SpellsPosixPrecision : Text → Option ℕ → Option Amount → Type 0
-SpellsPosixPrecision t position None = t ≡ []
-SpellsPosixPrecision t position (Some (Given n)) = SpellsPrecision t (Some n) × (n ≤ MAX_NUMBER)
-SpellsPosixPrecision t position (Some (Fetched number)) =
+abbrev pub SpellsWholePrecision : Text → Option ℕ → Option Amount → Type 0
+SpellsWholePrecision t position None = t ≡ []
+SpellsWholePrecision t position (Some (Given n)) = SpellsPrecision t (Some n) × (n ≤ MAX_NUMBER)
+SpellsWholePrecision t position (Some (Fetched number)) =
     (rest : Text) × SpellsStar rest position number × (t ≡ point ∷ rest)
 
 -- `%`, the number of the argument, and flags in any order and number (C11 7.21.6.1 p4, POSIX
@@ -57,7 +57,7 @@ pub record SpellsUpToWidth (t : Text) (position : Option ℕ) (set : FlagSet)
   pub before : Text
   pub text : Text
   pub before_is : SpellsUpToFlags before position set
-  pub width_is : SpellsPosixWidth text position width
+  pub width_is : SpellsWholeWidth text position width
   pub whole : t ≡ before ++ text
 
 -- `%`, the number of the argument, flags, a width, and a precision (C11 7.21.6.1 p4)
@@ -66,11 +66,11 @@ pub record SpellsUpToPrecision (t : Text) (position : Option ℕ) (set : FlagSet
   pub before : Text
   pub text : Text
   pub before_is : SpellsUpToWidth before position set width
-  pub precision_is : SpellsPosixPrecision text position precision
+  pub precision_is : SpellsWholePrecision text position precision
   pub whole : t ≡ before ++ text
 
 -- all of it, with a length modifier and the conversion (C11 7.21.6.1 p4)
-pub record SpellsPosix (t : Text) (s : PosixSpecification) : Type 0 where
+pub record SpellsWhole (t : Text) (s : WholeSpecification) : Type 0 where
   pub before : Text
   pub before_is : SpellsUpToPrecision before s.position s.flags s.width s.precision
   pub whole : t ≡ before ++ modifier_letters s.modifier ++ conversion_letter s.conversion ∷ []

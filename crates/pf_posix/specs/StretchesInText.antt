@@ -9,7 +9,7 @@ use Rattle.pf_posix.specs.declared.stretches.Found.TheVariants as found
 use Rattle.pf_posix.specs.Opaque.{SpellsOpaqueItem}
 use Rattle.pf_posix.specs.OpaqueParts.{item_of_opaque}
 use Rattle.pf_posix.specs.PartsInText.{IsSpecificationAt}
-use Rattle.pf_posix.specs.Stretches.{Stretches, Last, Before, ReadsWhole}
+use Rattle.pf_posix.specs.Stretches.{Stretches, Last, Before, ReadsStretches}
 
 -- an item before the first stretch, which has it then
 abbrev pub push : Item → Stretches → Stretches
@@ -24,10 +24,10 @@ push_all (item ∷ items) rest = push item (push_all items rest)
 -- the text from an offset on is read as stretches, and begins with these items or with what the profile lacks
 abbrev pub IsFound : Text → ℕ → Stretches → Found → Type 0
 IsFound t at left (found.Items stop) = (items : List Item) × (bytes : Text) × (later : Stretches)
-    × Reads bytes items × ReadsWhole (drop stop t) later × (drop at t ≡ bytes ++ drop stop t)
+    × Reads bytes items × ReadsStretches (drop stop t) later × (drop at t ≡ bytes ++ drop stop t)
     × (left ≡ push_all items later)
 IsFound t at left (found.Opaque other stop) = (bytes : Text) × (later : Stretches)
-    × SpellsOpaqueItem bytes (item_of_opaque other) × ReadsWhole (drop stop t) later
+    × SpellsOpaqueItem bytes (item_of_opaque other) × ReadsStretches (drop stop t) later
     × (drop at t ≡ bytes ++ drop stop t) × (left ≡ Before [] (item_of_opaque other) later)
 
 -- a text has a specification of these parts at an offset, which ends at another

@@ -12,9 +12,9 @@ use Rattle.pf_posix.specs.declared.numbered.TheConstants.{ROOM}
 use Rattle.pf_posix.specs.declared.specifications.Numbering.TheVariants.{Undecided}
 use Rattle.pf_posix.specs.declared.specifications.Specification.{Specification}
 use Rattle.pf_posix.specs.declared.specifications.Stars.{Stars}
-use Rattle.pf_posix.specs.declared.types.ArgumentType.{ArgumentType}
+use Rattle.pf_posix.specs.declared.types.WholeArgType.{WholeArgType}
 use Rattle.pf_posix.specs.Halts.{IsDefinedAt, one_fetch}
-use Rattle.pf_posix.specs.Items.{PosixItem, ReadsPosix, fetched}
+use Rattle.pf_posix.specs.Items.{WholeItem, ReadsWhole, fetched}
 use Rattle.pf_posix.specs.Readings.{conflicts, greatest, wanted_at}
 use Rattle.pf_posix.specs.Refusals.{IsOneType}
 use Rattle.pf_posix.specs.Types.{conversion_type, fetch, int_type}
@@ -40,7 +40,7 @@ ArePlaced stars =
     IsPlacedNumber stars.width stars.width_stop × IsPlacedNumber stars.precision stars.precision_stop
 
 -- the argument of a number was fetched with another type, which refuses the byte before an offset
-abbrev pub IsConflict : List Fetch → Option ℕ → ArgumentType → ℕ → Refusal → Type 0
+abbrev pub IsConflict : List Fetch → Option ℕ → WholeArgType → ℕ → Refusal → Type 0
 IsConflict seen number wanted stop refusal = (n : ℕ) × (number ≡ Some n)
     × (conflicts seen (fetch (Some n) wanted) ≡ true)
     × (refusal ≡ record { kind = TwoTypes; at = stop - 1 })
@@ -56,7 +56,7 @@ HasConflict seen stars refusal = IsConflict seen stars.width int_type stars.widt
     × IsConflict (seen ++ one_fetch stars.width int_type) stars.precision int_type stars.precision_stop refusal)
 
 -- a table takes the argument of a number, if there is one
-abbrev pub Keeps : Table → Option ℕ → ArgumentType → ℕ → Result (Unit {0}) Refusal → Table → Type 0
+abbrev pub Keeps : Table → Option ℕ → WholeArgType → ℕ → Result (Unit {0}) Refusal → Table → Type 0
 Keeps old number wanted stop result new = (seen : List Fetch) → TableHolds old seen → MatchResult result
     (λ _. TableHolds new (seen ++ one_fetch number wanted)) (IsConflict seen number wanted stop)
 
@@ -76,7 +76,7 @@ KeepsSpecification model old read stop result new = (seen : List Fetch) → Tabl
 
 -- the first specification of a text begins at an offset, and is numbered if it is defined
 pub record IsNumberedFirst (model : Model) (t : Text) (at : ℕ) : Type 0 where
-  pub items : List PosixItem
-  pub reads : ReadsPosix (take at t) items
+  pub items : List WholeItem
+  pub reads : ReadsWhole (take at t) items
   pub nothing : fetched model items ≡ []
   pub numbered : (found : Specification × ℕ) → IsDefinedAt t at Undecided found → is_some found.0.position ≡ true

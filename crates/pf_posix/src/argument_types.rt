@@ -4,14 +4,14 @@ ghost use Rattle.pf_values.specs.declared.limits.TheConstants.{MAX_TEXT_LEN as L
 ghost use Rattle.pf_values.specs.meaning.Text.{percent};
 ghost use Rattle.pf_text.specs.Walks.{HasPercent, IsWalk};
 ghost use Rattle.pf_posix.specs.declared.specifications.Specification.{Specification as Read};
-ghost use Rattle.pf_posix.specs.declared.types.ArgumentType.{ArgumentType as ArgumentTypeOf};
+ghost use Rattle.pf_posix.specs.declared.types.WholeArgType.{WholeArgType as WholeArgTypeOf};
 ghost use Rattle.pf_posix.specs.Halts.{IsDefinedAt};
 ghost use Rattle.pf_posix.specs.Items.{HasArguments, errno_letter};
 ghost use Rattle.pf_posix.specs.Laws.{FaultForArguments, HasCount, filled};
 ghost use Rattle.pf_posix.specs.OpaqueParts.{amount_of, parts_of_opaque};
 ghost use Rattle.pf_posix.specs.Plain.{HasPlainItems, IsPut, numbering_after};
 ghost use Rattle.pf_posix.specs.Readings.{wanted_types};
-ghost use Rattle.pf_posix.specs.Refusals.{IsPosixRefusedAt};
+ghost use Rattle.pf_posix.specs.Refusals.{IsWholeRefusedAt};
 ghost use Rattle.pf_posix.specs.Types.{fetches, star_fetches};
 
 use crate::fetches::{bare_type, conversion_type};
@@ -19,7 +19,7 @@ use crate::long_texts::{of_long, refusal_at, too_long};
 use crate::numbered::numbered_arguments;
 use crate::opaque_directives::{OpaqueAmount, OpaqueDirective, is_star};
 use crate::specifications::{Numbering, defined_at, has_errno};
-use crate::types::ArgumentType;
+use crate::types::WholeArgType;
 use pf_text::{Percents, Refusal, TextFault, Walk, directive_at};
 use pf_values::limits::MAX_TEXT_LEN;
 use pf_values::{ArgType, Model};
@@ -37,10 +37,10 @@ struct PlainFront {
 /// for, are put at its front, and the rest of `out` is as it was. `Err` if the format is refused:
 /// then `out` has the same length, and its contents are unspecified.
 #[inline(always)]
-pub fn arguments(model: Model, text: &[u8], out: &mut [ArgumentType]) -> Result<u64, Refusal>
+pub fn arguments(model: Model, text: &[u8], out: &mut [WholeArgType]) -> Result<u64, Refusal>
     ensures types { MatchResult result
         (λ count. HasCount model text.now out.old out.new count)
-        (λ refusal. IsPosixRefusedAt model text.now refusal.kind refusal.at) }
+        (λ refusal. IsWholeRefusedAt model text.now refusal.kind refusal.at) }
     ensures length { length out.new ≡ length out.old }
 {
     match arguments_within(model, text, out) {
@@ -56,10 +56,10 @@ pub fn arguments(model: Model, text: &[u8], out: &mut [ArgumentType]) -> Result<
 
 // The arguments of the front of a text up to the limit.
 #[inline(never)]
-fn arguments_within(model: Model, text: &[u8], out: &mut [ArgumentType]) -> Result<u64, Refusal>
+fn arguments_within(model: Model, text: &[u8], out: &mut [WholeArgType]) -> Result<u64, Refusal>
     ensures types { MatchResult result
         (λ count. HasCount model (take LIMIT text.now) out.old out.new count)
-        (λ refusal. IsPosixRefusedAt model (take LIMIT text.now) refusal.kind refusal.at) }
+        (λ refusal. IsWholeRefusedAt model (take LIMIT text.now) refusal.kind refusal.at) }
     ensures length { length out.new ≡ length out.old }
 {
     let mut walk = Walk::new(text);
@@ -84,7 +84,7 @@ fn put_specification(
     model: Model,
     text: &[u8],
     at: usize,
-    out: &mut [ArgumentType],
+    out: &mut [WholeArgType],
     count: usize,
 ) -> PlainFront
     requires percent { HasPercent text.now at }
@@ -112,7 +112,7 @@ fn put_other(
     model: Model,
     text: &[u8],
     at: usize,
-    out: &mut [ArgumentType],
+    out: &mut [WholeArgType],
     count: usize,
 ) -> PlainFront
     requires percent { HasPercent text.now at }
@@ -126,7 +126,7 @@ fn put_other(
             put(
                 out,
                 count,
-                ArgumentType::Profile(found.directive.arg_type(model)),
+                WholeArgType::Profile(found.directive.arg_type(model)),
             );
             PlainFront {
                 at: found.stop,
@@ -143,7 +143,7 @@ fn put_any(
     model: Model,
     text: &[u8],
     at: usize,
-    out: &mut [ArgumentType],
+    out: &mut [WholeArgType],
     count: usize,
 ) -> PlainFront
     requires percent { HasPercent text.now at }
@@ -175,7 +175,7 @@ fn other_arguments(
     model: Model,
     walk: Walk<'_>,
     count: usize,
-    out: &mut [ArgumentType],
+    out: &mut [WholeArgType],
 ) -> Result<u64, Refusal>
     requires walk { IsWalk walk }
     requires percent { HasPercent walk.text.now walk.at }
@@ -186,7 +186,7 @@ fn other_arguments(
         → found.0.position ≢ None }
     ensures types { MatchResult result
         (λ count. HasCount model walk.entry.text.now out.old out.new count)
-        (λ refusal. IsPosixRefusedAt model walk.entry.text.now refusal.kind refusal.at) }
+        (λ refusal. IsWholeRefusedAt model walk.entry.text.now refusal.kind refusal.at) }
     ensures none { IfOk result (λ _. count ≡ 0) }
     ensures length { length out.new ≡ length out.old }
 {
@@ -210,10 +210,10 @@ fn numbering_after(count: usize) -> Numbering
 // Puts the types of the arguments of a specification of these parts after `count` others, and returns how many
 // there are now.
 #[inline(always)]
-fn put_types(model: Model, parts: &OpaqueDirective, out: &mut [ArgumentType], count: usize) -> usize
+fn put_types(model: Model, parts: &OpaqueDirective, out: &mut [WholeArgType], count: usize) -> usize
     requires { count ≤ LIMIT }
     ensures count { result ≡ count + length (fetches model (parts_of_opaque parts.now)) }
-    ensures put { (first before : List ArgumentTypeOf) → out.old ≡ filled first before → count ≡ length before
+    ensures put { (first before : List WholeArgTypeOf) → out.old ≡ filled first before → count ≡ length before
         → out.new ≡ filled first (before ++ wanted_types (fetches model (parts_of_opaque parts.now))) }
     ensures length { length out.new ≡ length out.old }
 {
@@ -229,16 +229,16 @@ fn put_types(model: Model, parts: &OpaqueDirective, out: &mut [ArgumentType], co
 
 // Puts the type of the argument of a width or of a precision that is a `*`, and returns how many there are now.
 #[inline(always)]
-fn put_star(amount: Option<OpaqueAmount>, out: &mut [ArgumentType], count: usize) -> usize
+fn put_star(amount: Option<OpaqueAmount>, out: &mut [WholeArgType], count: usize) -> usize
     requires { count ≤ LIMIT + 1 }
     ensures few { result ≤ count + 1 }
     ensures count { result ≡ count + length (star_fetches (amount_of amount)) }
-    ensures put { (first before : List ArgumentTypeOf) → out.old ≡ filled first before → count ≡ length before
+    ensures put { (first before : List WholeArgTypeOf) → out.old ≡ filled first before → count ≡ length before
         → out.new ≡ filled first (before ++ wanted_types (star_fetches (amount_of amount))) }
     ensures length { length out.new ≡ length out.old }
 {
     if is_star(amount) {
-        put(out, count, ArgumentType::Profile(ArgType::Int));
+        put(out, count, WholeArgType::Profile(ArgType::Int));
         return count + 1;
     }
     count
@@ -263,7 +263,7 @@ pub fn arguments_vec(
     alloc: Global,
     model: Model,
     text: &[u8],
-) -> Result<Vec<ArgumentType>, TextFault>
+) -> Result<Vec<WholeArgType>, TextFault>
     ensures { MatchResult result (λ types. HasArguments model text.now types.items)
         (FaultForArguments model text.now) }
 {
@@ -271,7 +271,7 @@ pub fn arguments_vec(
         Ok(count) => count,
         Err(refusal) => return Err(TextFault::Refused(refusal)),
     };
-    let mut types = match room_for(alloc, ArgumentType::Profile(ArgType::Int), count) {
+    let mut types = match room_for(alloc, WholeArgType::Profile(ArgType::Int), count) {
         Ok(types) => types,
         Err(AllocError) => return Err(TextFault::Memory),
     };

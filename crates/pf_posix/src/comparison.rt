@@ -1,14 +1,14 @@
 //! Whether two formats take the same arguments.
 ghost use Rattle.std.specs.Prelude.{◌≡◌, ◌<◌, ◌≤◌, List, length, ◌⊎◌, MatchResult};
 ghost use Rattle.pf_posix.specs.declared.numbered.TheConstants.{ROOM as MOST};
-ghost use Rattle.pf_posix.specs.declared.types.ArgumentType.{ArgumentType as ArgumentTypeOf};
+ghost use Rattle.pf_posix.specs.declared.types.WholeArgType.{WholeArgType as WholeArgTypeOf};
 ghost use Rattle.pf_posix.specs.Laws.{ComparesArgumentTypes, ComparesBeginning, FaultForFits, IsFirstDifference, IsFirstExcess, filled};
 ghost use Rattle.pf_posix.specs.Items.{HasArguments};
 ghost use Rattle.pf_posix.specs.ListComparisons.{AreCounted, AreFew, IsListComparison};
 
 use crate::argument_types::arguments;
 use crate::numbered::ROOM;
-use crate::types::ArgumentType;
+use crate::types::WholeArgType;
 use crate::types_in_order::TypesInOrder;
 use pf_text::{Refusal, Side};
 use pf_values::{ArgType, Model};
@@ -63,7 +63,7 @@ impl Comparison {
     // The first index at which the second format has a type that the first doesn't have there.
     #[inline(always)]
     fn excess(self) -> Option<u64>
-        ensures { (a b : List ArgumentTypeOf) → IsFirstDifference a b self.difference
+        ensures { (a b : List WholeArgTypeOf) → IsFirstDifference a b self.difference
             → self.second_count ≡ length b → IsFirstExcess a b result }
     {
         match self.difference {
@@ -84,8 +84,8 @@ fn compared(model: Model, first: &[u8], second: &[u8]) -> Result<Comparison, (Si
     ensures { MatchResult result (IsListComparison model first.now second.now)
         (FaultForFits model first.now second.now) }
 {
-    let mut types = [ArgumentType::Profile(ArgType::Int); FEW];
-    let mut others = [ArgumentType::Profile(ArgType::Int); FEW];
+    let mut types = [WholeArgType::Profile(ArgType::Int); FEW];
+    let mut others = [WholeArgType::Profile(ArgType::Int); FEW];
     match arguments(model, first, &mut types) {
         Err(refusal) => Err((Side::First, refusal)),
         Ok(count) => match arguments(model, second, &mut others) {
@@ -155,7 +155,7 @@ fn difference_in_order(
 ) -> Option<u64>
     requires counted { AreCounted model first.now second.now count second_count }
     requires many { (MOST < count) × (MOST < second_count) }
-    ensures { (types others : List ArgumentTypeOf) → HasArguments model first.now types
+    ensures { (types others : List WholeArgTypeOf) → HasArguments model first.now types
         → HasArguments model second.now others → IsFirstDifference types others result }
 {
     let mut one = TypesInOrder::new(first);
@@ -180,8 +180,8 @@ fn by_tables(model: Model, first: &[u8], second: &[u8]) -> Result<Option<u64>, (
     ensures { MatchResult result (ComparesArgumentTypes model first.now second.now)
         (FaultForFits model first.now second.now) }
 {
-    let mut types = [ArgumentType::Profile(ArgType::Int); ROOM];
-    let mut others = [ArgumentType::Profile(ArgType::Int); ROOM];
+    let mut types = [WholeArgType::Profile(ArgType::Int); ROOM];
+    let mut others = [WholeArgType::Profile(ArgType::Int); ROOM];
     match arguments(model, first, &mut types) {
         Err(refusal) => Err((Side::First, refusal)),
         Ok(count) => match arguments(model, second, &mut others) {
@@ -194,13 +194,13 @@ fn by_tables(model: Model, first: &[u8], second: &[u8]) -> Result<Option<u64>, (
 // The first index at which two lists differ. Slices of one length hold their first types, and all of one
 // list's.
 fn difference(
-    types: &[ArgumentType],
+    types: &[WholeArgType],
     count: u64,
-    others: &[ArgumentType],
+    others: &[WholeArgType],
     second_count: u64,
 ) -> Option<u64>
     requires { length others.now ≡ length types.now }
-    ensures { (a b start from : List ArgumentTypeOf) → types.now ≡ filled start a
+    ensures { (a b start from : List WholeArgTypeOf) → types.now ≡ filled start a
         → others.now ≡ filled from b → count ≡ length a → second_count ≡ length b
         → (length a ≤ length types.now) ⊎ (length b ≤ length types.now)
         → IsFirstDifference a b result }

@@ -45,7 +45,7 @@ impl Floating {
 
 /// A conversion (C11 7.21.6.1, paragraph 8; `C` and `S` are of POSIX).
 #[derive(Clone, Copy, Debug, PartialEq, Eq)]
-pub enum Conversion {
+pub enum WholeConv {
     /// One that the profile has.
     Profile(Conv),
     /// A floating one.
@@ -60,39 +60,39 @@ pub enum Conversion {
     Count,
 }
 
-impl Conversion {
+impl WholeConv {
     /// Returns the letter that spells the conversion.
     pub fn letter(self) -> u8
         ensures { result ≡ conversion_letter self }
     {
         match self {
-            Conversion::Profile(conv) => conv.letter(),
-            Conversion::Float(floating) => floating.letter(),
-            Conversion::UpperC => b'C',
-            Conversion::UpperS => b'S',
-            Conversion::Pointer => b'p',
-            Conversion::Count => b'n',
+            WholeConv::Profile(conv) => conv.letter(),
+            WholeConv::Float(floating) => floating.letter(),
+            WholeConv::UpperC => b'C',
+            WholeConv::UpperS => b'S',
+            WholeConv::Pointer => b'p',
+            WholeConv::Count => b'n',
         }
     }
 }
 
 /// A length modifier (C11 7.21.6.1, paragraph 7).
 #[derive(Clone, Copy, Debug, PartialEq, Eq)]
-pub enum Modifier {
+pub enum WholeLength {
     /// None, or one of integers.
     Integer(Length),
     /// `L`
     LongDouble,
 }
 
-impl Modifier {
+impl WholeLength {
     /// Returns the letters that spell the length modifier: at most two.
     pub fn letters(self) -> &'static [u8]
         ensures { result.now ≡ modifier_letters self }
     {
         match self {
-            Modifier::Integer(length) => length.letters(),
-            Modifier::LongDouble => b"L",
+            WholeLength::Integer(length) => length.letters(),
+            WholeLength::LongDouble => b"L",
         }
     }
 }

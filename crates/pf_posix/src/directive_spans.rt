@@ -3,10 +3,10 @@ ghost use Rattle.std.specs.Prelude.{◌≡◌, ◌≤◌, ◌*◌, ℕ, Option, 
 ghost use Rattle.pf_values.specs.declared.limits.TheConstants.{MAX_TEXT_LEN as LIMIT};
 ghost use Rattle.pf_values.specs.declared.models.Model.{Model as ModelOf};
 ghost use Rattle.pf_posix.specs.Directives.{FaultForDirectives, HasDirectiveCount, HasDirectives, argument_index, directive_between, star_index};
-ghost use Rattle.pf_posix.specs.Items.{IsPosixAccepted};
+ghost use Rattle.pf_posix.specs.Items.{IsWholeAccepted};
 ghost use Rattle.pf_posix.specs.OpaqueParts.{amount_at};
 ghost use Rattle.pf_posix.specs.PartsInText.{specification_read};
-ghost use Rattle.pf_posix.specs.Refusals.{IsPosixRefusedAt};
+ghost use Rattle.pf_posix.specs.Refusals.{IsWholeRefusedAt};
 ghost use Rattle.pf_posix.specs.Types.{fetches, star_fetches};
 
 use crate::argument_types::{arguments, put, room_for};
@@ -14,7 +14,7 @@ use crate::fetches::conversion_type;
 use crate::opaque_directives::{OpaqueAmount, is_star};
 use crate::specification_walk::item_at;
 use crate::specifications::Specification;
-use crate::types::ArgumentType;
+use crate::types::WholeArgType;
 use pf_text::{Percents, Refusal, TextFault, Walk};
 use pf_values::Model;
 use std::alloc::{AllocError, Global};
@@ -34,7 +34,7 @@ pub struct DirectiveSpan {
     /// The argument of its precision, if that is a `*`.
     pub precision_argument: Option<u64>,
     /// The type of the argument that it converts.
-    pub kind: ArgumentType,
+    pub kind: WholeArgType,
 }
 
 /// Lists the conversion specifications of a format of the whole language in a data model, in the order
@@ -45,7 +45,7 @@ pub struct DirectiveSpan {
 pub fn directives(model: Model, text: &[u8], out: &mut [DirectiveSpan]) -> Result<u64, Refusal>
     ensures directives { MatchResult result
         (λ count. HasDirectiveCount model text.now out.old out.new count)
-        (λ refusal. IsPosixRefusedAt model text.now refusal.kind refusal.at × (out.new ≡ out.old)) }
+        (λ refusal. IsWholeRefusedAt model text.now refusal.kind refusal.at × (out.new ≡ out.old)) }
     ensures length { length out.new ≡ length out.old }
 {
     match arguments(model, text, &mut []) {
@@ -80,7 +80,7 @@ pub fn directives_vec(
 // Puts the specifications of an accepted format at the front of a slice. By a `SpecificationWalk`, `directives` takes
 // 1,024 instructions instead of 782 (4,000 formats).
 fn put_directives(model: Model, text: &[u8], out: &mut [DirectiveSpan]) -> u64
-    requires { IsPosixAccepted model text.now }
+    requires { IsWholeAccepted model text.now }
     ensures directives { HasDirectiveCount model text.now out.old out.new result }
     ensures length { length out.new ≡ length out.old }
 {

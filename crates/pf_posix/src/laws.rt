@@ -9,15 +9,15 @@ ghost use Rattle.pf_values.specs.meaning.Text.{Text};
 ghost use Rattle.pf_values.specs.RefusalKinds.{is_profile_alone};
 ghost use Rattle.pf_values.specs.declared.refusals.RefusalKind.{RefusalKind};
 ghost use Rattle.pf_values.specs.declared.refusals.RefusalKind.TheVariants.{Numbered};
-ghost use Rattle.pf_posix.specs.declared.types.ArgumentType.{ArgumentType};
-ghost use Rattle.pf_posix.specs.declared.types.TheConstants.ArgumentType.{ALL as every_type};
+ghost use Rattle.pf_posix.specs.declared.types.WholeArgType.{WholeArgType};
+ghost use Rattle.pf_posix.specs.declared.types.TheConstants.WholeArgType.{ALL as every_type};
 ghost use Rattle.pf_posix.specs.declared.directive_spans.DirectiveSpan.{DirectiveSpan};
 ghost use Rattle.pf_posix.specs.Directives.{HasDirectives};
 ghost use Rattle.pf_posix.specs.Items.{HasArguments};
 ghost use Rattle.pf_posix.specs.Laws.{ComparesArgumentTypes, ComparesBeginning, HasNoPartOfErrno, IsAcceptedOrRefused, IsWithoutErrno};
-ghost use Rattle.pf_posix.specs.Refusals.{IsPosixRefusedAt};
+ghost use Rattle.pf_posix.specs.Refusals.{IsWholeRefusedAt};
 ghost use Rattle.pf_posix.specs.Types.{widened};
-ghost use Rattle.pf_posix.specs.Unnumbered.{AcceptsUnnumbered, IsJudged, IsReadOnce, IsWholeRefusedAt, TypesAreKept};
+ghost use Rattle.pf_posix.specs.Unnumbered.{AcceptsUnnumbered, IsJudged, IsReadOnce, IsUnnumberedRefusedAt, TypesAreKept};
 
 /// Proves that a text is accepted, or refused.
 pub fn accepted_or_refused()
@@ -26,14 +26,14 @@ pub fn accepted_or_refused()
 
 /// Proves that no text is both accepted and refused.
 pub fn never_both()
-    ensures { (model : Model) (t : Text) (types : List ArgumentType)
+    ensures { (model : Model) (t : Text) (types : List WholeArgType)
         (kind : RefusalKind) (at : ℕ) → HasArguments model t types
-        → IsPosixRefusedAt model t kind at → ⊥ }
+        → IsWholeRefusedAt model t kind at → ⊥ }
 {}
 
 /// Proves that an accepted text has one list of types.
 pub fn types_once()
-    ensures { (model : Model) (t : Text) (types others : List ArgumentType)
+    ensures { (model : Model) (t : Text) (types others : List WholeArgType)
         → HasArguments model t types → HasArguments model t others → types ≡ others }
 {}
 
@@ -46,13 +46,13 @@ pub fn directives_once()
 /// Proves that a text is refused for one reason at one offset.
 pub fn refused_once()
     ensures { (model : Model) (t : Text) (kind other : RefusalKind) (p q : ℕ)
-        → IsPosixRefusedAt model t kind p → IsPosixRefusedAt model t other q → (kind ≡ other) × (p ≡ q) }
+        → IsWholeRefusedAt model t kind p → IsWholeRefusedAt model t other q → (kind ≡ other) × (p ≡ q) }
 {}
 
 /// Proves that a text that is refused before its end is refused so whatever bytes follow.
 pub fn refused_for_good()
     ensures { (model : Model) (t more : Text) (kind : RefusalKind) (at : ℕ)
-        → IsPosixRefusedAt model t kind at → at < length t → IsPosixRefusedAt model (t ++ more) kind at }
+        → IsWholeRefusedAt model t kind at → at < length t → IsWholeRefusedAt model (t ++ more) kind at }
 {}
 
 /// Proves that a text that the profile accepts is accepted here, with the same types.
@@ -117,7 +117,7 @@ pub fn judged_unnumbered()
 /// Proves that, if arguments may have no numbers, a text is refused for one reason at one offset.
 pub fn refused_unnumbered_once()
     ensures { (model : Model) (t : Text) (kind other : RefusalKind) (p q : ℕ)
-        → IsWholeRefusedAt model t kind p → IsWholeRefusedAt model t other q
+        → IsUnnumberedRefusedAt model t kind p → IsUnnumberedRefusedAt model t other q
         → (kind ≡ other) × (p ≡ q) }
 {}
 
@@ -125,12 +125,12 @@ pub fn refused_unnumbered_once()
 /// argument, if arguments may have numbers.
 pub fn kinds_of_refusals()
     ensures numbered { (model : Model) (t : Text) (kind : RefusalKind) (at : ℕ)
-        → IsPosixRefusedAt model t kind at → (is_profile_alone kind ≡ false) × (kind ≢ Numbered) }
+        → IsWholeRefusedAt model t kind at → (is_profile_alone kind ≡ false) × (kind ≢ Numbered) }
     ensures unnumbered { (model : Model) (t : Text) (kind : RefusalKind) (at : ℕ)
-        → IsWholeRefusedAt model t kind at → is_profile_alone kind ≡ false }
+        → IsUnnumberedRefusedAt model t kind at → is_profile_alone kind ≡ false }
 {}
 
-/// Proves that `ArgumentType::ALL` has each type exactly once.
+/// Proves that `WholeArgType::ALL` has each type exactly once.
 pub fn table_has_each_once()
     ensures { HasEachOnce every_type }
 {}

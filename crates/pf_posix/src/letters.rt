@@ -3,37 +3,37 @@
 ghost use Rattle.std.specs.Prelude.{◌≡◌};
 ghost use Rattle.pf_posix.specs.Letters.{conversion_of, length_modifier_of};
 
-use crate::conversions::{Conversion, Floating, Modifier};
+use crate::conversions::{Floating, WholeConv, WholeLength};
 use pf_text::{conv_of, modifier_of};
 
 /// The length modifier that a letter is or begins.
 #[inline(always)]
-pub(crate) fn length_modifier_of(byte: u8) -> Option<Modifier>
+pub(crate) fn length_modifier_of(byte: u8) -> Option<WholeLength>
     ensures { result ≡ length_modifier_of byte }
 {
     match byte {
-        b'L' => Some(Modifier::LongDouble),
-        _ => modifier_of(byte).map(Modifier::Integer),
+        b'L' => Some(WholeLength::LongDouble),
+        _ => modifier_of(byte).map(WholeLength::Integer),
     }
 }
 
 #[inline(always)]
-pub(crate) fn conversion_of(byte: u8) -> Option<Conversion>
+pub(crate) fn conversion_of(byte: u8) -> Option<WholeConv>
     ensures { result ≡ conversion_of byte }
 {
     match byte {
-        b'f' => Some(Conversion::Float(Floating::F)),
-        b'F' => Some(Conversion::Float(Floating::UpperF)),
-        b'e' => Some(Conversion::Float(Floating::E)),
-        b'E' => Some(Conversion::Float(Floating::UpperE)),
-        b'g' => Some(Conversion::Float(Floating::G)),
-        b'G' => Some(Conversion::Float(Floating::UpperG)),
-        b'a' => Some(Conversion::Float(Floating::A)),
-        b'A' => Some(Conversion::Float(Floating::UpperA)),
-        b'C' => Some(Conversion::UpperC),
-        b'S' => Some(Conversion::UpperS),
-        b'p' => Some(Conversion::Pointer),
-        b'n' => Some(Conversion::Count),
-        _ => conv_of(byte).map(Conversion::Profile),
+        b'f' => Some(WholeConv::Float(Floating::F)),
+        b'F' => Some(WholeConv::Float(Floating::UpperF)),
+        b'e' => Some(WholeConv::Float(Floating::E)),
+        b'E' => Some(WholeConv::Float(Floating::UpperE)),
+        b'g' => Some(WholeConv::Float(Floating::G)),
+        b'G' => Some(WholeConv::Float(Floating::UpperG)),
+        b'a' => Some(WholeConv::Float(Floating::A)),
+        b'A' => Some(WholeConv::Float(Floating::UpperA)),
+        b'C' => Some(WholeConv::UpperC),
+        b'S' => Some(WholeConv::UpperS),
+        b'p' => Some(WholeConv::Pointer),
+        b'n' => Some(WholeConv::Count),
+        _ => conv_of(byte).map(WholeConv::Profile),
     }
 }

@@ -3,9 +3,9 @@ ghost use Rattle.std.specs.Prelude.{◌≡◌, ◌||◌, ◌<◌, [], ℕ, List,
 ghost use Rattle.std.specs.List.{AllByRecursion};
 ghost use Rattle.pf_values.specs.declared.refusals.RefusalKind.TheVariants.{MissingArgument as IsMissingKind};
 ghost use Rattle.pf_posix.specs.Directives.{directives_from};
-ghost use Rattle.pf_posix.specs.Items.{PosixItem, ReadsPosix};
+ghost use Rattle.pf_posix.specs.Items.{WholeItem, ReadsWhole};
 ghost use Rattle.pf_posix.specs.MissingArguments.{AreMarked, IsFirstLater, IsMissingArgument, takes_later, is_index, is_later};
-ghost use Rattle.pf_posix.specs.Refusals.{IsPosixRefusedAt};
+ghost use Rattle.pf_posix.specs.Refusals.{IsWholeRefusedAt};
 ghost use Rattle.pf_posix.specs.SpecificationSpans.{HasItsParts};
 ghost use Rattle.pf_posix.specs.SpecificationWalks.{IsReadable};
 
@@ -26,7 +26,7 @@ pub struct MissingArgument {
 
 /// Returns the argument that a format leaves out, which `arguments` refuses as `MissingArgument`.
 pub fn missing_argument(model: Model, text: &[u8]) -> MissingArgument
-    requires { (at : ℕ) × IsPosixRefusedAt model text.now IsMissingKind at }
+    requires { (at : ℕ) × IsWholeRefusedAt model text.now IsMissingKind at }
     ensures { IsMissingArgument model text.now result }
 {
     let mut taken = [false; ROOM];
@@ -45,7 +45,7 @@ pub fn missing_argument(model: Model, text: &[u8]) -> MissingArgument
 fn mark_taken(model: Model, text: &[u8], taken: &mut [bool])
     requires readable { IsReadable text.now }
     requires none { AreMarked taken.old [] }
-    ensures taken { (items : List PosixItem) (reads : ReadsPosix text.now items)
+    ensures taken { (items : List WholeItem) (reads : ReadsWhole text.now items)
         → AreMarked taken.new (directives_from model 0 0 text.now items reads) }
     ensures length { length taken.new ≡ length taken.old }
 {
@@ -88,7 +88,7 @@ fn first_free(taken: &[bool]) -> usize
 // The first specification that takes an argument after this one.
 fn first_later(model: Model, text: &[u8], argument: u64) -> Option<SpecificationSpan>
     requires { IsReadable text.now }
-    ensures { (items : List PosixItem) (reads : ReadsPosix text.now items) → MatchOption result
+    ensures { (items : List WholeItem) (reads : ReadsWhole text.now items) → MatchOption result
         (AllByRecursion (λ d. takes_later d argument ≡ false) (directives_from model 0 0 text.now items reads))
         (λ span. IsFirstLater (directives_from model 0 0 text.now items reads) argument span.directive × HasItsParts text.now span) }
 {

@@ -7,7 +7,7 @@ ghost use Rattle.pf_posix.specs.declared.fetches.Fetch.{Fetch as FetchOf};
 ghost use Rattle.pf_posix.specs.Items.{errno_letter};
 ghost use Rattle.pf_posix.specs.Laws.{HasCount, filled};
 ghost use Rattle.pf_posix.specs.Readings.{conflicts, listed};
-ghost use Rattle.pf_posix.specs.Refusals.{HasGap, IsPosixRefusedAt};
+ghost use Rattle.pf_posix.specs.Refusals.{HasGap, IsWholeRefusedAt};
 ghost use Rattle.pf_posix.specs.Tables.{ArePlaced, IsNumberedFirst, IsPlacedNumber, Keeps, KeepsSpecification, KeepsStars, TableHolds};
 ghost use Rattle.pf_posix.specs.Types.{IsFetched, fetch};
 
@@ -15,7 +15,7 @@ use crate::argument_types::put;
 use crate::fetches::conversion_type;
 use crate::long_texts::refusal_at;
 use crate::specifications::{Numbering, Specification, Stars, defined_at, has_errno, refusal};
-use crate::types::ArgumentType;
+use crate::types::WholeArgType;
 use pf_text::{Percents, Refusal, Walk};
 use pf_values::{ArgType, Model, RefusalKind};
 
@@ -25,7 +25,7 @@ pub(crate) const ROOM: usize = 4095;
 /// The type of each fetched argument, at its index, and the largest number of them.
 #[derive(Drop)]
 pub(crate) struct Table {
-    types: [Option<ArgumentType>; ROOM],
+    types: [Option<WholeArgType>; ROOM],
     count: usize,
 }
 
@@ -35,7 +35,7 @@ pub(crate) struct Table {
 pub(crate) fn numbered_arguments(
     model: Model,
     at_first: Walk<'_>,
-    out: &mut [ArgumentType],
+    out: &mut [WholeArgType],
 ) -> Result<u64, Refusal>
     requires walk { IsWalk at_first }
     requires percent { HasPercent at_first.text.now at_first.at }
@@ -44,7 +44,7 @@ pub(crate) fn numbered_arguments(
     requires first { IsNumberedFirst model at_first.text.now at_first.at }
     ensures types { MatchResult result
         (λ count. HasCount model at_first.entry.text.now out.old out.new count)
-        (λ refusal. IsPosixRefusedAt model at_first.entry.text.now refusal.kind refusal.at) }
+        (λ refusal. IsWholeRefusedAt model at_first.entry.text.now refusal.kind refusal.at) }
     ensures length { length out.new ≡ length out.old }
 {
     let mut table = Table::new();
@@ -110,7 +110,7 @@ impl Table {
         requires { ArePlaced stars.now }
         ensures { KeepsStars self.old stars.now result self.new }
     {
-        let int = ArgumentType::Profile(ArgType::Int);
+        let int = WholeArgType::Profile(ArgType::Int);
         self.add_one(stars.width, int, stars.width_stop)?;
         self.add_one(stars.precision, int, stars.precision_stop)
     }
@@ -120,7 +120,7 @@ impl Table {
     fn add_one(
         &mut self,
         number: Option<u16>,
-        wanted: ArgumentType,
+        wanted: WholeArgType,
         stop: usize,
     ) -> Result<(), Refusal>
         requires { IsPlacedNumber number stop }
@@ -136,7 +136,7 @@ impl Table {
     }
 
     // Adds an argument; `false` where it is there with another type.
-    fn add_fetch(&mut self, index: usize, wanted: ArgumentType) -> bool
+    fn add_fetch(&mut self, index: usize, wanted: WholeArgType) -> bool
         requires { index < ROOM }
         ensures { (seen : List FetchOf) → TableHolds self.old seen
             → MatchBool result
@@ -172,7 +172,7 @@ impl Table {
     }
 
     // Copies the types to the front of a slice, as many as it has room for.
-    fn copy_front(&self, out: &mut [ArgumentType])
+    fn copy_front(&self, out: &mut [WholeArgType])
         requires room { self.now.count ≤ ROOM }
         ensures types { (seen : List FetchOf) → TableHolds self.now seen
             → out.new ≡ filled out.old (listed seen 0 self.now.count) }
@@ -183,7 +183,7 @@ impl Table {
             put(
                 out,
                 index,
-                self.types[index].unwrap_or(ArgumentType::Profile(ArgType::Int)),
+                self.types[index].unwrap_or(WholeArgType::Profile(ArgType::Int)),
             );
             index += 1;
         }

@@ -5,7 +5,7 @@ ghost use Rattle.pf_posix.specs.Opaque.{is_opaque, is_outside, is_star};
 ghost use Rattle.pf_posix.specs.OpaqueParts.{amount_of, bare, parts_of_opaque};
 ghost use Rattle.pf_posix.specs.Types.{integer_length};
 
-use crate::conversions::{Conversion, Modifier};
+use crate::conversions::{WholeConv, WholeLength};
 use pf_values::{Conv, FlagSet, Length};
 
 /// A width or a precision that is given.
@@ -28,22 +28,22 @@ pub struct OpaqueDirective {
     /// Its precision.
     pub precision: Option<OpaqueAmount>,
     /// Its length modifier.
-    pub modifier: Modifier,
+    pub modifier: WholeLength,
     /// Its conversion.
-    pub conversion: Conversion,
+    pub conversion: WholeConv,
 }
 
 impl OpaqueDirective {
     /// The directive that is a conversion alone.
     #[inline(always)]
-    pub(crate) fn bare(conversion: Conversion) -> OpaqueDirective
+    pub(crate) fn bare(conversion: WholeConv) -> OpaqueDirective
         ensures { result ≡ bare conversion }
     {
         OpaqueDirective {
             flags: FlagSet::empty(),
             width: None,
             precision: None,
-            modifier: Modifier::Integer(Length::None),
+            modifier: WholeLength::Integer(Length::None),
             conversion,
         }
     }
@@ -84,23 +84,23 @@ pub(crate) fn is_star(amount: Option<OpaqueAmount>) -> bool
 }
 
 #[inline(always)]
-fn is_outside(conversion: Conversion, modifier: Modifier) -> bool
+fn is_outside(conversion: WholeConv, modifier: WholeLength) -> bool
     ensures { result ≡ is_outside conversion modifier }
 {
     match conversion {
-        Conversion::Profile(Conv::C | Conv::S) => is_long(modifier),
-        Conversion::Profile(_) => false,
+        WholeConv::Profile(Conv::C | Conv::S) => is_long(modifier),
+        WholeConv::Profile(_) => false,
         _ => true,
     }
 }
 
 #[inline(always)]
-fn is_long(modifier: Modifier) -> bool
+fn is_long(modifier: WholeLength) -> bool
     ensures { result ≡ is_long (integer_length modifier) }
 {
     match modifier {
-        Modifier::Integer(Length::L) => true,
-        Modifier::Integer(_) => false,
-        Modifier::LongDouble => false,
+        WholeLength::Integer(Length::L) => true,
+        WholeLength::Integer(_) => false,
+        WholeLength::LongDouble => false,
     }
 }

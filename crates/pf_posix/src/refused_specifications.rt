@@ -2,7 +2,7 @@
 ghost use Rattle.std.specs.Prelude.{◌≡◌, ◌<◌, drop, get_or, length, MatchOption};
 ghost use Rattle.pf_values.specs.declared.models.Model.{Model};
 ghost use Rattle.pf_values.specs.meaning.Text.{percent};
-ghost use Rattle.pf_posix.specs.Refusals.{IsPosixRefusedAt};
+ghost use Rattle.pf_posix.specs.Refusals.{IsWholeRefusedAt};
 ghost use Rattle.pf_posix.specs.RefusedSpecifications.{BeginsNoSpecification, HasItemsTo, IsAtPart, IsBeforePart, IsRefusedWithin, IsWholeFrom};
 
 use crate::specification_spans::{PartOffsets, offsets_of};
@@ -11,7 +11,7 @@ use pf_text::Refusal;
 
 /// The end of a conversion specification, and the offsets of its parts.
 #[derive(Clone, Copy, Debug, PartialEq, Eq)]
-pub struct WholeSpecification {
+pub struct ReadSpecification {
     /// The offset after its conversion.
     pub end: u64,
     /// The offsets of its parts.
@@ -24,13 +24,13 @@ pub struct RefusedSpecification {
     /// The offset of its `%`.
     pub begin: u64,
     /// Its end and its parts, if it can be read up to its end: what is wrong may be that it isn't defined.
-    pub whole: Option<WholeSpecification>,
+    pub whole: Option<ReadSpecification>,
 }
 
 /// Returns the conversion specification in which a format of the whole language is rejected, for a refusal of
 /// `arguments`. `None` if it is rejected outside of one: at a NUL, at its end, or at the limit of its length.
 pub fn refused_specification(text: &[u8], refusal: Refusal) -> Option<RefusedSpecification>
-    requires { (model : Model) × IsPosixRefusedAt model text.now refusal.kind refusal.at }
+    requires { (model : Model) × IsWholeRefusedAt model text.now refusal.kind refusal.at }
     ensures { MatchOption result (HasItemsTo text.now refusal.at) (IsRefusedWithin text.now refusal.at) }
 {
     let at = refusal.at as usize;
@@ -81,7 +81,7 @@ fn item_end(text: &[u8], at: usize) -> Option<usize>
 }
 
 // The specification that begins at a `%`, if it can be read up to its end.
-fn whole_from(text: &[u8], begin: usize) -> Option<WholeSpecification>
+fn whole_from(text: &[u8], begin: usize) -> Option<ReadSpecification>
     requires within { begin < length text.now }
     requires percent { get_or text.now begin 0 ≡ percent }
     ensures { MatchOption result (BeginsNoSpecification (drop begin text.now)) (IsWholeFrom text.now begin) }
@@ -93,7 +93,7 @@ fn whole_from(text: &[u8], begin: usize) -> Option<WholeSpecification>
         return None;
     }
     match specification_at(text, begin, Numbering::Undecided) {
-        Ok((read, end)) => Some(WholeSpecification {
+        Ok((read, end)) => Some(ReadSpecification {
             end: end as u64,
             offsets: offsets_of(&read),
         }),

@@ -7,10 +7,10 @@ ghost use Rattle.pf_posix.specs.declared.specification_spans.SpecificationSpan.{
 ghost use Rattle.pf_posix.specs.Directives.{directives_from};
 ghost use Rattle.pf_posix.specs.DirectivesInText.{IsBehindItem, IsListedBehind, IsListedTo};
 ghost use Rattle.pf_posix.specs.Halts.{offsets_read};
-ghost use Rattle.pf_posix.specs.Items.{PosixItem, ReadsPosix};
+ghost use Rattle.pf_posix.specs.Items.{WholeItem, ReadsWhole};
 ghost use Rattle.pf_posix.specs.PartsInText.{specification_read};
-ghost use Rattle.pf_posix.specs.Refusals.{IsPosixRefusedAt};
-ghost use Rattle.pf_posix.specs.SpecificationSpans.{ArePosixPartsAt, HasItsParts};
+ghost use Rattle.pf_posix.specs.Refusals.{IsWholeRefusedAt};
+ghost use Rattle.pf_posix.specs.SpecificationSpans.{AreWholePartsAt, HasItsParts};
 ghost use Rattle.pf_posix.specs.SpecificationWalks.{AreTheRest, IsAhead, IsBefore, IsReadable};
 
 use crate::argument_types::arguments;
@@ -35,7 +35,7 @@ impl<'a> SpecificationWalk<'a> {
     /// Returns a walk before the first specification of a format. `Err` for the formats that `arguments` refuses.
     pub fn over(model: Model, text: &'a [u8]) -> Result<SpecificationWalk<'a>, Refusal>
         ensures { MatchResult result (λ walk. IsBefore model text.now walk)
-            (λ refusal. IsPosixRefusedAt model text.now refusal.kind refusal.at) }
+            (λ refusal. IsWholeRefusedAt model text.now refusal.kind refusal.at) }
     {
         match arguments(model, text, &mut []) {
             Ok(_) => Ok(SpecificationWalk::of(model, text)),
@@ -47,7 +47,7 @@ impl<'a> SpecificationWalk<'a> {
     #[inline(always)]
     pub(crate) fn of(model: Model, text: &'a [u8]) -> SpecificationWalk<'a>
         requires { IsReadable text.now }
-        ensures { (items : List PosixItem) (reads : ReadsPosix text.now items)
+        ensures { (items : List WholeItem) (reads : ReadsWhole text.now items)
             → IsAhead text.now result (directives_from model 0 0 text.now items reads) [] }
     {
         SpecificationWalk {
@@ -111,13 +111,13 @@ impl<'a> SpecificationWalk<'a> {
 #[inline(always)]
 pub(crate) fn item_at(text: &[u8], at: usize) -> (Option<Specification>, usize)
     requires within { at < length text.now }
-    requires reads { (items : List PosixItem) × ReadsPosix (drop at text.now) items }
+    requires reads { (items : List WholeItem) × ReadsWhole (drop at text.now) items }
     ensures further { at < result.1 }
-    ensures item { (items : List PosixItem) → ReadsPosix (drop at text.now) items
+    ensures item { (items : List WholeItem) → ReadsWhole (drop at text.now) items
         → IsBehindItem text.now items result.0 result.1 }
     ensures listed { (model : ModelOf) (all done : List DirectiveSpanOf) (next : ℕ) → IsListedTo model text.now all at next done
         → IsListedBehind model text.now all at next done result.0 result.1 }
-    ensures parts { IfSome result.0 (λ read. ArePosixPartsAt text.now at result.1 (offsets_read read) (specification_read read)) }
+    ensures parts { IfSome result.0 (λ read. AreWholePartsAt text.now at result.1 (offsets_read read) (specification_read read)) }
 {
     if text[at] != b'%' {
         return (None, at + 1);

@@ -9,11 +9,11 @@ ghost use Rattle.pf_posix.specs.Items.{errno_letter};
 ghost use Rattle.pf_posix.specs.Letters.{conversion_of};
 ghost use Rattle.pf_posix.specs.OpaqueParts.{amount_at};
 ghost use Rattle.pf_posix.specs.Specifications.{conversion_letter, modifier_letters};
-ghost use Rattle.pf_posix.specs.Spelling.{SpellsPosition, SpellsPosixPrecision, SpellsPosixWidth};
+ghost use Rattle.pf_posix.specs.Spelling.{SpellsPosition, SpellsWholePrecision, SpellsWholeWidth};
 ghost use Rattle.pf_posix.specs.PartsInText.{IsFirstWidth, ModifierEnds, NumbersStar, PrecisionEnds, WidthEnds, second_modifier};
 ghost use Rattle.pf_posix.specs.Halts.{FollowsBy, HaltsAtPoint, HaltsAtPosition, HaltsAtPrecision, HaltsAtStar, HaltsAtWidth, IsDefinedAt, IsReadAt, IsRefusedIn, IsStrayAt, IsUnreadIn, is_of_combination};
 
-use crate::conversions::{Conversion, Modifier};
+use crate::conversions::{WholeConv, WholeLength};
 use crate::letters::{conversion_of, length_modifier_of};
 use crate::opaque_directives::{OpaqueAmount, OpaqueDirective};
 use crate::undefined_combinations::undefined_as;
@@ -299,7 +299,7 @@ fn width_at(
     position: Option<u16>,
 ) -> Result<(Option<OpaqueAmount>, Option<u16>, usize), Refusal>
     requires within { start ≤ length text.now }
-    ensures bytes { IfOk result (λ read. (bytes : Text) × SpellsPosixWidth bytes position (amount_at read.0 read.1)
+    ensures bytes { IfOk result (λ read. (bytes : Text) × SpellsWholeWidth bytes position (amount_at read.0 read.1)
         × HasBytes text.now start read.2 bytes) }
     ensures number { IfOk result (λ read. NumbersStar read.0 read.1) }
     ensures ended { IfOk result (λ read. WidthEnds text.now read.2 position read.0) }
@@ -331,7 +331,7 @@ fn precision_at(
     position: Option<u16>,
 ) -> Result<(Option<OpaqueAmount>, Option<u16>, usize), Refusal>
     requires within { start ≤ length text.now }
-    ensures bytes { IfOk result (λ read. (bytes : Text) × SpellsPosixPrecision bytes position (amount_at read.0 read.1)
+    ensures bytes { IfOk result (λ read. (bytes : Text) × SpellsWholePrecision bytes position (amount_at read.0 read.1)
         × HasBytes text.now start read.2 bytes) }
     ensures number { IfOk result (λ read. NumbersStar read.0 read.1) }
     ensures ended { IfOk result (λ read. PrecisionEnds text.now start read.2 position read.0) }
@@ -355,7 +355,7 @@ fn after_point(
     position: Option<u16>,
 ) -> Result<(OpaqueAmount, Option<u16>, usize), Refusal>
     requires within { start ≤ length text.now }
-    ensures bytes { IfOk result (λ read. (bytes : Text) × SpellsPosixPrecision (point ∷ bytes) position (amount_at (Some read.0) read.1)
+    ensures bytes { IfOk result (λ read. (bytes : Text) × SpellsWholePrecision (point ∷ bytes) position (amount_at (Some read.0) read.1)
         × HasBytes text.now start read.2 bytes) }
     ensures number { IfOk result (λ read. NumbersStar (Some read.0) read.1) }
     ensures ended { (before : ℕ) → start ≡ before + 1 → IfOk result (λ read. PrecisionEnds text.now before read.2 position (Some read.0)) }
@@ -412,23 +412,23 @@ fn has_digit(text: &[u8], at: usize) -> bool
 
 /// Returns the length modifier at an offset, and where it ends (C11 7.21.6.1, paragraph 7).
 #[inline(always)]
-pub fn modifier_at(text: &[u8], start: usize) -> (Modifier, usize)
+pub fn modifier_at(text: &[u8], start: usize) -> (WholeLength, usize)
     requires { start ≤ length text.now }
     ensures letters { HasBytes text.now start result.1 (modifier_letters result.0) }
     ensures ended { ModifierEnds text.now result.1 result.0 }
 {
     if start >= text.len() {
-        return (Modifier::Integer(Length::None), start);
+        return (WholeLength::Integer(Length::None), start);
     }
     match length_modifier_of(text[start]) {
         Some(first) => modifier_with(text, start + 1, first),
-        None => (Modifier::Integer(Length::None), start),
+        None => (WholeLength::Integer(Length::None), start),
     }
 }
 
 // The modifier that begins with this one of one letter, and where it ends.
 #[inline(always)]
-fn modifier_with(text: &[u8], start: usize, first: Modifier) -> (Modifier, usize)
+fn modifier_with(text: &[u8], start: usize, first: WholeLength) -> (WholeLength, usize)
     requires { start ≤ length text.now }
     ensures letters { (bytes : Text) × (modifier_letters result.0 ≡ modifier_letters first ++ bytes)
         × HasBytes text.now start result.1 bytes }
@@ -445,16 +445,16 @@ fn modifier_with(text: &[u8], start: usize, first: Modifier) -> (Modifier, usize
 
 // The modifier of two letters that a byte ends, after the first one of this modifier.
 #[inline(always)]
-fn second_modifier(first: Modifier, byte: u8) -> Option<Modifier>
+fn second_modifier(first: WholeLength, byte: u8) -> Option<WholeLength>
     ensures { result ≡ second_modifier first byte }
 {
     match first {
-        Modifier::Integer(Length::H) => match byte {
-            b'h' => Some(Modifier::Integer(Length::Hh)),
+        WholeLength::Integer(Length::H) => match byte {
+            b'h' => Some(WholeLength::Integer(Length::Hh)),
             _ => None,
         },
-        Modifier::Integer(Length::L) => match byte {
-            b'l' => Some(Modifier::Integer(Length::Ll)),
+        WholeLength::Integer(Length::L) => match byte {
+            b'l' => Some(WholeLength::Integer(Length::Ll)),
             _ => None,
         },
         _ => None,
@@ -463,7 +463,7 @@ fn second_modifier(first: Modifier, byte: u8) -> Option<Modifier>
 
 /// Returns the conversion at an offset (C11 7.21.6.1, paragraph 8). `Err` if there is none.
 #[inline(always)]
-pub fn conversion_at(text: &[u8], at: usize) -> Result<Conversion, Refusal>
+pub fn conversion_at(text: &[u8], at: usize) -> Result<WholeConv, Refusal>
     requires { at ≤ length text.now }
     ensures letter { IfOk result (λ conversion. HasBytes text.now at (at + 1) (conversion_letter conversion ∷ [])) }
     ensures none { IfErr result (λ refusal. conversion_of (get_or text.now at 0) ≡ None) }

@@ -4,7 +4,7 @@ ghost use Rattle.pf_values.specs.meaning.Text.{percent};
 ghost use Rattle.pf_posix.specs.Halts.{BeginsNoneAfter};
 ghost use Rattle.pf_posix.specs.Heads.{IsHead, IsPlaced};
 ghost use Rattle.pf_posix.specs.Items.{errno_letter};
-ghost use Rattle.pf_posix.specs.Stretches.{ReadsWhole, Stretches};
+ghost use Rattle.pf_posix.specs.Stretches.{ReadsStretches, Stretches};
 ghost use Rattle.pf_posix.specs.StretchesInText.{HasPartsAt, EndsBehind, IsFound};
 ghost use Rattle.pf_posix.specs.declared.specifications.Numbering.TheVariants.{Undecided};
 
@@ -40,7 +40,7 @@ enum Found {
 /// nothing.
 pub fn next_stretch(text: &[u8], from: usize) -> Option<Stretch>
     requires { from ≤ length text.now }
-    ensures head { (left : Stretches) → ReadsWhole (drop from text.now) left
+    ensures head { (left : Stretches) → ReadsStretches (drop from text.now) left
         → IsSomeAnd result (IsHead text.now from left) }
     ensures placed { IfSome result (IsPlaced text.now from) }
 {
@@ -68,7 +68,7 @@ pub fn next_stretch(text: &[u8], from: usize) -> Option<Stretch>
 #[inline(always)]
 fn found_at(text: &[u8], at: usize) -> Option<Found>
     requires { at < length text.now }
-    ensures found { (left : Stretches) → ReadsWhole (drop at text.now) left
+    ensures found { (left : Stretches) → ReadsStretches (drop at text.now) left
         → IsSomeAnd result (IsFound text.now at left) }
     ensures further { IfSome result (EndsBehind text.now at) }
 {
@@ -112,7 +112,7 @@ fn parts_at(text: &[u8], at: usize) -> Option<(OpaqueDirective, usize)>
 fn literals_at(text: &[u8], at: usize) -> Option<Found>
     requires within { at < length text.now }
     requires other { slice_index text.now at ≢ percent }
-    ensures found { (left : Stretches) → ReadsWhole (drop at text.now) left
+    ensures found { (left : Stretches) → ReadsStretches (drop at text.now) left
         → IsSomeAnd result (IsFound text.now at left) }
     ensures further { IfSome result (EndsBehind text.now at) }
 {

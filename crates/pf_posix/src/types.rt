@@ -7,7 +7,7 @@ use pf_values::ArgType;
 
 /// The type of an argument (C11 7.21.6.1, paragraphs 5, 7 and 8).
 #[derive(Clone, Copy, Debug, PartialEq, Eq)]
-pub enum ArgumentType {
+pub enum WholeArgType {
     /// One that the profile has.
     Profile(ArgType),
     /// `double`
@@ -32,34 +32,34 @@ pub enum ArgumentType {
     PointerToLongLong,
 }
 
-impl Default for ArgumentType {
+impl Default for WholeArgType {
     ghost is_default = { λ type. type ≡ int_type };
 
-    fn default() -> ArgumentType {
-        ArgumentType::Profile(ArgType::Int)
+    fn default() -> WholeArgType {
+        WholeArgType::Profile(ArgType::Int)
     }
 }
 
-impl ArgumentType {
+impl WholeArgType {
     /// All types, in the order of their numbers.
-    pub const ALL: [ArgumentType; 17] = [
-        ArgumentType::Profile(ArgType::Int),
-        ArgumentType::Profile(ArgType::UInt),
-        ArgumentType::Profile(ArgType::Long),
-        ArgumentType::Profile(ArgType::ULong),
-        ArgumentType::Profile(ArgType::LongLong),
-        ArgumentType::Profile(ArgType::ULongLong),
-        ArgumentType::Profile(ArgType::Str),
-        ArgumentType::Double,
-        ArgumentType::LongDouble,
-        ArgumentType::WideChar,
-        ArgumentType::WideString,
-        ArgumentType::Pointer,
-        ArgumentType::PointerToSChar,
-        ArgumentType::PointerToShort,
-        ArgumentType::PointerToInt,
-        ArgumentType::PointerToLong,
-        ArgumentType::PointerToLongLong,
+    pub const ALL: [WholeArgType; 17] = [
+        WholeArgType::Profile(ArgType::Int),
+        WholeArgType::Profile(ArgType::UInt),
+        WholeArgType::Profile(ArgType::Long),
+        WholeArgType::Profile(ArgType::ULong),
+        WholeArgType::Profile(ArgType::LongLong),
+        WholeArgType::Profile(ArgType::ULongLong),
+        WholeArgType::Profile(ArgType::Str),
+        WholeArgType::Double,
+        WholeArgType::LongDouble,
+        WholeArgType::WideChar,
+        WholeArgType::WideString,
+        WholeArgType::Pointer,
+        WholeArgType::PointerToSChar,
+        WholeArgType::PointerToShort,
+        WholeArgType::PointerToInt,
+        WholeArgType::PointerToLong,
+        WholeArgType::PointerToLongLong,
     ];
 
     /// Returns the number of the type, from 1 to 17.
@@ -68,7 +68,7 @@ impl ArgumentType {
         ensures { result ≡ number_of_type self }
     {
         match self {
-            ArgumentType::Profile(arg_type) => arg_type.number(),
+            WholeArgType::Profile(arg_type) => arg_type.number(),
             _ => self.number_by_row(),
         }
     }
@@ -79,17 +79,17 @@ impl ArgumentType {
         ensures { result ≡ number_of_type self }
     {
         match self {
-            ArgumentType::Profile(arg_type) => arg_type.number(),
-            ArgumentType::Double => 8,
-            ArgumentType::LongDouble => 9,
-            ArgumentType::WideChar => 10,
-            ArgumentType::WideString => 11,
-            ArgumentType::Pointer => 12,
-            ArgumentType::PointerToSChar => 13,
-            ArgumentType::PointerToShort => 14,
-            ArgumentType::PointerToInt => 15,
-            ArgumentType::PointerToLong => 16,
-            ArgumentType::PointerToLongLong => 17,
+            WholeArgType::Profile(arg_type) => arg_type.number(),
+            WholeArgType::Double => 8,
+            WholeArgType::LongDouble => 9,
+            WholeArgType::WideChar => 10,
+            WholeArgType::WideString => 11,
+            WholeArgType::Pointer => 12,
+            WholeArgType::PointerToSChar => 13,
+            WholeArgType::PointerToShort => 14,
+            WholeArgType::PointerToInt => 15,
+            WholeArgType::PointerToLong => 16,
+            WholeArgType::PointerToLongLong => 17,
         }
     }
 }

@@ -1,10 +1,10 @@
 //! Which specifications the standards leave undefined (C11 7.21.6.1, paragraphs 4 to 9).
 ghost use Rattle.std.specs.Prelude.{◌≡◌};
-ghost use Rattle.pf_posix.specs.declared.conversions.Modifier.TheVariants.{Integer};
+ghost use Rattle.pf_posix.specs.declared.conversions.WholeLength.TheVariants.{Integer};
 ghost use Rattle.pf_posix.specs.OpaqueParts.{parts_of_opaque};
 ghost use Rattle.pf_posix.specs.Defined.{has_any_flag, takes_alt, takes_group, takes_modifier, takes_precision, takes_zero, undefined_of, is_count};
 
-use crate::conversions::{Conversion, Floating, Modifier};
+use crate::conversions::{Floating, WholeConv, WholeLength};
 use crate::opaque_directives::OpaqueDirective;
 use pf_values::{Conv, Flag, FlagSet, Length, RefusalKind};
 
@@ -40,34 +40,34 @@ pub fn undefined_as(parts: &OpaqueDirective) -> Option<RefusalKind>
 }
 
 #[inline(always)]
-fn takes_alt(conversion: Conversion) -> bool
+fn takes_alt(conversion: WholeConv) -> bool
     ensures { result ≡ takes_alt conversion }
 {
     match conversion {
-        Conversion::Profile(conv) => conv.kind().has_alternative_form(),
-        Conversion::Float(_) => true,
+        WholeConv::Profile(conv) => conv.kind().has_alternative_form(),
+        WholeConv::Float(_) => true,
         _ => false,
     }
 }
 
 #[inline(always)]
-fn takes_zero(conversion: Conversion) -> bool
+fn takes_zero(conversion: WholeConv) -> bool
     ensures { result ≡ takes_zero conversion }
 {
     match conversion {
-        Conversion::Profile(conv) => !conv.kind().is_text(),
-        Conversion::Float(_) => true,
+        WholeConv::Profile(conv) => !conv.kind().is_text(),
+        WholeConv::Float(_) => true,
         _ => false,
     }
 }
 
 #[inline(always)]
-fn takes_group(conversion: Conversion) -> bool
+fn takes_group(conversion: WholeConv) -> bool
     ensures { result ≡ takes_group conversion }
 {
     match conversion {
-        Conversion::Profile(conv) => conv.kind().is_grouped(),
-        Conversion::Float(floating) => matches!(
+        WholeConv::Profile(conv) => conv.kind().is_grouped(),
+        WholeConv::Float(floating) => matches!(
             floating,
             Floating::F | Floating::UpperF | Floating::G | Floating::UpperG
         ),
@@ -76,45 +76,45 @@ fn takes_group(conversion: Conversion) -> bool
 }
 
 #[inline(always)]
-fn takes_precision(conversion: Conversion) -> bool
+fn takes_precision(conversion: WholeConv) -> bool
     ensures { result ≡ takes_precision conversion }
 {
     match conversion {
-        Conversion::Profile(conv) => !conv.kind().is_char(),
-        Conversion::Float(_) => true,
-        Conversion::UpperS => true,
+        WholeConv::Profile(conv) => !conv.kind().is_char(),
+        WholeConv::Float(_) => true,
+        WholeConv::UpperS => true,
         _ => false,
     }
 }
 
 #[inline(always)]
-fn takes_modifier(conversion: Conversion, modifier: Modifier) -> bool
+fn takes_modifier(conversion: WholeConv, modifier: WholeLength) -> bool
     ensures { result ≡ takes_modifier conversion modifier }
 {
     match modifier {
-        Modifier::LongDouble => matches!(conversion, Conversion::Float(_)),
-        Modifier::Integer(length) => takes_length(conversion, length),
+        WholeLength::LongDouble => matches!(conversion, WholeConv::Float(_)),
+        WholeLength::Integer(length) => takes_length(conversion, length),
     }
 }
 
 #[inline(always)]
-fn takes_length(conversion: Conversion, length: Length) -> bool
+fn takes_length(conversion: WholeConv, length: Length) -> bool
     ensures { result ≡ takes_modifier conversion (Integer length) }
 {
     match conversion {
-        Conversion::Profile(Conv::C | Conv::S) => matches!(length, Length::None | Length::L),
-        Conversion::Profile(_) => true,
-        Conversion::Float(_) => matches!(length, Length::None | Length::L),
-        Conversion::Count => true,
+        WholeConv::Profile(Conv::C | Conv::S) => matches!(length, Length::None | Length::L),
+        WholeConv::Profile(_) => true,
+        WholeConv::Float(_) => matches!(length, Length::None | Length::L),
+        WholeConv::Count => true,
         _ => matches!(length, Length::None),
     }
 }
 
 #[inline(always)]
-fn is_count(conversion: Conversion) -> bool
+fn is_count(conversion: WholeConv) -> bool
     ensures { result ≡ is_count conversion }
 {
-    matches!(conversion, Conversion::Count)
+    matches!(conversion, WholeConv::Count)
 }
 
 #[inline(always)]

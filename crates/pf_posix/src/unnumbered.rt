@@ -3,8 +3,8 @@ ghost use Rattle.std.specs.Prelude.{◌≡◌, ◌≤◌, drop, length, take, Ma
 ghost use Rattle.pf_values.specs.declared.limits.TheConstants.{MAX_TEXT_LEN as LIMIT};
 ghost use Rattle.pf_text.specs.FoundDirectives.{BeginsNoItem};
 ghost use Rattle.pf_posix.specs.Heads.{IsOpaqueAt};
-ghost use Rattle.pf_posix.specs.Stretches.{IsWholeAccepted};
-ghost use Rattle.pf_posix.specs.Unnumbered.{IsWholeRefusedAt};
+ghost use Rattle.pf_posix.specs.Stretches.{IsUnnumberedAccepted};
+ghost use Rattle.pf_posix.specs.Unnumbered.{IsUnnumberedRefusedAt};
 ghost use Rattle.pf_posix.specs.Endings.{numbered_instead};
 
 use crate::long_texts::{of_long, too_long};
@@ -20,10 +20,10 @@ use pf_values::{Model, RefusalKind};
 #[inline(always)]
 pub fn opaque_at(model: Model, text: &[u8], at: usize) -> Result<Option<(Opaque, usize)>, Refusal>
     requires within { at ≤ length text.now }
-    requires front { IsWholeAccepted (take at text.now) }
+    requires front { IsUnnumberedAccepted (take at text.now) }
     requires none { BeginsNoItem (drop at (take LIMIT text.now)) }
     ensures { MatchResult result (λ found. MatchOption found (at ≡ length text.now) (IsOpaqueAt text.now at))
-        (λ refusal. IsWholeRefusedAt model text.now refusal.kind refusal.at) }
+        (λ refusal. IsUnnumberedRefusedAt model text.now refusal.kind refusal.at) }
 {
     if at == text.len() {
         return Ok(None);

@@ -3,7 +3,7 @@ use Rattle.std.proofs.Common.{◌≡◌, Bool, subst, sym}
 use Rattle.std.specs.Prelude.{◌↔◌, IsTrue}
 use Rattle.pf_values.specs.declared.models.Model.{Model}
 use Rattle.pf_values.specs.meaning.Text.{Text}
-use Rattle.pf_posix.specs.Stretches.{IsWholeAccepted}
+use Rattle.pf_posix.specs.Stretches.{IsUnnumberedAccepted}
 use Rattle.pf_whole.specs.Answers.{HaveOneWholeCanonical, IsWholeCanonicalFor, IsWholeComparisonOf, IsWholeVerdict, WholeVerdict, Same}
 use Rattle.pf_whole.specs.Faults.{AreWholeSame}
 use Rattle.pf_whole.specs.meaning.Traces.{AreWholeAlike}
@@ -12,7 +12,7 @@ use Rattle.pf_whole.proofs.Completeness.{alike_have_one_canonical}
 use Rattle.pf_whole.proofs.OneCanonical.{alike_to_it, one_canonical_is_alike}
 use Rattle.pf_whole.proofs.SomeCanonical.{headline}
 
-pub canonical_for : (model : Model) (t c : Text) → IsWholeAccepted t → IsWholeCanonicalOf model t c → IsWholeCanonicalFor model t c
+pub canonical_for : (model : Model) (t c : Text) → IsUnnumberedAccepted t → IsWholeCanonicalOf model t c → IsWholeCanonicalFor model t c
 canonical_for model t c accepted is = record {
   accepted = accepted;
   canonical_is = is;
@@ -22,7 +22,7 @@ canonical_for model t c accepted is = record {
 
 -- a fact that holds if and only if two texts are alike holds if and only if they have one canonical
 -- text
-module _ (model : Model) (t u : Text) (first : IsWholeAccepted t) (second : IsWholeAccepted u) where
+module _ (model : Model) (t u : Text) (first : IsUnnumberedAccepted t) (second : IsUnnumberedAccepted u) where
   one_exactly : (P : Type 0) → (P ↔ AreWholeAlike model t u) → (P ↔ HaveOneWholeCanonical model t u)
   one_exactly P same =
       let both = headline model t u first second in (

@@ -7,7 +7,7 @@ use Rattle.pf_values.specs.meaning.Items.{Item}
 use Rattle.pf_values.specs.meaning.Text.{Text}
 use Rattle.pf_posix.specs.Opaque.{OpaqueItem}
 use Rattle.pf_posix.specs.OpaqueParts.{item_of_opaque}
-use Rattle.pf_posix.specs.Stretches.{Stretches, Last, Before, ReadsWhole}
+use Rattle.pf_posix.specs.Stretches.{Stretches, Last, Before, ReadsStretches}
 use Rattle.pf_posix.proofs.ReadOnce.{read_once}
 use Rattle.pf_whole.specs.declared.calls.PlacedOpaque.{PlacedOpaque}
 use Rattle.pf_whole.specs.declared.calls.Rest.{Rest}
@@ -23,10 +23,10 @@ pub record IsCallsUpTo (model : Model) (t u : Text) (one two : Rest) : Type 0 wh
   pub left : Stretches
   pub more : Stretches
   pub done : List PlacedCall
-  pub first : ReadsWhole t a
-  pub second : ReadsWhole u b
-  pub left_reads : ReadsWhole (drop one.at t) left
-  pub more_reads : ReadsWhole (drop two.at u) more
+  pub first : ReadsStretches t a
+  pub second : ReadsStretches u b
+  pub left_reads : ReadsStretches (drop one.at t) left
+  pub more_reads : ReadsStretches (drop two.at u) more
   pub within : one.at ≤ length t
   pub within_other : two.at ≤ length u
   pub few : one.index ≤ one.at
@@ -144,7 +144,7 @@ module _ (model : Model) (t u : Text) (one two : Rest) where
       let second = h.others_are ∙ ap (λ x. h.done ++ x) (no_next model u h.more two also) in
       ap (placed_calls model 0) (sym (read_once t h.a a h.first k)) ∙ first ∙ sym second ∙ ap (placed_calls model 0) (read_once u h.b b h.second l)
 
-pub calls_from_start : (model : Model) (t u : Text) (a b : Stretches) → ReadsWhole t a → ReadsWhole u b
+pub calls_from_start : (model : Model) (t u : Text) (a b : Stretches) → ReadsStretches t a → ReadsStretches u b
     → IsCallsUpTo model t u (record { at = 0; index = 0 }) (record { at = 0; index = 0 })
 calls_from_start model t u a b h g = record {
   a = a;

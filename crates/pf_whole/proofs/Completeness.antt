@@ -7,7 +7,7 @@ use Rattle.pf_values.specs.meaning.Printing.{PrintAlike}
 use Rattle.pf_values.specs.meaning.Text.{Text}
 use Rattle.pf_probes.proofs.Unique.{equivalent_formats_one}
 use Rattle.pf_posix.specs.Opaque.{OpaqueItem}
-use Rattle.pf_posix.specs.Stretches.{Stretches, Last, Before, ReadsWhole}
+use Rattle.pf_posix.specs.Stretches.{Stretches, Last, Before, ReadsStretches}
 use Rattle.pf_posix.proofs.ReadOnce.{read_once}
 use Rattle.pf_whole.specs.Laws.{AlikeHaveOneCanonical}
 use Rattle.pf_whole.specs.meaning.Traces.{TraceAlike}
@@ -34,7 +34,7 @@ one_stretch model t u c d a b h g alike x y =
 pub no_call : (model : Model) (items own : List Item) (p : OpaqueItem) (more : Stretches) → TraceAlike model (Last items) (Before own p more) → ⊥
 no_call model items own p more h = let none = h.same_calls in cc
 
-complete : (model : Model) (t u c d : Text) (a b : Stretches) → ReadsWhole t a → ReadsWhole u b → TraceAlike model a b → IsPutTogether model a c
+complete : (model : Model) (t u c d : Text) (a b : Stretches) → ReadsStretches t a → ReadsStretches u b → TraceAlike model a b → IsPutTogether model a c
     → IsPutTogether model b d → c ≡ d
 complete model t u c d (Last items) (Last own) h g alike x y = one_stretch model t u c d items own h g (alike_last model items own alike) x y
 complete model t u c d (Last items) (Before own p more) h g alike x y = absurd (no_call model items own p more alike)

@@ -8,13 +8,13 @@ use Rattle.pf_values.specs.meaning.Flags.{flag_byte}
 use Rattle.pf_values.specs.meaning.Items.{Byte, Directive, HasItems, Item, Reads, types}
 use Rattle.pf_values.specs.meaning.Text.{Text}
 use Rattle.pf_canon.proofs.TextLemmas.{items_few}
-use Rattle.pf_posix.specs.declared.types.ArgumentType.{ArgumentType}
+use Rattle.pf_posix.specs.declared.types.WholeArgType.{WholeArgType}
 use Rattle.pf_posix.specs.Items.{HasArguments}
 use Rattle.pf_posix.specs.Laws.{HasCount, filled}
 use Rattle.pf_posix.specs.Opaque.{OpaqueErrno, OpaqueItem, OpaqueSpecification, SpellsOpaqueItem}
-use Rattle.pf_posix.specs.Specifications.{Amount, Given, Fetched, PosixSpecification, conversion_letter, modifier_letters}
-use Rattle.pf_posix.specs.Spelling.{SpellsPosixPrecision, SpellsPosixWidth}
-use Rattle.pf_posix.specs.Stretches.{Last, Before, ReadsWhole, types_of_opaque}
+use Rattle.pf_posix.specs.Specifications.{Amount, Given, Fetched, WholeSpecification, conversion_letter, modifier_letters}
+use Rattle.pf_posix.specs.Spelling.{SpellsWholePrecision, SpellsWholeWidth}
+use Rattle.pf_posix.specs.Stretches.{Last, Before, ReadsStretches, types_of_opaque}
 use Rattle.pf_posix.specs.Types.{conversion_type, fetch, fetches, star_fetches, widened}
 use Rattle.pf_posix.proofs.KeptTypes.{types_are_kept}
 use Rattle.pf_posix.proofs.SpecificationsOnce.{parts_of}
@@ -28,12 +28,12 @@ stretch_args model t items h = types_are_kept model t (Last items) h.reads h.lim
 pub opaque_args : (model : Model) (t : Text) (s : OpaqueItem) → SpellsOpaqueItem t s → length t ≤ MAX_TEXT_LEN
     → HasArguments model t (types_of_opaque model s)
 opaque_args model t s h few =
-    let reads : ReadsWhole t (Before [] s (Last [])) = ([], t, [], refl, h, refl, sym (append-nil t)) in
+    let reads : ReadsStretches t (Before [] s (Last [])) = ([], t, [], refl, h, refl, sym (append-nil t)) in
     subst (HasArguments model t) (append-nil (types_of_opaque model s)) (types_are_kept model t (Before [] s (Last [])) reads few)
 
 -- a count of the arguments is that of these
-pub counted : (model : Model) (t : Text) (known : List ArgumentType) (n : ℕ) → HasArguments model t known
-    → (others : List ArgumentType) × HasArguments model t others × (n ≡ length others) → n ≡ length known
+pub counted : (model : Model) (t : Text) (known : List WholeArgType) (n : ℕ) → HasArguments model t known
+    → (others : List WholeArgType) × HasArguments model t others × (n ≡ length others) → n ≡ length known
 counted model t known n h g = g.2 ∙ ap length (one_list model t g.0 known g.1 h)
 
 types_few : (model : Model) (items : List Item) → length (types model items) ≤ length items
@@ -45,17 +45,17 @@ types_few model (Directive s ∷ items) = omega (arith, types_few model items)
 pub stretch_args_few : (model : Model) (t : Text) (items : List Item) → Reads t items → length (map widened (types model items)) ≤ length t
 stretch_args_few model t items h = omega (arith, length_map widened (types model items), types_few model items, items_few t items h)
 
-star_few : (t : Text) (amount : Option Amount) → SpellsPosixWidth t None amount → length (star_fetches amount) ≤ length t
+star_few : (t : Text) (amount : Option Amount) → SpellsWholeWidth t None amount → length (star_fetches amount) ≤ length t
 star_few t None h = omega arith
 star_few t (Some (Given n)) h = omega arith
 star_few t (Some (Fetched number)) h = omega (arith, ap length h.whole)
 
-point_few : (t : Text) (amount : Option Amount) → SpellsPosixPrecision t None amount → length (star_fetches amount) ≤ length t
+point_few : (t : Text) (amount : Option Amount) → SpellsWholePrecision t None amount → length (star_fetches amount) ≤ length t
 point_few t None h = omega arith
 point_few t (Some (Given n)) h = omega arith
 point_few t (Some (Fetched number)) h = omega (arith, ap length h.2, ap length h.1.whole)
 
-pub opaque_count : (model : Model) (s : PosixSpecification)
+pub opaque_count : (model : Model) (s : WholeSpecification)
     → length (types_of_opaque model (OpaqueSpecification s)) ≡ length (star_fetches s.width) + length (star_fetches s.precision) + 1
 opaque_count model s =
     let last = fetch s.position (conversion_type model s.modifier s.conversion) ∷ [] in
@@ -109,6 +109,6 @@ pub taken : {X : Type 0} (old new found : List X) (count : ℕ) → count ≡ le
     → take count new ≡ found
 taken old new found count count_is front few = ap (λ n. take n new) count_is ∙ ap (take (length found)) front ∙ taken_front old found few
 
-pub taken_types : (model : Model) (t : Text) (old new : List ArgumentType) (count : ℕ) (h : HasCount model t old new count) → length h.types ≤ length old
+pub taken_types : (model : Model) (t : Text) (old new : List WholeArgType) (count : ℕ) (h : HasCount model t old new count) → length h.types ≤ length old
     → take count new ≡ h.types
 taken_types model t old new count h few = taken old new h.types count h.count_is h.front few

@@ -20,14 +20,14 @@ use Rattle.pf_values.specs.meaning.Text.{Text}
 use Rattle.pf_text.proofs.CanonicalRunLemmas.{byte_read}
 use Rattle.pf_text.proofs.ReadBack.{decimal_is, least_digits_are, spelled_read}
 use Rattle.pf_compare.proofs.ReductionLemmas.{bytes_canonical}
-use Rattle.pf_posix.specs.declared.conversions.Conversion.{Conversion}
-use Rattle.pf_posix.specs.declared.conversions.Modifier.{Modifier}
-use Rattle.pf_posix.specs.Defined.{IsPosixDefined}
-use Rattle.pf_posix.specs.Specifications.{Amount, Given, Fetched, PosixSpecification, conversion_letter, modifier_letters}
-use Rattle.pf_posix.specs.Spelling.{SpellsPosixPrecision, SpellsPosixWidth}
+use Rattle.pf_posix.specs.declared.conversions.WholeConv.{WholeConv}
+use Rattle.pf_posix.specs.declared.conversions.WholeLength.{WholeLength}
+use Rattle.pf_posix.specs.Defined.{IsWholeDefined}
+use Rattle.pf_posix.specs.Specifications.{Amount, Given, Fetched, WholeSpecification, conversion_letter, modifier_letters}
+use Rattle.pf_posix.specs.Spelling.{SpellsWholePrecision, SpellsWholeWidth}
 use Rattle.pf_posix.specs.Opaque.{OpaqueErrno, OpaqueItem, OpaqueSpecification, SpellsOpaqueItem, is_opaque}
 use Rattle.pf_posix.specs.Items.{errno}
-use Rattle.pf_posix.specs.Stretches.{Last, Before, ReadsWhole}
+use Rattle.pf_posix.specs.Stretches.{Last, Before, ReadsStretches}
 use Rattle.pf_posix.proofs.SpecificationsOnce.{made}
 use Rattle.pf_whole.specs.meaning.NormalSpellings.{normal_spelling}
 use Rattle.pf_whole.specs.meaning.WholeCanonical.{IsCanonicalStretch, IsWholeCanonicalOf}
@@ -36,7 +36,7 @@ use Rattle.pf_whole.specs.meaning.WholeCanonical.{IsCanonicalStretch, IsWholeCan
 pub record WidthText : Type 0 where
   pub amount : Option Amount
   pub text : Text
-  pub spelled : SpellsPosixWidth text None amount
+  pub spelled : SpellsWholeWidth text None amount
 
 abbrev pub no_width : WidthText
 no_width = record { amount = None; text = []; spelled = refl }
@@ -44,7 +44,7 @@ no_width = record { amount = None; text = []; spelled = refl }
 abbrev pub star_width : WidthText
 star_width = record { amount = Some (Fetched None); text = codes "*"; spelled = record { digits = []; digits_are = refl; numbering = refl; whole = refl } }
 
-pub width_spelled : (n : ℕ) → 0 < n → n ≤ MAX_NUMBER → SpellsPosixWidth (decimal n) None (Some (Given n))
+pub width_spelled : (n : ℕ) → 0 < n → n ≤ MAX_NUMBER → SpellsWholeWidth (decimal n) None (Some (Given n))
 width_spelled n some few = record { some = some; numeral = (digits_of 10 n, least_digits_are n some, decimal_is n some (omega (arith, few))); within = few }
 
 abbrev pub given_width : (n : ℕ) → 0 < n → n ≤ MAX_NUMBER → WidthText
@@ -54,7 +54,7 @@ given_width n some few = record { amount = Some (Given n); text = decimal n; spe
 pub record PrecisionText : Type 0 where
   pub amount : Option Amount
   pub text : Text
-  pub spelled : SpellsPosixPrecision text None amount
+  pub spelled : SpellsWholePrecision text None amount
 
 abbrev pub no_precision : PrecisionText
 no_precision = record { amount = None; text = []; spelled = refl }
@@ -71,14 +71,14 @@ given_precision ds below few = record {
 }
 
 -- the specification with these parts, and its text
-abbrev pub parts : List Flag → WidthText → PrecisionText → Modifier → Conversion → PosixSpecification
+abbrev pub parts : List Flag → WidthText → PrecisionText → WholeLength → WholeConv → WholeSpecification
 parts flags width precision modifier conversion = made None (flag_set flags) width.amount precision.amount modifier conversion
 
-abbrev pub spelling : List Flag → WidthText → PrecisionText → Modifier → Conversion → Text
+abbrev pub spelling : List Flag → WidthText → PrecisionText → WholeLength → WholeConv → Text
 spelling flags width precision modifier conversion =
     ((37 ∷ map flag_byte flags ++ width.text) ++ precision.text) ++ modifier_letters modifier ++ conversion_letter conversion ∷ []
 
-abbrev pub opaque_parts : List Flag → WidthText → PrecisionText → Modifier → Conversion → OpaqueItem
+abbrev pub opaque_parts : List Flag → WidthText → PrecisionText → WholeLength → WholeConv → OpaqueItem
 opaque_parts flags width precision modifier conversion = OpaqueSpecification (parts flags width precision modifier conversion)
 
 -- an opaque directive or `%m`, and its normal spelling
@@ -87,8 +87,8 @@ pub record HasNormal (model : Model) (t c : Text) : Type 0 where
   pub spelled : SpellsOpaqueItem t s
   pub normal : normal_spelling model s ≡ c
 
-unfoldable pub opaque : (model : Model) (flags : List Flag) (width : WidthText) (precision : PrecisionText) (modifier : Modifier) (conversion : Conversion)
-    → IsPosixDefined (parts flags width precision modifier conversion) → is_opaque (parts flags width precision modifier conversion) ≡ true
+unfoldable pub opaque : (model : Model) (flags : List Flag) (width : WidthText) (precision : PrecisionText) (modifier : WholeLength) (conversion : WholeConv)
+    → IsWholeDefined (parts flags width precision modifier conversion) → is_opaque (parts flags width precision modifier conversion) ≡ true
     → HasNormal model (spelling flags width precision modifier conversion) (normal_spelling model (opaque_parts flags width precision modifier conversion))
 opaque model flags width precision modifier conversion defined is = record {
   s = opaque_parts flags width precision modifier conversion;
@@ -159,7 +159,7 @@ silent_defined = record { width = λ e. cc; allowed = refl }
 
 -- a directive of the profile before an opaque one, which ends the text
 pub read_before : {model : Model} {u c : Text} (s : Specification) (t : Text) → IsDefined s → (directive : HasNormal model u c) → t ≡ spelling_of s ++ u
-    → ReadsWhole t (Before (Directive s ∷ []) directive.s (Last []))
+    → ReadsStretches t (Before (Directive s ∷ []) directive.s (Last []))
 read_before {model} {u} {c} s t defined directive e = (
   spelling_of s,
   u,

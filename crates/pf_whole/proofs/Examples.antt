@@ -12,10 +12,10 @@ use Rattle.pf_values.specs.meaning.Normal.{IsNormal, silent}
 use Rattle.pf_values.specs.meaning.Specification.{Specification}
 use Rattle.pf_values.specs.meaning.Spelling.{spelling_of}
 use Rattle.pf_text.proofs.ReadBack.{spelled_read}
-use Rattle.pf_posix.specs.declared.conversions.Conversion.TheVariants.{Profile, Float, UpperC, UpperS, Pointer, Count}
+use Rattle.pf_posix.specs.declared.conversions.WholeConv.TheVariants.{Profile, Float, UpperC, UpperS, Pointer, Count}
 use Rattle.pf_posix.specs.declared.conversions.Floating.TheVariants as floats
-use Rattle.pf_posix.specs.declared.conversions.Modifier.TheVariants.{Integer, LongDouble}
-use Rattle.pf_posix.specs.declared.types.ArgumentType.TheVariants.{Double, WideString, PointerToLong}
+use Rattle.pf_posix.specs.declared.conversions.WholeLength.TheVariants.{Integer, LongDouble}
+use Rattle.pf_posix.specs.declared.types.WholeArgType.TheVariants.{Double, WideString, PointerToLong}
 use Rattle.pf_posix.specs.Types.{int_type}
 use Rattle.pf_posix.specs.Opaque.{OpaqueErrno}
 use Rattle.pf_posix.specs.Stretches.{Last, Before, whole_types}

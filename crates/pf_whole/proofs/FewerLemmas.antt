@@ -1,12 +1,12 @@
 -- Arguments for a text, and a text that takes those at their beginning.
 use Rattle.std.proofs.Common.{◌≡◌, ◌≤◌, List, [], ◌∷◌, ◌++◌, length, take, subst, ◌∙◌, arith}
 use Rattle.pf_values.specs.declared.models.Model.{Model}
-use Rattle.pf_posix.specs.declared.types.ArgumentType.{ArgumentType}
+use Rattle.pf_posix.specs.declared.types.WholeArgType.{WholeArgType}
 use Rattle.pf_posix.proofs.Unique.{one_list}
 use Rattle.pf_whole.specs.Laws.{ServeFewer}
 use Rattle.pf_whole.specs.meaning.WholeArguments.{WholeArgument, HasWholeTypes}
 
-serve_first : (model : Model) (args : List WholeArgument) (others more : List ArgumentType) → HasWholeTypes model args (others ++ more)
+serve_first : (model : Model) (args : List WholeArgument) (others more : List WholeArgType) → HasWholeTypes model args (others ++ more)
     → (length others ≤ length args) × HasWholeTypes model (take (length others) args) others
 serve_first model [] [] more h = (omega arith, tt)
 serve_first model (a ∷ args) [] more h = (omega arith, tt)

@@ -28,7 +28,7 @@ use Rattle.pf_whole.specs.Answers.{
   neutral_shown,
 }
 use Rattle.pf_whole.specs.Findings.{IsTellingProbe, NeutralAgrees, NeutralTells, ShowsTelling, shown_any, shown_neutrals}
-use Rattle.pf_posix.specs.Stretches.{Stretches, Last, Before, ReadsWhole, types_of_opaque, whole_types}
+use Rattle.pf_posix.specs.Stretches.{Stretches, Last, Before, ReadsStretches, types_of_opaque, whole_types}
 use Rattle.pf_whole.proofs.Slots.{
   get_first,
   get_second,
@@ -390,12 +390,12 @@ told model (Before a s rest) (Before b p more) shown (inr h) =
     told_later model a b s p rest more shown h.0 h.1 h.2 (telling_agrees model rest more h.0 h.3) (told model rest more h.0 h.3)
 
 -- the two kinds of arguments that are shown
-pub shows_neutral : (model : Model) (t u : Text) (a b : Stretches) → ReadsWhole t a → ReadsWhole u b → HaveOneShape model a b → NeutralTells model a b
+pub shows_neutral : (model : Model) (t u : Text) (a b : Stretches) → ReadsStretches t a → ReadsStretches u b → HaveOneShape model a b → NeutralTells model a b
     → ShowsNeutral model a b (neutral_shown model a)
 shows_neutral model t u a b h g one tells =
     record { shown_is = refl; apart = telling_is_apart model t u a b (neutral_shown model a) h g one (neutral_somewhere model a b tells) }
 
-pub shows_probe : (model : Model) (t u : Text) (a b : Stretches) (shown : List (Option Argument)) → ReadsWhole t a → ReadsWhole u b → HaveOneShape model a b
+pub shows_probe : (model : Model) (t u : Text) (a b : Stretches) (shown : List (Option Argument)) → ReadsStretches t a → ReadsStretches u b → HaveOneShape model a b
     → ShowsTelling model a b shown → ShowsProbe model a b shown
 shows_probe model t u a b shown h g one telling =
     let first = told model a b shown telling in

@@ -9,7 +9,7 @@ use Rattle.pf_posix.specs.declared.stretches.Stretch.{Stretch}
 use Rattle.pf_posix.specs.Heads.{IsHead, IsPlaced}
 use Rattle.pf_posix.specs.Opaque.{SpellsOpaqueItem}
 use Rattle.pf_posix.specs.OpaqueParts.{item_of_opaque}
-use Rattle.pf_posix.specs.Stretches.{Stretches, Last, Before, ReadsWhole}
+use Rattle.pf_posix.specs.Stretches.{Stretches, Last, Before, ReadsStretches}
 
 -- the bytes of a text between two offsets
 abbrev pub between : Text → ℕ → ℕ → Text
@@ -35,7 +35,7 @@ pub record IsBeforeOpaque (t : Text) (from : ℕ) (left : Stretches) (stretch : 
   pub left_is : left ≡ Before items (item_of_opaque opaque) rest
   pub reads : Reads (between t from stretch.end) items
   pub spells : SpellsOpaqueItem (between t stretch.end stretch.after) (item_of_opaque opaque)
-  pub later : ReadsWhole (drop stretch.after t) rest
+  pub later : ReadsStretches (drop stretch.after t) rest
 
 pub before_opaque : (t : Text) (from : ℕ) (left : Stretches) (stretch : Stretch) (opaque : Opaque) → IsHead t from left stretch
     → stretch.opaque ≡ Some opaque → IsBeforeOpaque t from left stretch opaque

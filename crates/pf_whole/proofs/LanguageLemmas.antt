@@ -13,8 +13,8 @@ use Rattle.pf_canon.specs.Languages.{AreSameIn, DecidesIn, FaultIn, HasCanonical
 use Rattle.pf_posix.specs.Heads.{IsOpaqueAt}
 use Rattle.pf_posix.specs.declared.opaque_directives.Opaque.{Opaque}
 use Rattle.pf_posix.specs.OpaqueParts.{item_of_opaque}
-use Rattle.pf_posix.specs.Stretches.{Last, IsWholeAccepted}
-use Rattle.pf_posix.specs.Unnumbered.{IsWholeRefusedAt}
+use Rattle.pf_posix.specs.Stretches.{Last, IsUnnumberedAccepted}
+use Rattle.pf_posix.specs.Unnumbered.{IsUnnumberedRefusedAt}
 use Rattle.pf_whole.specs.Answers.{IsWholeCanonicalFor}
 use Rattle.pf_whole.specs.Faults.{AreWholeSame, FaultForWholeCanonical, FaultForWholeSame}
 use Rattle.pf_whole.specs.Fronts.{IsWholeFront}
@@ -28,7 +28,7 @@ use Rattle.pf_whole.proofs.OneCanonical.{one_canonical_is_alike}
 module _ (model : Model) where
   module _ (t : Text) where
     -- the engine's canonical text is the canonical text
-    pub whole_accepted : (c : Text) → HasCanonicalIn IsWholeFront model t c → IsWholeAccepted t
+    pub whole_accepted : (c : Text) → HasCanonicalIn IsWholeFront model t c → IsUnnumberedAccepted t
     whole_accepted c h =
         let (whole, reads, together) = h.begins.continues h.last (Last h.ends.items) h.ends.accepted.reads in
         record { stretches = whole; reads = rw h.split reads; limit = h.limit }
@@ -57,31 +57,31 @@ module _ (model : Model) where
         (past_opaque model h.front h.out h.last h.own middle h.ends.items (item_of_opaque found.0) h.begins h.ends.accepted.reads h.ends.canonical_is there.spelled))
 
 module _ (model : Model) (t : Text) where
-  pub fault_of_whole : (fault : TextFault) → FaultIn IsWholeFront IsWholeRefusedAt model t fault → FaultForWholeCanonical model t fault
+  pub fault_of_whole : (fault : TextFault) → FaultIn IsWholeFront IsUnnumberedRefusedAt model t fault → FaultForWholeCanonical model t fault
   fault_of_whole (Refused refusal) h = h
   fault_of_whole Memory h = (h.0, whole_canonical model t h.0 h.1, h.2)
 
   pub checked_of_whole : (r : Result (Unit {0}) Refusal)
-      → MatchResult r (λ done. IsAcceptedIn IsWholeFront model t) (λ refusal. IsWholeRefusedAt model t refusal.kind refusal.at)
-      → MatchResult r (λ done. IsWholeAccepted t) (λ refusal. IsWholeRefusedAt model t refusal.kind refusal.at)
+      → MatchResult r (λ done. IsAcceptedIn IsWholeFront model t) (λ refusal. IsUnnumberedRefusedAt model t refusal.kind refusal.at)
+      → MatchResult r (λ done. IsUnnumberedAccepted t) (λ refusal. IsUnnumberedRefusedAt model t refusal.kind refusal.at)
   checked_of_whole (Ok done) h = whole_accepted model t h.0 h.1
   checked_of_whole (Err refusal) h = h
 
   pub answer_of_whole : {V : Type 0} (of : V → Text) (r : Result V TextFault)
-      → MatchResult r (λ c. HasCanonicalIn IsWholeFront model t (of c)) (FaultIn IsWholeFront IsWholeRefusedAt model t)
+      → MatchResult r (λ c. HasCanonicalIn IsWholeFront model t (of c)) (FaultIn IsWholeFront IsUnnumberedRefusedAt model t)
       → MatchResult r (λ c. IsWholeCanonicalFor model t (of c)) (FaultForWholeCanonical model t)
   answer_of_whole of (Ok c) h = whole_canonical model t (of c) h
   answer_of_whole of (Err fault) h = fault_of_whole fault h
 
   pub len_of_whole : (r : Result ℕ Refusal)
-      → MatchResult r (λ len. (c : Text) × HasCanonicalIn IsWholeFront model t c × (len ≡ length c)) (λ refusal. IsWholeRefusedAt model t refusal.kind refusal.at)
-      → MatchResult r (λ len. (c : Text) × IsWholeCanonicalFor model t c × (len ≡ length c)) (λ refusal. IsWholeRefusedAt model t refusal.kind refusal.at)
+      → MatchResult r (λ len. (c : Text) × HasCanonicalIn IsWholeFront model t c × (len ≡ length c)) (λ refusal. IsUnnumberedRefusedAt model t refusal.kind refusal.at)
+      → MatchResult r (λ len. (c : Text) × IsWholeCanonicalFor model t c × (len ≡ length c)) (λ refusal. IsUnnumberedRefusedAt model t refusal.kind refusal.at)
   len_of_whole (Ok len) h = (h.0, whole_canonical model t h.0 h.1, h.2)
   len_of_whole (Err refusal) h = h
 
   pub decided_of_whole : (r : Result Bool Refusal)
-      → MatchResult r (DecidesIn IsWholeFront model t) (λ refusal. IsWholeRefusedAt model t refusal.kind refusal.at)
-      → MatchResult r (λ is. IsWholeAccepted t × (IsTrue is ↔ IsWholeCanonicalOf model t t)) (λ refusal. IsWholeRefusedAt model t refusal.kind refusal.at)
+      → MatchResult r (DecidesIn IsWholeFront model t) (λ refusal. IsUnnumberedRefusedAt model t refusal.kind refusal.at)
+      → MatchResult r (λ is. IsUnnumberedAccepted t × (IsTrue is ↔ IsWholeCanonicalOf model t t)) (λ refusal. IsUnnumberedRefusedAt model t refusal.kind refusal.at)
   decided_of_whole (Ok is) h =
       let w = whole_canonical model t h.0 h.1 in
       (w.accepted, (λ yes. subst (IsWholeCanonicalOf model t) (h.2.0 yes) w.canonical_is, λ own. h.2.1 (w.kept own)))
@@ -99,13 +99,13 @@ module _ (model : Model) (t u : Text) where
         λ alike. h.one.1 (alike_have_one_canonical model t u h.first h.second alike one.canonical_is other.canonical_is),
       )
 
-  stops_of_whole : (side : Side) (refusal : Refusal) → StopsIn IsWholeFront IsWholeRefusedAt model t u (side, refusal)
+  stops_of_whole : (side : Side) (refusal : Refusal) → StopsIn IsWholeFront IsUnnumberedRefusedAt model t u (side, refusal)
       → FaultForWholeSame model t u (side, refusal)
   stops_of_whole First refusal h = h
   stops_of_whole Second refusal h = (whole_accepted model t h.0.0 h.0.1, h.1)
 
   pub compared_of_whole : (r : Result Bool (Side × Refusal))
-      → MatchResult r (AreSameIn IsWholeFront model t u) (StopsIn IsWholeFront IsWholeRefusedAt model t u)
+      → MatchResult r (AreSameIn IsWholeFront model t u) (StopsIn IsWholeFront IsUnnumberedRefusedAt model t u)
       → MatchResult r (AreWholeSame model t u) (FaultForWholeSame model t u)
   compared_of_whole (Ok is) h = same_of_whole is h
   compared_of_whole (Err stop) h = stops_of_whole stop.0 stop.1 h

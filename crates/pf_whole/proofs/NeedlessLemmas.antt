@@ -9,23 +9,23 @@ use Rattle.pf_values.specs.Directives.{specification_of, width_given}
 use Rattle.pf_values.specs.meaning.Defined.{IsDefined}
 use Rattle.pf_values.specs.meaning.Items.{Directive}
 use Rattle.pf_values.specs.meaning.Printing.{PrintAlike}
-use Rattle.pf_posix.specs.Defined.{IsPosixDefined, has_any_flag, is_count, takes_alt, takes_group, takes_modifier, takes_precision, takes_zero}
+use Rattle.pf_posix.specs.Defined.{IsWholeDefined, has_any_flag, is_count, takes_alt, takes_group, takes_modifier, takes_precision, takes_zero}
 use Rattle.pf_posix.specs.Opaque.{OpaqueSpecification, is_opaque, is_outside, is_star}
-use Rattle.pf_posix.specs.declared.conversions.Conversion.{Conversion}
-use Rattle.pf_posix.specs.declared.conversions.Modifier.{Modifier as ModifierOf}
-use Rattle.pf_posix.specs.declared.conversions.Modifier.TheVariants.{Integer}
+use Rattle.pf_posix.specs.declared.conversions.WholeConv.{WholeConv}
+use Rattle.pf_posix.specs.declared.conversions.WholeLength.{WholeLength as ModifierOf}
+use Rattle.pf_posix.specs.declared.conversions.WholeLength.TheVariants.{Integer}
 use Rattle.pf_values.specs.declared.flags.FlagSet.{FlagSet}
 use Rattle.pf_values.specs.declared.lengths.Length.TheVariants as lengths
-use Rattle.pf_posix.specs.Items.{PosixItem, Specification, SpellsPosixItem}
+use Rattle.pf_posix.specs.Items.{WholeItem, Specification, IsWholeReadAs}
 use Rattle.pf_posix.specs.OpaqueParts.{amount_back, amount_of, conv_back, narrow, parts_of_opaque}
 use Rattle.pf_posix.specs.Types.{integer_length}
 use Rattle.pf_posix.specs.declared.opaque_directives.OpaqueDirective.{OpaqueDirective}
 use Rattle.pf_posix.specs.SpecificationSpans.{HasItsParts, alone, without_number}
 use Rattle.pf_posix.specs.declared.specification_spans.SpecificationSpan.{SpecificationSpan}
-use Rattle.pf_posix.specs.Specifications.{Amount, Fetched, Given, PosixSpecification}
-use Rattle.pf_posix.specs.Spelling.{SpellsPosix, SpellsPosixPrecision, SpellsPosixWidth}
-use Rattle.pf_posix.specs.Stretches.{Stretches, Before, Last, ReadsWhole}
-use Rattle.pf_posix.proofs.Narrowed.{narrowed, reads_whole}
+use Rattle.pf_posix.specs.Specifications.{Amount, Fetched, Given, WholeSpecification}
+use Rattle.pf_posix.specs.Spelling.{SpellsWhole, SpellsWholePrecision, SpellsWholeWidth}
+use Rattle.pf_posix.specs.Stretches.{Stretches, Before, Last, ReadsStretches}
+use Rattle.pf_posix.proofs.Narrowed.{narrowed, reads_stretches}
 use Rattle.pf_posix.proofs.ReadOnce.{pushed_or, stretched}
 use Rattle.pf_posix.proofs.SpecificationsOnce.{HasParts, is_defined, no_reason, parts_of}
 use Rattle.pf_whole.specs.declared.needless.Question.{Question}
@@ -34,7 +34,7 @@ use Rattle.pf_whole.specs.declared.parts.Part.TheVariants.{Flag, Width, Precisio
 use Rattle.pf_whole.specs.declared.parts.PartSet.{PartSet}
 use Rattle.pf_whole.specs.Needless.{AreFound, AreNeedless, AreTogether, HaveNoEffect, IsPartQuestion}
 use Rattle.pf_whole.specs.Parts.{given_parts, has_part, left_out, no_parts, only, with_part, without, without_flags}
-use Rattle.pf_whole.specs.meaning.NormalSpellings.{directive_spelling, posix_spelling_of}
+use Rattle.pf_whole.specs.meaning.NormalSpellings.{directive_spelling, whole_spelling_of}
 use Rattle.pf_whole.specs.meaning.Traces.{AreWholeAlike}
 use Rattle.pf_whole.specs.Laws.{Correspond}
 use Rattle.pf_whole.proofs.Corresponding.{alike_is_corresponding}
@@ -43,12 +43,12 @@ use Rattle.pf_whole.proofs.SpelledNormally.{few_of, spelled_parts, width_few}
 use Rattle.pf_whole.specs.Verbatim.{CanBePrecision, CanBeWidth}
 
 -- the items of a text that is a specification alone
-abbrev items_alone : PosixSpecification → List PosixItem
+abbrev items_alone : WholeSpecification → List WholeItem
 items_alone s = Specification s ∷ []
 
-reads_alone : (t : Text) (s : PosixSpecification) → SpellsPosix t s → IsPosixDefined s → s.position ≡ None → ReadsWhole t (stretched (items_alone s))
+reads_alone : (t : Text) (s : WholeSpecification) → SpellsWhole t s → IsWholeDefined s → s.position ≡ None → ReadsStretches t (stretched (items_alone s))
 reads_alone t s h defined unnumbered =
-    reads_whole t (items_alone s) (t, [], (h, defined), refl, sym (append-nil t)) (unnumbered, tt)
+    reads_stretches t (items_alone s) (t, [], (h, defined), refl, sym (append-nil t)) (unnumbered, tt)
 
 -- a part can be spelled where it isn't left out
 part_left : (CanBe : Option Amount → Type 0) (out : Bool) (amount : Option Amount) → CanBe None → CanBe amount → CanBe (left_out out amount)
@@ -56,7 +56,7 @@ part_left CanBe true amount none h = none
 part_left CanBe false amount none h = h
 
 -- a text that is the specification
-module _ (model : Model) (s : PosixSpecification) (unnumbered : s.position ≡ None) (text : Text) (h : SpellsPosixItem text (Specification s)) (set : PartSet) where
+module _ (model : Model) (s : WholeSpecification) (unnumbered : s.position ≡ None) (text : Text) (h : IsWholeReadAs text (Specification s)) (set : PartSet) where
   parts : HasParts text s
   parts = parts_of text s h.0 unnumbered
 
@@ -66,15 +66,15 @@ module _ (model : Model) (s : PosixSpecification) (unnumbered : s.position ≡ N
   few : CanBePrecision s.precision
   few = few_of parts.precision s.precision parts.precision_is
 
-  whole_spelled : SpellsPosix (posix_spelling_of s) s
+  whole_spelled : SpellsWhole (whole_spelling_of s) s
   whole_spelled = spelled_parts s unnumbered width few
 
-  rest_spelled : SpellsPosix (posix_spelling_of (without s set)) (without s set)
+  rest_spelled : SpellsWhole (whole_spelling_of (without s set)) (without s set)
   rest_spelled = spelled_parts (without s set) unnumbered (part_left CanBeWidth set.width s.width tt width)
       (part_left CanBePrecision set.precision s.precision tt few)
 
 -- a defined specification is defined without any of its parts
-defined_without : (s : PosixSpecification) (set : PartSet) → IsPosixDefined s → IsPosixDefined (without s set)
+defined_without : (s : WholeSpecification) (set : PartSet) → IsWholeDefined s → IsWholeDefined (without s set)
 defined_without s set h =
     let none = no_reason s.flags (is_some s.width) (is_some s.precision) s.modifier s.conversion h in
     is_defined (without_flags s.flags set.flags) (is_some (left_out set.width s.width)) (is_some (left_out set.precision s.precision))
@@ -92,7 +92,7 @@ defined_without s set h =
       fewer_amounts : (out : Bool) (amount : Option Amount) (c : Bool) → (is_some amount && not c) ≡ false → (is_some (left_out out amount) && not c) ≡ false
       fewer_amounts out amount c e = grind arith
 
-      no_modifier : (out : Bool) (conversion : Conversion) (modifier : ModifierOf) → not (takes_modifier conversion modifier) ≡ false
+      no_modifier : (out : Bool) (conversion : WholeConv) (modifier : ModifierOf) → not (takes_modifier conversion modifier) ≡ false
           → not (takes_modifier conversion (if out then Integer lengths.None else modifier)) ≡ false
       no_modifier false conversion modifier e = e
       no_modifier true conversion modifier e = grind arith
@@ -104,19 +104,19 @@ defined_without s set h =
       fewer_parts true flags others wide width precise precision e = grind arith
 
 -- of one that the profile lacks
-abbrev alone_opaque : PosixSpecification → Stretches
+abbrev alone_opaque : WholeSpecification → Stretches
 alone_opaque s = Before [] (OpaqueSpecification s) (Last [])
 
-module _ (model : Model) (s : PosixSpecification) (unnumbered : s.position ≡ None) (text : Text) (h : SpellsPosixItem text (Specification s)) (set : PartSet)
+module _ (model : Model) (s : WholeSpecification) (unnumbered : s.position ≡ None) (text : Text) (h : IsWholeReadAs text (Specification s)) (set : PartSet)
     (opaque : is_opaque s ≡ true) where
-  abbrev rest : PosixSpecification
+  abbrev rest : WholeSpecification
   rest = without s set
 
-  kept : IsPosixDefined rest
+  kept : IsWholeDefined rest
   kept = defined_without s set h.1
 
-  opaque_read : (t : Text) (p : PosixSpecification) → p.position ≡ None → IsPosixDefined p → is_opaque p ≡ true → SpellsPosix t p
-      → ReadsWhole t (alone_opaque p)
+  opaque_read : (t : Text) (p : WholeSpecification) → p.position ≡ None → IsWholeDefined p → is_opaque p ≡ true → SpellsWhole t p
+      → ReadsStretches t (alone_opaque p)
   opaque_read t p none defined is spelled =
       ([], t, [], refl, record { spelled = spelled; defined = defined; unnumbered = none; opaque = is }, refl, sym (append-nil t))
 
@@ -127,9 +127,9 @@ module _ (model : Model) (s : PosixSpecification) (unnumbered : s.position ≡ N
     λ none.
         let w = whole_spelled model s unnumbered text h set in
         let v = rest_spelled model s unnumbered text h set in
-        ((corresponds (posix_spelling_of s) (posix_spelling_of rest) w v).0 (none (posix_spelling_of s) (posix_spelling_of rest) w v)).1,
+        ((corresponds (whole_spelling_of s) (whole_spelling_of rest) w v).0 (none (whole_spelling_of s) (whole_spelling_of rest) w v)).1,
   ) where
-    corresponds : (t u : Text) → SpellsPosix t s → SpellsPosix u rest
+    corresponds : (t u : Text) → SpellsWhole t s → SpellsWhole u rest
         → (AreWholeAlike model t u ↔ Correspond model (alone_opaque s) (alone_opaque rest))
     corresponds t u x y =
         alike_is_corresponding model t u (alone_opaque s) (alone_opaque rest) (opaque_read t s unnumbered h.1 opaque x)
@@ -140,14 +140,14 @@ module _ (model : Model) (s : PosixSpecification) (unnumbered : s.position ≡ N
   not_called other none =
       let w = whole_spelled model s unnumbered text h set in
       let v = rest_spelled model s unnumbered text h set in
-      let read : ReadsWhole (posix_spelling_of rest) (pushed_or (is_opaque rest) rest (Last [])) = reads_alone (posix_spelling_of rest) rest v kept unnumbered in
-      let narrow_read : ReadsWhole (posix_spelling_of rest) (pushed_or false rest (Last [])) =
-      subst (λ b. ReadsWhole (posix_spelling_of rest) (pushed_or b rest (Last []))) other read in
-      (alike_is_corresponding model (posix_spelling_of s) (posix_spelling_of rest) (alone_opaque s) (pushed_or false rest (Last []))
-      (opaque_read (posix_spelling_of s) s unnumbered h.1 opaque w) narrow_read).0 (none (posix_spelling_of s) (posix_spelling_of rest) w v)
+      let read : ReadsStretches (whole_spelling_of rest) (pushed_or (is_opaque rest) rest (Last [])) = reads_alone (whole_spelling_of rest) rest v kept unnumbered in
+      let narrow_read : ReadsStretches (whole_spelling_of rest) (pushed_or false rest (Last [])) =
+      subst (λ b. ReadsStretches (whole_spelling_of rest) (pushed_or b rest (Last []))) other read in
+      (alike_is_corresponding model (whole_spelling_of s) (whole_spelling_of rest) (alone_opaque s) (pushed_or false rest (Last []))
+      (opaque_read (whole_spelling_of s) s unnumbered h.1 opaque w) narrow_read).0 (none (whole_spelling_of s) (whole_spelling_of rest) w v)
 
 -- of one that the profile has
-not_long : (out : Bool) (conversion : Conversion) (modifier : ModifierOf) → is_outside conversion modifier ≡ false
+not_long : (out : Bool) (conversion : WholeConv) (modifier : ModifierOf) → is_outside conversion modifier ≡ false
     → is_outside conversion (if out then Integer lengths.None else modifier) ≡ false
 not_long false conversion modifier e = e
 not_long true conversion modifier e = grind (arith, e)
@@ -156,30 +156,30 @@ no_star : (out : Bool) (amount : Option Amount) → is_star amount ≡ false →
 no_star true amount e = refl
 no_star false amount e = e
 
-narrow_without : (s : PosixSpecification) (set : PartSet) → is_opaque s ≡ false → is_opaque (without s set) ≡ false
+narrow_without : (s : WholeSpecification) (set : PartSet) → is_opaque s ≡ false → is_opaque (without s set) ≡ false
 narrow_without s set e = rw (
   no_star set.width s.width (grind (arith, e)),
   no_star set.precision s.precision (grind (arith, e)),
   not_long set.modifier s.conversion s.modifier (grind (arith, e)),
 ) refl
 
-abbrev alone_narrow : PosixSpecification → Stretches
+abbrev alone_narrow : WholeSpecification → Stretches
 alone_narrow s = Last (Directive (narrow s) ∷ [])
 
-module _ (model : Model) (s : PosixSpecification) (unnumbered : s.position ≡ None) (text : Text) (h : SpellsPosixItem text (Specification s)) (set : PartSet)
+module _ (model : Model) (s : WholeSpecification) (unnumbered : s.position ≡ None) (text : Text) (h : IsWholeReadAs text (Specification s)) (set : PartSet)
     (profile : is_opaque s ≡ false) where
-  abbrev less : PosixSpecification
+  abbrev less : WholeSpecification
   less = without s set
 
   pub still_narrow : is_opaque less ≡ false
   still_narrow = narrow_without s set profile
 
   -- some text is the directive without these parts
-  pub spelled_without : (t : Text) × SpellsPosixItem t (Specification less)
-  spelled_without = (posix_spelling_of less, (rest_spelled model s unnumbered text h set, defined_without s set h.1))
+  pub spelled_without : (t : Text) × IsWholeReadAs t (Specification less)
+  spelled_without = (whole_spelling_of less, (rest_spelled model s unnumbered text h set, defined_without s set h.1))
 
-  narrow_read : (t : Text) (p : PosixSpecification) → p.position ≡ None → IsPosixDefined p → is_opaque p ≡ false → SpellsPosix t p → ReadsWhole t (alone_narrow p)
-  narrow_read t p none defined is spelled = subst (λ b. ReadsWhole t (pushed_or b p (Last []))) is (reads_alone t p spelled defined none)
+  narrow_read : (t : Text) (p : WholeSpecification) → p.position ≡ None → IsWholeDefined p → is_opaque p ≡ false → SpellsWhole t p → ReadsStretches t (alone_narrow p)
+  narrow_read t p none defined is spelled = subst (λ b. ReadsStretches t (pushed_or b p (Last []))) is (reads_alone t p spelled defined none)
 
   -- it prints the same, or it has an effect
   pub printed : PrintAlike model (Directive (narrow s) ∷ []) (Directive (narrow less) ∷ []) ↔ HaveNoEffect model s set
@@ -188,16 +188,16 @@ module _ (model : Model) (s : PosixSpecification) (unnumbered : s.position ≡ N
     λ none.
         let w = whole_spelled model s unnumbered text h set in
         let v = rest_spelled model s unnumbered text h set in
-        (corresponds (posix_spelling_of s) (posix_spelling_of less) w v).0 (none (posix_spelling_of s) (posix_spelling_of less) w v),
+        (corresponds (whole_spelling_of s) (whole_spelling_of less) w v).0 (none (whole_spelling_of s) (whole_spelling_of less) w v),
   ) where
-    corresponds : (t u : Text) → SpellsPosix t s → SpellsPosix u less
+    corresponds : (t u : Text) → SpellsWhole t s → SpellsWhole u less
         → (AreWholeAlike model t u ↔ Correspond model (alone_narrow s) (alone_narrow less))
     corresponds t u x y =
         alike_is_corresponding model t u (alone_narrow s) (alone_narrow less) (narrow_read t s unnumbered h.1 profile x)
         (narrow_read u less unnumbered (defined_without s set h.1) still_narrow y)
 
 -- the directive of the profile that a text is, is defined
-pub narrow_defined : (d : OpaqueDirective) (t : Text) → SpellsPosixItem t (Specification (parts_of_opaque d)) → is_opaque (parts_of_opaque d) ≡ false
+pub narrow_defined : (d : OpaqueDirective) (t : Text) → IsWholeReadAs t (Specification (parts_of_opaque d)) → is_opaque (parts_of_opaque d) ≡ false
     → IsDefined (narrow (parts_of_opaque d))
 narrow_defined d t h e = (narrowed t (parts_of_opaque d) h.0 h.1 refl e).1
 
@@ -284,13 +284,13 @@ together_less question each none = record { among = λ part. kept_of each part; 
   kept_of each Modifier e = e
 
 -- no parts have no effect
-pub nothing_left : (model : Model) (s : PosixSpecification) (text : Text) → s.position ≡ None → SpellsPosixItem text (Specification s)
+pub nothing_left : (model : Model) (s : WholeSpecification) (text : Text) → s.position ≡ None → IsWholeReadAs text (Specification s)
     → HaveNoEffect model s no_parts
-nothing_left model s text unnumbered h t u x y = alike_self t u x (subst (SpellsPosix u) (without_none s) y) where
-  without_none : (s : PosixSpecification) → without s no_parts ≡ s
+nothing_left model s text unnumbered h t u x y = alike_self t u x (subst (SpellsWhole u) (without_none s) y) where
+  without_none : (s : WholeSpecification) → without s no_parts ≡ s
   without_none s = grind arith
 
-  alike_self : (t u : Text) → SpellsPosix t s → SpellsPosix u s → AreWholeAlike model t u
+  alike_self : (t u : Text) → SpellsWhole t s → SpellsWhole u s → AreWholeAlike model t u
   alike_self t u x y =
       let a = stretched (items_alone s) in
       record {
@@ -308,7 +308,7 @@ none_together question each q = record {
 }
 
 -- of a specification that has no parts
-pub needless_none : (model : Model) (s : PosixSpecification) (text : Text) → s.position ≡ None → SpellsPosixItem text (Specification s) → (given : PartSet)
+pub needless_none : (model : Model) (s : WholeSpecification) (text : Text) → s.position ≡ None → IsWholeReadAs text (Specification s) → (given : PartSet)
     → given ≡ given_parts s → given ≡ no_parts → AreNeedless model s (record { given = given; each = given; together = given })
 needless_none model s text unnumbered h given is none =
     let empty : given_parts s ≡ no_parts = sym is ∙ none in
@@ -329,12 +329,12 @@ all_asked part = grind arith
 
 -- a specification of a text, alone, is one that some text is
 module _ (t : Text) (span : SpecificationSpan) (h : HasItsParts t span) where
-  own_width : (bytes : Text) (position : Option ℕ) (width : Option Amount) → SpellsPosixWidth bytes position width → CanBeWidth (without_number width)
+  own_width : (bytes : Text) (position : Option ℕ) (width : Option Amount) → SpellsWholeWidth bytes position width → CanBeWidth (without_number width)
   own_width bytes position None w = tt
   own_width bytes position (Some (Given n)) w = (w.some, w.within)
   own_width bytes position (Some (Fetched number)) w = refl
 
-  own_few : (bytes : Text) (position : Option ℕ) (precision : Option Amount) → SpellsPosixPrecision bytes position precision
+  own_few : (bytes : Text) (position : Option ℕ) (precision : Option Amount) → SpellsWholePrecision bytes position precision
       → CanBePrecision (without_number precision)
   own_few bytes position None p = tt
   own_few bytes position (Some (Given n)) p = p.1
@@ -345,12 +345,12 @@ module _ (t : Text) (span : SpecificationSpan) (h : HasItsParts t span) where
   is_some_alone (Some (Given n)) = refl
   is_some_alone (Some (Fetched number)) = refl
 
-  defined_alone : IsPosixDefined (alone h.s)
+  defined_alone : IsWholeDefined (alone h.s)
   defined_alone = rw (is_some_alone h.s.width, is_some_alone h.s.precision) h.defined
 
-  pub some_alone : (own : Text) × SpellsPosixItem own (Specification (parts_of_opaque span.parts))
+  pub some_alone : (own : Text) × IsWholeReadAs own (Specification (parts_of_opaque span.parts))
   some_alone =
       let width = own_width h.places.width.0 h.s.position h.s.width h.places.width.1 in
       let few = own_few h.places.precision.0 h.s.position h.s.precision h.places.precision.1 in
-      let own = posix_spelling_of (alone h.s) in
-      (own, subst (λ s. SpellsPosixItem own (Specification s)) (sym h.parts_are) (spelled_parts (alone h.s) refl width few, defined_alone))
+      let own = whole_spelling_of (alone h.s) in
+      (own, subst (λ s. IsWholeReadAs own (Specification s)) (sym h.parts_are) (spelled_parts (alone h.s) refl width few, defined_alone))

@@ -12,19 +12,19 @@ use Rattle.pf_values.specs.meaning.DataModel.{kept_length}
 use Rattle.pf_values.specs.meaning.Flags.{has}
 use Rattle.pf_values.proofs.DataModelLemmas.{kept_row}
 use Rattle.pf_reduce.proofs.CarriedIntegers.{kept_kind, kept_text}
-use Rattle.pf_posix.specs.declared.conversions.Conversion.{Conversion}
-use Rattle.pf_posix.specs.declared.conversions.Modifier.{Modifier}
+use Rattle.pf_posix.specs.declared.conversions.WholeConv.{WholeConv}
+use Rattle.pf_posix.specs.declared.conversions.WholeLength.{WholeLength}
 use Rattle.pf_posix.specs.Defined.{is_count, takes_alt, takes_modifier, takes_precision, takes_zero}
-use Rattle.pf_posix.specs.Specifications.{Amount, Given, PosixSpecification}
+use Rattle.pf_posix.specs.Specifications.{Amount, Given, WholeSpecification}
 use Rattle.pf_posix.specs.Types.{conversion_type, counted_type, integer_length, kind_type, star_fetches}
 use Rattle.pf_posix.specs.Opaque.{OpaqueErrno, OpaqueItem, OpaqueSpecification, is_opaque, is_outside, is_star}
 use Rattle.pf_posix.specs.Stretches.{types_of_opaque}
 use Rattle.pf_posix.proofs.SpecificationsOnce.{same_fields}
-use Rattle.pf_whole.specs.meaning.NormalSpellings.{normal_spelling, posix_spelling_of, given_precision, integer_modifier, is_general, is_given, is_integer, keeps_sign, kept_conversion, kept_flags}
+use Rattle.pf_whole.specs.meaning.NormalSpellings.{normal_spelling, whole_spelling_of, given_precision, integer_modifier, is_general, is_given, is_integer, keeps_sign, kept_conversion, kept_flags}
 use Rattle.pf_whole.specs.meaning.NormalSpellings.{kept_modifier, normal_precision, meant_precision, normal_parts}
 
 -- conversions
-pub record SameConversion (before after : Conversion) : Type 0 where
+pub record SameConversion (before after : WholeConv) : Type 0 where
   pub again : kept_conversion after ≡ after
   pub integer : is_integer after ≡ is_integer before
   pub sign : keeps_sign after ≡ keeps_sign before
@@ -35,17 +35,17 @@ pub record SameConversion (before after : Conversion) : Type 0 where
   pub precision : takes_precision after ≡ takes_precision before
   pub count : is_count after ≡ is_count before
 
-pub same_conversion : (conversion : Conversion) → SameConversion conversion (kept_conversion conversion)
+pub same_conversion : (conversion : WholeConv) → SameConversion conversion (kept_conversion conversion)
 same_conversion conversion = grind arith
 
 -- modifiers
 kept_again : (model : Model) (length : Length) → kept_length model (kept_length model length) ≡ kept_length model length
 kept_again model length = ap (λ row. row.kept) (kept_row model length)
 
-integer_again : (model : Model) (modifier : Modifier) → integer_modifier model (integer_modifier model modifier) ≡ integer_modifier model modifier
+integer_again : (model : Model) (modifier : WholeLength) → integer_modifier model (integer_modifier model modifier) ≡ integer_modifier model modifier
 integer_again model modifier = grind (arith, kept_again)
 
-modifier_again : (model : Model) (conversion : Conversion) (modifier : Modifier)
+modifier_again : (model : Model) (conversion : WholeConv) (modifier : WholeLength)
     → kept_modifier model (kept_conversion conversion) (kept_modifier model conversion modifier) ≡ kept_modifier model conversion modifier
 modifier_again model conversion modifier = grind (arith, integer_again, kept_text)
 
@@ -53,33 +53,33 @@ modifier_again model conversion modifier = grind (arith, integer_again, kept_tex
 counted_again : (model : Model) (length : Length) → counted_type model (kept_length model length) ≡ counted_type model length
 counted_again model length = grind arith
 
-kind_again : (model : Model) (kind : Kind) (modifier : Modifier)
+kind_again : (model : Model) (kind : Kind) (modifier : WholeLength)
     → kind_type model kind (integer_length (if prints_text kind then modifier else integer_modifier model modifier))
     ≡ kind_type model kind (integer_length modifier)
 kind_again model kind modifier = grind (arith, kept_row)
 
-type_again : (model : Model) (conversion : Conversion) (modifier : Modifier)
+type_again : (model : Model) (conversion : WholeConv) (modifier : WholeLength)
     → conversion_type model (kept_modifier model conversion modifier) (kept_conversion conversion) ≡ conversion_type model modifier conversion
 type_again model conversion modifier = grind (arith, kind_again, kept_kind, counted_again)
 
 -- precisions
-pub record SamePrecision (conversion : Conversion) (before after : Option Amount) : Type 0 where
+pub record SamePrecision (conversion : WholeConv) (before after : Option Amount) : Type 0 where
   pub again : normal_precision conversion after ≡ after
   pub given : is_given before ≡ false → is_given after ≡ false
   pub star : is_star after ≡ is_star before
   pub some : is_some before ≡ false → is_some after ≡ false
   pub fetched : star_fetches after ≡ star_fetches before
 
-general_means : (conversion : Conversion) → is_general conversion ≡ true → meant_precision conversion ≡ Some 6
+general_means : (conversion : WholeConv) → is_general conversion ≡ true → meant_precision conversion ≡ Some 6
 general_means conversion e = grind arith
 
-given_same : (conversion : Conversion) (n : ℕ) → SamePrecision conversion (Some (Given n)) (given_precision conversion n)
+given_same : (conversion : WholeConv) (n : ℕ) → SamePrecision conversion (Some (Given n)) (given_precision conversion n)
 given_same conversion n = grind (arith, general_means)
 
-pub precision_same : (conversion : Conversion) (precision : Option Amount) → SamePrecision conversion precision (normal_precision conversion precision)
+pub precision_same : (conversion : WholeConv) (precision : Option Amount) → SamePrecision conversion precision (normal_precision conversion precision)
 precision_same conversion precision = grind (arith, given_same)
 
-precision_for : (a b : Conversion) (precision : Option Amount) → meant_precision a ≡ meant_precision b → is_general a ≡ is_general b
+precision_for : (a b : WholeConv) (precision : Option Amount) → meant_precision a ≡ meant_precision b → is_general a ≡ is_general b
     → normal_precision a precision ≡ normal_precision b precision
 precision_for a b precision h g = grind arith
 
@@ -100,7 +100,7 @@ set_of a b c d e f = record { minus = a; plus = b; space = c; alt = d; zero = e;
 same_set : (a b c d e f g h i j k l : Bool) → a ≡ g → b ≡ h → c ≡ i → d ≡ j → e ≡ k → f ≡ l → set_of a b c d e f ≡ set_of g h i j k l
 same_set a b c d e f g h i j k l p q r s t u = rw (p, q, r, s, t, u) refl
 
-flags_again : (model : Model) (s : PosixSpecification) → kept_flags (normal_parts model s) ≡ kept_flags s
+flags_again : (model : Model) (s : WholeSpecification) → kept_flags (normal_parts model s) ≡ kept_flags s
 flags_again model s =
     let same = same_conversion s.conversion in
     let precision = precision_same s.conversion s.precision in
@@ -118,7 +118,7 @@ flags_again model s =
     (is_given (normal_precision s.conversion s.precision)) precision.given)
     refl
 
-pub normal_again : (model : Model) (s : PosixSpecification) → normal_parts model (normal_parts model s) ≡ normal_parts model s
+pub normal_again : (model : Model) (s : WholeSpecification) → normal_parts model (normal_parts model s) ≡ normal_parts model s
 normal_again model s =
     let same = same_conversion s.conversion in
     let precision = precision_same s.conversion s.precision in
@@ -128,7 +128,7 @@ normal_again model s =
     same.again
 
 -- the normal spelling keeps the types of the arguments
-pub types_again : (model : Model) (s : PosixSpecification)
+pub types_again : (model : Model) (s : WholeSpecification)
     → types_of_opaque model (OpaqueSpecification (normal_parts model s)) ≡ types_of_opaque model (OpaqueSpecification s)
 types_again model s =
     let precision = precision_same s.conversion s.precision in
@@ -136,14 +136,14 @@ types_again model s =
     rw (precision.fetched, type) refl
 
 -- opaque
-outside_again : (model : Model) (conversion : Conversion) (modifier : Modifier) → is_outside conversion modifier ≡ true
+outside_again : (model : Model) (conversion : WholeConv) (modifier : WholeLength) → is_outside conversion modifier ≡ true
     → is_outside (kept_conversion conversion) (kept_modifier model conversion modifier) ≡ true
 outside_again model conversion modifier e = grind (arith, kept_text)
 
-pub opaque_again : (model : Model) (s : PosixSpecification) → is_opaque s ≡ true → is_opaque (normal_parts model s) ≡ true
+pub opaque_again : (model : Model) (s : WholeSpecification) → is_opaque s ≡ true → is_opaque (normal_parts model s) ≡ true
 opaque_again model s e = grind (arith, precision_same, outside_again)
 
-pub modifier_stands : (model : Model) (conversion : Conversion) (modifier : Modifier) → not (takes_modifier conversion modifier) ≡ false
+pub modifier_stands : (model : Model) (conversion : WholeConv) (modifier : WholeLength) → not (takes_modifier conversion modifier) ≡ false
     → not (takes_modifier (kept_conversion conversion) (kept_modifier model conversion modifier)) ≡ false
 modifier_stands model conversion modifier e = grind (arith, kept_text)
 
@@ -163,5 +163,5 @@ item_types_again model (OpaqueSpecification s) = types_again model s
 item_types_again model OpaqueErrno = refl
 
 pub spelling_again : (model : Model) (other : OpaqueItem) → normal_spelling model other ≡ normal_spelling model (normal_item model other)
-spelling_again model (OpaqueSpecification s) = ap posix_spelling_of (sym (normal_again model s))
+spelling_again model (OpaqueSpecification s) = ap whole_spelling_of (sym (normal_again model s))
 spelling_again model OpaqueErrno = refl

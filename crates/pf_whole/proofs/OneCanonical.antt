@@ -4,7 +4,7 @@ use Rattle.pf_values.specs.declared.models.Model.{Model}
 use Rattle.pf_values.specs.meaning.Items.{Item}
 use Rattle.pf_values.specs.meaning.Printing.{PrintAlike}
 use Rattle.pf_values.specs.meaning.Text.{Text}
-use Rattle.pf_posix.specs.Stretches.{Stretches, Last, Before, ReadsWhole}
+use Rattle.pf_posix.specs.Stretches.{Stretches, Last, Before, ReadsStretches}
 use Rattle.pf_posix.proofs.ReadOnce.{read_once}
 use Rattle.pf_whole.specs.Laws.{OneCanonicalIsAlike}
 use Rattle.pf_whole.specs.meaning.NormalSpellings.{normal_spelling}
@@ -18,14 +18,14 @@ use Rattle.pf_whole.proofs.TraceLemmas.{before_alike, trace_sym, trace_trans}
 -- the stretches that a canonical text is read as
 pub record IsReadBack (model : Model) (a : Stretches) (c : Text) : Type 0 where
   pub own : Stretches
-  pub reads : ReadsWhole c own
+  pub reads : ReadsStretches c own
   pub alike : TraceAlike model a own
   pub together : IsPutTogether model own c
 
 pub print_refl : (model : Model) (items : List Item) → PrintAlike model items items
 print_refl model items = record { same_types = refl; same_bytes = λ args out typed. (λ g. g, λ g. g) }
 
-pub read_back : (model : Model) (t c : Text) (a : Stretches) → ReadsWhole t a → IsPutTogether model a c → IsReadBack model a c
+pub read_back : (model : Model) (t c : Text) (a : Stretches) → ReadsStretches t a → IsPutTogether model a c → IsReadBack model a c
 read_back model t c (Last items) reads h = record {
   own = Last h.own;
   reads = h.canonical.reads;

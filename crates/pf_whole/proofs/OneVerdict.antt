@@ -13,7 +13,7 @@ use Rattle.pf_values.specs.meaning.Items.{types}
 use Rattle.pf_values.specs.meaning.Text.{Text}
 use Rattle.pf_compare.specs.Answers.{IsEarlier}
 use Rattle.pf_compare.proofs.CandidateLemmas.{candidate_has_type}
-use Rattle.pf_posix.specs.declared.types.ArgumentType.{ArgumentType}
+use Rattle.pf_posix.specs.declared.types.WholeArgType.{WholeArgType}
 use Rattle.pf_posix.specs.Laws.{IsFirstDifference}
 use Rattle.pf_posix.specs.Types.{widened}
 use Rattle.pf_posix.specs.Stretches.{Stretches, Last, Before, types_of_opaque, whole_types}
@@ -56,7 +56,7 @@ neutrals_agree : (ts : List ArgType) → AllZip Agrees (map (λ type. Some (neut
 neutrals_agree [] = tt
 neutrals_agree (type ∷ ts) = (neutral_agrees type, neutrals_agree ts)
 
-any_agree : (ts : List ArgumentType) → AllZip Agrees (map (λ type. None) ts) (whole_neutrals ts)
+any_agree : (ts : List WholeArgType) → AllZip Agrees (map (λ type. None) ts) (whole_neutrals ts)
 any_agree [] = tt
 any_agree (type ∷ ts) = (tt, any_agree ts)
 
@@ -89,7 +89,7 @@ set_agrees (o ∷ shown) [] i argument h = absurd h
 set_agrees (o ∷ shown) (x ∷ args) zero argument h = (refl, h.1)
 set_agrees (o ∷ shown) (x ∷ args) (suc i) argument h = (h.0, set_agrees shown args i argument h.1)
 
-set_typed : (model : Model) (args : List WholeArgument) (ts : List ArgumentType) (i : ℕ) (argument : Argument) (type : ArgType) (wide : ArgumentType)
+set_typed : (model : Model) (args : List WholeArgument) (ts : List WholeArgType) (i : ℕ) (argument : Argument) (type : ArgType) (wide : WholeArgType)
     → slice_get ts i ≡ Some wide → narrowed wide ≡ Some type → HasType model argument type → HasWholeTypes model args ts
     → HasWholeTypes model (slice_set args i (Known argument)) ts
 set_typed model [] [] i argument type wide e n typed h = tt
@@ -162,7 +162,7 @@ shown_once model a b x y (inr h) (inr g) = by (which_first h.index h.candidate_i
         let moved : IsWholeProbe model a g.index h.candidate_index x = subst (λ i. IsWholeProbe model a i h.candidate_index x) same.0 h.probe in
         one_probe model a g.index g.candidate_index x y (subst (λ k. IsWholeProbe model a g.index k x) same.1 moved) g.probe
 
-one_difference : (l m : List ArgumentType) (i j : ℕ) → IsFirstDifference l m (Some i) → IsFirstDifference l m (Some j) → i ≡ j
+one_difference : (l m : List WholeArgType) (i j : ℕ) → IsFirstDifference l m (Some i) → IsFirstDifference l m (Some j) → i ≡ j
 one_difference l m i j h g = by (cases_order i j)
   where
     by : (i ≡ j) ⊎ ((i < j) ⊎ (j < i)) → i ≡ j
@@ -170,7 +170,7 @@ one_difference l m i j h g = by (cases_order i j)
     by (inr (inl less)) = absurd (h.0 (g.1 i less))
     by (inr (inr more)) = absurd (g.0 (h.1 j more))
 
-no_difference : (l m : List ArgumentType) (i : ℕ) → IsFirstDifference l m (Some i) → l ≡ m → ⊥
+no_difference : (l m : List WholeArgType) (i : ℕ) → IsFirstDifference l m (Some i) → l ≡ m → ⊥
 no_difference l m i h same = h.0 (ap (λ ts. slice_get ts i) same)
 
 no_call : (calls others : List PlacedCall) (i : ℕ) → CallsDifferAt calls others i → calls ≡ others → ⊥

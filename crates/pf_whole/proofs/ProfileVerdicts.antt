@@ -13,7 +13,7 @@ use Rattle.pf_compare.specs.declared.comparisons.CompareFault.TheVariants as fau
 use Rattle.pf_compare.specs.declared.comparisons.Verdict.TheVariants as compared
 use Rattle.pf_compare.specs.declared.owned_args.OwnedArg.{OwnedArg}
 use Rattle.pf_compare.specs.Owned.{argument_of_owned, type_of_owned}
-use Rattle.pf_posix.specs.Stretches.{IsWholeAccepted, Stretches, Last, ReadsWhole, whole_types}
+use Rattle.pf_posix.specs.Stretches.{IsUnnumberedAccepted, Stretches, Last, ReadsStretches, whole_types}
 use Rattle.pf_posix.specs.Types.{widened}
 use Rattle.pf_posix.proofs.ReadOnce.{read_once}
 use Rattle.pf_whole.specs.Answers.{HaveOneShape, IsWholeComparisonOf, IsWholeVerdict, WholeVerdict, Same, TypesDiffer, Different, ShowsNeutral}
@@ -51,7 +51,7 @@ widened_before (x ∷ xs) [] (suc i) k e h = cc
 widened_before (x ∷ xs) (y ∷ ys) (suc i) zero e h = let first : x ≡ y = cc in ap (λ z. Some (widened z)) first
 widened_before (x ∷ xs) (y ∷ ys) (suc i) (suc k) e h = widened_before xs ys i k (cc) (omega (arith, h))
 
-accepted_whole : (t : Text) → IsAccepted t → IsWholeAccepted t
+accepted_whole : (t : Text) → IsAccepted t → IsUnnumberedAccepted t
 accepted_whole t h = record { stretches = Last h.0; reads = h.1.reads; limit = h.1.limit }
 
 first_accepted : (model : Model) (t u : Text) (comparison : Comparison) → IsComparisonOf model t u comparison → IsAccepted t
@@ -122,13 +122,13 @@ profile_shown model t u comparison args h other is =
     (ap (map widened) is.0, refl, shown_last model t u comparison args h other is.0 is.2)
 
 pub profile_typed : (model : Model) (t u : Text) (comparison : Comparison) (args : List OwnedArg) → (h : IsComparisonOf model t u comparison)
-    → IsShownVerdict model t u comparison h args → (a : Stretches) → ReadsWhole t a → AllZip HasShownType (map Some args) (whole_types model a)
+    → IsShownVerdict model t u comparison h args → (a : Stretches) → ReadsStretches t a → AllZip HasShownType (map Some args) (whole_types model a)
 profile_typed model t u comparison args h is a reads =
     subst (λ z. AllZip HasShownType (map Some args) (whole_types model z)) (read_once t (Last h.first) a h.accepted_first.reads reads)
     (typed_end model (Last h.first) h.first [] args (typed_from model (Last h.first)) is.1)
 
 last_shape : (model : Model) (t u : Text) (xs ys : List Item) (a b : Stretches) → HasItems t xs → HasItems u ys → types model xs ≡ types model ys
-    → ReadsWhole t a → ReadsWhole u b → HaveOneShape model a b
+    → ReadsStretches t a → ReadsStretches u b → HaveOneShape model a b
 last_shape model t u xs ys a b h g same k l =
     subst (λ z. HaveOneShape model z b) (read_once t (Last xs) a h.reads k)
     (subst (λ z. HaveOneShape model (Last xs) z) (read_once u (Last ys) b g.reads l) same)

@@ -36,11 +36,11 @@ use Rattle.pf_values.specs.meaning.Text.{Text}
 use Rattle.pf_compare.specs.Answers.{PrintUnlike}
 use Rattle.pf_compare.specs.declared.owned_args.OwnedArg.{OwnedArg}
 use Rattle.pf_compare.specs.Owned.{argument_of_owned, type_of_owned}
-use Rattle.pf_posix.specs.declared.types.ArgumentType.{ArgumentType}
+use Rattle.pf_posix.specs.declared.types.WholeArgType.{WholeArgType}
 use Rattle.pf_posix.specs.declared.stretches.Stretch.{Stretch}
 use Rattle.pf_posix.specs.Heads.{IsHead}
 use Rattle.pf_posix.specs.Opaque.{OpaqueItem}
-use Rattle.pf_posix.specs.Stretches.{Stretches, Last, Before, ReadsWhole, types_of_opaque, whole_types}
+use Rattle.pf_posix.specs.Stretches.{Stretches, Last, Before, ReadsStretches, types_of_opaque, whole_types}
 use Rattle.pf_posix.specs.Types.{widened}
 use Rattle.pf_posix.proofs.ReadOnce.{read_once}
 use Rattle.pf_whole.specs.Answers.{HaveOneShape, neutral_shown}
@@ -82,7 +82,7 @@ some_typed [] (t ∷ ts) e = cc
 some_typed (x ∷ args) [] e = cc
 some_typed (x ∷ args) (t ∷ ts) e = let first : type_of_owned x ≡ t = cc in (ap widened first, some_typed args ts (cc))
 
-none_typed : (count : ℕ) (ts : List ArgumentType) → count ≡ length ts → AllZip HasShownType (replicate count None) ts
+none_typed : (count : ℕ) (ts : List WholeArgType) → count ≡ length ts → AllZip HasShownType (replicate count None) ts
 none_typed zero [] e = tt
 none_typed zero (t ∷ ts) e = absurd (omega (arith, e))
 none_typed (suc count) [] e = absurd (omega (arith, e))
@@ -235,7 +235,7 @@ pub record IsOtherBefore (model : Model) (u : Text) (from : ℕ) (more : Stretch
   pub others : Stretches
   pub more_is : more ≡ Before items parts others
   pub reads : Reads (between u from other.end) items
-  pub later : ReadsWhole (drop other.after u) others
+  pub later : ReadsStretches (drop other.after u) others
   pub spelling : normal_spelling model s ≡ normal_spelling model parts
   pub shape : HaveOneShape model rest others
 
@@ -263,8 +263,8 @@ abbrev pub HasShownDifference : Model → Stretches → Stretches → List (Opti
 HasShownDifference model a b shown = ShowsDifference model a b (shown_as shown) × AllZip HasShownType shown (whole_types model a)
 
 -- what holds of one reading holds of each
-pub shown_once : (model : Model) (t u : Text) (a b x y : Stretches) (shown : List (Option OwnedArg)) → ReadsWhole t a → ReadsWhole u b → ReadsWhole t x
-    → ReadsWhole u y
+pub shown_once : (model : Model) (t u : Text) (a b x y : Stretches) (shown : List (Option OwnedArg)) → ReadsStretches t a → ReadsStretches u b → ReadsStretches t x
+    → ReadsStretches u y
     → HasShownDifference model a b shown → HasShownDifference model x y shown
 shown_once model t u a b x y shown h g k l is =
     subst (λ z. HasShownDifference model x z shown) (read_once u b y g l) (subst (λ z. HasShownDifference model z b shown) (read_once t a x h k) is)

@@ -5,7 +5,7 @@ use Rattle.pf_values.specs.declared.types.ArgType.{ArgType}
 use Rattle.pf_values.specs.Candidates.{neutral, neutrals}
 use Rattle.pf_values.specs.meaning.Arguments.{Argument}
 use Rattle.pf_compare.specs.Answers.{probe_at}
-use Rattle.pf_posix.specs.declared.types.ArgumentType.{ArgumentType}
+use Rattle.pf_posix.specs.declared.types.WholeArgType.{WholeArgType}
 use Rattle.pf_posix.specs.Types.{widened}
 use Rattle.pf_whole.specs.meaning.WholeArguments.{narrowed}
 use Rattle.pf_whole.proofs.TraceLemmas.{length_map}
@@ -38,7 +38,7 @@ none_shown (y ∷ xs) zero x e = cc
 none_shown (y ∷ xs) (suc i) x e = none_shown xs i x e
 
 -- the type of a known argument
-pub typed_at : (ts : List ArgType) (i : ℕ) (type : ArgType) (wide : ArgumentType) → slice_get (map widened ts) i ≡ Some wide → narrowed wide ≡ Some type
+pub typed_at : (ts : List ArgType) (i : ℕ) (type : ArgType) (wide : WholeArgType) → slice_get (map widened ts) i ≡ Some wide → narrowed wide ≡ Some type
     → slice_get ts i ≡ Some type
 typed_at [] i type wide h g = cc
 typed_at (t ∷ ts) zero type wide h g =

@@ -4,7 +4,7 @@ use Rattle.pf_values.specs.declared.models.Model.{Model}
 use Rattle.pf_values.specs.meaning.Items.{Item, Reads}
 use Rattle.pf_values.specs.meaning.Text.{Text}
 use Rattle.pf_canon.proofs.SomeCanonical.{some_canonical}
-use Rattle.pf_posix.specs.Stretches.{Stretches, Last, Before, ReadsWhole, IsWholeAccepted}
+use Rattle.pf_posix.specs.Stretches.{Stretches, Last, Before, ReadsStretches, IsUnnumberedAccepted}
 use Rattle.pf_whole.specs.meaning.WholeHeadline.{HasOneWholeCanonical, WholeHeadline}
 use Rattle.pf_whole.specs.meaning.NormalSpellings.{normal_spelling}
 use Rattle.pf_whole.specs.meaning.Traces.{AreWholeAlike}
@@ -16,14 +16,14 @@ use Rattle.pf_whole.proofs.OneCanonical.{alike_to_it, its_own, one_canonical_is_
 some_stretch : (model : Model) (t : Text) (items : List Item) → Reads t items → (c : Text) × IsCanonicalStretch model items c
 some_stretch model t items reads = let some = some_canonical model t items reads in (some.0, stretch_of model t some.0 items reads some.1)
 
-some_whole : (model : Model) (t : Text) (a : Stretches) → ReadsWhole t a → (c : Text) × IsPutTogether model a c
+some_whole : (model : Model) (t : Text) (a : Stretches) → ReadsStretches t a → (c : Text) × IsPutTogether model a c
 some_whole model t (Last items) reads = some_stretch model t items reads
 some_whole model t (Before items s rest) reads =
     let first = some_stretch model reads.0 items reads.3 in
     let back = some_whole model reads.2 rest reads.5 in
     ((first.0 ++ normal_spelling model s) ++ back.0, (first.0, back.0, first.1, back.1, refl))
 
-pub one_canonical : (model : Model) (t : Text) → IsWholeAccepted t → HasOneWholeCanonical model t
+pub one_canonical : (model : Model) (t : Text) → IsUnnumberedAccepted t → HasOneWholeCanonical model t
 one_canonical model t h =
     let some = some_whole model t h.stretches h.reads in
     let is : IsWholeCanonicalOf model t some.0 = record { stretches = h.stretches; reads = h.reads; together = some.1 } in

@@ -8,7 +8,7 @@ use Rattle.pf_values.specs.meaning.Arguments.{Argument, HasTypes}
 use Rattle.pf_values.specs.meaning.Items.{Item, types}
 use Rattle.pf_values.specs.meaning.Text.{Text}
 use Rattle.pf_values.proofs.Alike.{all_printed, all_printed-is}
-use Rattle.pf_posix.specs.declared.types.ArgumentType.{ArgumentType}
+use Rattle.pf_posix.specs.declared.types.WholeArgType.{WholeArgType}
 use Rattle.pf_posix.specs.Opaque.{OpaqueItem}
 use Rattle.pf_posix.specs.Types.{widened}
 use Rattle.pf_posix.specs.Stretches.{Stretches, Last, Before, types_of_opaque, whole_types}
@@ -32,14 +32,14 @@ are_known model (Known x ∷ args) (t ∷ ts) h =
 are_known model (Other x ∷ args) (t ∷ ts) h = absurd h.0
 
 -- arguments of two lists of types, one after another
-pub record AreSplit (model : Model) (args : List WholeArgument) (a b : List ArgumentType) : Type 0 where
+pub record AreSplit (model : Model) (args : List WholeArgument) (a b : List WholeArgType) : Type 0 where
   pub first : List WholeArgument
   pub second : List WholeArgument
   pub whole : args ≡ first ++ second
   pub typed_first : HasWholeTypes model first a
   pub typed_second : HasWholeTypes model second b
 
-pub are_split : (model : Model) (args : List WholeArgument) (a b : List ArgumentType) → HasWholeTypes model args (a ++ b) → AreSplit model args a b
+pub are_split : (model : Model) (args : List WholeArgument) (a b : List WholeArgType) → HasWholeTypes model args (a ++ b) → AreSplit model args a b
 are_split model args [] b h = record { first = []; second = args; whole = refl; typed_first = tt; typed_second = h }
 are_split model [] (t ∷ a) b h = absurd h
 are_split model (x ∷ args) (t ∷ a) b h =

@@ -10,7 +10,7 @@ use Rattle.pf_values.specs.meaning.Printing.{PrintsAll}
 use Rattle.pf_values.specs.meaning.Text.{Text}
 use Rattle.pf_values.proofs.Alike.{all_printed, PrintsAll-unique}
 use Rattle.pf_posix.specs.Types.{widened}
-use Rattle.pf_posix.specs.Stretches.{Stretches, Last, Before, ReadsWhole, types_of_opaque, whole_types}
+use Rattle.pf_posix.specs.Stretches.{Stretches, Last, Before, ReadsStretches, types_of_opaque, whole_types}
 use Rattle.pf_whole.specs.Answers.{Agrees, CallsGiveShape, HaveOneShape, TellSomewhere, TellStretches, TellingIsApart}
 use Rattle.pf_whole.specs.meaning.Traces.{Ends, Calls, HasTrace, PrintsKnown, Trace, placed_calls}
 use Rattle.pf_whole.specs.meaning.WholeArguments.{WholeArgument, Known, Other, HasWholeType, HasWholeTypes}
@@ -19,7 +19,7 @@ use Rattle.pf_whole.proofs.KnownArguments.{known_once, widened_once}
 use Rattle.pf_whole.proofs.TraceLemmas.{known_count, length_map}
 use Rattle.pf_whole.proofs.ZipLemmas.{zip_parts}
 
-shape : (model : Model) (index : ℕ) (t u : Text) (a b : Stretches) → ReadsWhole t a → ReadsWhole u b → whole_types model a ≡ whole_types model b
+shape : (model : Model) (index : ℕ) (t u : Text) (a b : Stretches) → ReadsStretches t a → ReadsStretches u b → whole_types model a ≡ whole_types model b
     → placed_calls model index a ≡ placed_calls model index b → HaveOneShape model a b
 shape model index t u (Last items) (Last own) h g e c = widened_once (types model items) (types model own) e
 shape model index t u (Last items) (Before own p more) h g e c = cc
@@ -67,7 +67,7 @@ stretch_apart model a b shown args x y e h agree p q same =
     let second : h.unlike.1 ≡ y = PrintsAll-unique model b h.known h.unlike.1 also h.unlike.3 ∙ sym (printed_for model b h.known args y is also q) in
     h.unlike.4 (first ∙ same ∙ sym second)
 
-apart : (model : Model) (t u : Text) (a b : Stretches) (shown : List (Option Argument)) → ReadsWhole t a → ReadsWhole u b → HaveOneShape model a b
+apart : (model : Model) (t u : Text) (a b : Stretches) (shown : List (Option Argument)) → ReadsStretches t a → ReadsStretches u b → HaveOneShape model a b
     → TellSomewhere model a b shown → (args : List WholeArgument) (x y : Trace) → HasWholeTypes model args (whole_types model a) → AllZip Agrees shown args
     → HasTrace model a args x → HasTrace model b args y → x ≢ y
 apart model t u (Last a) (Last b) shown h g one tell args (Ends x) (Ends y) typed agree p q e = stretch_apart model a b shown args x y one tell agree p q (cc)

@@ -11,7 +11,7 @@ use Rattle.pf_values.specs.meaning.Printing.{PrintsAll}
 use Rattle.pf_values.specs.meaning.Text.{Text}
 use Rattle.pf_values.proofs.Alike.{all_printed, all_printed-is}
 use Rattle.pf_posix.specs.Types.{widened}
-use Rattle.pf_posix.specs.Stretches.{Stretches, Last, Before, ReadsWhole, types_of_opaque, whole_types}
+use Rattle.pf_posix.specs.Stretches.{Stretches, Last, Before, ReadsStretches, types_of_opaque, whole_types}
 use Rattle.pf_whole.specs.Answers.{AgreeEverywhere, AgreeingIsTogether, Agrees, HaveOneShape, StretchesAgree}
 use Rattle.pf_whole.specs.meaning.Traces.{Ends, Calls, HasTrace, PrintsKnown, Trace}
 use Rattle.pf_whole.specs.meaning.WholeArguments.{WholeArgument, Known, HasWholeType, HasWholeTypes}
@@ -40,7 +40,7 @@ shape_back model (Last a) (Before b k more) h = h
 shape_back model (Before a s rest) (Last b) h = h
 shape_back model (Before a s rest) (Before b k more) h = (sym h.0, sym h.1, shape_back model rest more h.2)
 
-agree_back : (model : Model) (t u : Text) (a b : Stretches) (shown : List (Option Argument)) → ReadsWhole t a → ReadsWhole u b → HaveOneShape model a b
+agree_back : (model : Model) (t u : Text) (a b : Stretches) (shown : List (Option Argument)) → ReadsStretches t a → ReadsStretches u b → HaveOneShape model a b
     → AgreeEverywhere model a b shown → AgreeEverywhere model b a shown
 agree_back model t u (Last a) (Last b) shown h g one all = stretch_back model a b shown one all
 agree_back model t u (Last a) (Before b k more) shown h g one all = all
@@ -55,7 +55,7 @@ agree_back model t u (Before a s rest) (Before b k more) shown h g one all = (
   agree_back model h.2 g.2 rest more all.2 h.5 g.5 one.2 all.6,
 )
 
-types_same : (model : Model) (t u : Text) (a b : Stretches) → ReadsWhole t a → ReadsWhole u b → HaveOneShape model a b
+types_same : (model : Model) (t u : Text) (a b : Stretches) → ReadsStretches t a → ReadsStretches u b → HaveOneShape model a b
     → whole_types model a ≡ whole_types model b
 types_same model t u (Last a) (Last b) h g one = ap (map widened) one
 types_same model t u (Last a) (Before b k more) h g one = absurd one
@@ -65,7 +65,7 @@ types_same model t u (Before a s rest) (Before b k more) h g one =
     let back = types_same model h.2 g.2 rest more h.5 g.5 one.2 in
     rw (one.0, mine, back) refl
 
-goes : (model : Model) (t u : Text) (a b : Stretches) (shown : List (Option Argument)) → ReadsWhole t a → ReadsWhole u b → HaveOneShape model a b
+goes : (model : Model) (t u : Text) (a b : Stretches) (shown : List (Option Argument)) → ReadsStretches t a → ReadsStretches u b → HaveOneShape model a b
     → AgreeEverywhere model a b shown → (args : List WholeArgument) (trace : Trace) → HasWholeTypes model args (whole_types model a) → AllZip Agrees shown args
     → HasTrace model a args trace → HasTrace model b args trace
 goes model t u (Last a) (Last b) shown h g one all args (Ends x) typed agree p = stretch_goes model a b shown args x one all agree p

@@ -7,11 +7,11 @@ use Rattle.std.proofs.lemmas.Bool.{cases_lt}
 use Rattle.pf_values.specs.declared.models.Model.{Model}
 use Rattle.pf_values.specs.meaning.Items.{Item, types}
 use Rattle.pf_values.specs.meaning.Text.{Text}
-use Rattle.pf_posix.specs.declared.types.ArgumentType.{ArgumentType}
+use Rattle.pf_posix.specs.declared.types.WholeArgType.{WholeArgType}
 use Rattle.pf_posix.specs.Opaque.{OpaqueErrno, OpaqueItem, OpaqueSpecification, SpellsOpaqueItem}
-use Rattle.pf_posix.specs.Specifications.{PosixSpecification}
+use Rattle.pf_posix.specs.Specifications.{WholeSpecification}
 use Rattle.pf_posix.specs.Types.{conversion_type, fetch, star_fetches, widened}
-use Rattle.pf_posix.specs.Stretches.{Stretches, Last, Before, ReadsWhole, types_of_opaque, whole_types}
+use Rattle.pf_posix.specs.Stretches.{Stretches, Last, Before, ReadsStretches, types_of_opaque, whole_types}
 use Rattle.pf_whole.specs.Laws.{AlikeShareErrno, Correspond, HasNoErrno, HaveSameTraces, TracesSuffice}
 use Rattle.pf_whole.specs.meaning.NormalSpellings.{normal_spelling}
 use Rattle.pf_whole.specs.meaning.Traces.{AreWholeAlike, Ends, Calls, HasTrace, Trace}
@@ -25,15 +25,15 @@ use Rattle.pf_whole.proofs.TwoValues.{count, count_is, whole_neutrals_typed, nth
 use Rattle.pf_whole.proofs.TwoValues.{whole_another, whole_neutral, whole_neutrals}
 
 -- an opaque directive takes at least one argument
-some_type : (model : Model) (s : PosixSpecification) → (type : ArgumentType) × (more : List ArgumentType) × (types_of_opaque model (OpaqueSpecification s) ≡ type ∷ more)
+some_type : (model : Model) (s : WholeSpecification) → (type : WholeArgType) × (more : List WholeArgType) × (types_of_opaque model (OpaqueSpecification s) ≡ type ∷ more)
 some_type model s = go (star_fetches s.width ++ star_fetches s.precision) where
-  go : (front : List _) → (type : ArgumentType) × (more : List ArgumentType)
+  go : (front : List _) → (type : WholeArgType) × (more : List WholeArgType)
       × (map (λ f. f.wanted) (front ++ fetch s.position (conversion_type model s.modifier s.conversion) ∷ []) ≡ type ∷ more)
   go [] = (_, _, refl)
   go (f ∷ front) = (_, _, refl)
 
 -- the first arguments, one for each of the first types
-first_of : (args : List WholeArgument) (type : ArgumentType) (more ts : List ArgumentType) → ts ≡ type ∷ more → length args ≡ length ts
+first_of : (args : List WholeArgument) (type : WholeArgType) (more ts : List WholeArgType) → ts ≡ type ∷ more → length args ≡ length ts
     → (x : WholeArgument) × (rest : List WholeArgument) × (args ≡ x ∷ rest)
 first_of [] type more ts e n = absurd (omega (arith, n, ap length e))
 first_of (x ∷ args) type more ts e n = (x, args, refl)
@@ -52,7 +52,7 @@ record AreCalledAlike (model : Model) (items own : List Item) (s p : OpaqueItem)
   spelling : normal_spelling model s ≡ normal_spelling model p
   argument : nth args (count (map widened (types model items))) ≡ nth args (count (map widened (types model own)))
 
-called_alike : (model : Model) (items own : List Item) (s : PosixSpecification) (p : OpaqueItem) (rest more : Stretches) (args : List WholeArgument)
+called_alike : (model : Model) (items own : List Item) (s : WholeSpecification) (p : OpaqueItem) (rest more : Stretches) (args : List WholeArgument)
     (trace : Trace) → HasTrace model (Before items (OpaqueSpecification s) rest) args trace → HasTrace model (Before own p more) args trace
     → AreCalledAlike model items own (OpaqueSpecification s) p args
 called_alike model items own s p rest more args (Ends text) h g = absurd h
@@ -69,7 +69,7 @@ called_alike model items own s p rest more args (Calls text call trace) h g =
       argument = ap (nth args) (sym m) ∙ a ∙ sym b ∙ ap (nth args) n;
     }
 
-module _ (model : Model) (t u : Text) (items own : List Item) (s : PosixSpecification) (p : OpaqueItem) (rest more : Stretches)
+module _ (model : Model) (t u : Text) (items own : List Item) (s : WholeSpecification) (p : OpaqueItem) (rest more : Stretches)
     (spelled : SpellsOpaqueItem t (OpaqueSpecification s)) (also : SpellsOpaqueItem u p)
     (h : HaveSameTraces model (Before items (OpaqueSpecification s) rest) (Before own p more)) where
   called : (args : List WholeArgument) → HasWholeTypes model args (whole_types model (Before items (OpaqueSpecification s) rest)) → AreCalledAlike model items own (OpaqueSpecification s) p args
@@ -127,7 +127,7 @@ no_call model items own p more h =
       go args (Ends text) x y = y
       go args (Calls text call rest) x y = x
 
-corresponding : (model : Model) (t u : Text) (a b : Stretches) → ReadsWhole t a → ReadsWhole u b → HasNoErrno a → HasNoErrno b → HaveSameTraces model a b
+corresponding : (model : Model) (t u : Text) (a b : Stretches) → ReadsStretches t a → ReadsStretches u b → HasNoErrno a → HasNoErrno b → HaveSameTraces model a b
     → Correspond model a b
 corresponding model t u (Last items) (Last own) h g m n same = traced_last model items own same
 corresponding model t u (Last items) (Before own p more) h g m n same = no_call model items own p more same
@@ -149,7 +149,7 @@ pub traces_suffice : (model : Model) → TracesSuffice model
 traces_suffice model t u a b h g m n same = (alike_is_corresponding model t u a b h g).1 (corresponding model t u a b h g m n same)
 
 -- alike texts share `%m`, since a specification has another normal spelling
-shared : (model : Model) (t u : Text) (a b : Stretches) → ReadsWhole t a → ReadsWhole u b → Correspond model a b → HasNoErrno a → HasNoErrno b
+shared : (model : Model) (t u : Text) (a b : Stretches) → ReadsStretches t a → ReadsStretches u b → Correspond model a b → HasNoErrno a → HasNoErrno b
 shared model t u (Last items) (Last own) h g same m = tt
 shared model t u (Last items) (Before own p more) h g same m = absurd same
 shared model t u (Before items s rest) (Last own) h g same m = absurd same
@@ -158,7 +158,7 @@ shared model t u (Before items (OpaqueSpecification s) rest) (Before own (Opaque
     shared model h.2 g.2 rest more h.5 g.5 same.2 m
 shared model t u (Before items (OpaqueSpecification s) rest) (Before own OpaqueErrno more) h g same m =
     no_type model s (sym (spelling_types model h.1 g.1 (OpaqueSpecification s) OpaqueErrno h.4 g.4 same.1)) where
-      no_type : (model : Model) (s : PosixSpecification) → [] ≡ types_of_opaque model (OpaqueSpecification s) → ⊥
+      no_type : (model : Model) (s : WholeSpecification) → [] ≡ types_of_opaque model (OpaqueSpecification s) → ⊥
       no_type model s e = let some = some_type model s in let no = e ∙ some.2 in cc
 
 pub alike_share_errno : (model : Model) → AlikeShareErrno model

@@ -8,7 +8,7 @@ use Rattle.pf_values.specs.meaning.Arguments.{Argument, Number, String}
 use Rattle.pf_values.specs.Candidates.{candidates, neutral}
 use Rattle.pf_probes.proofs.Probes.{neutral_in}
 use Rattle.pf_probes.proofs.Telling.{candidate_typed}
-use Rattle.pf_posix.specs.declared.types.ArgumentType.{ArgumentType}
+use Rattle.pf_posix.specs.declared.types.WholeArgType.{WholeArgType}
 use Rattle.pf_whole.specs.meaning.WholeArguments.{WholeArgument, Known, Other, HasNarrowedType, HasWholeTypes, narrowed}
 
 -- an argument that is not the neutral one
@@ -33,10 +33,10 @@ abbrev another_at : Option ArgType → WholeArgument
 another_at (Some type) = Known (another type)
 another_at None = Other (0 ∷ [])
 
-abbrev pub whole_neutral : ArgumentType → WholeArgument
+abbrev pub whole_neutral : WholeArgType → WholeArgument
 whole_neutral type = neutral_at (narrowed type)
 
-abbrev pub whole_another : ArgumentType → WholeArgument
+abbrev pub whole_another : WholeArgType → WholeArgument
 whole_another type = another_at (narrowed type)
 
 neutral_typed_at : (model : Model) (o : Option ArgType) → HasNarrowedType model (neutral_at o) o
@@ -69,23 +69,23 @@ another_size None = refl
 two_at : (o : Option ArgType) → another_at o ≡ neutral_at o → ⊥
 two_at o e = omega (arith, another_size o, neutral_size o, ap size e)
 
-pub two_values : (type : ArgumentType) → whole_another type ≡ whole_neutral type → ⊥
+pub two_values : (type : WholeArgType) → whole_another type ≡ whole_neutral type → ⊥
 two_values type e = two_at (narrowed type) e
 
 -- neutral arguments, except the one at an index
-abbrev pub whole_neutrals : List ArgumentType → List WholeArgument
+abbrev pub whole_neutrals : List WholeArgType → List WholeArgument
 whole_neutrals types = map whole_neutral types
 
-abbrev pub one_other : ℕ → List ArgumentType → List WholeArgument
+abbrev pub one_other : ℕ → List WholeArgType → List WholeArgument
 one_other k [] = []
 one_other zero (type ∷ types) = whole_another type ∷ whole_neutrals types
 one_other (suc k) (type ∷ types) = whole_neutral type ∷ one_other k types
 
-pub whole_neutrals_typed : (model : Model) (types : List ArgumentType) → HasWholeTypes model (whole_neutrals types) types
+pub whole_neutrals_typed : (model : Model) (types : List WholeArgType) → HasWholeTypes model (whole_neutrals types) types
 whole_neutrals_typed model [] = tt
 whole_neutrals_typed model (type ∷ types) = (neutral_typed_at model (narrowed type), whole_neutrals_typed model types)
 
-pub one_other_typed : (model : Model) (k : ℕ) (types : List ArgumentType) → HasWholeTypes model (one_other k types) types
+pub one_other_typed : (model : Model) (k : ℕ) (types : List WholeArgType) → HasWholeTypes model (one_other k types) types
 one_other_typed model zero [] = tt
 one_other_typed model (suc k) [] = tt
 one_other_typed model zero (type ∷ types) = (another_typed_at model (narrowed type), whole_neutrals_typed model types)
@@ -109,18 +109,18 @@ pub nth_behind : {A : Type 0} (xs ys : List A) → nth (xs ++ ys) (count xs) ≡
 nth_behind [] ys = refl
 nth_behind (x ∷ xs) ys = nth_behind xs ys
 
-nth_neutrals : (types : List ArgumentType) (m : ℕ) (type : ArgumentType) → nth types m ≡ Some type → nth (whole_neutrals types) m ≡ Some (whole_neutral type)
+nth_neutrals : (types : List WholeArgType) (m : ℕ) (type : WholeArgType) → nth types m ≡ Some type → nth (whole_neutrals types) m ≡ Some (whole_neutral type)
 nth_neutrals [] m type e = cc
 nth_neutrals (t ∷ types) zero type e = let same : t ≡ type = cc in ap (λ t. Some (whole_neutral t)) same
 nth_neutrals (t ∷ types) (suc m) type e = nth_neutrals types m type e
 
-pub nth_another : (k : ℕ) (types : List ArgumentType) (type : ArgumentType) → nth types k ≡ Some type → nth (one_other k types) k ≡ Some (whole_another type)
+pub nth_another : (k : ℕ) (types : List WholeArgType) (type : WholeArgType) → nth types k ≡ Some type → nth (one_other k types) k ≡ Some (whole_another type)
 nth_another zero [] type e = cc
 nth_another (suc k) [] type e = cc
 nth_another zero (t ∷ types) type e = let same : t ≡ type = cc in ap (λ t. Some (whole_another t)) same
 nth_another (suc k) (t ∷ types) type e = nth_another k types type e
 
-pub nth_neutral : (k m : ℕ) (types : List ArgumentType) (type : ArgumentType) → k ≢ m → nth types m ≡ Some type
+pub nth_neutral : (k m : ℕ) (types : List WholeArgType) (type : WholeArgType) → k ≢ m → nth types m ≡ Some type
     → nth (one_other k types) m ≡ Some (whole_neutral type)
 nth_neutral k m [] type other e = cc
 nth_neutral zero zero (t ∷ types) type other e = absurd (other refl)

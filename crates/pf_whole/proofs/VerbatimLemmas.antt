@@ -8,10 +8,10 @@ use Rattle.pf_text.proofs.WalkLemmas.{bytes_between}
 use Rattle.pf_posix.specs.Opaque.{OpaqueSpecification}
 use Rattle.pf_posix.specs.OpaqueParts.{bare, parts_of_opaque}
 use Rattle.pf_posix.specs.Specifications.{conversion_letter}
-use Rattle.pf_posix.specs.declared.conversions.Conversion.{Conversion}
+use Rattle.pf_posix.specs.declared.conversions.WholeConv.{WholeConv}
 use Rattle.pf_posix.specs.declared.opaque_directives.OpaqueDirective.{OpaqueDirective}
 use Rattle.pf_whole.specs.Verbatim.{IsOwnNormalForm, IsPlainAt, IsOwnSpelling}
-use Rattle.pf_whole.specs.meaning.NormalSpellings.{posix_spelling_of}
+use Rattle.pf_whole.specs.meaning.NormalSpellings.{whole_spelling_of}
 use Rattle.pf_whole.proofs.SpelledNormally.{spelled_parts}
 
 -- parts that are normal and spelled in the one way
@@ -19,14 +19,14 @@ pub plain_verbatim : (t : Text) (at : ℕ) (directive : OpaqueDirective) (stop :
     → IsOwnSpelling (take (stop - at) (drop at t))
 plain_verbatim t at directive stop h normal =
     let s = parts_of_opaque directive in
-    subst IsOwnSpelling (sym (bytes_between t (posix_spelling_of s) at stop h.bytes)) (
+    subst IsOwnSpelling (sym (bytes_between t (whole_spelling_of s) at stop h.bytes)) (
       OpaqueSpecification s,
       record { spelled = spelled_parts s refl h.width h.precision; defined = normal.defined; unnumbered = refl; opaque = normal.opaque },
-      λ model. ap posix_spelling_of (normal.normal model),
+      λ model. ap whole_spelling_of (normal.normal model),
     )
 
 -- a conversion alone
-pub bare_verbatim : (t : Text) (at : ℕ) (conversion : Conversion) → HasPercent t at → HasBytes t (at + 1) (at + 1 + 1) (conversion_letter conversion ∷ [])
+pub bare_verbatim : (t : Text) (at : ℕ) (conversion : WholeConv) → HasPercent t at → HasBytes t (at + 1) (at + 1 + 1) (conversion_letter conversion ∷ [])
     → IsOwnNormalForm (parts_of_opaque (bare conversion)) → IsOwnSpelling (take 2 (drop at t))
 bare_verbatim t at conversion h letter normal =
     let two : at + 1 + 1 - at ≡ 2 = omega arith in

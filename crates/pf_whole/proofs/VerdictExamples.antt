@@ -20,13 +20,13 @@ use Rattle.pf_values.specs.declared.types.ArgType.TheVariants as profile
 use Rattle.pf_values.proofs.Alike.{PrintsAll-unique, all_printed, all_printed-is}
 use Rattle.pf_probes.proofs.Telling.{candidate_typed}
 use Rattle.pf_compare.specs.Answers.{IsEarlier}
-use Rattle.pf_posix.specs.declared.conversions.Conversion.TheVariants.{Profile, Float, Pointer}
+use Rattle.pf_posix.specs.declared.conversions.WholeConv.TheVariants.{Profile, Float, Pointer}
 use Rattle.pf_posix.specs.declared.conversions.Floating.{Floating}
 use Rattle.pf_posix.specs.declared.conversions.Floating.TheVariants as floats
-use Rattle.pf_posix.specs.declared.conversions.Modifier.TheVariants.{Integer}
+use Rattle.pf_posix.specs.declared.conversions.WholeLength.TheVariants.{Integer}
 use Rattle.pf_posix.specs.Types.{int_type}
 use Rattle.pf_posix.specs.Opaque.{OpaqueErrno, OpaqueItem}
-use Rattle.pf_posix.specs.Stretches.{Stretches, Last, Before, ReadsWhole}
+use Rattle.pf_posix.specs.Stretches.{Stretches, Last, Before, ReadsStretches}
 use Rattle.pf_whole.specs.Answers.{Different, DirectivesDiffer, IsWholeProbe, IsWholeVerdict, StretchesAgree, TellStretches, TracesTogether, TypesDiffer}
 use Rattle.pf_whole.specs.meaning.Traces.{PlacedCall}
 use Rattle.pf_whole.specs.meaning.WholeArguments.{narrowed}
@@ -91,12 +91,12 @@ wide_first = Before (Directive wide_silent ∷ []) (floating floats.F) (Last [])
 abbrev bare_first : Stretches
 bare_first = Before (Directive silent ∷ []) (floating floats.F) (Last [])
 
-wide_first_read : ReadsWhole (codes "%5.0s%f") wide_first
+wide_first_read : ReadsStretches (codes "%5.0s%f") wide_first
 unfolding digits opaque
 wide_first_read = read_before wide_silent (codes "%5.0s%f") wide_silent_defined
     (opaque Lp64 [] no_width no_precision (Integer lengths.None) (Float floats.F) refl refl) refl
 
-bare_first_read : ReadsWhole (codes "%.0s%f") bare_first
+bare_first_read : ReadsStretches (codes "%.0s%f") bare_first
 unfolding digits opaque
 bare_first_read = read_before silent (codes "%.0s%f") silent_defined
     (opaque Lp64 [] no_width no_precision (Integer lengths.None) (Float floats.F) refl refl) refl
@@ -131,7 +131,7 @@ filled_five_defined = record { width = λ e. let width : ℕ = 5 in let same : w
 five_digits_defined : IsDefined five_digits
 five_digits_defined = record { width = λ e. cc; allowed = refl }
 
-between_read : (s : Specification) (t : Text) → IsDefined s → t ≡ codes "%f" ++ (spelling_of s ++ codes "%p") → ReadsWhole t (between s)
+between_read : (s : Specification) (t : Text) → IsDefined s → t ≡ codes "%f" ++ (spelling_of s ++ codes "%p") → ReadsStretches t (between s)
 unfolding digits opaque
 between_read s t defined e = (
   [],
@@ -143,11 +143,11 @@ between_read s t defined e = (
   e,
 )
 
-filled_five_between : ReadsWhole (codes "%f%05d%p") (between filled_five)
+filled_five_between : ReadsStretches (codes "%f%05d%p") (between filled_five)
 unfolding digits
 filled_five_between = between_read filled_five (codes "%f%05d%p") filled_five_defined refl
 
-five_digits_between : ReadsWhole (codes "%f%.5d%p") (between five_digits)
+five_digits_between : ReadsStretches (codes "%f%.5d%p") (between five_digits)
 unfolding digits
 five_digits_between = between_read five_digits (codes "%f%.5d%p") five_digits_defined refl
 

@@ -8,7 +8,7 @@ use Rattle.pf_text.specs.declared.refusals.Refusal.{Refusal}
 use Rattle.pf_text.specs.declared.refusals.Side.{Side}
 use Rattle.pf_text.specs.declared.refusals.Side.TheVariants as sides
 use Rattle.pf_posix.specs.Laws.{ComparesArgumentTypes, FaultForFits, IsFirstDifference}
-use Rattle.pf_posix.specs.Stretches.{Stretches, ReadsWhole, IsWholeAccepted, whole_types}
+use Rattle.pf_posix.specs.Stretches.{Stretches, ReadsStretches, IsUnnumberedAccepted, whole_types}
 use Rattle.pf_posix.proofs.KeptTypes.{types_are_kept}
 use Rattle.pf_posix.proofs.ReadOnce.{read_once}
 use Rattle.pf_posix.proofs.Unique.{never_both, one_list}
@@ -23,7 +23,7 @@ use Rattle.pf_whole.proofs.AnswerLemmas.{comparison_is}
 use Rattle.pf_whole.proofs.Telling.{calls_give_shape}
 
 -- the types that a comparison of types finds are those of the stretches
-compared_types : (model : Model) (t u : Text) (index : Option ℕ) → (h : IsWholeAccepted t) → (g : IsWholeAccepted u) → ComparesArgumentTypes model t u index
+compared_types : (model : Model) (t u : Text) (index : Option ℕ) → (h : IsUnnumberedAccepted t) → (g : IsUnnumberedAccepted u) → ComparesArgumentTypes model t u index
     → IsFirstDifference (whole_types model h.stretches) (whole_types model g.stretches) index
 compared_types model t u index h g found =
     let first : found.types ≡ whole_types model h.stretches =
@@ -33,34 +33,34 @@ compared_types model t u index h g found =
     subst (λ l. IsFirstDifference (whole_types model h.stretches) l index) second (subst (λ l. IsFirstDifference l found.others index) first found.difference)
 
 -- a verdict on texts that aren't alike
-apart_verdict : (model : Model) (t u : Text) (verdict : WholeVerdict) → (h : IsWholeAccepted t) → (g : IsWholeAccepted u) → ¬ AreWholeAlike model t u
+apart_verdict : (model : Model) (t u : Text) (verdict : WholeVerdict) → (h : IsUnnumberedAccepted t) → (g : IsUnnumberedAccepted u) → ¬ AreWholeAlike model t u
     → verdict ≢ Same → IsWholeVerdict model h.stretches g.stretches verdict → IsWholeComparisonOf model t u verdict
 apart_verdict model t u verdict h g apart other is =
     comparison_is model t u h g verdict (λ e. absurd (other e), λ alike. absurd (apart alike)) is
 
-pub types_verdict : (model : Model) (t u : Text) (index : ℕ) → IsWholeAccepted t → IsWholeAccepted u → ¬ AreWholeAlike model t u
+pub types_verdict : (model : Model) (t u : Text) (index : ℕ) → IsUnnumberedAccepted t → IsUnnumberedAccepted u → ¬ AreWholeAlike model t u
     → ComparesArgumentTypes model t u (Some index) → IsWholeComparisonOf model t u (TypesDiffer index)
 types_verdict model t u index h g apart found =
     apart_verdict model t u (TypesDiffer index) h g apart (λ e. cc) (compared_types model t u (Some index) h g found)
 
-pub calls_verdict : (model : Model) (t u : Text) (index : ℕ) → IsWholeAccepted t → IsWholeAccepted u → ¬ AreWholeAlike model t u
+pub calls_verdict : (model : Model) (t u : Text) (index : ℕ) → IsUnnumberedAccepted t → IsUnnumberedAccepted u → ¬ AreWholeAlike model t u
     → ComparesArgumentTypes model t u None → CallsDiffer model t u (Some index) → IsWholeComparisonOf model t u (DirectivesDiffer index)
 calls_verdict model t u index h g apart types calls =
     apart_verdict model t u (DirectivesDiffer index) h g apart (λ e. cc)
     (compared_types model t u None h g types, calls h.stretches g.stretches h.reads g.reads)
 
 -- texts of equal types and equal calls have one shape
-pub shape_of : (model : Model) (t u : Text) (a b : Stretches) → IsWholeAccepted t → IsWholeAccepted u → ComparesArgumentTypes model t u None
-    → CallsDiffer model t u None → ReadsWhole t a → ReadsWhole u b → HaveOneShape model a b
+pub shape_of : (model : Model) (t u : Text) (a b : Stretches) → IsUnnumberedAccepted t → IsUnnumberedAccepted u → ComparesArgumentTypes model t u None
+    → CallsDiffer model t u None → ReadsStretches t a → ReadsStretches u b → HaveOneShape model a b
 shape_of model t u a b h g types calls k l =
     let first : h.stretches ≡ a = read_once t h.stretches a h.reads k in
     let second : g.stretches ≡ b = read_once u g.stretches b g.reads l in
     let same : whole_types model h.stretches ≡ whole_types model g.stretches = compared_types model t u None h g types in
     calls_give_shape model t u a b k l (ap (whole_types model) (sym first) ∙ same ∙ ap (whole_types model) second) (calls a b k l)
 
-pub shown_verdict : (model : Model) (t u : Text) (shown : List (Option Argument)) → IsWholeAccepted t → IsWholeAccepted u → ¬ AreWholeAlike model t u
+pub shown_verdict : (model : Model) (t u : Text) (shown : List (Option Argument)) → IsUnnumberedAccepted t → IsUnnumberedAccepted u → ¬ AreWholeAlike model t u
     → ComparesArgumentTypes model t u None → CallsDiffer model t u None
-    → ((a b : Stretches) → ReadsWhole t a → ReadsWhole u b → ShowsDifference model a b shown) → IsWholeComparisonOf model t u (Different shown)
+    → ((a b : Stretches) → ReadsStretches t a → ReadsStretches u b → ShowsDifference model a b shown) → IsWholeComparisonOf model t u (Different shown)
 shown_verdict model t u shown h g apart types calls shows =
     apart_verdict model t u (Different shown) h g apart (λ e. cc) (
       compared_types model t u None h g types,
@@ -68,14 +68,14 @@ shown_verdict model t u shown h g apart types calls shows =
       shows h.stretches g.stretches h.reads g.reads,
     )
 
-pub same_verdict : (model : Model) (t u : Text) → IsWholeAccepted t → IsWholeAccepted u → AreWholeAlike model t u → IsWholeComparisonOf model t u Same
+pub same_verdict : (model : Model) (t u : Text) → IsUnnumberedAccepted t → IsUnnumberedAccepted u → AreWholeAlike model t u → IsWholeComparisonOf model t u Same
 same_verdict model t u h g alike =
     comparison_is model t u h g Same (λ e. alike, λ e. refl)
     (subst (λ a. TraceAlike model a g.stretches) (read_once t alike.first h.stretches alike.reads_first h.reads)
     (subst (λ b. TraceAlike model alike.first b) (read_once u alike.second g.stretches alike.reads_second g.reads) alike.alike))
 
 -- texts that are accepted are compared by their types
-pub fit_anyway : (model : Model) (t u : Text) (side : Side) (refusal : Refusal) → IsWholeAccepted t → IsWholeAccepted u
+pub fit_anyway : (model : Model) (t u : Text) (side : Side) (refusal : Refusal) → IsUnnumberedAccepted t → IsUnnumberedAccepted u
     → FaultForFits model t u (side, refusal) → ⊥
 fit_anyway model t u sides.First refusal h g fault =
     never_both model t (whole_types model h.stretches) refusal.kind refusal.at (types_are_kept model t h.stretches h.reads h.limit) fault

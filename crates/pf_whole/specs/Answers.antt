@@ -12,9 +12,9 @@ use Rattle.pf_values.specs.meaning.Arguments.{Argument, HasTypes}
 use Rattle.pf_values.specs.meaning.Items.{Item, types}
 use Rattle.pf_values.specs.meaning.Text.{Text}
 use Rattle.pf_compare.specs.Answers.{IsEarlier, PrintTheSame, PrintUnlike}
-use Rattle.pf_posix.specs.declared.types.ArgumentType.{ArgumentType}
+use Rattle.pf_posix.specs.declared.types.WholeArgType.{WholeArgType}
 use Rattle.pf_posix.specs.Laws.{IsFirstDifference}
-use Rattle.pf_posix.specs.Stretches.{Stretches, Last, Before, ReadsWhole, IsWholeAccepted, types_of_opaque, whole_types}
+use Rattle.pf_posix.specs.Stretches.{Stretches, Last, Before, ReadsStretches, IsUnnumberedAccepted, types_of_opaque, whole_types}
 use Rattle.pf_whole.specs.meaning.NormalSpellings.{normal_spelling}
 use Rattle.pf_whole.specs.meaning.Traces.{AreWholeAlike, HasTrace, PlacedCall, Trace, TraceAlike, placed_calls}
 use Rattle.pf_whole.specs.meaning.WholeArguments.{WholeArgument, Known, Other, HasWholeTypes, narrowed}
@@ -22,7 +22,7 @@ use Rattle.pf_whole.specs.meaning.WholeCanonical.{IsWholeCanonicalOf}
 
 -- `t` is accepted, and `c` is its canonical text: it is alike to `t`, and is `t` itself if that is canonical
 pub record IsWholeCanonicalFor (model : Model) (t c : Text) : Type 0 where
-  pub accepted : IsWholeAccepted t
+  pub accepted : IsUnnumberedAccepted t
   pub canonical_is : IsWholeCanonicalOf model t c
   pub alike : AreWholeAlike model t c
   pub kept : IsWholeCanonicalOf model t t → c ≡ t
@@ -69,7 +69,7 @@ TracesTogether model a b shown = (args : List WholeArgument) (trace : Trace)
 pub record IsWholeProbe (model : Model) (a : Stretches) (index candidate_index : ℕ)
     (shown : List (Option Argument)) : Type 0 where
   pub type : ArgType
-  pub wide : ArgumentType
+  pub wide : WholeArgType
   pub argument : Argument
   pub in_stretch : slice_get (neutral_shown model a) index ≡ Some (Some (neutral type))
   pub wide_is : slice_get (whole_types model a) index ≡ Some wide
@@ -118,8 +118,8 @@ IsWholeVerdict model a b (Different shown) = (whole_types model a ≡ whole_type
 -- the verdict on two accepted texts, which is Same if and only if they are alike, and if and only if they
 -- have one canonical text
 pub record IsWholeComparisonOf (model : Model) (t u : Text) (verdict : WholeVerdict) : Type 0 where
-  pub first : IsWholeAccepted t
-  pub second : IsWholeAccepted u
+  pub first : IsUnnumberedAccepted t
+  pub second : IsUnnumberedAccepted u
   pub same : (verdict ≡ Same) ↔ AreWholeAlike model t u
   pub one : (verdict ≡ Same) ↔ HaveOneWholeCanonical model t u
   pub is : IsWholeVerdict model first.stretches second.stretches verdict
@@ -140,7 +140,7 @@ HaveOneShape model (Before a s rest) (Before b p more) = (types model a ≡ type
 
 -- stretches with equal types and equal calls have one shape
 abbrev pub CallsGiveShape : Model → Type 0
-CallsGiveShape model = (t u : Text) (a b : Stretches) → ReadsWhole t a → ReadsWhole u b
+CallsGiveShape model = (t u : Text) (a b : Stretches) → ReadsStretches t a → ReadsStretches u b
     → whole_types model a ≡ whole_types model b → placed_calls model 0 a ≡ placed_calls model 0 b
     → HaveOneShape model a b
 
@@ -164,7 +164,7 @@ TellSomewhere model (Before a s rest) (Before b p more) shown =
 -- then the traces differ, for all arguments in place of those that aren't shown
 abbrev pub TellingIsApart : Model → Type 0
 TellingIsApart model = (t u : Text) (a b : Stretches) (shown : List (Option Argument))
-    → ReadsWhole t a → ReadsWhole u b → HaveOneShape model a b → TellSomewhere model a b shown
+    → ReadsStretches t a → ReadsStretches u b → HaveOneShape model a b → TellSomewhere model a b shown
     → TracesApart model a b shown
 
 -- for the shown arguments two stretches print the same bytes
@@ -187,5 +187,5 @@ AgreeEverywhere model (Before a s rest) (Before b p more) shown =
 -- then the traces are the same, for all arguments in place of those that aren't shown
 abbrev pub AgreeingIsTogether : Model → Type 0
 AgreeingIsTogether model = (t u : Text) (a b : Stretches) (shown : List (Option Argument))
-    → ReadsWhole t a → ReadsWhole u b → HaveOneShape model a b → AgreeEverywhere model a b shown
+    → ReadsStretches t a → ReadsStretches u b → HaveOneShape model a b → AgreeEverywhere model a b shown
     → TracesTogether model a b shown

@@ -4,7 +4,7 @@ use Rattle.pf_values.specs.declared.models.Model.{Model}
 use Rattle.pf_values.specs.meaning.Items.{Item, types}
 use Rattle.pf_values.specs.meaning.Text.{Text}
 use Rattle.pf_posix.specs.Opaque.{OpaqueItem}
-use Rattle.pf_posix.specs.Stretches.{Stretches, Last, Before, ReadsWhole, types_of_opaque}
+use Rattle.pf_posix.specs.Stretches.{Stretches, Last, Before, ReadsStretches, types_of_opaque}
 use Rattle.pf_whole.specs.declared.calls.PlacedOpaque.{PlacedOpaque}
 use Rattle.pf_whole.specs.declared.calls.Rest.{Rest}
 use Rattle.pf_whole.specs.Answers.{CallsDifferAt}
@@ -16,7 +16,7 @@ pub record IsCallNext (model : Model) (t : Text) (items : List Item) (other : Op
     (rest : Rest) (call : PlacedOpaque) (after : Rest) : Type 0 where
   pub index_is : call.index ≡ rest.index + length (types model items)
   pub item_is : item_of_opaque call.opaque ≡ other
-  pub reads : ReadsWhole (drop after.at t) later
+  pub reads : ReadsStretches (drop after.at t) later
   pub after_is : after.index ≡ rest.index + length (types model items) + length (types_of_opaque model other)
   pub further : rest.at < after.at
   pub within : after.at ≤ length t
@@ -31,6 +31,6 @@ IsNextCall model t (Before items other later) rest (Some next) = IsCallNext mode
 
 -- the place at which the calls of two texts differ first, or that there is none
 abbrev pub CallsDiffer : Model → Text → Text → Option ℕ → Type 0
-CallsDiffer model t u found = (a b : Stretches) → ReadsWhole t a → ReadsWhole u b
+CallsDiffer model t u found = (a b : Stretches) → ReadsStretches t a → ReadsStretches u b
     → MatchOption found (placed_calls model 0 a ≡ placed_calls model 0 b)
     (CallsDifferAt (placed_calls model 0 a) (placed_calls model 0 b))

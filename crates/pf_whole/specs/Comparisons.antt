@@ -14,7 +14,7 @@ use Rattle.pf_compare.specs.declared.comparisons.Verdict.TheVariants as compared
 use Rattle.pf_compare.specs.declared.owned_args.OwnedArg.{OwnedArg}
 use Rattle.pf_compare.specs.Answers.{IsComparisonOf, PrintTheSame, PrintUnlike}
 use Rattle.pf_compare.specs.Owned.{argument_of_owned, type_of_owned}
-use Rattle.pf_posix.specs.declared.types.ArgumentType.{ArgumentType}
+use Rattle.pf_posix.specs.declared.types.WholeArgType.{WholeArgType}
 use Rattle.pf_posix.specs.Types.{widened}
 use Rattle.pf_whole.specs.declared.verdicts.Difference.{Difference}
 use Rattle.pf_whole.specs.declared.verdicts.Difference.TheVariants as differences
@@ -28,7 +28,7 @@ use Rattle.pf_whole.specs.Answers as answers
 use Rattle.pf_whole.specs.Answers.{HaveOneShape, IsWholeComparisonOf, ShowsNeutral, ShowsProbe, neutral_shown}
 use Rattle.pf_whole.specs.Faults.{FaultForWholeSame}
 use Rattle.pf_whole.specs.Findings.{IsTellingProbe}
-use Rattle.pf_posix.specs.Stretches.{Stretches, ReadsWhole, IsWholeAccepted, whole_types}
+use Rattle.pf_posix.specs.Stretches.{Stretches, ReadsStretches, IsUnnumberedAccepted, whole_types}
 use Rattle.pf_whole.specs.meaning.Traces.{AreWholeAlike}
 
 -- the arguments that are shown
@@ -36,7 +36,7 @@ abbrev pub shown_as : List (Option OwnedArg) → List (Option Argument)
 shown_as shown = map (option_map argument_of_owned) shown
 
 -- an argument has its type, if it is shown
-abbrev pub HasShownType : Option OwnedArg → ArgumentType → Type 0
+abbrev pub HasShownType : Option OwnedArg → WholeArgType → Type 0
 HasShownType None type = ⊤
 HasShownType (Some argument) type = widened (type_of_owned argument) ≡ type
 
@@ -84,7 +84,7 @@ IsProfileVerdict model t u verdict renderings =
 
 -- each argument that is shown has the type of the text's argument
 abbrev pub AreShownTyped : Model → Text → WholeVerdict → Type 0
-AreShownTyped model t (verdicts.Args shown) = (a : Stretches) → ReadsWhole t a
+AreShownTyped model t (verdicts.Args shown) = (a : Stretches) → ReadsStretches t a
     → AllZip HasShownType shown.items (whole_types model a)
 AreShownTyped model t _ = ⊤
 
@@ -97,8 +97,8 @@ pub record IsComparison (model : Model) (t u : Text) (verdict : WholeVerdict) : 
 -- calls, and are not alike.
 abbrev pub FaultForWholeCompare : Model → Text → Text → CompareFault → Type 0
 FaultForWholeCompare model t u (Refused side refusal) = FaultForWholeSame model t u (side, refusal)
-FaultForWholeCompare model t u Memory = IsWholeAccepted t × IsWholeAccepted u × (¬ AreWholeAlike model t u)
-    × ((a b : Stretches) → ReadsWhole t a → ReadsWhole u b → HaveOneShape model a b)
+FaultForWholeCompare model t u Memory = IsUnnumberedAccepted t × IsUnnumberedAccepted u × (¬ AreWholeAlike model t u)
+    × ((a b : Stretches) → ReadsStretches t a → ReadsStretches u b → HaveOneShape model a b)
 
 -- what tells two stretches of equal types apart
 abbrev pub IsDifference : Model → Text → Text → Difference → Type 0
@@ -129,8 +129,8 @@ AreShownNext model t u found (shown.Shown args now) = (xs ys : List Item) → Ha
 pub record IsShownNeutrally (model : Model) (t : Text) (at : ℕ) (shown : List (Option OwnedArg)) : Type 0 where
   pub all : Stretches
   pub left : Stretches
-  pub reads : ReadsWhole t all
-  pub reads_left : ReadsWhole (drop at t) left
+  pub reads : ReadsStretches t all
+  pub reads_left : ReadsStretches (drop at t) left
   pub within : at ≤ length t
   pub neutral : shown_as shown ++ neutral_shown model left ≡ neutral_shown model all
   pub typed : (rest : List (Option OwnedArg)) → AllZip HasShownType rest (whole_types model left)

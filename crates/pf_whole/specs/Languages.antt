@@ -7,10 +7,10 @@ use Rattle.pf_values.specs.meaning.Items.{IsAccepted}
 use Rattle.pf_values.specs.meaning.Refusals.{IsRefusedAt}
 use Rattle.pf_values.specs.meaning.Text.{Text}
 use Rattle.pf_values.specs.declared.refusals.RefusalKind.{RefusalKind}
-use Rattle.pf_posix.specs.Items.{IsPosixAccepted}
-use Rattle.pf_posix.specs.Refusals.{IsPosixRefusedAt}
-use Rattle.pf_posix.specs.Stretches.{IsWholeAccepted}
-use Rattle.pf_posix.specs.Unnumbered.{IsWholeRefusedAt}
+use Rattle.pf_posix.specs.Items.{IsWholeAccepted}
+use Rattle.pf_posix.specs.Refusals.{IsWholeRefusedAt}
+use Rattle.pf_posix.specs.Stretches.{IsUnnumberedAccepted}
+use Rattle.pf_posix.specs.Unnumbered.{IsUnnumberedRefusedAt}
 
 pub data Language : Type 0 where
   Profile : Language
@@ -20,14 +20,14 @@ pub data Language : Type 0 where
 -- a text is accepted
 abbrev pub AcceptsText : Language → Model → Text → Type 0
 AcceptsText Profile model = IsAccepted
-AcceptsText Numbered model = IsPosixAccepted model
-AcceptsText Unnumbered model = IsWholeAccepted
+AcceptsText Numbered model = IsWholeAccepted model
+AcceptsText Unnumbered model = IsUnnumberedAccepted
 
 -- a text is refused, for this reason at this offset
 abbrev pub RefusesText : Language → Model → Text → RefusalKind → ℕ → Type 0
 RefusesText Profile model = IsRefusedAt
-RefusesText Numbered model = IsPosixRefusedAt model
-RefusesText Unnumbered model = IsWholeRefusedAt model
+RefusesText Numbered model = IsWholeRefusedAt model
+RefusesText Unnumbered model = IsUnnumberedRefusedAt model
 
 -- it is so in the first of some data models in which not all is accepted
 pub record IsFirstIn (models : List Model) (Accepts Is : Model → Type 0) : Type 0 where

@@ -5,11 +5,11 @@ use Rattle.pf_values.specs.meaning.Canonical.{IsCanonicalOf}
 use Rattle.pf_values.specs.meaning.Items.{IsAccepted}
 use Rattle.pf_values.specs.meaning.Printing.{AreEquivalent, PrintAlike}
 use Rattle.pf_values.specs.meaning.Text.{Text}
-use Rattle.pf_posix.specs.declared.types.ArgumentType.{ArgumentType}
+use Rattle.pf_posix.specs.declared.types.WholeArgType.{WholeArgType}
 use Rattle.pf_posix.specs.Items.{HasArguments}
 use Rattle.pf_posix.specs.Laws.{ComparesBeginning}
 use Rattle.pf_posix.specs.Opaque.{OpaqueErrno, OpaqueSpecification}
-use Rattle.pf_posix.specs.Stretches.{Stretches, Last, Before, ReadsWhole, whole_types}
+use Rattle.pf_posix.specs.Stretches.{Stretches, Last, Before, ReadsStretches, whole_types}
 use Rattle.pf_whole.specs.meaning.NormalSpellings.{normal_spelling}
 use Rattle.pf_whole.specs.meaning.Traces.{AreWholeAlike, Call, Calls, Ends, HasTrace, Trace, placed_calls}
 use Rattle.pf_whole.specs.meaning.WholeArguments.{WholeArgument, HasWholeTypes}
@@ -42,12 +42,12 @@ PrintsBy model respond stretches args out =
 -- a text prints these bytes under such a function
 abbrev pub TextPrintsBy : Model → (Text → Call → Text) → Text → List WholeArgument → Text → Type 0
 TextPrintsBy model respond t args out =
-    (stretches : Stretches) × ReadsWhole t stretches × PrintsBy model respond stretches args out
+    (stretches : Stretches) × ReadsStretches t stretches × PrintsBy model respond stretches args out
 
 -- for all arguments of their types two texts print the same under such a function
 abbrev pub PrintAlikeBy : Model → (Text → Call → Text) → Text → Text → Type 0
 PrintAlikeBy model respond t u = (a : Stretches) (args : List WholeArgument) (out : Text)
-    → ReadsWhole t a → HasWholeTypes model args (whole_types model a)
+    → ReadsStretches t a → HasWholeTypes model args (whole_types model a)
     → (TextPrintsBy model respond t args out ↔ TextPrintsBy model respond u args out)
 
 -- alike texts print the same under every such function
@@ -83,9 +83,9 @@ OneCanonicalIsAlike model = (t u c : Text) → IsWholeCanonicalOf model t c
 -- Arguments for a text serve one that takes fewer: those that it takes are there, and of its types, so that
 -- nothing is read that was not passed; the rest is ignored (C11 7.21.6.1 p2)
 abbrev pub ServeFewer : Model → Type 0
-ServeFewer model = (t u : Text) (types : List ArgumentType) (args : List WholeArgument)
+ServeFewer model = (t u : Text) (types : List WholeArgType) (args : List WholeArgument)
     → ComparesBeginning model t u None → HasArguments model t types → HasWholeTypes model args types
-    → (others : List ArgumentType) × HasArguments model u others × (length others ≤ length args)
+    → (others : List WholeArgType) × HasArguments model u others × (length others ≤ length args)
     × HasWholeTypes model (take (length others) args) others
 
 -- Two lists of stretches correspond: side by side, the stretches print alike, and what is between them has
@@ -100,12 +100,12 @@ Correspond model (Before a s rest) (Before b p more) =
 
 -- two texts are alike if and only if their stretches correspond
 abbrev pub AlikeIsCorresponding : Model → Type 0
-AlikeIsCorresponding model = (t u : Text) (a b : Stretches) → ReadsWhole t a → ReadsWhole u b
+AlikeIsCorresponding model = (t u : Text) (a b : Stretches) → ReadsStretches t a → ReadsStretches u b
     → (AreWholeAlike model t u ↔ Correspond model a b)
 
 -- alike texts have the same calls, each with the same first argument
 abbrev pub AlikeCallTheSame : Model → Type 0
-AlikeCallTheSame model = (t u : Text) (a b : Stretches) → ReadsWhole t a → ReadsWhole u b
+AlikeCallTheSame model = (t u : Text) (a b : Stretches) → ReadsStretches t a → ReadsStretches u b
     → AreWholeAlike model t u → placed_calls model 0 a ≡ placed_calls model 0 b
 
 -- none of what is between the stretches is `%m`
@@ -122,10 +122,10 @@ pub record HaveSameTraces (model : Model) (a b : Stretches) : Type 0 where
 
 -- without `%m`, that suffices for texts to be alike: their calls are in the same places
 abbrev pub TracesSuffice : Model → Type 0
-TracesSuffice model = (t u : Text) (a b : Stretches) → ReadsWhole t a → ReadsWhole u b → HasNoErrno a → HasNoErrno b
+TracesSuffice model = (t u : Text) (a b : Stretches) → ReadsStretches t a → ReadsStretches u b → HasNoErrno a → HasNoErrno b
     → HaveSameTraces model a b → AreWholeAlike model t u
 
 -- of alike texts, both have `%m` or neither; a text and its canonical text are alike
 abbrev pub AlikeShareErrno : Model → Type 0
-AlikeShareErrno model = (t u : Text) (a b : Stretches) → ReadsWhole t a → ReadsWhole u b → AreWholeAlike model t u
+AlikeShareErrno model = (t u : Text) (a b : Stretches) → ReadsStretches t a → ReadsStretches u b → AreWholeAlike model t u
     → (HasNoErrno a ↔ HasNoErrno b)

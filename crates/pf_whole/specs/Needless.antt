@@ -2,10 +2,10 @@
 use Rattle.std.specs.Prelude.{◌≡◌, ◌↔◌, IsTrue}
 use Rattle.pf_values.specs.declared.models.Model.{Model}
 use Rattle.pf_values.specs.meaning.Text.{Text}
-use Rattle.pf_posix.specs.Items.{Specification, SpellsPosixItem}
+use Rattle.pf_posix.specs.Items.{Specification, IsWholeReadAs}
 use Rattle.pf_posix.specs.OpaqueParts.{parts_of_opaque}
-use Rattle.pf_posix.specs.Specifications.{PosixSpecification}
-use Rattle.pf_posix.specs.Spelling.{SpellsPosix}
+use Rattle.pf_posix.specs.Specifications.{WholeSpecification}
+use Rattle.pf_posix.specs.Spelling.{SpellsWhole}
 use Rattle.pf_whole.specs.declared.needless.NeedlessParts.{NeedlessParts}
 use Rattle.pf_whole.specs.declared.needless.Question.{Question}
 use Rattle.pf_whole.specs.declared.parts.Part.{Part}
@@ -15,12 +15,12 @@ use Rattle.pf_whole.specs.meaning.Traces.{AreWholeAlike}
 
 -- A text that is the specification alone, and one that is it without these parts, are alike, however they are spelled.
 -- So both are accepted, within the limit.
-abbrev pub HaveNoEffect : Model → PosixSpecification → PartSet → Type 0
-HaveNoEffect model s set = (t u : Text) → SpellsPosix t s → SpellsPosix u (without s set) → AreWholeAlike model t u
+abbrev pub HaveNoEffect : Model → WholeSpecification → PartSet → Type 0
+HaveNoEffect model s set = (t u : Text) → SpellsWhole t s → SpellsWhole u (without s set) → AreWholeAlike model t u
 
 -- the parts that a specification has; those that have no effect, each by itself, and no others; and some of these, which
 -- have none together
-pub record AreNeedless (model : Model) (s : PosixSpecification) (found : NeedlessParts) : Type 0 where
+pub record AreNeedless (model : Model) (s : WholeSpecification) (found : NeedlessParts) : Type 0 where
   pub given : found.given ≡ given_parts s
   pub each : (part : Part) → IsTrue (has_part found.each part)
       ↔ (IsTrue (has_part (given_parts s) part) × HaveNoEffect model s (only part))
@@ -32,7 +32,7 @@ pub record AreNeedless (model : Model) (s : PosixSpecification) (found : Needles
 -- a question about a specification that some text is
 pub record IsPartQuestion (question : Question) : Type 0 where
   pub text : Text
-  pub spelled : SpellsPosixItem text (Specification (parts_of_opaque question.directive))
+  pub spelled : IsWholeReadAs text (Specification (parts_of_opaque question.directive))
   pub given : question.given ≡ given_parts (parts_of_opaque question.directive)
 
 -- of these parts, those that the specification has and that have no effect are found

@@ -3,9 +3,9 @@ use Rattle.std.specs.Prelude.{◌&&◌, Bool, true, false, is_some, not, Option,
 use Rattle.pf_values.specs.declared.flags.FlagSet.{FlagSet}
 use Rattle.pf_values.specs.declared.lengths.Length.TheVariants as lengths
 use Rattle.pf_values.specs.meaning.Flags.{has, no_flags, with_flag}
-use Rattle.pf_posix.specs.declared.conversions.Modifier.{Modifier}
-use Rattle.pf_posix.specs.declared.conversions.Modifier.TheVariants.{Integer, LongDouble}
-use Rattle.pf_posix.specs.Specifications.{PosixSpecification}
+use Rattle.pf_posix.specs.declared.conversions.WholeLength.{WholeLength}
+use Rattle.pf_posix.specs.declared.conversions.WholeLength.TheVariants.{Integer, LongDouble}
+use Rattle.pf_posix.specs.Specifications.{WholeSpecification}
 use Rattle.pf_whole.specs.declared.parts.Part.{Part}
 use Rattle.pf_whole.specs.declared.parts.Part.TheVariants.{Flag, Width, Precision, Modifier as TheModifier}
 use Rattle.pf_whole.specs.declared.parts.PartSet.{PartSet}
@@ -32,13 +32,13 @@ with_part set TheModifier = record set { modifier = true }
 abbrev pub only : Part → PartSet
 only part = with_part no_parts part
 
-abbrev pub is_modifier : Modifier → Bool
+abbrev pub is_modifier : WholeLength → Bool
 is_modifier (Integer lengths.None) = false
 is_modifier (Integer _) = true
 is_modifier LongDouble = true
 
 -- the flags, the width, the precision and the length modifier that a specification has (C11 7.21.6.1 p4)
-abbrev pub given_parts : PosixSpecification → PartSet
+abbrev pub given_parts : WholeSpecification → PartSet
 given_parts s = record {
   flags = s.flags;
   width = is_some s.width;
@@ -62,7 +62,7 @@ left_out true part = None
 left_out false part = part
 
 -- a specification without these parts. Of a flag that is there twice, both are left out.
-abbrev pub without : PosixSpecification → PartSet → PosixSpecification
+abbrev pub without : WholeSpecification → PartSet → WholeSpecification
 without s set = record s {
   flags = without_flags s.flags set.flags;
   width = left_out set.width s.width;

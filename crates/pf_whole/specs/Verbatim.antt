@@ -7,12 +7,12 @@ use Rattle.pf_values.specs.declared.models.Model.{Model}
 use Rattle.pf_values.specs.meaning.Flags.{no_flags, with_flag}
 use Rattle.pf_values.specs.meaning.Text.{Text}
 use Rattle.pf_text.specs.Offsets.{HasBytes}
-use Rattle.pf_posix.specs.Defined.{IsPosixDefined}
+use Rattle.pf_posix.specs.Defined.{IsWholeDefined}
 use Rattle.pf_posix.specs.Opaque.{OpaqueItem, SpellsOpaqueItem, is_opaque}
 use Rattle.pf_posix.specs.OpaqueParts.{parts_of_opaque}
-use Rattle.pf_posix.specs.Specifications.{Amount, Given, Fetched, PosixSpecification}
+use Rattle.pf_posix.specs.Specifications.{Amount, Given, Fetched, WholeSpecification}
 use Rattle.pf_posix.specs.declared.opaque_directives.OpaqueDirective.{OpaqueDirective}
-use Rattle.pf_whole.specs.meaning.NormalSpellings.{normal_parts, normal_spelling, posix_spelling_of}
+use Rattle.pf_whole.specs.meaning.NormalSpellings.{normal_parts, normal_spelling, whole_spelling_of}
 
 -- the text spells it, and is its normal spelling in each data model
 abbrev pub IsOwnSpelling : Text → Type 0
@@ -35,13 +35,13 @@ HasFewFlags flags = (flags ≡ no_flags) ⊎ (flags ≡ with_flag no_flags Minus
 
 -- the parts of a specification are spelled in the one way from one offset up to another
 pub record IsPlainAt (t : Text) (at : ℕ) (directive : OpaqueDirective) (stop : ℕ) : Type 0 where
-  pub bytes : HasBytes t at stop (posix_spelling_of (parts_of_opaque directive))
+  pub bytes : HasBytes t at stop (whole_spelling_of (parts_of_opaque directive))
   pub flags : HasFewFlags directive.flags
   pub width : CanBeWidth (parts_of_opaque directive).width
   pub precision : CanBePrecision (parts_of_opaque directive).precision
 
 -- the profile lacks it, the standards define it, and its parts are normal in each data model
-pub record IsOwnNormalForm (s : PosixSpecification) : Type 0 where
+pub record IsOwnNormalForm (s : WholeSpecification) : Type 0 where
   pub opaque : is_opaque s ≡ true
-  pub defined : IsPosixDefined s
+  pub defined : IsWholeDefined s
   pub normal : (model : Model) → normal_parts model s ≡ s

@@ -1,10 +1,10 @@
 //! The calls that formats make, and where those of two formats differ first.
 ghost use Rattle.std.specs.Prelude.{◌≤◌, ◌≡◌, List, drop, length};
-ghost use Rattle.pf_posix.specs.declared.types.ArgumentType.{ArgumentType};
+ghost use Rattle.pf_posix.specs.declared.types.WholeArgType.{WholeArgType};
 ghost use Rattle.pf_posix.specs.Items.{HasArguments};
 ghost use Rattle.pf_values.specs.declared.models.Model.{Model as ModelOf};
 ghost use Rattle.pf_posix.specs.OpaqueParts.{amount_of, item_of_opaque};
-ghost use Rattle.pf_posix.specs.Stretches.{IsWholeAccepted, ReadsWhole, Stretches, types_of_opaque};
+ghost use Rattle.pf_posix.specs.Stretches.{IsUnnumberedAccepted, ReadsStretches, Stretches, types_of_opaque};
 ghost use Rattle.pf_posix.specs.Types.{star_fetches};
 ghost use Rattle.pf_whole.specs.Calls.{CallsDiffer, IsNextCall};
 
@@ -28,8 +28,8 @@ pub(crate) struct Rest {
 
 /// Returns the place at which the calls of two accepted formats differ first: the smaller one of two calls.
 pub(crate) fn first_call_difference(model: Model, first: &[u8], second: &[u8]) -> Option<u64>
-    requires first { IsWholeAccepted first.now }
-    requires second { IsWholeAccepted second.now }
+    requires first { IsUnnumberedAccepted first.now }
+    requires second { IsUnnumberedAccepted second.now }
     ensures { CallsDiffer model first.now second.now result }
 {
     let mut one = Rest { at: 0, index: 0 };
@@ -57,9 +57,9 @@ pub(crate) fn first_call_difference(model: Model, first: &[u8], second: &[u8]) -
 fn next_call(model: Model, text: &[u8], rest: Rest) -> Option<(PlacedOpaque, Rest)>
     requires few { rest.index ≤ rest.at }
     requires within { rest.at ≤ length text.now }
-    requires accepted { IsWholeAccepted text.now }
-    requires reads { (left : Stretches) × ReadsWhole (drop rest.at text.now) left }
-    ensures { (left : Stretches) → ReadsWhole (drop rest.at text.now) left
+    requires accepted { IsUnnumberedAccepted text.now }
+    requires reads { (left : Stretches) × ReadsStretches (drop rest.at text.now) left }
+    ensures { (left : Stretches) → ReadsStretches (drop rest.at text.now) left
         → IsNextCall model text.now left rest result }
 {
     let Some(stretch) = next_stretch(text, rest.at) else {
@@ -80,8 +80,8 @@ fn next_call(model: Model, text: &[u8], rest: Rest) -> Option<(PlacedOpaque, Res
 
 // Returns how many arguments an accepted format takes.
 fn argument_count(model: Model, text: &[u8]) -> u64
-    requires { (types : List ArgumentType) × HasArguments model text.now types }
-    ensures { (types : List ArgumentType) × HasArguments model text.now types
+    requires { (types : List WholeArgType) × HasArguments model text.now types }
+    ensures { (types : List WholeArgType) × HasArguments model text.now types
         × (result ≡ length types) }
 {
     if text.is_empty() {

@@ -4,8 +4,8 @@
 ghost use Rattle.std.specs.Prelude.{◌≡◌, ◌≢◌, ◌≤◌, ◌+◌, ◌↔◌, [], IfOk, IsTrue, MatchResult, length};
 ghost use Rattle.std.specs.Vec.{vec_capacity};
 ghost use Rattle.pf_values.specs.meaning.Text.{Text};
-ghost use Rattle.pf_posix.specs.Stretches.{IsWholeAccepted};
-ghost use Rattle.pf_posix.specs.Unnumbered.{IsWholeRefusedAt};
+ghost use Rattle.pf_posix.specs.Stretches.{IsUnnumberedAccepted};
+ghost use Rattle.pf_posix.specs.Unnumbered.{IsUnnumberedRefusedAt};
 ghost use Rattle.pf_whole.specs.Answers.{IsWholeCanonicalFor};
 ghost use Rattle.pf_whole.specs.Faults.{FaultForWholeCanonical};
 ghost use Rattle.pf_whole.specs.meaning.WholeCanonical.{IsWholeCanonicalOf};
@@ -20,8 +20,8 @@ use std::alloc::Global;
 /// to 9; POSIX fprintf). `Err` if it isn't: a `$` directly after the first number of a specification is refused as
 /// `Numbered`, and everything else as by `arguments` of pf_posix, at the same byte. Allocates nothing.
 pub fn check(model: Model, text: &[u8]) -> Result<(), Refusal>
-    ensures { MatchResult result (λ _. IsWholeAccepted text.now)
-        (λ refusal. IsWholeRefusedAt model text.now refusal.kind refusal.at) }
+    ensures { MatchResult result (λ _. IsUnnumberedAccepted text.now)
+        (λ refusal. IsUnnumberedRefusedAt model text.now refusal.kind refusal.at) }
 {
     check_in::<Whole>(model, text)
 }
@@ -54,7 +54,7 @@ pub fn canonical_with_room(
 pub fn canonical_len(model: Model, text: &[u8]) -> Result<u128, Refusal>
     ensures { MatchResult result
         (λ len. (c : Text) × IsWholeCanonicalFor model text.now c × (len ≡ length c))
-        (λ refusal. IsWholeRefusedAt model text.now refusal.kind refusal.at) }
+        (λ refusal. IsUnnumberedRefusedAt model text.now refusal.kind refusal.at) }
 {
     canonical_len_in::<Whole>(model, text)
 }
@@ -62,8 +62,8 @@ pub fn canonical_len(model: Model, text: &[u8]) -> Result<u128, Refusal>
 /// Returns whether a format is its own canonical text. `Err` if it is refused. Allocates nothing.
 pub fn is_canonical(model: Model, text: &[u8]) -> Result<bool, Refusal>
     ensures { MatchResult result
-        (λ is. IsWholeAccepted text.now × (IsTrue is ↔ IsWholeCanonicalOf model text.now text.now))
-        (λ refusal. IsWholeRefusedAt model text.now refusal.kind refusal.at) }
+        (λ is. IsUnnumberedAccepted text.now × (IsTrue is ↔ IsWholeCanonicalOf model text.now text.now))
+        (λ refusal. IsUnnumberedRefusedAt model text.now refusal.kind refusal.at) }
 {
     is_canonical_in::<Whole>(model, text)
 }

@@ -8,7 +8,7 @@ ghost use Rattle.pf_whole.specs.meaning.NormalSpellings.{normal_spelling};
 use crate::languages::Whole;
 use crate::spelling::normal_spelling;
 use pf_canon::same_text_in;
-use pf_posix::{Conversion, Modifier, Opaque, OpaqueAmount, OpaqueDirective};
+use pf_posix::{Opaque, OpaqueAmount, OpaqueDirective, WholeConv, WholeLength};
 use pf_text::{Refusal, Side};
 use pf_values::{FlagSet, Model};
 
@@ -70,13 +70,13 @@ fn have_same_parts(first: &OpaqueDirective, second: &OpaqueDirective) -> bool
         && same_amount(first.precision, second.precision)
 }
 
-fn same_conversion(first: Conversion, second: Conversion) -> bool
+fn same_conversion(first: WholeConv, second: WholeConv) -> bool
     ensures { IsTrue result → first ≡ second }
 {
     first == second
 }
 
-fn same_modifier(first: Modifier, second: Modifier) -> bool
+fn same_modifier(first: WholeLength, second: WholeLength) -> bool
     ensures { IsTrue result → first ≡ second }
 {
     first == second

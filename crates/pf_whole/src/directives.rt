@@ -5,7 +5,7 @@ ghost use Rattle.pf_values.specs.meaning.Flags.{has, with_flag};
 ghost use Rattle.pf_whole.specs.meaning.NormalSpellings.{floating_modifier, given_precision, integer_modifier, is_amount, is_general, is_given, is_integer, keeps_sign, keeps_zero, kept_conversion, kept_flags, kept_modifier, normal_precision, meant_precision, normal_parts};
 ghost use Rattle.pf_posix.specs.OpaqueParts.{amount_of, parts_of_opaque};
 
-use pf_posix::{Conversion, Floating, Modifier, OpaqueAmount, OpaqueDirective};
+use pf_posix::{Floating, OpaqueAmount, OpaqueDirective, WholeConv, WholeLength};
 use pf_values::{Conv, Flag, FlagSet, Kind, Length, Model};
 
 /// Returns the directive with the parts of its normal spelling in a data model.
@@ -21,74 +21,74 @@ pub fn normal_directive(model: Model, directive: OpaqueDirective) -> OpaqueDirec
     }
 }
 
-fn kept_conversion(conversion: Conversion) -> Conversion
+fn kept_conversion(conversion: WholeConv) -> WholeConv
     ensures { result ≡ kept_conversion conversion }
 {
     match conversion {
-        Conversion::Profile(conv) => Conversion::Profile(conv.representative()),
-        Conversion::Float(floating) => Conversion::Float(floating),
-        Conversion::UpperC => Conversion::Profile(Conv::C),
-        Conversion::UpperS => Conversion::Profile(Conv::S),
-        Conversion::Pointer => Conversion::Pointer,
-        Conversion::Count => Conversion::Count,
+        WholeConv::Profile(conv) => WholeConv::Profile(conv.representative()),
+        WholeConv::Float(floating) => WholeConv::Float(floating),
+        WholeConv::UpperC => WholeConv::Profile(Conv::C),
+        WholeConv::UpperS => WholeConv::Profile(Conv::S),
+        WholeConv::Pointer => WholeConv::Pointer,
+        WholeConv::Count => WholeConv::Count,
     }
 }
 
-fn is_integer(conversion: Conversion) -> bool
+fn is_integer(conversion: WholeConv) -> bool
     ensures { result ≡ is_integer conversion }
 {
     match conversion {
-        Conversion::Profile(conv) => !conv.kind().is_text(),
+        WholeConv::Profile(conv) => !conv.kind().is_text(),
         _ => false,
     }
 }
 
-fn keeps_sign(conversion: Conversion) -> bool
+fn keeps_sign(conversion: WholeConv) -> bool
     ensures { result ≡ keeps_sign conversion }
 {
     match conversion {
-        Conversion::Profile(conv) => matches!(conv.kind(), Kind::Signed),
-        Conversion::Float(_) | Conversion::Pointer => true,
-        Conversion::UpperC | Conversion::UpperS | Conversion::Count => false,
+        WholeConv::Profile(conv) => matches!(conv.kind(), Kind::Signed),
+        WholeConv::Float(_) | WholeConv::Pointer => true,
+        WholeConv::UpperC | WholeConv::UpperS | WholeConv::Count => false,
     }
 }
 
-fn kept_modifier(model: Model, conversion: Conversion, modifier: Modifier) -> Modifier
+fn kept_modifier(model: Model, conversion: WholeConv, modifier: WholeLength) -> WholeLength
     ensures { result ≡ kept_modifier model conversion modifier }
 {
     match conversion {
-        Conversion::Profile(conv) => {
+        WholeConv::Profile(conv) => {
             if conv.kind().is_text() {
                 return modifier;
             }
             integer_modifier(model, modifier)
         }
-        Conversion::Float(_) => floating_modifier(modifier),
-        Conversion::UpperC | Conversion::UpperS => Modifier::Integer(Length::L),
-        Conversion::Pointer => modifier,
-        Conversion::Count => integer_modifier(model, modifier),
+        WholeConv::Float(_) => floating_modifier(modifier),
+        WholeConv::UpperC | WholeConv::UpperS => WholeLength::Integer(Length::L),
+        WholeConv::Pointer => modifier,
+        WholeConv::Count => integer_modifier(model, modifier),
     }
 }
 
-fn integer_modifier(model: Model, modifier: Modifier) -> Modifier
+fn integer_modifier(model: Model, modifier: WholeLength) -> WholeLength
     ensures { result ≡ integer_modifier model modifier }
 {
     match modifier {
-        Modifier::Integer(length) => Modifier::Integer(length.representative(model)),
-        Modifier::LongDouble => Modifier::LongDouble,
+        WholeLength::Integer(length) => WholeLength::Integer(length.representative(model)),
+        WholeLength::LongDouble => WholeLength::LongDouble,
     }
 }
 
-fn floating_modifier(modifier: Modifier) -> Modifier
+fn floating_modifier(modifier: WholeLength) -> WholeLength
     ensures { result ≡ floating_modifier modifier }
 {
     match modifier {
-        Modifier::Integer(_) => Modifier::Integer(Length::None),
-        Modifier::LongDouble => Modifier::LongDouble,
+        WholeLength::Integer(_) => WholeLength::Integer(Length::None),
+        WholeLength::LongDouble => WholeLength::LongDouble,
     }
 }
 
-fn normal_precision(conversion: Conversion, precision: Option<OpaqueAmount>) -> Option<OpaqueAmount>
+fn normal_precision(conversion: WholeConv, precision: Option<OpaqueAmount>) -> Option<OpaqueAmount>
     ensures { amount_of result ≡ normal_precision conversion (amount_of precision) }
 {
     match precision {
@@ -98,7 +98,7 @@ fn normal_precision(conversion: Conversion, precision: Option<OpaqueAmount>) -> 
     }
 }
 
-fn given_precision(conversion: Conversion, n: u16) -> Option<OpaqueAmount>
+fn given_precision(conversion: WholeConv, n: u16) -> Option<OpaqueAmount>
     ensures { amount_of result ≡ given_precision conversion n }
 {
     if is_meant(conversion, n) {
@@ -111,23 +111,20 @@ fn given_precision(conversion: Conversion, n: u16) -> Option<OpaqueAmount>
 }
 
 /// Whether the conversion is `g` or `G`, which take a precision of 0 as 1.
-pub(crate) fn is_general(conversion: Conversion) -> bool
+pub(crate) fn is_general(conversion: WholeConv) -> bool
     ensures { result ≡ is_general conversion }
 {
-    matches!(
-        conversion,
-        Conversion::Float(Floating::G | Floating::UpperG)
-    )
+    matches!(conversion, WholeConv::Float(Floating::G | Floating::UpperG))
 }
 
 /// Whether a precision is the default one of the conversion.
-pub(crate) fn is_meant(conversion: Conversion, n: u16) -> bool
+pub(crate) fn is_meant(conversion: WholeConv, n: u16) -> bool
     ensures { result ≡ is_amount (meant_precision conversion) n }
 {
     match conversion {
-        Conversion::Profile(conv) => !conv.kind().is_text() && n == 1,
-        Conversion::Float(Floating::A | Floating::UpperA) => false,
-        Conversion::Float(_) => n == 6,
+        WholeConv::Profile(conv) => !conv.kind().is_text() && n == 1,
+        WholeConv::Float(Floating::A | Floating::UpperA) => false,
+        WholeConv::Float(_) => n == 6,
         _ => false,
     }
 }

@@ -1,6 +1,6 @@
 //! The whole language without numbered arguments.
 ghost use Rattle.std.specs.Prelude.{⊤};
-ghost use Rattle.pf_posix.specs.Unnumbered.{IsWholeRefusedAt};
+ghost use Rattle.pf_posix.specs.Unnumbered.{IsUnnumberedRefusedAt};
 ghost use Rattle.pf_whole.specs.FrontLaws.{past_verbatim};
 ghost use Rattle.pf_whole.specs.Fronts.{IsWholeFront, no_front};
 ghost use Rattle.pf_whole.specs.Verbatim.{IsOwnSpelling};
@@ -34,7 +34,7 @@ impl Passed for Whole {
 impl Language for Whole {
     ghost has_front = { IsWholeFront };
 
-    ghost refuses = { IsWholeRefusedAt };
+    ghost refuses = { IsUnnumberedRefusedAt };
 
     ghost has_none = { no_front };
 

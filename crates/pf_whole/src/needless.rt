@@ -1,7 +1,7 @@
 //! The parts of a conversion specification that have no effect.
 ghost use Rattle.std.specs.Prelude.{◌≡◌, ◌↔◌, IsTrue, false, true};
 ghost use Rattle.pf_values.specs.meaning.Text.{Text};
-ghost use Rattle.pf_posix.specs.Items.{Specification, SpellsPosixItem};
+ghost use Rattle.pf_posix.specs.Items.{Specification, IsWholeReadAs};
 ghost use Rattle.pf_posix.specs.Opaque.{is_opaque};
 ghost use Rattle.pf_posix.specs.OpaqueParts.{amount_back, amount_of, conv_back, narrow, parts_of_opaque};
 ghost use Rattle.pf_whole.specs.declared.parts.Part.{Part as PartOf};
@@ -12,7 +12,7 @@ ghost use Rattle.pf_whole.specs.Parts.{has_part, only, with_part, without};
 use crate::comparison::make_one_call;
 use crate::parts::{Part, PartSet, given_parts, without};
 use pf_compare::print_alike;
-use pf_posix::{Conversion, Opaque, OpaqueAmount, OpaqueDirective, integer_length, is_opaque};
+use pf_posix::{Opaque, OpaqueAmount, OpaqueDirective, WholeConv, integer_length, is_opaque};
 use pf_values::{Conv, Directive, Flag, Model};
 
 /// Sets of parts of a conversion specification.
@@ -38,7 +38,7 @@ struct Question {
 /// alike. Also returns some of them that can be left out together. In `%02.2u`, neither the width
 /// nor the precision has an effect, but without both the directive prints less.
 pub fn needless_parts(model: Model, directive: OpaqueDirective) -> NeedlessParts
-    requires { (t : Text) × SpellsPosixItem t (Specification (parts_of_opaque directive)) }
+    requires { (t : Text) × IsWholeReadAs t (Specification (parts_of_opaque directive)) }
     ensures { AreNeedless model (parts_of_opaque directive) result }
 {
     let given = given_parts(directive);
@@ -168,7 +168,7 @@ impl Question {
 
 // A directive that the profile has.
 fn narrow(directive: OpaqueDirective) -> Directive
-    requires spelled { (t : Text) × SpellsPosixItem t (Specification (parts_of_opaque directive)) }
+    requires spelled { (t : Text) × IsWholeReadAs t (Specification (parts_of_opaque directive)) }
     requires narrow { is_opaque (parts_of_opaque directive) ≡ false }
     ensures { result ≡ narrow (parts_of_opaque directive) }
 {
@@ -191,11 +191,11 @@ fn number_of(amount: Option<OpaqueAmount>) -> Option<u16>
     }
 }
 
-fn conv_of(conversion: Conversion) -> Conv
+fn conv_of(conversion: WholeConv) -> Conv
     ensures { result ≡ conv_back conversion }
 {
     match conversion {
-        Conversion::Profile(conv) => conv,
+        WholeConv::Profile(conv) => conv,
         _ => Conv::D,
     }
 }

@@ -2,11 +2,11 @@
 ghost use Rattle.std.specs.Prelude.{◌≡◌, IsTrue, if◌then◌else◌};
 ghost use Rattle.pf_values.specs.meaning.Flags.{has, no_flags, with_flag};
 ghost use Rattle.pf_values.specs.declared.lengths.Length.TheVariants as lengths;
-ghost use Rattle.pf_posix.specs.declared.conversions.Modifier.TheVariants.{Integer};
+ghost use Rattle.pf_posix.specs.declared.conversions.WholeLength.TheVariants.{Integer};
 ghost use Rattle.pf_posix.specs.OpaqueParts.{amount_of, parts_of_opaque};
 ghost use Rattle.pf_whole.specs.Parts.{given_parts, has_part, is_modifier, left_out, no_parts, with_part, without, without_flags};
 
-use pf_posix::{Modifier, OpaqueAmount, OpaqueDirective};
+use pf_posix::{OpaqueAmount, OpaqueDirective, WholeLength};
 use pf_values::{Flag, FlagSet, Length};
 
 /// A part that a conversion specification can be without.
@@ -108,13 +108,13 @@ pub(crate) fn given_parts(directive: OpaqueDirective) -> PartSet
     }
 }
 
-fn is_modifier(modifier: Modifier) -> bool
+fn is_modifier(modifier: WholeLength) -> bool
     ensures { result ≡ is_modifier modifier }
 {
     match modifier {
-        Modifier::Integer(Length::None) => false,
-        Modifier::Integer(_) => true,
-        Modifier::LongDouble => true,
+        WholeLength::Integer(Length::None) => false,
+        WholeLength::Integer(_) => true,
+        WholeLength::LongDouble => true,
     }
 }
 
@@ -140,11 +140,11 @@ fn left_out(is_out: bool, amount: Option<OpaqueAmount>) -> Option<OpaqueAmount>
     amount
 }
 
-fn modifier_left(is_out: bool, modifier: Modifier) -> Modifier
+fn modifier_left(is_out: bool, modifier: WholeLength) -> WholeLength
     ensures { result ≡ (if is_out then Integer lengths.None else modifier) }
 {
     if is_out {
-        return Modifier::Integer(Length::None);
+        return WholeLength::Integer(Length::None);
     }
     modifier
 }

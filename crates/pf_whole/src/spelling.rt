@@ -7,11 +7,11 @@ ghost use Rattle.pf_values.specs.meaning.Spelling.{flags_spelled};
 ghost use Rattle.pf_posix.specs.Items.{errno};
 ghost use Rattle.pf_posix.specs.Specifications.{modifier_letters};
 ghost use Rattle.pf_posix.specs.OpaqueParts.{amount_of, item_of_opaque, parts_of_opaque};
-ghost use Rattle.pf_whole.specs.meaning.NormalSpellings.{normal_spelling, posix_precision_spelled, posix_spelling_of, posix_width_spelled};
+ghost use Rattle.pf_whole.specs.meaning.NormalSpellings.{normal_spelling, whole_precision_spelled, whole_spelling_of, whole_width_spelled};
 
 use crate::directives::normal_directive;
 use arrayvec::ArrayVec;
-use pf_posix::{Modifier, Opaque, OpaqueAmount, OpaqueDirective};
+use pf_posix::{Opaque, OpaqueAmount, OpaqueDirective, WholeLength};
 use pf_text::{Spelling, push_flags, push_number};
 use pf_values::{FlagSet, Model};
 
@@ -40,7 +40,7 @@ fn spell_errno() -> Spelling
 // numbers without zeros in front. `'` isn't one of its flags, so there is room for all.
 fn spell(directive: OpaqueDirective) -> Spelling
     requires { has directive.flags Group ≡ false }
-    ensures bytes { result.items ≡ posix_spelling_of (parts_of_opaque directive) }
+    ensures bytes { result.items ≡ whole_spelling_of (parts_of_opaque directive) }
     ensures short { array_vec_len result ≤ 20 }
 {
     let mut out = ArrayVec::new();
@@ -64,7 +64,7 @@ fn push_kept_flags(out: &mut Spelling, flags: FlagSet)
 
 fn push_width(out: &mut Spelling, width: Option<OpaqueAmount>)
     requires { array_vec_len out.old + 5 ≤ 20 }
-    ensures bytes { out.new.items ≡ out.old.items ++ posix_width_spelled (amount_of width) }
+    ensures bytes { out.new.items ≡ out.old.items ++ whole_width_spelled (amount_of width) }
     ensures len { array_vec_len out.new ≤ array_vec_len out.old + 5 }
 {
     if let Some(amount) = width {
@@ -74,7 +74,7 @@ fn push_width(out: &mut Spelling, width: Option<OpaqueAmount>)
 
 fn push_precision(out: &mut Spelling, precision: Option<OpaqueAmount>)
     requires { array_vec_len out.old + 6 ≤ 20 }
-    ensures bytes { out.new.items ≡ out.old.items ++ posix_precision_spelled (amount_of precision) }
+    ensures bytes { out.new.items ≡ out.old.items ++ whole_precision_spelled (amount_of precision) }
     ensures len { array_vec_len out.new ≤ array_vec_len out.old + 6 }
 {
     if let Some(amount) = precision {
@@ -86,7 +86,7 @@ fn push_precision(out: &mut Spelling, precision: Option<OpaqueAmount>)
 // A number, or `*`.
 fn push_amount(out: &mut Spelling, amount: OpaqueAmount)
     requires { array_vec_len out.old + 5 ≤ 20 }
-    ensures bytes { out.new.items ≡ out.old.items ++ posix_width_spelled (amount_of (Some amount)) }
+    ensures bytes { out.new.items ≡ out.old.items ++ whole_width_spelled (amount_of (Some amount)) }
     ensures len { array_vec_len out.new ≤ array_vec_len out.old + 5 }
 {
     match amount {
@@ -95,7 +95,7 @@ fn push_amount(out: &mut Spelling, amount: OpaqueAmount)
     }
 }
 
-fn push_letters(out: &mut Spelling, modifier: Modifier)
+fn push_letters(out: &mut Spelling, modifier: WholeLength)
     requires { array_vec_len out.old + 2 ≤ 20 }
     ensures bytes { out.new.items ≡ out.old.items ++ modifier_letters modifier }
     ensures len { array_vec_len out.new ≤ array_vec_len out.old + 2 }

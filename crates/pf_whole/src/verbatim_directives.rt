@@ -6,11 +6,11 @@ ghost use Rattle.pf_text.specs.Offsets.{HasBytes};
 ghost use Rattle.pf_text.specs.Walks.{HasPercent};
 ghost use Rattle.pf_posix.specs.OpaqueParts.{amount_of, bare, parts_of_opaque};
 ghost use Rattle.pf_whole.specs.Verbatim.{HasFewFlags, IsOwnNormalForm, IsPlainAt, CanBePrecision, IsOwnSpelling, CanBeWidth};
-ghost use Rattle.pf_whole.specs.meaning.NormalSpellings.{integer_modifier, kept_conversion, kept_flags, kept_modifier, normal_precision, posix_precision_spelled, posix_width_spelled};
+ghost use Rattle.pf_whole.specs.meaning.NormalSpellings.{integer_modifier, kept_conversion, kept_flags, kept_modifier, normal_precision, whole_precision_spelled, whole_width_spelled};
 
 use crate::directives::{is_general, is_meant};
 use pf_posix::{
-    Conversion, Modifier, OpaqueAmount, OpaqueDirective, conversion_at, is_opaque, modifier_at,
+    OpaqueAmount, OpaqueDirective, WholeConv, WholeLength, conversion_at, is_opaque, modifier_at,
     undefined_as,
 };
 use pf_text::number_at;
@@ -37,13 +37,13 @@ pub(crate) fn bare_len(text: &[u8], at: usize) -> usize
 
 // Whether the profile lacks a conversion alone, and it is normal in each data model.
 #[inline(always)]
-fn is_verbatim_alone(conversion: Conversion) -> bool
+fn is_verbatim_alone(conversion: WholeConv) -> bool
     ensures { IsTrue result → IsOwnNormalForm (parts_of_opaque (bare conversion)) }
 {
     match conversion {
-        Conversion::Float(_) => true,
-        Conversion::Pointer => true,
-        Conversion::Count => true,
+        WholeConv::Float(_) => true,
+        WholeConv::Pointer => true,
+        WholeConv::Count => true,
         _ => false,
     }
 }
@@ -109,7 +109,7 @@ fn minus_at(text: &[u8], start: usize) -> (FlagSet, usize)
 #[inline(always)]
 fn width_at(text: &[u8], start: usize) -> (Option<OpaqueAmount>, usize)
     requires { start ≤ length text.now }
-    ensures bytes { HasBytes text.now start result.1 (posix_width_spelled (amount_of result.0)) }
+    ensures bytes { HasBytes text.now start result.1 (whole_width_spelled (amount_of result.0)) }
     ensures width { CanBeWidth (amount_of result.0) }
 {
     if start >= text.len() {
@@ -128,7 +128,7 @@ fn width_at(text: &[u8], start: usize) -> (Option<OpaqueAmount>, usize)
 #[inline(always)]
 fn precision_at(text: &[u8], start: usize) -> Option<(Option<OpaqueAmount>, usize)>
     requires { start ≤ length text.now }
-    ensures { IfSome result (λ read. HasBytes text.now start read.1 (posix_precision_spelled (amount_of read.0))
+    ensures { IfSome result (λ read. HasBytes text.now start read.1 (whole_precision_spelled (amount_of read.0))
         × CanBePrecision (amount_of read.0)) }
 {
     if start >= text.len() {
@@ -147,7 +147,7 @@ fn precision_at(text: &[u8], start: usize) -> Option<(Option<OpaqueAmount>, usiz
 #[inline(always)]
 fn amount_at(text: &[u8], start: usize) -> Option<(OpaqueAmount, usize)>
     requires { start ≤ length text.now }
-    ensures { IfSome result (λ read. HasBytes text.now start read.1 (posix_width_spelled (amount_of (Some read.0)))
+    ensures { IfSome result (λ read. HasBytes text.now start read.1 (whole_width_spelled (amount_of (Some read.0)))
         × CanBePrecision (amount_of (Some read.0))) }
 {
     if start >= text.len() {
@@ -217,23 +217,23 @@ fn has_normal_letters(directive: OpaqueDirective) -> bool
     ensures modifier { IsTrue result → (model : ModelOf) → kept_modifier model directive.conversion directive.modifier ≡ directive.modifier }
 {
     match directive.conversion {
-        Conversion::Profile(Conv::C | Conv::S) | Conversion::Pointer => true,
-        Conversion::Profile(Conv::I) | Conversion::UpperC | Conversion::UpperS => false,
-        Conversion::Profile(_) | Conversion::Count => is_kept_modifier(directive.modifier),
-        Conversion::Float(_) => matches!(
+        WholeConv::Profile(Conv::C | Conv::S) | WholeConv::Pointer => true,
+        WholeConv::Profile(Conv::I) | WholeConv::UpperC | WholeConv::UpperS => false,
+        WholeConv::Profile(_) | WholeConv::Count => is_kept_modifier(directive.modifier),
+        WholeConv::Float(_) => matches!(
             directive.modifier,
-            Modifier::Integer(Length::None) | Modifier::LongDouble
+            WholeLength::Integer(Length::None) | WholeLength::LongDouble
         ),
     }
 }
 
 // Whether an integer keeps the modifier in each data model.
 #[inline(always)]
-fn is_kept_modifier(modifier: Modifier) -> bool
+fn is_kept_modifier(modifier: WholeLength) -> bool
     ensures { IsTrue result → (model : ModelOf) → integer_modifier model modifier ≡ modifier }
 {
     match modifier {
-        Modifier::Integer(Length::J | Length::Z | Length::T) => false,
+        WholeLength::Integer(Length::J | Length::Z | Length::T) => false,
         _ => true,
     }
 }

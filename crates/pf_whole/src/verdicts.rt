@@ -3,7 +3,7 @@ ghost use Rattle.std.specs.Prelude.{◌≡◌, ◌++◌, [], IfOk, IsTrue, List,
 ghost use Rattle.std.specs.List.{AllZip};
 ghost use Rattle.pf_values.specs.meaning.Items.{HasItems, Item, types};
 ghost use Rattle.pf_compare.specs.Answers.{IsComparisonOf};
-ghost use Rattle.pf_posix.specs.Stretches.{IsWholeAccepted, ReadsWhole, Stretches, whole_types};
+ghost use Rattle.pf_posix.specs.Stretches.{IsUnnumberedAccepted, ReadsStretches, Stretches, whole_types};
 ghost use Rattle.pf_whole.specs.Answers.{HaveOneShape, neutral_shown};
 ghost use Rattle.pf_whole.specs.Comparisons.{AreShownNext, FaultForWholeCompare, GivesArguments, HasShownType, IsComparison, IsDifference, IsShownNeutrally, IsVerdictOf, ShowsDifference, shown_as};
 ghost use Rattle.pf_whole.specs.meaning.Traces.{AreWholeAlike};
@@ -99,8 +99,8 @@ fn compare_apart(
     first: &[u8],
     second: &[u8],
 ) -> Result<WholeVerdict, CompareFault>
-    requires accepted_first { IsWholeAccepted first.now }
-    requires accepted_second { IsWholeAccepted second.now }
+    requires accepted_first { IsUnnumberedAccepted first.now }
+    requires accepted_second { IsUnnumberedAccepted second.now }
     requires apart { ¬ AreWholeAlike model first.now second.now }
     ensures { MatchResult result (IsComparison model first.now second.now)
         (FaultForWholeCompare model first.now second.now) }
@@ -124,13 +124,13 @@ fn first_difference(
     first: &[u8],
     second: &[u8],
 ) -> Result<Vec<Option<OwnedArg>>, AllocError>
-    requires accepted_first { IsWholeAccepted first.now }
-    requires accepted_second { IsWholeAccepted second.now }
-    requires shape { (a b : Stretches) → ReadsWhole first.now a → ReadsWhole second.now b
+    requires accepted_first { IsUnnumberedAccepted first.now }
+    requires accepted_second { IsUnnumberedAccepted second.now }
+    requires shape { (a b : Stretches) → ReadsStretches first.now a → ReadsStretches second.now b
         → HaveOneShape model a b }
     requires apart { ¬ AreWholeAlike model first.now second.now }
-    ensures { IfOk result (λ shown. (a b : Stretches) → ReadsWhole first.now a
-        → ReadsWhole second.now b → ShowsDifference model a b (shown_as shown.items)
+    ensures { IfOk result (λ shown. (a b : Stretches) → ReadsStretches first.now a
+        → ReadsStretches second.now b → ShowsDifference model a b (shown_as shown.items)
         × AllZip HasShownType shown.items (whole_types model a)) }
 {
     let mut shown = room_for_arguments(alloc, model, first)?;
@@ -286,9 +286,9 @@ fn neutral_arguments(
     from: usize,
     before: Vec<Option<OwnedArg>>,
 ) -> Result<Vec<Option<OwnedArg>>, AllocError>
-    requires accepted { IsWholeAccepted text.now }
+    requires accepted { IsUnnumberedAccepted text.now }
     requires shown { IsShownNeutrally model text.now from before.items }
-    ensures { IfOk result (λ shown. (a : Stretches) → ReadsWhole text.now a
+    ensures { IfOk result (λ shown. (a : Stretches) → ReadsStretches text.now a
         → (shown_as shown.items ≡ neutral_shown model a)
         × AllZip HasShownType shown.items (whole_types model a)) }
 {

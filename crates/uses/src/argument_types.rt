@@ -5,7 +5,7 @@ ghost use Rattle.pf_values.specs.declared.models.Model.TheVariants.{Lp64};
 ghost use Rattle.pf_text.specs.Signatures.{TakesTypes};
 ghost use Rattle.pf_values.specs.meaning.Items.{HasItems, Item, types};
 ghost use Rattle.pf_render.specs.Rendering.{DifferFirstAt};
-ghost use Rattle.pf_posix.specs.declared.types.ArgumentType.{ArgumentType};
+ghost use Rattle.pf_posix.specs.declared.types.WholeArgType.{WholeArgType};
 ghost use Rattle.pf_posix.specs.Items.{HasArguments};
 ghost use Rattle.pf_posix.specs.Laws.{ComparesArgumentTypes, ComparesBeginning};
 ghost use Rattle.pf_whole.specs.meaning.WholeArguments.{HasWholeTypes, WholeArgument};
@@ -75,9 +75,9 @@ pub fn take_the_same(model: Model, first: &[u8], second: &[u8]) -> bool
 /// Returns whether arguments for a message serve its translation, too: those that it takes are there, and of its
 /// types.
 pub fn serves(model: Model, message: &[u8], translation: &[u8]) -> bool
-    ensures { IsTrue result → (types : List ArgumentType) (args : List WholeArgument)
+    ensures { IsTrue result → (types : List WholeArgType) (args : List WholeArgument)
         → HasArguments model message.now types → HasWholeTypes model args types
-        → (others : List ArgumentType) × HasArguments model translation.now others
+        → (others : List WholeArgType) × HasArguments model translation.now others
         × (length others ≤ length args) × HasWholeTypes model (take (length others) args) others }
 {
     serve_fewer();

@@ -8,7 +8,7 @@ use Rattle.pf_values.specs.meaning.Items.{Item, types}
 use Rattle.pf_values.specs.meaning.Printing.{PrintsAll}
 use Rattle.pf_values.specs.meaning.Text.{Text}
 use Rattle.pf_posix.specs.Opaque.{OpaqueItem}
-use Rattle.pf_posix.specs.Stretches.{Stretches, Last, Before, ReadsWhole, types_of_opaque, whole_types}
+use Rattle.pf_posix.specs.Stretches.{Stretches, Last, Before, ReadsStretches, types_of_opaque, whole_types}
 use Rattle.pf_whole.specs.meaning.NormalSpellings.{normal_spelling}
 use Rattle.pf_whole.specs.meaning.WholeArguments.{WholeArgument, Known, HasWholeTypes}
 
@@ -73,6 +73,6 @@ pub record TraceAlike (model : Model) (a b : Stretches) : Type 0 where
 pub record AreWholeAlike (model : Model) (t u : Text) : Type 0 where
   pub first : Stretches
   pub second : Stretches
-  pub reads_first : ReadsWhole t first
-  pub reads_second : ReadsWhole u second
+  pub reads_first : ReadsStretches t first
+  pub reads_second : ReadsStretches u second
   pub alike : TraceAlike model first second

@@ -6,7 +6,7 @@ use Rattle.pf_values.specs.meaning.Canonical.{ReadsCanonically}
 use Rattle.pf_values.specs.meaning.Items.{Item}
 use Rattle.pf_values.specs.meaning.Printing.{PrintAlike}
 use Rattle.pf_values.specs.meaning.Text.{Text}
-use Rattle.pf_posix.specs.Stretches.{Stretches, Last, Before, ReadsWhole}
+use Rattle.pf_posix.specs.Stretches.{Stretches, Last, Before, ReadsStretches}
 use Rattle.pf_whole.specs.meaning.NormalSpellings.{normal_spelling}
 
 -- The canonical text of a stretch, taken as a format of its own: a canonical text of the profile
@@ -27,5 +27,5 @@ IsPutTogether model (Before items other rest) c =
 -- opaque directive by its normal spelling. It keeps `%m`.
 pub record IsWholeCanonicalOf (model : Model) (t c : Text) : Type 0 where
   pub stretches : Stretches
-  pub reads : ReadsWhole t stretches
+  pub reads : ReadsStretches t stretches
   pub together : IsPutTogether model stretches c

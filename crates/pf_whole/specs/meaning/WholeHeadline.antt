@@ -3,7 +3,7 @@
 use Rattle.std.specs.Prelude.{◌≡◌, ◌↔◌}
 use Rattle.pf_values.specs.declared.models.Model.{Model}
 use Rattle.pf_values.specs.meaning.Text.{Text}
-use Rattle.pf_posix.specs.Stretches.{IsWholeAccepted}
+use Rattle.pf_posix.specs.Stretches.{IsUnnumberedAccepted}
 use Rattle.pf_whole.specs.meaning.Traces.{AreWholeAlike}
 use Rattle.pf_whole.specs.meaning.WholeCanonical.{IsWholeCanonicalOf}
 
@@ -24,5 +24,5 @@ pub record HaveOneWholeMeaning (model : Model) (t u : Text) : Type 0 where
 
 -- The headline of the whole language: this holds for every two accepted texts.
 abbrev pub WholeHeadline : Model → Type 0
-WholeHeadline model = (t u : Text) → IsWholeAccepted t → IsWholeAccepted u
+WholeHeadline model = (t u : Text) → IsUnnumberedAccepted t → IsUnnumberedAccepted u
     → HaveOneWholeMeaning model t u

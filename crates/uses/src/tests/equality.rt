@@ -1,6 +1,6 @@
 //! Values of public types that differ in one field are not equal.
 use pf_bounds::Bounds;
-use pf_posix::{ArgumentType, DirectiveSpan, Stretch};
+use pf_posix::{DirectiveSpan, Stretch, WholeArgType};
 use pf_text::Refusal;
 use pf_values::{ArgType, RefusalKind};
 
@@ -42,7 +42,7 @@ fn spans_that_differ_are_unequal(rt: HostRuntime) {
         argument: 0,
         width_argument: None,
         precision_argument: None,
-        kind: ArgumentType::Profile(ArgType::Int),
+        kind: WholeArgType::Profile(ArgType::Int),
     };
     let stretch = Stretch {
         end: 2,
@@ -67,7 +67,7 @@ fn spans_that_differ_are_unequal(rt: HostRuntime) {
                 ..span
             },
             span == DirectiveSpan {
-                kind: ArgumentType::Pointer,
+                kind: WholeArgType::Pointer,
                 ..span
             },
             stretch == stretch,

@@ -1,7 +1,7 @@
 //! What the faults of the libraries say, each once.
 use pf_canon::{CopyFault, SideFault, StreamFault};
 use pf_compare::CompareFault;
-use pf_posix::ArgumentType;
+use pf_posix::WholeArgType;
 use pf_render::{RenderFault, RenderVecFault, WriteFault};
 use pf_text::{Refusal, Side, TextFault};
 use pf_values::{ArgType, RefusalKind};
@@ -81,5 +81,5 @@ fn each_fault_has_its_text(rt: HostRuntime) {
 
 #[test]
 fn the_default_type_is_int(rt: HostRuntime) {
-    assert!(rt; ArgumentType::default() == ArgumentType::Profile(ArgType::Int));
+    assert!(rt; WholeArgType::default() == WholeArgType::Profile(ArgType::Int));
 }

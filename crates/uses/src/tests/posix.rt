@@ -4,14 +4,14 @@ use pf_posix::laws::{
     kinds_of_refusals, never_both, profile_types, read_once, refused_for_good, refused_once,
     refused_unnumbered_once, same_fits, table_has_each_once, types_are_kept, types_once,
 };
-use pf_posix::{ArgumentType, DirectiveSpan, arguments, directives, fits};
+use pf_posix::{DirectiveSpan, WholeArgType, arguments, directives, fits};
 use pf_values::{ArgType, Model, RefusalKind};
 
 mod callers;
 mod stretches;
 
 fn are_types_numbered() -> bool {
-    for (index, kind) in ArgumentType::ALL.iter().enumerate() {
+    for (index, kind) in WholeArgType::ALL.iter().enumerate() {
         if usize::from(kind.number()) != index + 1 {
             return false;
         }
@@ -42,7 +42,7 @@ fn types_kinds_and_what_they_say(rt: HostRuntime) {
 
 #[test]
 fn no_room_and_some(rt: HostRuntime) {
-    let mut types = [ArgumentType::Pointer; 3];
+    let mut types = [WholeArgType::Pointer; 3];
     let counts = [
         arguments(Model::Lp64, b"%*.*f", &mut []),
         arguments(Model::Lp64, b"%s%ld", &mut types),
@@ -51,9 +51,9 @@ fn no_room_and_some(rt: HostRuntime) {
         counts == [Ok(3), Ok(2)]
             && types
                 == [
-                    ArgumentType::Profile(ArgType::Str),
-                    ArgumentType::Profile(ArgType::Long),
-                    ArgumentType::Pointer
+                    WholeArgType::Profile(ArgType::Str),
+                    WholeArgType::Profile(ArgType::Long),
+                    WholeArgType::Pointer
                 ]
             && fits(Model::Lp64, b"%zu", b"%lu") == Ok(None)
             && fits(Model::Llp64, b"%zu", b"%lu") == Ok(Some(0))
@@ -74,11 +74,11 @@ fn room_for_all_directives_but_one(rt: HostRuntime) {
         argument: 1,
         width_argument: Some(0),
         precision_argument: Some(2),
-        kind: ArgumentType::Profile(ArgType::ULongLong),
+        kind: WholeArgType::Profile(ArgType::ULongLong),
     };
     assert!(rt;
         counts == [Ok(2), Ok(1)]
-            && some[0].kind == ArgumentType::Profile(ArgType::Str)
+            && some[0].kind == WholeArgType::Profile(ArgType::Str)
             && all
                 == [
                     hexadecimal,

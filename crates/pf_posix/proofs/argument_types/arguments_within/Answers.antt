@@ -4,7 +4,7 @@ use Rattle.pf_values.specs.declared.limits.TheConstants.{MAX_TEXT_LEN}
 use Rattle.pf_posix.specs.Endings.{end_refusal}
 use Rattle.pf_posix.specs.Laws.{HasCount}
 use Rattle.pf_posix.specs.Plain.{IsPlainFront, IsPut}
-use Rattle.pf_posix.specs.Refusals.{IsPosixRefusedAt}
+use Rattle.pf_posix.specs.Refusals.{IsWholeRefusedAt}
 use Rattle.pf_text.proofs.ReadingLemmas.{moved_over}
 use Rattle.pf_posix.proofs.FrontRefusals.{IsRefused}
 use Rattle.pf_posix.proofs.PlainFrontLemmas.{front_ended, front_others, front_put, front_walked, front_whole, no_front, none_put, put_few, was_put}
@@ -53,10 +53,10 @@ returns-then-front-walk-clause-types c =
     let put = subst (λ u. IsPut model u here.at c.loop-model.out front.new.out c.loop-model.count front.result) c.text.ensures front.ensures in
     let none = none_put model t here.at c.loop-model.out front.new.out c.loop-model.count front.result put c.if-front-walk.true in
     let other = c.other_arguments in
-    let types = subst (λ l. MatchResult other.result (λ count. HasCount model t l other.new.out count) (λ refusal. IsPosixRefusedAt model t refusal.kind refusal.at))
+    let types = subst (λ l. MatchResult other.result (λ count. HasCount model t l other.new.out count) (λ refusal. IsWholeRefusedAt model t refusal.kind refusal.at))
     none.1 other.ensures.types in
     subst (λ u. MatchResult other.result (λ count. HasCount model u c.args.out.now other.new.out count)
-    (λ refusal. IsPosixRefusedAt model u refusal.kind refusal.at)) (passed.text ∙ i.over.text_is)
+    (λ refusal. IsWholeRefusedAt model u refusal.kind refusal.at)) (passed.text ∙ i.over.text_is)
     (front_others model t here.at c.args.out.now c.loop-model.out c.loop-model.count now.0 other.new.out other.result types other.ensures.none)
 
 pub loop-model-preserved : goal.loop-model-preserved

@@ -4,11 +4,11 @@ use Rattle.pf_posix.specs.declared.directive_spans.DirectiveSpan.{DirectiveSpan}
 use Rattle.pf_posix.specs.MissingArguments.{takes_later}
 use Rattle.pf_posix.specs.Directives.{directives_from}
 use Rattle.pf_posix.specs.SpecificationWalks.{IsAhead}
-use Rattle.pf_posix.specs.Items.{PosixItem, ReadsPosix}
+use Rattle.pf_posix.specs.Items.{WholeItem, ReadsWhole}
 use Rattle.pf_posix.proofs.missing_arguments.first_later.Given as goal
 
 abbrev pub invariant-loop-span : goal.invariant-loop-span
-invariant-loop-span l = (done : List DirectiveSpan) × ((items : List PosixItem) (reads : ReadsPosix l.text items)
+invariant-loop-span l = (done : List DirectiveSpan) × ((items : List WholeItem) (reads : ReadsWhole l.text items)
     → IsAhead l.text l.walk (directives_from l.fn.model 0 0 l.text items reads) done) × AllByRecursion (λ d. takes_later d l.argument ≡ false) done
 
 abbrev pub decreases-loop-span : goal.decreases-loop-span

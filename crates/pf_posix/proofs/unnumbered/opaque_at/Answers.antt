@@ -6,7 +6,7 @@ use Rattle.pf_posix.specs.declared.specifications.Numbering.TheVariants.{Unnumbe
 use Rattle.pf_posix.specs.Endings.{numbered_instead}
 use Rattle.pf_posix.specs.Items.{errno_letter}
 use Rattle.pf_posix.specs.Halts.{IsDefinedAt, IsRefusedIn}
-use Rattle.pf_posix.specs.Unnumbered.{IsWholeRefusedAt}
+use Rattle.pf_posix.specs.Unnumbered.{IsUnnumberedRefusedAt}
 use Rattle.pf_posix.proofs.PlainLemmas.{errno_read, opaque_read}
 use Rattle.pf_posix.proofs.UnnumberedVerdicts.{inside_front, no_second, whole_nul, whole_refused, whole_too_long}
 use Rattle.pf_posix.proofs.unnumbered.opaque_at.Goals as goal
@@ -14,7 +14,7 @@ use Rattle.pf_posix.proofs.unnumbered.opaque_at.Goals as goal
 pub returns-then-at-front : goal.returns-then-at-front
 returns-then-at-front c =
     let q = c.requires in
-    subst (λ r. IsWholeRefusedAt c.args.model c.args.text.now (Refusal.kind r) (Refusal.at r)) (sym c.too_long.ensures)
+    subst (λ r. IsUnnumberedRefusedAt c.args.model c.args.text.now (Refusal.kind r) (Refusal.at r)) (sym c.too_long.ensures)
     (whole_too_long c.args.model c.args.text.now c.args.at q.within q.front (c.if-at-front.true ∙ ap length c.within_limit-front.ensures) c.if-at-text.false)
 
 pub bounds-front-at : goal.bounds-front-at
@@ -27,7 +27,7 @@ returns-then-front-at-ne37 c =
     let q = c.requires in
     let t = c.args.text.now in
     let e = c.within_limit-front.ensures in
-    subst (λ r. IsWholeRefusedAt c.args.model t (Refusal.kind r) (Refusal.at r)) (sym c.refusal.ensures)
+    subst (λ r. IsUnnumberedRefusedAt c.args.model t (Refusal.kind r) (Refusal.at r)) (sym c.refusal.ensures)
     (whole_nul c.args.model t c.args.at q.within q.front (inside_front c.args.model t c.args.at q.within q.front c.within_limit-front.result.now e c.if-at-front.false)
     q.none (λ percent. c.if-front-at-ne37.true (ap (λ u. get_or u c.args.at 0) e ∙ percent)))
 

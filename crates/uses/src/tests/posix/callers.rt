@@ -1,14 +1,14 @@
 //! The callers in CALLING.md of `pf_posix`.
 ghost use Rattle.std.specs.Prelude.{◌≡◌, IsTrue, List};
-ghost use Rattle.pf_posix.specs.declared.types.ArgumentType.{ArgumentType as ArgumentTypeOf};
+ghost use Rattle.pf_posix.specs.declared.types.WholeArgType.{WholeArgType as WholeArgTypeOf};
 ghost use Rattle.pf_posix.specs.Items.{HasArguments};
 
-use pf_posix::{ArgumentType, arguments, fits};
+use pf_posix::{WholeArgType, arguments, fits};
 use pf_values::{ArgType, Model};
 
 /// Whether a translated format is known to take just the arguments of the one in the program.
 fn may_translate(model: Model, original: &[u8], translated: &[u8]) -> bool
-    ensures { IsTrue result → (types others : List ArgumentTypeOf)
+    ensures { IsTrue result → (types others : List WholeArgTypeOf)
         × HasArguments model original.now types × HasArguments model translated.now others
         × (types ≡ others) }
 {
@@ -20,8 +20,8 @@ fn may_translate(model: Model, original: &[u8], translated: &[u8]) -> bool
 }
 
 /// The type of the first argument of a format, if it takes one.
-fn first_type(model: Model, format: &[u8]) -> Option<ArgumentType> {
-    let mut types = [ArgumentType::Profile(ArgType::Int)];
+fn first_type(model: Model, format: &[u8]) -> Option<WholeArgType> {
+    let mut types = [WholeArgType::Profile(ArgType::Int)];
     match arguments(model, format, &mut types) {
         Ok(0) => None,
         Ok(_) => Some(types[0]),
@@ -43,6 +43,6 @@ fn callers_of_argument_types(rt: HostRuntime) {
         first_type(model, b"%"),
     ];
     assert!(rt;
-        answers == [true, false, false] && types == [Some(ArgumentType::WideChar), None, None]
+        answers == [true, false, false] && types == [Some(WholeArgType::WideChar), None, None]
     );
 }

@@ -1,11 +1,11 @@
 //! Formats without numbered arguments: whether one is accepted, and its stretches.
 ghost use Rattle.std.specs.Prelude.{IsTrue, List};
 ghost use Rattle.pf_values.specs.meaning.Items.{Item, Reads};
-ghost use Rattle.pf_posix.specs.Stretches.{IsWholeAccepted};
+ghost use Rattle.pf_posix.specs.Stretches.{IsUnnumberedAccepted};
 
 use pf_posix::{
-    Conversion, Floating, Modifier, Opaque, OpaqueAmount, OpaqueDirective, Stretch, conversion_at,
-    modifier_at, next_stretch, undefined_as,
+    Floating, Opaque, OpaqueAmount, OpaqueDirective, Stretch, WholeConv, WholeLength,
+    conversion_at, modifier_at, next_stretch, undefined_as,
 };
 use pf_text::Refusal;
 use pf_values::{Flag, FlagSet, Length, Model, RefusalKind};
@@ -13,7 +13,7 @@ use pf_whole::check;
 
 /// Whether a format is known to be accepted without numbered arguments.
 fn has_stretches(model: Model, format: &[u8]) -> bool
-    ensures { IsTrue result → IsWholeAccepted format.now }
+    ensures { IsTrue result → IsUnnumberedAccepted format.now }
 {
     match check(model, format) {
         Ok(()) => true,
@@ -33,7 +33,7 @@ fn is_one_stretch(format: &[u8]) -> bool
 }
 
 // The length modifier and the conversion at the front of a text.
-fn letters(text: &[u8]) -> (Modifier, Result<Conversion, Refusal>) {
+fn letters(text: &[u8]) -> (WholeLength, Result<WholeConv, Refusal>) {
     let (modifier, stop) = modifier_at(text, 0);
     (modifier, conversion_at(text, stop))
 }
@@ -48,13 +48,13 @@ fn letters_of_a_specification(rt: HostRuntime) {
         flags: FlagSet::empty().with(Flag::Alt),
         width: None,
         precision: None,
-        modifier: Modifier::LongDouble,
-        conversion: Conversion::Pointer,
+        modifier: WholeLength::LongDouble,
+        conversion: WholeConv::Pointer,
     };
     assert!(rt;
-        letters(b"lln") == (Modifier::Integer(Length::Ll), Ok(Conversion::Count))
-            && letters(b"p") == (Modifier::Integer(Length::None), Ok(Conversion::Pointer))
-            && letters(b"Lk") == (Modifier::LongDouble, Err(stray))
+        letters(b"lln") == (WholeLength::Integer(Length::Ll), Ok(WholeConv::Count))
+            && letters(b"p") == (WholeLength::Integer(Length::None), Ok(WholeConv::Pointer))
+            && letters(b"Lk") == (WholeLength::LongDouble, Err(stray))
             && undefined_as(&directive) == Some(RefusalKind::AltUndefined)
     );
 }
@@ -92,15 +92,15 @@ fn stretches_and_directives(rt: HostRuntime) {
         flags: FlagSet::empty().with(Flag::Minus).with(Flag::Zero),
         width: Some(OpaqueAmount::Number(8)),
         precision: Some(OpaqueAmount::Star),
-        modifier: Modifier::Integer(Length::L),
-        conversion: Conversion::Float(Floating::F),
+        modifier: WholeLength::Integer(Length::L),
+        conversion: WholeConv::Float(Floating::F),
     };
     let count = OpaqueDirective {
         flags: FlagSet::empty(),
         width: None,
         precision: None,
-        modifier: Modifier::Integer(Length::Hh),
-        conversion: Conversion::Count,
+        modifier: WholeLength::Integer(Length::Hh),
+        conversion: WholeConv::Count,
     };
     assert!(rt;
         is_first_stretch(

@@ -1,6 +1,6 @@
 use Rattle.std.proofs.Common.{◌∙◌, ap, refl, subst, sym}
 use Rattle.pf_values.specs.meaning.Text.{Text}
-use Rattle.pf_posix.specs.Items.{Specification, SpellsPosixItem}
+use Rattle.pf_posix.specs.Items.{Specification, IsWholeReadAs}
 use Rattle.pf_posix.specs.Opaque.{is_opaque}
 use Rattle.pf_posix.specs.OpaqueParts.{narrow}
 use Rattle.pf_whole.proofs.NeedlessLemmas.{printed, spelled_without, still_narrow}
@@ -10,7 +10,7 @@ pub narrow-requires-2-clause-spelled : goal.narrow-requires-2-clause-spelled
 narrow-requires-2-clause-spelled c =
     let q = c.requires in
     let profile = sym c.is_opaque.ensures ∙ c.if-is_opaque.false in
-    subst (λ s. (t : Text) × SpellsPosixItem t (Specification s)) (sym c.without-shorter.ensures)
+    subst (λ s. (t : Text) × IsWholeReadAs t (Specification s)) (sym c.without-shorter.ensures)
     (spelled_without c.args.self.now.model _ refl q.text q.spelled c.args.set profile)
 
 pub narrow-requires-2-clause-narrow : goal.narrow-requires-2-clause-narrow
