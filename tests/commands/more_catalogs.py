@@ -63,7 +63,7 @@ def test_msgfmt(folder, msgfmt, trials):
         )
         unjudged = set(re.findall(r"^([^\s:]+:\d+):(?:\d+:)? warning", ours, flags=re.MULTILINE))
         theirs = {fault for fault in fault_lines(report) if fault[0] not in unjudged}
-        # What is refused here may be another fault there.
+        # What is rejected here may be another fault there.
         refused = {line for line, words in fault_lines(ours) if "valid C format" in words}
         # Of two faults in one line it shows one, and counts both.
         left = theirs - set(fault_lines(ours))

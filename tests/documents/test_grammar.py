@@ -1,4 +1,4 @@
-"""Checks the grammar of docs/REFUSALS.md against formats that are accepted, and formats that are refused.
+"""Checks the grammar of docs/REFUSALS.md against formats that are accepted, and formats that are rejected.
 
 The formats and their verdicts are rows of tests/rows.
 """
@@ -42,7 +42,7 @@ def rows(name):
 
 
 def test_grammar(trials):
-    """Accepted formats are of the grammar, and formats that are refused as a kind of OUTSIDE aren't."""
+    """Accepted formats are of the grammar, and formats that are rejected as a kind of OUTSIDE aren't."""
     whole = re.compile(pattern_of("format", rules()), re.DOTALL)
     accepted = [row[0] for name in ("formats.jsonl", "canonical_formats.jsonl") for row in rows(name)]
     trials.expect("accepted formats out of the grammar", [it for it in accepted if not whole.fullmatch(it)], [])

@@ -33,12 +33,12 @@ WHOLE_STARTS = [("pf_whole/src/laws.rt", "headline")]
 LOWER = "Rattle.pf_posix.specs"
 # The words for a refusal in the whole language, each with the function whose contract has it; and the words for
 # acceptance.
-REFUSALS = [(f"{LOWER}.Refusals", "IsPosixRefusedAt"), (f"{LOWER}.Unnumbered", "IsWholeRefusedAt")]
+REFUSALS = [(f"{LOWER}.Refusals", "IsWholeRefusedAt"), (f"{LOWER}.Unnumbered", "IsUnnumberedRefusedAt")]
 REFUSED_BY = [
     ("pf_posix/src/argument_types.rt", "arguments"),
     ("pf_whole/src/canonical_texts.rt", "check"),
 ]
-ACCEPTED = [(f"{LOWER}.Items", "HasArguments"), (f"{LOWER}.Stretches", "IsWholeAccepted")]
+ACCEPTED = [(f"{LOWER}.Items", "HasArguments"), (f"{LOWER}.Stretches", "IsUnnumberedAccepted")]
 # The function whose contract is that of the program, and the crate whose exported functions are the calls of the C library.
 PROGRAM_STARTS = [("fmtcanon/src/run.rt", "run")]
 LIBRARY = "fmtcanon_c/src"

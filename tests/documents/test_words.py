@@ -23,6 +23,8 @@ PHRASES = {
     "argument, option": r"words? of (?:a|the) command line|command line's words|as a word|wrong words",
     "mutant": r"wrong bod(?:y|ies)",
     "is rejected": r"(?:is|are|was) told(?! apart)|lines? of (?:the|its|a) refusals?",
+    "rejected": r"(?:texts?|formats?|bytes?|specifications?|directives?|items?) (?:that )?(?:is|are|was|were|isn't) refused"
+    r"|refused (?:texts?|formats?|bytes?)|(?:refuses?|refusing) (?:a|an|the|no|each|some) (?:\w+ )?(?:texts?|formats?|bytes?)",
     "inline": r"in line(?= with each|[.,;]|$)|inlined from",
     "%": r"in a hundred",
     "slow, fast": r"dear|dearer|dearest|cheap|cheaper|cheapest|cheaply",

@@ -122,7 +122,7 @@ def test_header(trials):
     names = {"UInt": "UINT", "ULong": "ULONG", "ULongLong": "ULONG_LONG", "Str": "STRING"}
     types = source_numbers("pf_values/src/types.rt", r"ArgType::(\w+) => (\d+),", names)
     names = {**names, "PointerToSChar": "POINTER_TO_SCHAR", "Pointer": "POINTER_TO_VOID"}
-    types |= source_numbers("pf_posix/src/types.rt", r"ArgumentType::(\w+) => (\d+),", names)
+    types |= source_numbers("pf_posix/src/types.rt", r"WholeArgType::(\w+) => (\d+),", names)
     trials.expect("types", header_numbers("fmtcanon_type"), types)
     # The number of a data model is its place in the list of all.
     text = (TOP / "crates/pf_values/src/models.rt").read_text(encoding="utf-8")

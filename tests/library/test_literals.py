@@ -147,7 +147,7 @@ def test_decoded(module, compiler, trials, work):
 
 
 def test_trigraphs(module, compiler, trials, work):
-    """A source with a trigraph, also after a backslash, is refused at its first `?`: compilers read it in two ways."""
+    """A source with a trigraph, also after a backslash, is rejected at its first `?`: compilers read it in two ways."""
     listed = [
         (b'"a' + front + b"??" + bytes([third]) + b'n"', 2 + len(front))
         for front in [b"", b"\\", b"?", b"\\?"]

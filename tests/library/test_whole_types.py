@@ -164,7 +164,7 @@ def test_parsed(module, library, trials):
 
 
 def test_lengths(module, trials):
-    """Every other length modifier is refused."""
+    """Every other length modifier is rejected."""
     for conversion, lengths in LENGTHS.items():
         for length in [*INTEGER_LENGTHS, "L"]:
             try:

@@ -31,7 +31,7 @@ def canonical_length(module, model, text):
 
 
 def try_canonical(program, module, trials, name, format, text):
-    """A format has this canonical text, which is its own, or is refused so, by each call and command."""
+    """A format has this canonical text, which is its own, or is rejected so, by each call and command."""
     model = module.Model[name.upper()]
     shown_name = f"{name} {format[:40]}"
     wanted = [text] * 2 + [format == text, len(text)] if isinstance(text, str) else [text] * 4
@@ -93,7 +93,7 @@ def same_or_refusal(module, first, second):
 
 
 def test_steps(program, module, trials):
-    """Two formats are the same, or differ, or one of them is refused, as their row says."""
+    """Two formats are the same, or differ, or one of them is rejected, as their row says."""
     for first, second, wanted in rows_of("steps.jsonl"):
         name = [first, second]
         first, second = whole_of(first), whole_of(second)
@@ -125,7 +125,7 @@ def test_every_two_texts(module, trials):
 
 
 def test_differences(module, trials):
-    """Texts that differ at one byte, wherever it is, or at the end of one are told apart. If both are refused, the first
+    """Texts that differ at one byte, wherever it is, or at the end of one are told apart. If both are rejected, the first
     refusal is returned.
     """
     (row,) = rows_of("differences.jsonl")
@@ -157,7 +157,7 @@ def test_differences(module, trials):
 
 
 def are_refused_from(answers, at):
-    """Whether the second text is refused at this byte or after it, as the second and as the first."""
+    """Whether the second text is rejected at this byte or after it, as the second and as the first."""
     return all(isinstance(found, list) and found[0] == side and found[2] >= at for side, found in zip([1, 0], answers))
 
 

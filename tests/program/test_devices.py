@@ -6,7 +6,7 @@ a pipe that is full and doesn't wait; a directory; standard error closed or full
 that stays open; a terminal; a file. For the other commands: a pipe that stays open, which they don't read. How many
 reads and writes there are.
 
-No run is ended by a signal, none exits with 0 or 1 with bytes missing, and nothing is written for a refused format.
+No run is ended by a signal, none exits with 0 or 1 with bytes missing, and nothing is written for a rejected format.
 
 It needs a Linux system with gcc.
 """
@@ -134,7 +134,7 @@ REFUSED = [
     (["format", "--literal", '"%y"'], b"refused 3 Unexpected at byte 2\n"),
     (["canon", LONG_FORMAT + "%"], b"refused 2 Truncated at byte 1201\n"),
 ]
-# What `stream` settles before it is refused, and the report of that, which comes even where nothing can be written.
+# What `stream` settles before it is rejected, and the report of that, which comes even where nothing can be written.
 STREAM_REFUSED = (b"a%.0sb%5d%q", b"ab%.0s%5d", b"refused 3 Unexpected at byte 10\n")
 # The length of a wrong word.
 WRONG = 100_000
@@ -238,7 +238,7 @@ def failing_outputs(program, words, stdin):
 
 
 def test_outputs(program, trials):
-    """What is written fails, and what is refused or empty ends as ever."""
+    """What is written fails, and what is rejected or empty ends as ever."""
     for words, stdin, _, _ in ANSWERED:
         for device, got in failing_outputs(program, words, stdin):
             trials.expect(f"{name_of(words)}, standard output {device}", got, WRITE_FAILED)

@@ -116,7 +116,7 @@ def test_literals(program, trials):
 
 
 def test_whole(program, trials):
-    """Each row of REFUSALS.md on the whole language is refused there, and the one to write instead is accepted."""
+    """Each row of REFUSALS.md on the whole language is rejected there, and the one to write instead is accepted."""
     part = REFUSALS.split(WHOLE)[1].split(LITERALS)[0]
     rows = re.findall(r"^\| `(.+?)` \| (\d+) at (\d+) \| `(.+?)` \|", part, flags=re.MULTILINE)
     kinds = {int(number) for _, number, _, _ in rows}
@@ -192,7 +192,7 @@ def test_flags(program, trials):
 
 
 def test_refusals(program, trials):
-    """Each format of REFUSALS.md is refused as its row says, and the one to write instead is accepted."""
+    """Each format of REFUSALS.md is rejected as its row says, and the one to write instead is accepted."""
     rows = list(refusal_rows())
     names = dict(kind for kind, *_ in rows if kind)
     trials.expect("kinds of REFUSALS.md", list(names), [str(number) for number in range(1, 18)])

@@ -105,7 +105,7 @@ def try_text(program, module, trials, text, wanted):
 
 
 def test_refused(program, module, trials):
-    """Each row is refused at its byte for its reason, or accepted, however it is read."""
+    """Each row is rejected at its byte for its reason, or accepted, however it is read."""
     for name in ["refused.jsonl", "grammar.jsonl"]:
         for text, kind, at in rows_of(name):
             try_text(program, module, trials, text.encode(), kind and [kind, at])
@@ -128,7 +128,7 @@ def byte_answers(row, everywhere):
 
 
 def test_bytes(program, module, trials):
-    """Each byte after each beginning of a specification goes on, ends it, or is refused, as the grammar has it."""
+    """Each byte after each beginning of a specification goes on, ends it, or is rejected, as the grammar has it."""
     everywhere, *rows = rows_of("bytes.jsonl")
     for row in rows:
         for byte, wanted in byte_answers(row, everywhere["refused"]):
@@ -145,7 +145,7 @@ def test_hostile(program, module, trials):
 
 
 def test_flags(program, module, trials):
-    """Each flag is defined with each conversion, or refused at it, as the standard's table has it."""
+    """Each flag is defined with each conversion, or rejected at it, as the standard's table has it."""
     for conversion, kinds in rows_of("flags.jsonl"):
         for flag, kind in zip(FLAGS, kinds, strict=True):
             try_text(program, module, trials, f"%{flag}{conversion}".encode(), [kind, 2] if kind else None)

@@ -66,7 +66,7 @@ IsAnswer (Two question models first second) out ending = (first_bytes second_byt
     × IsFormat first first_bytes × IsFormat second second_bytes
     × IsPairAnswerIn question models first_bytes second_bytes out ending
 
--- Why the bytes of a format have no answer: they are refused. Memory can be refused only if they are
+-- Why the bytes of a format have no answer: they are rejected. Memory can be refused only if they are
 -- accepted.
 abbrev pub IsFormatFault : Language → Model → Text → Outcome → Type 0
 IsFormatFault language model format (Refused None refusal) =
@@ -176,7 +176,7 @@ IsQuestionFault (One question model format) fault =
 IsQuestionFault (Two question models first second) fault =
     IsGivenPairFaultIn question models first second fault
 
--- the side that is refused
+-- the side that is rejected
 abbrev pub side_of : Outcome → Option Side
 side_of (Refused side refusal) = side
 side_of _ = None
@@ -192,7 +192,7 @@ IsFaultInText given (Refused side refusal) reported = (at : ℕ)
     × (reported ≡ Refused side (record refusal { at = at })) × IsOffsetOfByte given refusal.at at
 IsFaultInText given fault reported = reported ≡ fault
 
--- a refusal of the bytes of two formats is reported by the side that is refused
+-- a refusal of the bytes of two formats is reported by the side that is rejected
 abbrev pub IsFaultInTexts : GivenFormat → GivenFormat → Option Side → Outcome → Outcome → Type 0
 IsFaultInTexts first second (Some sides.Second) fault reported = IsFaultInText second fault reported
 IsFaultInTexts first second (Some sides.First) fault reported = IsFaultInText first fault reported

@@ -15,7 +15,7 @@ abbrev pub of_text : TextFault → Outcome
 of_text (text.Refused refusal) = Refused None refusal
 of_text text.Memory = Memory
 
--- a fault of comparing two, with the side that is refused
+-- a fault of comparing two, with the side that is rejected
 abbrev pub of_comparison : CompareFault → Outcome
 of_comparison (comparison.Refused side refusal) = Refused (Some side) refusal
 of_comparison comparison.Memory = Memory

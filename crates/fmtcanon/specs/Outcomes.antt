@@ -12,7 +12,7 @@ outcome_of endings.Done = Done
 outcome_of endings.Same = Same
 outcome_of endings.Different = Different
 
--- 0 if all was written and nothing differs, 1 if formats differ, 2 if a format is refused or literals are
+-- 0 if all was written and nothing differs, 1 if formats differ, 2 if a format is rejected or literals are
 -- wrong, 4 if a device failed or memory was refused, and 3 for all other errors; of records that were
 -- answered, the highest status of theirs
 abbrev pub status_of : Outcome → ℕ

@@ -13,7 +13,7 @@ use Rattle.fmtcanon.specs.Lines.{line}
 use Rattle.fmtcanon.specs.declared.outcome.Outcome.{Outcome}
 use Rattle.fmtcanon.specs.declared.outcome.Outcome.TheVariants.{Refused, BadLiteral, BadWord, WrongCount, WrongType, NoSecond, Usage, Missing, Misplaced, Read, Write, Memory}
 
--- which format is refused, where there are two
+-- which format is rejected, where there are two
 abbrev pub side_words : Option Side → Text
 side_words None = []
 side_words (Some sides.First) = codes "first: "

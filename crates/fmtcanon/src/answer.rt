@@ -205,7 +205,7 @@ fn without_second(first_refused: Option<Outcome>, fault: LiteralFault) -> Outcom
     }
 }
 
-// The refusal of the first of two formats, if it is refused.
+// The refusal of the first of two formats, if it is rejected.
 fn refused(
     asked: PairQuestion,
     model: Model,
@@ -250,7 +250,7 @@ fn fault_in_texts(first: &GivenFormat<'_>, second: &GivenFormat<'_>, fault: Outc
     }
 }
 
-// The side that is refused.
+// The side that is rejected.
 fn side_of(fault: &Outcome) -> Option<Side>
     ensures { result ≡ side_of fault.now }
 {

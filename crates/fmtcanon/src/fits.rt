@@ -13,7 +13,7 @@ use pf_posix::{fits, fits_fewer};
 use pf_values::Model;
 
 /// Says whether the second format takes just the arguments of the first; otherwise the first index at
-/// which they differ. `Err` if one of them is refused.
+/// which they differ. `Err` if one of them is rejected.
 pub fn fit_in(model: Model, first: &[u8], second: &[u8]) -> Result<Answer, Outcome>
     ensures { MatchResult result
         (λ answer. IsFitAnswer (ComparesArgumentTypes model first.now second.now)
@@ -28,7 +28,7 @@ pub fn fit_in(model: Model, first: &[u8], second: &[u8]) -> Result<Answer, Outco
 }
 
 /// Says whether the second format takes no other arguments than the first, from which it may leave out
-/// the last ones; otherwise the first index at which it takes another. `Err` if one of them is refused.
+/// the last ones; otherwise the first index at which it takes another. `Err` if one of them is rejected.
 pub fn fewer_in(model: Model, first: &[u8], second: &[u8]) -> Result<Answer, Outcome>
     ensures { MatchResult result
         (λ answer. IsFitAnswer (ComparesBeginning model first.now second.now)

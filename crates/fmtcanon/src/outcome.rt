@@ -19,7 +19,7 @@ use std::io::Write;
 
 /// How a run ended, or why a question has no answer.
 ///
-/// If something is refused, invalid or wrong, or memory is out, nothing was written, except the text that `stream`
+/// If something is rejected, invalid or wrong, or memory is out, nothing was written, except the text that `stream`
 /// had settled before, and the replies to earlier records.
 #[derive(Drop)]
 pub enum Outcome {
@@ -31,7 +31,7 @@ pub enum Outcome {
     Different,
     /// All records were answered; the highest status of their answers.
     Answered(u8),
-    /// A format is refused.
+    /// A format is rejected.
     Refused {
         /// Which one, where there are two.
         side: Option<Side>,
@@ -73,7 +73,7 @@ pub enum Outcome {
 }
 
 impl Outcome {
-    /// Returns the exit status: 0 if all was written, 1 if formats differ, 2 if a format is refused or
+    /// Returns the exit status: 0 if all was written, 1 if formats differ, 2 if a format is rejected or
     /// literals are wrong, 3 for a usage error, an invalid argument or an unpaired record, and 4 if a
     /// device failed or memory was refused. Of records that were answered it is the highest of theirs.
     pub fn status(&self) -> u8

@@ -21,7 +21,7 @@ use std::io::{Read, Write};
 /// Runs the command that the words name; the program's name isn't among them. What a command reads
 /// comes from `input`, and what it writes goes to `writer`. Its last call is a flush before `Done`,
 /// `Same` and `Different`, by `stream` also before `Refused` and `Read`, and over records before all
-/// outcomes except `Write`. What else is refused or invalid comes before the first call of the
+/// outcomes except `Write`. What else is rejected or invalid comes before the first call of the
 /// writer.
 ///
 /// It may read only as `MayRead` says: it knows the input to be ready then, and at no other time.

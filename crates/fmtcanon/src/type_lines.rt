@@ -29,7 +29,7 @@ pub fn type_lines(alloc: Global, model: Model, format: &[u8]) -> Result<Vec<u8>,
     Ok(lines_of_types(alloc, types.as_slice())?)
 }
 
-/// Returns the types of a format's arguments in a data model. `Err` if it is refused, or memory is, for
+/// Returns the types of a format's arguments in a data model. `Err` if it is rejected, or if out of memory, for
 /// an accepted format.
 pub fn types_of(alloc: Global, model: Model, format: &[u8]) -> Result<Signature, Outcome>
     ensures { MatchResult result (λ signature. TakesTypes model format.now (types_of signature))

@@ -83,7 +83,7 @@ module _ (model : Model) (f g : Text) where
       nowhere FitsFewer (λ is related. related) (ComparesBeginning model f g) (λ index k. ((k.types, k.first_accepted), (k.others, k.second_accepted)))
       they_begin they_exceed (FaultForFits model f g) found h
 
--- a refused text doesn't fit
+-- a rejected text doesn't fit
 unfit : (model : Model) (f g : Text) (side : Side) (refusal : Refusal) → RefusesRelated FitsFewer f g (side, refusal) model → ¬ FitFewer model f g
 unfit model f g First refusal r (types, more, of_f, of_g) = never_both model f (types ++ more) refusal.kind refusal.at of_f r
 unfit model f g Second refusal r (types, more, of_f, of_g) = never_both model g types refusal.kind refusal.at of_g r.1

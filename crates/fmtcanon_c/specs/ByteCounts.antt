@@ -18,7 +18,7 @@ abbrev pub limited_or_none : Option ℕ → ℕ
 limited_or_none None = UNBOUNDED
 limited_or_none (Some n) = limited n
 
--- 0 is answered and the numbers are put; or the text is refused, and they are as they were
+-- 0 is answered and the numbers are put; or the text is rejected, and they are as they were
 abbrev pub PutsBounds : Model → Text → CBounds → CError → ℤ → CBounds → CError → Type 0
 PutsBounds model t bounds error code bounds_now error_now =
     ((least : ℕ) × (greatest : Option ℕ) × AreBounds model t least greatest × (code ≡ pos 0)

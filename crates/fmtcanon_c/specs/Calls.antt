@@ -28,7 +28,7 @@ use Rattle.fmtcanon_c.specs.Buffers.{put}
 use Rattle.fmtcanon_c.specs.Directives.{record_of}
 use Rattle.fmtcanon_c.specs.Errors.{IsNameOf, IsRefusalCode, IsRefusedAs, IsRefusedBy}
 
--- accepted, with the error untouched, or refused
+-- accepted, with the error untouched, or rejected
 abbrev pub Checks : Text → CError → ℤ → CError → Type 0
 Checks t error code error_now =
     (IsAccepted t × (code ≡ pos 0) × (error_now ≡ error)) ⊎ IsRefusedBy First t code error_now
@@ -41,7 +41,7 @@ IsOut Why code error error_now = Why × (code ≡ NO_MEMORY) × (error_now ≡ e
 abbrev pub IsTruthCode : Type 0 → ℤ → Type 0
 IsTruthCode Is code = (Is × (code ≡ pos 1)) ⊎ ((¬ Is) × (code ≡ pos 0))
 
--- 1 where an accepted text is canonical, 0 where it isn't, with the error untouched; or refused
+-- 1 where an accepted text is canonical, 0 where it isn't, with the error untouched; or rejected
 abbrev pub AnswersCanonical : Model → Text → CError → ℤ → CError → Type 0
 AnswersCanonical model t error code error_now =
     (IsAccepted t × IsTruthCode (IsCanonicalText model t) code × (error_now ≡ error))
@@ -61,7 +61,7 @@ abbrev pub IsModelsCode : (Model → Type 0) → ℤ → Type 0
 IsModelsCode Is code = (sum : ℕ) × AreModels Is 1 ALL sum × (code ≡ pos sum)
 
 -- elements are put as they are written, where the buffer has room for them, and their number is returned; or
--- the text is refused, or memory is out for this reason
+-- the text is rejected, or memory is out for this reason
 abbrev pub PutsElements : {X Y : Type 0} → (List X → Type 0) → (List X → List Y) → (RefusalKind → ℕ → Type 0) → Type 0
     → List Y → CError → ℤ → List Y → CError → Type 0
 PutsElements Has written Refuses NeedsMemory out error code out_now error_now =
@@ -118,7 +118,7 @@ abbrev pub IsLengthAnswer : Result ℕ Refusal → CError → ℤ → CError →
 IsLengthAnswer (Ok len) error code error_now = IsLengthCode len code × (error_now ≡ error)
 IsLengthAnswer (Err refusal) error code error_now = IsRefusalCode First refusal code error_now
 
--- the length of the canonical text is answered, with the error untouched; or the text is refused
+-- the length of the canonical text is answered, with the error untouched; or the text is rejected
 abbrev pub AnswersLength : (Text → Type 0) → (RefusalKind → ℕ → Type 0) → CError → ℤ → CError → Type 0
 AnswersLength IsCanonical Refuses error code error_now =
     ((c : Text) × IsCanonical c × IsLengthCode (length c) code × (error_now ≡ error))

@@ -62,7 +62,7 @@ pub record PutsNoVerdict (fault : CompareFault) (out : Text) (answer : CComparis
   pub answer_is : answer_now ≡ answer
   pub code_is : IsFaultCode fault error code error_now
 
--- a comparison is answered, or there is a fault: one text is refused, or memory is out
+-- a comparison is answered, or there is a fault: one text is rejected, or memory is out
 abbrev pub PutsComparison : (WholeVerdict → ℕ → Type 0) → (CompareFault → Type 0) → Text → CComparison
     → CError → ℤ → Text → CComparison → CError → Type 0
 PutsComparison Is IsFault out answer error code out_now answer_now error_now =

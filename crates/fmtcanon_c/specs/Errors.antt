@@ -17,7 +17,7 @@ abbrev pub side_number : Side → ℕ
 side_number First = 0
 side_number Second = 1
 
--- a text is refused, and the error says why and where
+-- a text is rejected, and the error says why and where
 pub record IsRefusedAs (Refuses : RefusalKind → ℕ → Type 0) (side : Side) (code : ℤ)
     (error : CError) : Type 0 where
   pub kind : RefusalKind
@@ -26,7 +26,7 @@ pub record IsRefusedAs (Refuses : RefusalKind → ℕ → Type 0) (side : Side) 
   pub kind_is : error.kind ≡ number kind
   pub side_is : error.side ≡ side_number side
 
--- a text is refused by the profile
+-- a text is rejected by the profile
 abbrev pub IsRefusedBy : Side → Text → ℤ → CError → Type 0
 IsRefusedBy side t code error = IsRefusedAs (IsRefusedAt t) side code error
 

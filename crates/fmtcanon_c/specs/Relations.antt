@@ -54,7 +54,7 @@ abbrev pub AcceptsRelated : Relation → Text → Text → Model → Type 0
 AcceptsRelated relation first second model =
     AcceptsText (relation_language relation) model first × AcceptsText (relation_language relation) model second
 
--- the first text is refused, or it is accepted and the second refused
+-- the first text is rejected, or it is accepted and the second rejected
 abbrev pub RefusesRelated : Relation → Text → Text → Side × Refusal → Model → Type 0
 RefusesRelated relation first second stop model =
     RefusesOne (AcceptsText (relation_language relation) model) (RefusesText (relation_language relation) model)
@@ -72,13 +72,13 @@ is_nowhere (Ok None) = Ok true
 is_nowhere (Ok (Some index)) = Ok false
 is_nowhere (Err stop) = Err stop
 
--- one is refused, and the error says which, why and where
+-- one is rejected, and the error says which, why and where
 abbrev pub IsRefusalIn : (Side × Refusal → Type 0) → ℤ → CError → Type 0
 IsRefusalIn Refuses code error =
     (stop : Side × Refusal) × Refuses stop × IsRefusalCode stop.0 stop.1 code error
 
 -- 1 where two accepted texts are related, and where they have one canonical text, 0 where they aren't and
--- don't, with the error untouched; or one is refused
+-- don't, with the error untouched; or one is rejected
 abbrev pub AnswersRelation : Relation → Model → Text → Text → CError → ℤ → CError → Type 0
 AnswersRelation relation model first second error code error_now =
     (AcceptsRelated relation first second model × IsTruthCode (AreRelated relation model first second) code
@@ -92,7 +92,7 @@ OneIsFit = (model : Model) (first second : Text) (error error_now : CError) (cod
     → AnswersRelation FitsFewer model first second error code error_now → (code ≡ pos 1) ↔ FitFewer model first second
 
 -- the data models in which they are related, where both are accepted in all, with the error untouched; or
--- one is refused in the first data model in which one is
+-- one is rejected in the first data model in which one is
 abbrev pub AnswersRelationModels : Relation → Text → Text → CError → ℤ → CError → Type 0
 AnswersRelationModels relation first second error code error_now =
     (AllByRecursion (AcceptsRelated relation first second) ALL

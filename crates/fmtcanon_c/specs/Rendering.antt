@@ -32,7 +32,7 @@ IsTypeError model t args code error =
     × IsArgumentError WRONG_TYPE error.at code error
 
 -- What is printed and a zero are put, where the buffer has room for them, and its length is answered;
--- no memory holds a text with 2^63 bytes. Or the text is refused, or the arguments are.
+-- no memory holds a text with 2^63 bytes. Or the text is rejected, or the arguments are.
 abbrev pub PutsPrinted : Model → Text → List CArgument → Text → CError → ℤ → Text → CError → Type 0
 PutsPrinted model t args out error code out_now error_now =
     RendersToBy type_in_c value_in_c model t args (λ printed. (error_now ≡ error)

@@ -32,7 +32,7 @@ pub(crate) const WRONG_TYPE: u32 = 104;
 /// Added to the number of a literal kind, to keep it apart from the kinds of refusals.
 pub(crate) const LITERAL_KINDS: u32 = 200;
 
-/// `fmtcanon_error`: where and why a text is refused.
+/// `fmtcanon_error`: where and why a text is rejected.
 #[repr(C)]
 #[derive(Clone, Copy)]
 pub struct CError {

@@ -12,7 +12,7 @@ use pf_text::{Piece, Pieces, Refusal};
 use pf_values::Model;
 
 /// Returns the smallest and the largest number of bytes that a format prints in this data model,
-/// over all arguments of its types (C11 7.21.6.1). `Err` if the format is refused. Allocates
+/// over all arguments of its types (C11 7.21.6.1). `Err` if the format is rejected. Allocates
 /// nothing.
 pub fn bounds(model: Model, text: &[u8]) -> Result<Bounds, Refusal>
     ensures { MatchResult result (λ b. AreBounds model text.now b.least b.greatest)
@@ -24,7 +24,7 @@ pub fn bounds(model: Model, text: &[u8]) -> Result<Bounds, Refusal>
     }
 }
 
-// `bounds` of any text, also of one that is refused. Never inlined, since it is rare.
+// `bounds` of any text, also of one that is rejected. Never inlined, since it is rare.
 #[inline(never)]
 fn bounds_by_pieces(model: Model, text: &[u8]) -> Result<Bounds, Refusal>
     ensures { MatchResult result (λ b. AreBounds model text.now b.least b.greatest)

@@ -44,7 +44,7 @@ module _ {S : Type 0} {given : S → S → Text → Type 0} (laws : IsSink given
   more_taken old mid new r q p text at n h g = subst (PutsBytes given old new r p) (sym (take-add at n text))
       (both_taken old mid new r q p (take at text) (take n (drop at text)) h g)
 
-  -- a part is refused after others
+  -- a part is rejected after others
   pub refused_behind : (model : Model) (t out more later : Text) (text : Text) (at : ℕ) (refusal : Refusal)
       → RefusesBlock model (t ++ take at text) ((out ++ more) ++ later) (drop at text) refusal → RefusesBlock model t (out ++ (more ++ later)) text refusal
   refused_behind model t out more later text at refusal h = record {
@@ -67,7 +67,7 @@ pub item_taken : {S : Type 0} (given : S → S → Text → Type 0) (old new : S
     → PutsBytes given old new r q (take len text)
 item_taken given old new r q text len h = h
 
--- one byte more is refused
+-- one byte more is rejected
 pub refused_byte : (model : Model) (r : Transducer) (t out text : Text) (at : ℕ) → at < length text → (items : List Item)
     → IsThrough model r (t ++ take at text) items out → (refusal : Refusal) → TakesByte model (t ++ take at text) items out (get_or text at 0) (Err refusal) r
     → RefusesBlock model t (out ++ []) text refusal

@@ -152,7 +152,7 @@ module _ (model : Model) (old new : Transducer) (start left : Known) (taken give
       }),
     )
 
-    -- the byte is refused
+    -- the byte is rejected
     pub refuses : (refusal : Refusal) (P : Type 0) → P → TakesByte model taken items given byte (Err refusal) new
         → (more : Text) × (IsRefusedBehind start left (taken ++ more) refusal × SettlesTo model (taken ++ more) given × IsReadFor model (taken ++ more) given
         × P)
@@ -185,7 +185,7 @@ module _ (model : Model) (r : Transducer) (start left : Known) (taken given : Te
           read = read;
         })
 
-    -- the end is refused
+    -- the end is rejected
     pub refuses_end : (refusal : Refusal) (P : Type 0) → P → SettlesEnd model taken items given (Err refusal)
         → (more : Text) × (IsRefusedBehind start left (taken ++ more) refusal × SettlesTo model (taken ++ more) given × IsReadFor model (taken ++ more) given
         × P)

@@ -57,7 +57,7 @@ module _ (model : Model) (t : Text) where
       ∙ ap (drop (length (taken ++ last ∷ []))) (cut.2 ∙ sym (append_assoc taken (last ∷ []) rest)) ∙ drop-append_seam (taken ++ last ∷ []) rest in
       (rw cut.2 (refused rest), rw front settles, cut.1 ∙ ap Some (sym behind))
 
-  -- the text is refused
+  -- the text is rejected
   pub run_refused : (left : Known) (taken given : Text) (refusal : Refusal) → IsRefusedBehind (Some t) left taken refusal → SettlesTo model taken given
       → RunEnds model t left given (Err (faults.Refused refusal))
   run_refused left taken given refusal h settles = elim h.cause [

@@ -110,7 +110,7 @@ pub record IsInTime (model : Model) (taken given : Text) (byte : ℕ) : Type 0 w
   pub begins : settled ≡ (given ++ byte ∷ []) ++ rest
   pub lean : IsLean model taken given
 
--- after `taken` the text ends, or goes on with a byte that is refused however it goes on
+-- after `taken` the text ends, or goes on with a byte that is rejected however it goes on
 pub record IsRefusedBehind (start left : Known) (taken : Text) (refusal : Refusal) : Type 0 where
   pub offset : refusal.at ≡ length taken
   pub cause : (
@@ -253,7 +253,7 @@ module _ {R : Type 0} (known : R → Known) where
       old.transducer old.reader r new.transducer new.reader
 
 -- What a run over a reader that had the text `t` has given where it ends: at the end all of the
--- canonical text, and before a fault just what is settled of what was taken. A byte that is refused
+-- canonical text, and before a fault just what is settled of what was taken. A byte that is rejected
 -- was taken, and none after it.
 abbrev pub RunEnds : Model → Text → Known → Text → Result (Unit {0}) StreamFault → Type 0
 RunEnds model t left given (Ok done) =

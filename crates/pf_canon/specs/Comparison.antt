@@ -132,7 +132,7 @@ pub record AreTextsSame (model : Model) (f g : Text) (is : Bool) : Type 0 where
   pub same : IsTrue is ↔ AreEquivalent model f g
   pub one : IsTrue is ↔ HaveOneCanonical model f g
 
--- the first is refused, or the first is accepted and the second refused
+-- the first is rejected, or the first is accepted and the second rejected
 abbrev pub TextStops : Text → Text → Side × Refusal → Type 0
 TextStops f g stop = RefusesOne IsAccepted IsRefusedAt f g stop.0 stop.1
 

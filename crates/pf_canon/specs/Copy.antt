@@ -86,7 +86,7 @@ pub record FirstOut (model : Model) (taken : Text) (w x : Known) (written : ℕ)
   pub fewer : written < length settled
   pub writer : Appends w x (take written settled)
 
--- the byte `last` after `front` is refused, and just what `front` settles went out
+-- the byte `last` after `front` is rejected, and just what `front` settles went out
 pub record IsRefusedAfter (model : Model) (front : Text) (last : ℕ) (w x : Known)
     (refusal : Refusal) : Type 0 where
   pub offset : refusal.at ≡ length front
@@ -148,7 +148,7 @@ pub record EndsWithin (model : Model) (start left w x : Known) (front : Text)
   pub refused : IsRefusedAt front refusal.kind refusal.at
   pub out : SettledOut model front w x
 
--- A byte was refused that came with the last block: from it on no more than that was taken.
+-- A byte was rejected that came with the last block: from it on no more than that was taken.
 pub record StopsInBlock (model : Model) (start left w x : Known) (front : Text) (last : ℕ)
     (rest : Text) (refusal : Refusal) : Type 0 where
   pub reader : Consumes start left (front ++ last ∷ rest)

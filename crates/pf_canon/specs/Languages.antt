@@ -20,7 +20,7 @@ use Rattle.pf_canon.specs.declared.limits.TheConstants.{MAX_DIRECTIVE_LEN}
 abbrev pub Front : Type 1
 Front = Model → Text → Text → Type 0
 
--- where and why a text is refused
+-- where and why a text is rejected
 abbrev pub Refuses : Type 1
 Refuses = Model → Text → RefusalKind → ℕ → Type 0
 
@@ -81,7 +81,7 @@ pub record AreSameIn (has_front : Front) (model : Model) (t u : Text) (is : Bool
   pub of_second : HasCanonicalIn has_front model u second
   pub one : IsTrue is ↔ (first ≡ second)
 
--- the first is refused, or the first is accepted and the second refused
+-- the first is rejected, or the first is accepted and the second rejected
 abbrev pub StopsIn : Front → Refuses → Model → Text → Text → Side × Refusal → Type 0
 StopsIn has_front refuses model t u stop =
     RefusesOne (IsAcceptedIn has_front model) (refuses model) t u stop.0 stop.1

@@ -29,7 +29,7 @@ pub record SettlesTo (model : Model) (t s : Text) : Type 0 where
   pub good : IsGoodFront t items part
   pub settled : IsSettled model good.splits.whole s
 
--- `s` is what the whole items of a text settle that may be refused: `front` is the longest front of
+-- `s` is what the whole items of a text settle that may be rejected: `front` is the longest front of
 -- it that isn't.
 pub record SettlesWhole (model : Model) (t s : Text) : Type 0 where
   pub front : Text
@@ -85,7 +85,7 @@ pub record GrowsByByte (model : Model) (t : Text) (items : List Item) (out : Tex
   pub through : IsThrough model new (t ++ byte ∷ []) (items ++ more)
       (out ++ byte_output_text output byte)
 
--- the byte `last` after `front` is refused, however the text goes on
+-- the byte `last` after `front` is rejected, however the text goes on
 abbrev pub StaysRefused : Text → ℕ → Refusal → Type 0
 StaysRefused front last refusal =
     (rest : Text) → IsRefusedAt (front ++ last ∷ rest) refusal.kind refusal.at
@@ -114,7 +114,7 @@ SettlesDirective model s items rest out held output still = held < 2 ^ 63
     → IsMaking model out held items (Directive s ∷ rest)
     → IsMaking model (out ++ output_text output) still items rest
 
--- The byte `last` of a text that follows `t` is refused, and what comes before it settles `out`.
+-- The byte `last` of a text that follows `t` is rejected, and what comes before it settles `out`.
 pub record RefusesBlock (model : Model) (t out text : Text) (refusal : Refusal) : Type 0 where
   pub fed : Text
   pub last : ℕ
@@ -126,7 +126,7 @@ pub record RefusesBlock (model : Model) (t out text : Text) (refusal : Refusal) 
   pub settles : SettlesTo model (t ++ fed) out
   pub few : length out < 2 ^ 128
 
--- a block that follows `t` was taken, or a byte of it is refused, and all that was taken settles `out`
+-- a block that follows `t` was taken, or a byte of it is rejected, and all that was taken settles `out`
 abbrev pub TakesBlock : Model → Text → Text → Text → Result (Unit {0}) Refusal → Transducer → Type 0
 TakesBlock model t out block (Ok done) new = (items : List Item) × IsThrough model new (t ++ block) items out
 TakesBlock model t out block (Err refusal) new = RefusesBlock model t out block refusal

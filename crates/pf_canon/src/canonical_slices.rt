@@ -83,7 +83,7 @@ impl<'a> CanonicalSlices<'a> {
         }
     }
 
-    /// Takes more, until something is pending or the text is at its end or refused.
+    /// Takes more, until something is pending or the text is at its end or rejected.
     pub(crate) fn fill<L: Language>(&mut self)
         requires { AreSlices L.has_front L.refuses self.old }
         ensures given { (model : ModelOf) (text given : Text)

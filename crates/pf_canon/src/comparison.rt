@@ -20,7 +20,7 @@ use std::io::Read;
 
 /// Returns whether the formats that two readers hand out up to their ends have equal types in this
 /// data model, and print equal bytes for all arguments. A difference doesn't stop the reading.
-/// `Err` if a text is refused or its reader fails: then the first text's fault is returned if it
+/// `Err` if a text is rejected or its reader fails: then the first text's fault is returned if it
 /// has one, and the second text is not read further. Allocates nothing.
 pub fn same_stream<R: Read, S: Read>(
     model: Model,
@@ -39,7 +39,7 @@ pub fn same_stream<R: Read, S: Read>(
 }
 
 /// Returns whether two formats have equal types in this data model, and print equal bytes for all
-/// arguments. `Err` if a text is refused: with the first text's refusal if it has one. Allocates
+/// arguments. `Err` if a text is rejected: with the first text's refusal if it has one. Allocates
 /// nothing.
 pub fn same_text(model: Model, first: &[u8], second: &[u8]) -> Result<bool, (Side, Refusal)>
     ensures { MatchResult result (AreTextsSame model first.now second.now) (TextStops first.now second.now) }
@@ -47,7 +47,7 @@ pub fn same_text(model: Model, first: &[u8], second: &[u8]) -> Result<bool, (Sid
     same_text_in::<Profile>(model, first, second)
 }
 
-/// Returns whether two formats have one canonical text in a language. `Err` if a text is refused: with the
+/// Returns whether two formats have one canonical text in a language. `Err` if a text is rejected: with the
 /// first text's refusal if it has one. Allocates nothing.
 pub fn same_text_in<L: Language>(
     model: Model,
@@ -71,7 +71,7 @@ pub fn same_text_in<L: Language>(
 }
 
 // Compares two texts that seem to differ inside a directive. If one has a byte there that no directive has, it is
-// most often refused. So both are checked first: a refused text is read once then, and not three times.
+// most often rejected. So both are checked first: a rejected text is read once then, and not three times.
 #[inline(never)]
 fn same_inside_directive<L: Language>(
     model: Model,
@@ -112,7 +112,7 @@ fn are_all(first: &[u8], second: &[u8], common: usize) -> bool
     common == first.len() && common == second.len()
 }
 
-// Compares a text with itself: it is accepted, or refused.
+// Compares a text with itself: it is accepted, or rejected.
 #[inline(always)]
 fn same_itself<L: Language>(model: Model, text: &[u8]) -> Result<bool, (Side, Refusal)>
     ensures { MatchResult result (AreSameIn L.has_front model text.now text.now)

@@ -25,7 +25,7 @@ use std::io::{Read, Write};
 pub(crate) type WriteBuffer = ArrayVec<u8, GATHERED>;
 
 /// Writes the canonical text, in this data model, of what the reader hands out up to its end. It
-/// reads a block at a time, and doesn't flush. `Err` if the text is refused, or if the reader or
+/// reads a block at a time, and doesn't flush. `Err` if the text is rejected, or if the reader or
 /// the writer fails.
 pub fn canonical_stream<R: Read, W: Write>(
     model: Model,
@@ -77,7 +77,7 @@ pub fn copy_canonical<R: Read, W: Write>(
     }
 }
 
-// Copies a block. What it settles goes out by its end, and before a byte of it that is refused.
+// Copies a block. What it settles goes out by its end, and before a byte of it that is rejected.
 #[inline(always)]
 fn copy_block<W: Write>(
     transducer: &mut Transducer,

@@ -15,7 +15,7 @@ use pf_values::{ArgType, Model};
 /// Whether two texts whose first `common` bytes are equal are known to differ. Either these are whole
 /// items, and then come different ordinary characters, or one text ends: so they print different bytes
 /// for all arguments. Or one goes on with `%`, and they take arguments of different types. False if
-/// neither is so, if they differ in a directive, or if a text is refused.
+/// neither is so, if they differ in a directive, or if a text is rejected.
 #[inline(always)]
 pub(crate) fn differ_after<L: Language>(
     model: Model,

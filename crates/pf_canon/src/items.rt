@@ -22,7 +22,7 @@ use std::slice;
 
 /// Puts the canonical text of a stretch, that is, of the items from an offset on which are of the profile or
 /// which the language passes. Those up to the offset of a walk are verbatim. Returns where it ends: mostly at
-/// the end, and earlier where the text is refused or has another item that the profile lacks.
+/// the end, and earlier where the text is rejected or has another item that the profile lacks.
 #[inline(always)]
 pub(crate) fn put_stretch<L: Language, S: Sink>(
     model: Model,

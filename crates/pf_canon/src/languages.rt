@@ -28,12 +28,12 @@ pub trait Language: Passed {
     // a front of a text that is empty or ends with an item of its own has this canonical text
     ghost has_front: { Front };
 
-    // where and why a text is refused
+    // where and why a text is rejected
     ghost refuses: { Refuses };
 
     /// Returns the item of its own at an offset of a text. What comes before it is accepted, and no item of the
     /// profile begins there that ends within the limit. `None` at the end of the text. `Err` if the text is
-    /// refused there.
+    /// rejected there.
     fn other_at(model: Model, text: &[u8], at: usize) -> Result<Option<OtherItem>, Refusal>
         requires within { at ≤ length text.now }
         requires front { IsAcceptedIn has_front model (take at text.now) }
@@ -80,7 +80,7 @@ pub(crate) fn put_others<L: Language, S: Sink>(
     Ok(())
 }
 
-/// Checks whether a text is accepted in a language. `Err` if it is refused. Allocates nothing.
+/// Checks whether a text is accepted in a language. `Err` if it is rejected. Allocates nothing.
 pub fn check_in<L: Language>(model: Model, text: &[u8]) -> Result<(), Refusal>
     ensures { MatchResult result (λ _. IsAcceptedIn L.has_front model text.now)
         (λ refusal. L.refuses model text.now refusal.kind refusal.at) }

@@ -1,5 +1,5 @@
 //! A fast way to see whether a text is canonical. It decides only the cases that it is sure of: other
-//! texts are left to the transducer, which also finds out why one is refused.
+//! texts are left to the transducer, which also finds out why one is rejected.
 ghost use Rattle.std.specs.Prelude.{◌≡◌, false, MatchOption, ⊤};
 ghost use Rattle.pf_values.specs.meaning.Items.{IsAccepted};
 ghost use Rattle.pf_canon.specs.Languages.{DecidesIn};
@@ -12,7 +12,7 @@ use pf_values::Model;
 use pf_values::limits::MAX_TEXT_LEN;
 
 /// Whether a text is canonical in a language and data model. `None` if that isn't known, as for a text that is
-/// refused.
+/// rejected.
 pub(crate) fn known_canonical<L: Language>(model: Model, text: &[u8]) -> Option<bool>
     ensures { MatchOption result ⊤ (DecidesIn L.has_front model text.now) }
 {

@@ -40,7 +40,7 @@ impl Transducer {
     }
 
     /// Takes a block of a text, and puts what it settles: whole items in one go, and byte by byte an item that
-    /// begins before it, ends after it, or is refused. `Err` if a byte is refused: then what comes
+    /// begins before it, ends after it, or is rejected. `Err` if a byte is rejected: then what comes
     /// before it was put.
     pub(crate) fn put<S: Sink>(&mut self, block: &[u8], sink: &mut S) -> Result<(), Refusal>
         ensures { (more : Text) × S.given sink.old sink.new more

@@ -32,7 +32,7 @@ impl<'a> VerbatimFront<'a> {
     }
 
     /// Returns whether all bytes of the format are verbatim, as they are in most. Then it is accepted,
-    /// and its own canonical text. False for a refused text, and for some formats that are canonical,
+    /// and its own canonical text. False for a rejected text, and for some formats that are canonical,
     /// too.
     #[inline(always)]
     pub fn is_all<L: Language>(&self, text: &[u8]) -> bool

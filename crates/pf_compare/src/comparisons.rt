@@ -26,7 +26,7 @@ use thiserror::Error;
 
 /// Compares two formats in a data model. Equivalent ones are `Same`. Otherwise they differ in their
 /// types, or the first probe is given for which they print different bytes. `Err` if a text is
-/// refused, the first before the second, or if memory is refused. Allocates only for arguments: if
+/// rejected, the first before the second, or if memory is refused. Allocates only for arguments: if
 /// both are accepted, have the same types, and are not equivalent.
 pub fn compare(
     alloc: Global,
@@ -241,7 +241,7 @@ pub struct Comparison {
 /// Why two texts are not compared.
 #[derive(Clone, Copy, Debug, PartialEq, Eq, Error)]
 pub enum CompareFault {
-    /// The text of this side is refused.
+    /// The text of this side is rejected.
     #[error("{1}")]
     Refused(Side, Refusal),
     /// An allocation failed.

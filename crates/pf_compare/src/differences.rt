@@ -30,7 +30,7 @@ pub(crate) enum ItemDifference {
     Nowhere,
     /// In one directive alone.
     Lone(LoneDifference),
-    /// That wasn't found out, or one of them is refused.
+    /// That wasn't found out, or one of them is rejected.
     Unknown,
 }
 

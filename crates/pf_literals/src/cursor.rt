@@ -60,7 +60,7 @@ impl Cursor {
         self.end()
     }
 
-    /// Why the rest of a source is refused, if it is.
+    /// Why the rest of a source is rejected, if it is.
     pub(crate) fn refusal(self, source: &[u8]) -> Option<LiteralRefusal>
         ensures { MatchOption result (HasNoFault (reading_left source.now self))
             (λ refusal. reading_left source.now self ≡ Fault refusal.kind refusal.at) }

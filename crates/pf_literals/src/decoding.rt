@@ -64,7 +64,7 @@ fn append<A: Allocator>(
     }
 }
 
-// Why there are no bytes if memory was refused: the rest of the text may be refused, too.
+// Why there are no bytes if memory was refused: the rest of the text may be rejected, too.
 fn fault_of(cursor: Cursor, source: &[u8]) -> LiteralFault
     ensures { IsDecodingFault source.now cursor result }
 {

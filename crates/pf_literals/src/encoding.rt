@@ -6,7 +6,7 @@ use crate::encoded_parts::EncodedPart;
 use crate::search::verbatim_len;
 use std::alloc::{AllocError, Allocator, Global};
 
-/// Returns the one string literal of some bytes. NUL is written as `\000`; `decode` refuses such a
+/// Returns the one string literal of some bytes. NUL is written as `\000`; `decode` rejects such a
 /// literal, since a C string would end there. It allocates once, the literal's length. `Err` if memory
 /// is refused.
 pub fn encode(alloc: Global, text: &[u8]) -> Result<Vec<u8>, AllocError>

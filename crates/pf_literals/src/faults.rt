@@ -8,9 +8,9 @@ use thiserror::Error;
 #[derive(Clone, Copy, Debug, PartialEq, Eq, Error)]
 #[error("no source ({kind:?}) at byte {at}")]
 pub struct LiteralRefusal {
-    /// Why it is refused.
+    /// Why it is rejected.
     pub kind: LiteralKind,
-    /// Where it is refused.
+    /// Where it is rejected.
     pub at: u64,
 }
 

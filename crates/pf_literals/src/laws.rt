@@ -36,30 +36,30 @@ pub fn offsets_there()
     ensures within { (t : Bytes) (index at : ℕ) → IsOffsetOf t index at → at < length t }
 {}
 
-/// Proves that a text that is not a source is refused for one reason and at one offset.
+/// Proves that a text that is not a source is rejected for one reason and at one offset.
 pub fn refused_once()
     ensures { (t : Bytes) (kind other : LiteralKind) (p q : ℕ) → IsFaultAt t kind p
         → IsFaultAt t other q → (kind ≡ other) × (p ≡ q) }
 {}
 
-/// Proves that a text is a source, or it is refused.
+/// Proves that a text is a source, or it is rejected.
 pub fn read_or_refused()
     ensures { (t : Bytes) → IsReadOrRefused t }
 {}
 
-/// Proves that no text is both a source and refused.
+/// Proves that no text is both a source and rejected.
 pub fn never_both()
     ensures { (t bytes : Bytes) (kind : LiteralKind) (at : ℕ) → IsSourceOf t bytes
         → IsFaultAt t kind at → ⊥ }
 {}
 
-/// Proves that a text that is refused before its end is refused so whatever bytes follow.
+/// Proves that a text that is rejected before its end is rejected so whatever bytes follow.
 pub fn refused_for_good()
     ensures { (t more : Bytes) (kind : LiteralKind) (at : ℕ) → IsFaultAt t kind at
         → at < length t → IsFaultAt (t ++ more) kind at }
 {}
 
-/// Proves that a text that is refused at its end is a source with some more bytes.
+/// Proves that a text that is rejected at its end is a source with some more bytes.
 pub fn end_goes_on()
     ensures { (t : Bytes) (kind : LiteralKind) (at : ℕ) → IsFaultAt t kind at
         → at ≡ length t → CanGoOn t }

@@ -58,7 +58,7 @@ fn last_offset(close: usize, index: u64) -> Option<u64>
     None
 }
 
-// The offset, if the rest of the text is not refused.
+// The offset, if the rest of the text is not rejected.
 fn if_accepted(cursor: Cursor, source: &[u8], at: u64) -> Option<u64>
     ensures { IsFoundOffset source.now cursor at result }
 {

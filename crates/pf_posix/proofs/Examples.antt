@@ -30,7 +30,7 @@ stopped model t = stop_from model t 0 [] None
 abbrev plain : Model → Text → Stop
 plain model t = stop_from model t 0 ahead None
 
--- a text is refused there
+-- a text is rejected there
 refused_with : (model : Model) (t : Text) (kind : RefusalKind) (at : ℕ) → (is_end (Stop.state (stopped model t)) (Stop.rest (stopped model t)) ≡ true
     → HasGap (Stop.fetches (stopped model t))) → halts_in model (stopped model t) ≡ Some kind → Stop.at (stopped model t) ≡ at
     → IsWholeRefusedAt model t kind at
@@ -70,7 +70,7 @@ mixed : (model : Model) → IsWholeRefusedAt model (codes "%1$d%d") Mixed 5 × I
     × IsWholeRefusedAt model (codes "%*1$d") Mixed 2 × IsWholeRefusedAt model (codes "%1$*d") Mixed 4
 mixed model = (refused model _ _ _ refl, refused model _ _ _ refl, refused model _ _ _ refl, refused model _ _ _ refl)
 
--- a number is refused at the digit with which it is too large, before a `$` as a width
+-- a number is rejected at the digit with which it is too large, before a `$` as a width
 too_large : (model : Model) → IsWholeRefusedAt model (codes "%4096$d") WidthTooLarge 4 × IsWholeRefusedAt model (codes "%1$.*4096$d") PrecisionTooLarge 8
 too_large model = (refused model _ _ _ refl, refused model _ _ _ refl)
 

@@ -1,4 +1,4 @@
--- What is refused after items that are read, by the grammar.
+-- What is rejected after items that are read, by the grammar.
 use Rattle.std.proofs.Common.{◌≡◌, ◌≢◌, ℕ, ◌+◌, ◌-◌, ◌<◌, ◌≤◌, Bool, true, false, List, [], ◌∷◌, ◌++◌, length, drop, get_or, take, refl, sym, ap, ◌∙◌, arith, subst}
 use Rattle.std.proofs.Common.{inl, inr}
 use Rattle.std.specs.Prelude.{Option, Some, None, ◌==◌, ◌&&◌, ◌⊎◌, nat_le, nat_lt, if◌then◌else◌}
@@ -102,7 +102,7 @@ follows_own fs (f ∷ own) position same agreed h =
 abbrev pub IsRefused : Model → Text → Refusal → Type 0
 IsRefused model t refusal = IsWholeRefusedAt model t refusal.kind refusal.at
 
--- a text is refused after a front
+-- a text is rejected after a front
 refused_after : (model : Model) (t : Text) (at : ℕ) (kind : RefusalKind) (fetches : List Fetch) (part : Text) → IsGoodWholeFront model (take at t) fetches part
     → at ≤ length t → at ≤ MAX_TEXT_LEN → IsWholeRefusalCause model fetches part at (drop at t) kind → IsWholeRefusedAt model t kind at
 refused_after model t at kind fetches part good within limit cause =

@@ -180,7 +180,7 @@ star_numbered : (state : State) (part : Text) → IsStateAfter state part → Ha
 star_numbered (StarDigits place n) part h = h.4
 star_numbered _ part h = tt
 
--- between two items nothing but NUL is refused
+-- between two items nothing but NUL is rejected
 never_whole : (byte : ℕ) (s : WholeSpecification) → SpellsWhole (byte ∷ []) s → ⊥
 never_whole byte s h = let e = ends [] byte s h in never_empty e.state e.after
 
@@ -412,7 +412,7 @@ module _ (model : Model) (before : List Fetch) where
   retreat front byte now None g = retreat_item front byte now g (last_item g.whole g.items g.reads)
   retreat front byte now (Some to) g = retreat_part front byte now to g
 
-  -- a byte is refused where it can't follow
+  -- a byte is rejected where it can't follow
   pub halts : (front : Text) (fetches : List Fetch) (state : Option State) (byte : ℕ) (kind : RefusalKind) (g : IsFrontIn model before front fetches state)
       → next model fetches state byte ≡ Halts kind → IsWholeRefusedByte model fetches g.part byte kind
   halts front fetches (Some state) byte kind g e = refuses model fetches g.part state byte kind g.begun.0 g.begun.1

@@ -79,7 +79,7 @@ past_percent state part h some one = some (one_state state Opened part h one)
 -- the refusal of a byte after the part
 module _ (t : Text) (begin : ℕ) (numbering : Numbering) (part : Text) (position : Option ℕ) (own : List Fetch) (begun : IsBegunAs part position own)
     (follows : IsUndecided part ⊎ FollowsBy numbering position) (stop : ℕ) (bytes : HasBytes t begin stop part) (kind : RefusalKind) (refusal : Refusal) where
-  -- why it is refused, after fetches of any numbering that may be there
+  -- why it is rejected, after fetches of any numbering that may be there
   abbrev pub Wrong : Type 0
   Wrong = (model : Model) (fetches : List Fetch) → (own ≡ [] → numbering_of fetches ≡ numbering)
       → IsUndecided part ⊎ FollowsBy (numbering_of fetches) position → IsWrong model fetches part (get_or t stop 0) kind
@@ -289,7 +289,7 @@ module _ (t : Text) (start begin : ℕ) (numbering : Numbering) (position : Opti
       digits_halt t start begin numbering (Precision position set width) (before ++ 46 ∷ []) read.0 n stop h (before, spelled, refl) follows
       ((c.digits, digits, ap (λ u. 46 ∷ u) c.spelled), few) read.2 ends
 
--- Where a specification is refused, no defined one begins.
+-- Where a specification is rejected, no defined one begins.
 -- the text is the beginning of a specification, which may follow others of a numbering
 record IsBegun (numbering : Numbering) (t : Text) : Type 0 where
   state : State
@@ -328,7 +328,7 @@ harmless Numbered f = (other f ∷ [], refl, go f.number refl) where
 
 module _ (numbering : Numbering) (part : Text) (byte : ℕ) (state : State) (at : IsStateAfter state part) (kind : RefusalKind)
     (refused_byte : (fetches : List Fetch) → numbering_of fetches ≡ numbering → IsWholeRefusedByte Lp64 fetches part byte kind) where
-  -- the byte isn't refused that goes on
+  -- the byte isn't rejected that goes on
   goes_on : (to : State) → step state (sign_of byte) ≡ Some to → MayGoOn numbering to → ⊥
   goes_on to e follows = go (fetched_on (sign_of byte) state) refl where
     never : (o : Option Fetch) (fetches : List Fetch) → numbering_of fetches ≡ numbering → fetched_on (sign_of byte) state ≡ o
@@ -406,7 +406,7 @@ pub halt_begins_none : (t : Text) (start : ℕ) (numbering : Numbering) (positio
 halt_begins_none t start numbering position own refusal h text rest s spelled e follows defined =
     halt_begins t start numbering position own refusal h text rest s spelled e follows (λ some. let no : None ≡ Some refusal.kind = sym defined ∙ some in cc)
 
--- if it is refused for no combination of parts, none begins there
+-- if it is rejected for no combination of parts, none begins there
 pub halt_begins_no : (t : Text) (start : ℕ) (numbering : Numbering) (position : Option ℕ) (own : List Fetch) (refusal : Refusal)
     → IsHalt t start numbering position own refusal → is_of_combination refusal.kind ≡ false → BeginsNoAfter numbering (drop start t)
 halt_begins_no t start numbering position own refusal h early text rest s spelled e follows =
@@ -420,7 +420,7 @@ halt_begins_no t start numbering position own refusal h early text rest s spelle
           → is_undefined_as set width precision modifier conversion kind ≡ true → is_of_combination kind ≡ true
       of_combination set width precision modifier conversion kind h = grind arith
 
--- a byte that isn't allowed is refused for no combination
+-- a byte that isn't allowed is rejected for no combination
 pub stray_early : (t : Text) (at : ℕ) (kind : RefusalKind) (refusal : Refusal) → IsStrayAt t at kind refusal → is_of_combination kind ≡ false
     → is_of_combination refusal.kind ≡ false
 stray_early t at kind refusal h early = elim (cases_lt at (length t)) [

@@ -222,7 +222,7 @@ all_numbered (f ∷ fs) all within = (one f.number all.0 within.0, all_numbered 
   one (Some zero) e h = let no = (h 0 refl).0 in absurd (omega (arith, no))
   one (Some (suc n)) e h = (n, refl)
 
--- only at its end is a text refused because it leaves an argument out
+-- only at its end is a text rejected because it leaves an argument out
 module _ (model : Model) (fetches : List Fetch) (part : Text) (at : ℕ) where
   wrong : (byte : ℕ) → ¬ IsWrong model fetches part byte MissingArgument
   wrong byte (inl e) = cc
@@ -246,7 +246,7 @@ module _ (model : Model) (fetches : List Fetch) (part : Text) (at : ℕ) where
     never false false true e = let no = e.0 in cc
     never false false false e = wrong byte e.1
 
--- the items of a text that is refused so
+-- the items of a text that is rejected so
 pub record LeavesOut (model : Model) (t : Text) : Type 0 where
   pub items : List WholeItem
   pub reads : ReadsWhole t items

@@ -176,7 +176,7 @@ module _ (model : Model) (t : Text) (at : ℕ) (table : Table) (h : IsTabledTo m
         holds = subst (TableHolds table) (sym same) h.holds;
       }
 
-  -- one that is refused
+  -- one that is rejected
   module _ (refused : Refused) (k : IsRefusedIn t at Numbered refused) where
     halts_there : HaveOneType (there ++ of_stars refused.stars) → IsRefused model t refused.refusal
     halts_there one =

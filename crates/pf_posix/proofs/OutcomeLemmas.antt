@@ -1,5 +1,5 @@
 -- What a step of a specification keeps, and what its end tells; and the outcome of a byte is a refusal exactly where the
--- definitions refuse it.
+-- definitions reject it.
 use Rattle.std.proofs.Common.{◌≡◌, ◌≢◌, ℕ, ◌+◌, ◌-◌, ◌*◌, ◌<◌, Bool, true, false, List, [], ◌∷◌, ◌++◌, drop, refl, sym, ap, ap₂, ◌∙◌, subst, arith, inl, inr}
 use Rattle.std.specs.Prelude.{Option, Some, None, is_some, ◌⊎◌, MatchBool, ◌==◌, if◌then◌else◌, ⊤}
 use Rattle.std.specs.List.{AllByRecursion}
@@ -91,7 +91,7 @@ no_errno state byte known = false_from_ne_true (ends_errno state byte) (λ e. kn
   letter_is Opened byte e = eqb-true byte 109 e
   letter_is _ byte e = cc
 
--- what is refused for no mixing begins or ends as its sign says, which is neither NUL nor `%`
+-- what is rejected for no mixing begins or ends as its sign says, which is neither NUL nor `%`
 module _ (model : Model) (fetches : List Fetch) (state : State) where
   pub completes_sign : (sign : Sign) → mixes state (numbering_of fetches) sign ≡ false → (s : WholeSpecification) → finish state sign ≡ Some s
       → by_sign model fetches state sign ≡ ended model fetches s (undefined_of s)

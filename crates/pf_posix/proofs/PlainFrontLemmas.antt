@@ -336,7 +336,7 @@ module _ (model : Model) (t : Text) (at : ℕ) (old new : List WholeArgType) (co
       subst (λ l. HasCount model t l last n) (h.front ∙ ap (λ l. filled old (wanted_types l)) nothing ∙ filled_none old) k
   front_others last (Err refusal) k none = k
 
--- a specification that is refused after items without numbers
+-- a specification that is rejected after items without numbers
 pub plain_refused : (model : Model) (t : Text) (at count : ℕ) (refused : Refused) → HasPlainItems model t at count → length t ≤ MAX_TEXT_LEN → at ≤ length t
     → IsRefusedIn t at (numbering_after count) refused → IsRefused model t refused.refusal
 plain_refused model t at count refused h few low k =

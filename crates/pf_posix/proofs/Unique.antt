@@ -190,7 +190,7 @@ module _ (model : Model) (front : Text) (at : ℕ) (fetches : List Fetch) (kind 
     none : (state : Option State) → is_end state (byte ∷ rest) ≡ true → HasGap fetches
     none state e = grind arith
 
--- a text is refused where it stops
+-- a text is rejected where it stops
 pub refused_there : (model : Model) (t : Text) (s : Stop) (kind : RefusalKind) → IsStopped model [] t s kind
     → (is_end s.state s.rest ≡ true → HasGap s.fetches) → IsWholeRefusedAt model t kind s.at
 refused_there model t s kind h gap = record {
@@ -205,7 +205,7 @@ refused_there model t s kind h gap = record {
   cause = cause model h.front s.at s.fetches kind s.rest s.state h.good h.halts gap;
 }
 
--- and a refused text stops there
+-- and a rejected text stops there
 pub said : (model : Model) (t : Text) (kind : RefusalKind) (at : ℕ) → IsWholeRefusedAt model t kind at → (fetches : List Fetch) × (state : Option State)
     × (rest : Text) × IsStopped model [] t (stop at fetches state rest) kind × (is_end state rest ≡ true → HasGap fetches)
 said model t kind at h =
@@ -248,7 +248,7 @@ module _ (model : Model) (t : Text) (fs : List Fetch) (h : Taken model t fs) whe
     | inr gap ↦ inr (MissingArgument, length t, missing gap)
   ]
 
--- a text is accepted, or refused
+-- a text is accepted, or rejected
 pub one_of_both : (model : Model) (t : Text) → IsAcceptedOrRefused model t
 one_of_both model t = elim (ends_or_halts model [] t agreed_none) [
   | inl (fetches, g, limit) ↦ settled_taken model t fetches

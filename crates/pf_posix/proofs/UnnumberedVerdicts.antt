@@ -1,5 +1,5 @@
 -- Texts in which no argument may have a number. They are read as if a specification without numbers came before: a `$`
--- after a first number is then refused as Mixed, and everything other than that is as ever.
+-- after a first number is then rejected as Mixed, and everything other than that is as ever.
 use Rattle.std.proofs.Common.{◌≡◌, ℕ, ◌<◌, ◌≤◌, Bool, true, false, List, [], ◌∷◌, ◌++◌, length, refl, sym, ap, ◌∙◌, arith, subst, inl, inr, ◌≢◌, ◌+◌, drop, get_or}
 use Rattle.std.proofs.Common.{take}
 use Rattle.std.specs.Prelude.{Option, Some, None, ◌⊎◌, ◌==◌, if◌then◌else◌}
@@ -80,7 +80,7 @@ free_numbering : (seen : List Fetch) → AreFree seen → (numbering_of seen ≡
 free_numbering [] h = inl refl
 free_numbering (f ∷ seen) h = inr (ap numbering_by h.0)
 
--- a byte that isn't one is refused as ever
+-- a byte that isn't one is rejected as ever
 same_outcome : (model : Model) (rest : List Fetch) (state : State) (byte : ℕ) → (numbering_of rest ≡ Undecided) ⊎ (numbering_of rest ≡ Unnumbered)
     → is_dollar (Some state) (sign_of byte) ≡ false → outcome model (first_one ∷ rest) state byte ≡ outcome model rest state byte
 same_outcome model rest state byte free other = grind arith
@@ -342,7 +342,7 @@ module _ (model : Model) (t : Text) (at : ℕ) (within : at ≤ length t) (front
         let room = not_full at inside.1 in
         begins_here inside.0 0 (sym (get_or-take MAX_TEXT_LEN t at 0 inside.1) ∙ zero_there other) NulByte (rw room refl)
 
--- a `$` that is refused as Mixed numbers an argument
+-- a `$` that is rejected as Mixed numbers an argument
 at_dollar : (model : Model) (rest : List Fetch) (state : State) (kind : RefusalKind) → MayGoOn Unnumbered state
     → next model (first_one ∷ rest) (Some state) 36 ≡ Halts kind
     → numbered_instead (36 ∷ []) kind 0 ≡ (if is_dollar (Some state) (sign_of 36) then Numbered else kind)

@@ -7,7 +7,7 @@ use Rattle.pf_text.specs.declared.refusals.Refusal.{Refusal}
 use Rattle.pf_values.specs.declared.refusals.RefusalKind.{RefusalKind}
 use Rattle.pf_values.specs.declared.refusals.RefusalKind.TheVariants.{Mixed, NulByte, Numbered, TooLong, Truncated}
 
--- the kind of a refusal in such a trace: a `$` that is refused as Mixed numbers an argument
+-- the kind of a refusal in such a trace: a `$` that is rejected as Mixed numbers an argument
 abbrev pub numbered_instead : Text → RefusalKind → ℕ → RefusalKind
 numbered_instead t Mixed at = if get_or t at 0 == dollar then Numbered else Mixed
 numbered_instead t kind at = kind
@@ -17,7 +17,7 @@ abbrev pub end_refusal : Text → ℕ → Refusal
 end_refusal t at = if get_or t at 0 == 0 then record { kind = NulByte; at = at }
     else record { kind = Truncated; at = length t }
 
--- the refusal of a text whose front up to the limit is refused so
+-- the refusal of a text whose front up to the limit is rejected so
 abbrev pub refusal_of_long : Text → Refusal → Refusal
 refusal_of_long t refusal = if nat_lt MAX_TEXT_LEN (length t) && nat_le MAX_TEXT_LEN refusal.at
     then record { kind = TooLong; at = MAX_TEXT_LEN } else refusal

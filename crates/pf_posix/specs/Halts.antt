@@ -1,4 +1,4 @@
--- At which byte a specification is refused, and why, as the code reads it part by part. No public contract names
+-- At which byte a specification is rejected, and why, as the code reads it part by part. No public contract names
 -- these.
 use Rattle.std.specs.Prelude.{◌≡◌, ℕ, ◌-◌, ◌<◌, ◌≤◌, Bool, true, false, List, [], ◌∷◌, ◌++◌, drop, get_or, is_some, length, Option, Some, None, ◌⊎◌, ◌==◌, if◌then◌else◌, ⊤}
 use Rattle.pf_values.specs.declared.flags.FlagSet.{FlagSet}
@@ -24,11 +24,11 @@ use Rattle.pf_posix.specs.Specifications.{Amount, WholeSpecification}
 use Rattle.pf_posix.specs.Spelling.{SpellsWhole, SpellsUpToFlags, SpellsUpToWidth}
 use Rattle.pf_posix.specs.Types.{fetch, int_type, star_fetches}
 
--- why a byte is refused where it isn't allowed: NUL and `%` have kinds of their own
+-- why a byte is rejected where it isn't allowed: NUL and `%` have kinds of their own
 abbrev pub stray : ℕ → RefusalKind → RefusalKind
 stray byte kind = if byte == 0 then NulByte else if byte == percent then BadPercent else kind
 
--- a text is refused at an offset because its byte isn't allowed there, or because it ends
+-- a text is rejected at an offset because its byte isn't allowed there, or because it ends
 pub record IsStrayAt (t : Text) (at : ℕ) (kind : RefusalKind) (refusal : Refusal) : Type 0 where
   pub at_is : refusal.at ≡ at
   pub inside : at < length t → refusal.kind ≡ stray (get_or t at 0) kind
@@ -38,7 +38,7 @@ pub record IsStrayAt (t : Text) (at : ℕ) (kind : RefusalKind) (refusal : Refus
 abbrev pub FollowsBy : Numbering → Option ℕ → Type 0
 FollowsBy numbering position = Follows numbering (Some (numbering_by position))
 
--- The text from an offset on begins a specification, which has fetched this, up to where it is refused, after
+-- The text from an offset on begins a specification, which has fetched this, up to where it is rejected, after
 -- specifications of a numbering.
 pub record IsHalt (t : Text) (start : ℕ) (numbering : Numbering) (position : Option ℕ) (own : List Fetch)
     (refusal : Refusal) : Type 0 where
@@ -155,7 +155,7 @@ pub record IsDefinedAt (t : Text) (start : ℕ) (numbering : Numbering) (found :
   pub is : IsReadAt t start numbering found
   pub defined : IsWholeDefined (specification_read found.0)
 
--- no such specification begins there: it can't go on where the text is refused
+-- no such specification begins there: it can't go on where the text is rejected
 pub record IsRefusedIn (t : Text) (start : ℕ) (numbering : Numbering) (refused : Refused) : Type 0 where
   pub position : Option ℕ
   pub own : List Fetch

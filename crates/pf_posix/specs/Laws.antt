@@ -13,7 +13,7 @@ use Rattle.pf_text.specs.Refusals.{RefusesOne}
 use Rattle.pf_posix.specs.Items.{Byte, Errno, HasArguments, IsWholeAccepted, WholeItem, ReadsWhole, Specification, errno, errno_letter}
 use Rattle.pf_posix.specs.Refusals.{IsWholeRefusedAt}
 
--- a text is accepted, or refused
+-- a text is accepted, or rejected
 abbrev pub IsAcceptedOrRefused : Model → Text → Type 0
 IsAcceptedOrRefused model t =
     ((types : List WholeArgType) × HasArguments model t types)
@@ -66,7 +66,7 @@ pub record ComparesBeginning (model : Model) (first second : Text) (index : Opti
   pub second_accepted : HasArguments model second others
   pub excess : IsFirstExcess types others index
 
--- one of two texts is refused, and the first of them that is
+-- one of two texts is rejected, and the first of them that is
 abbrev pub FaultForFits : Model → Text → Text → Side × Refusal → Type 0
 FaultForFits model first second fault =
     RefusesOne (IsWholeAccepted model) (IsWholeRefusedAt model) first second fault.0 fault.1
@@ -88,7 +88,7 @@ IsOfFprintf (Specification s) = ⊤
 IsOfFprintf Errno = ⊥
 
 -- The item `%m` makes no difference to a text: it is read as other items alone, and no byte of it is kept from being
--- refused since it would end `%m`.
+-- rejected since it would end `%m`.
 pub record HasNoPartOfErrno (t : Text) : Type 0 where
   pub items : (items : List WholeItem) → ReadsWhole t items → AllByRecursion IsOfFprintf items
   pub bytes : (whole part rest : Text) (byte : ℕ) → t ≡ whole ++ part ++ byte ∷ rest → part ≡ percent ∷ []

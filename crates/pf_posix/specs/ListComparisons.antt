@@ -11,7 +11,7 @@ use Rattle.pf_posix.specs.Laws.{IsFirstDifference}
 use Rattle.pf_posix.specs.Readings.{wanted_types}
 use Rattle.pf_posix.specs.Types.{int_type}
 
--- if neither text is refused, one has no more arguments than a numbered one can have
+-- if neither text is rejected, one has no more arguments than a numbered one can have
 abbrev pub AreFew : Model → Text → Text → Type 0
 AreFew model first second = (types others : List WholeArgType)
     → HasArguments model first types → HasArguments model second others

@@ -1,4 +1,4 @@
--- Where and why a text is refused. This project's own, except for the parts of a specification: the
+-- Where and why a text is rejected. This project's own, except for the parts of a specification: the
 -- standards leave an invalid one undefined (C11 7.21.6.1 p9, POSIX fprintf).
 use Rattle.std.specs.Prelude.{◌≡◌, ◌≢◌, ℕ, ◌+◌, ◌-◌, ◌*◌, ◌<◌, ◌≤◌, true, false, List, [], ◌∷◌, ◌++◌, length, Option, Some, None, ◌⊎◌, MatchBool, ◌==◌, ⊤}
 use Rattle.std.specs.List.{AllByRecursion}
@@ -94,7 +94,7 @@ abbrev pub PassesLimit : ℕ → ℕ → Type 0
 PassesLimit n byte = (is_digit byte ≡ true) × (MAX_NUMBER < 10 * n + (byte - zero_digit))
 
 -- The byte is a digit with which a width, a precision, or the number of an argument passes the limit. A number
--- right after `%` is refused as a width.
+-- right after `%` is rejected as a width.
 abbrev pub IsNumberTooLarge : Text → ℕ → RefusalKind → Type 0
 IsNumberTooLarge part byte kind = (n : ℕ) × PassesLimit n byte
     × (EndsInDigits part kind n
@@ -130,7 +130,7 @@ pub record IsUnexpected (numbering : Numbering) (part : Text) (byte : ℕ) : Typ
   pub no_whole : (s : WholeSpecification) → ¬ SpellsWhole (part ++ byte ∷ []) s
   pub no_part : (position : Option ℕ) (own : List Fetch) → ¬ IsBegunAs (part ++ byte ∷ []) position own
 
--- why a byte is refused that is neither zero nor `%`
+-- why a byte is rejected that is neither zero nor `%`
 abbrev pub IsWrong : Model → List Fetch → Text → ℕ → RefusalKind → Type 0
 IsWrong model fetches part byte kind =
     ((kind ≡ Mixed) × IsMixed part (numbering_of fetches) byte)
@@ -141,21 +141,21 @@ IsWrong model fetches part byte kind =
     × ¬ AllByRecursion (IsOneType f) fetches)
     ⊎ ((kind ≡ Unexpected) × IsUnexpected (numbering_of fetches) part byte)
 
--- why a byte is refused after a front: NUL everywhere, `%` inside a specification, and others, but not
+-- why a byte is rejected after a front: NUL everywhere, `%` inside a specification, and others, but not
 -- the letter of `%m`
 abbrev pub IsWholeRefusedByte : Model → List Fetch → Text → ℕ → RefusalKind → Type 0
 IsWholeRefusedByte model fetches part byte kind = MatchBool (byte == 0) (kind ≡ NulByte)
     (MatchBool (byte == percent) ((kind ≡ BadPercent) × (part ≢ []) × (part ≢ percent ∷ []))
     ((part ≡ percent ∷ [] → byte ≢ errno_letter) × IsWrong model fetches part byte kind))
 
--- why a text is refused after a good front of `at` bytes
+-- why a text is rejected after a good front of `at` bytes
 abbrev pub IsWholeRefusalCause : Model → List Fetch → Text → ℕ → Text → RefusalKind → Type 0
 IsWholeRefusalCause model fetches part at [] kind = ((kind ≡ Truncated) × (part ≢ []))
     ⊎ ((kind ≡ MissingArgument) × (part ≡ []) × HasGap fetches)
 IsWholeRefusalCause model fetches part at (byte ∷ rest) kind =
     MatchBool (at == MAX_TEXT_LEN) (kind ≡ TooLong) (IsWholeRefusedByte model fetches part byte kind)
 
--- the text is refused after a good front
+-- the text is rejected after a good front
 pub record IsWholeRefusedAt (model : Model) (t : Text) (kind : RefusalKind) (at : ℕ) : Type 0 where
   pub front : Text
   pub rest : Text

@@ -1,4 +1,4 @@
--- The conversion specification in which a text is refused.
+-- The conversion specification in which a text is rejected.
 use Rattle.std.specs.Prelude.{◌≡◌, ◌≢◌, ℕ, ◌≤◌, List, [], ◌++◌, ◌⊎◌, drop, length, take, Option, MatchOption}
 use Rattle.pf_values.specs.meaning.Text.{Text}
 use Rattle.pf_text.specs.Offsets.{HasBytes}
@@ -28,7 +28,7 @@ BeginsNoSpecification t = (text rest : Text) (s : WholeSpecification) → Spells
 abbrev pub IsWholeFrom : Text → ℕ → ReadSpecification → Type 0
 IsWholeFrom t begin whole = (s : WholeSpecification) × AreWholePartsAt t begin whole.end whole.offsets s
 
--- A text that is refused at an offset is items before a specification, which has begun by then. It can be read up to its
+-- A text that is rejected at an offset is items before a specification, which has begun by then. It can be read up to its
 -- end, defined or not, and has these parts; or it can't.
 pub record IsRefusedWithin (t : Text) (at : ℕ) (found : RefusedSpecification) : Type 0 where
   pub before : HasItemsTo t found.begin

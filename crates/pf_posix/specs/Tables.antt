@@ -39,7 +39,7 @@ abbrev pub ArePlaced : Stars → Type 0
 ArePlaced stars =
     IsPlacedNumber stars.width stars.width_stop × IsPlacedNumber stars.precision stars.precision_stop
 
--- the argument of a number was fetched with another type, which refuses the byte before an offset
+-- the argument of a number was fetched with another type, which rejects the byte before an offset
 abbrev pub IsConflict : List Fetch → Option ℕ → WholeArgType → ℕ → Refusal → Type 0
 IsConflict seen number wanted stop refusal = (n : ℕ) × (number ≡ Some n)
     × (conflicts seen (fetch (Some n) wanted) ≡ true)

@@ -1,5 +1,5 @@
 -- Texts of the whole language without numbered arguments: what is accepted, and where and why others
--- are refused. That the arguments have no numbers is this project's own choice.
+-- are rejected. That the arguments have no numbers is this project's own choice.
 use Rattle.std.specs.Prelude.{◌≡◌, ℕ, ◌<◌, ◌≤◌, List, ◌∷◌, ◌++◌, length, None, ◌⊎◌, ◌↔◌, ⊤}
 use Rattle.std.specs.List.{AllByRecursion}
 use Rattle.pf_values.specs.declared.limits.TheConstants.{MAX_TEXT_LEN}
@@ -53,8 +53,8 @@ pub record IsNumberedAt (t : Text) (at : ℕ) : Type 0 where
   pub offset : at ≡ length (whole ++ percent ∷ digits)
   pub limit : at < MAX_TEXT_LEN
 
--- A text is refused at this offset. Numbered: a `$` there numbers an argument, and the text is refused
--- no earlier where arguments may have numbers. Another kind: it is refused so there, too, and no `$`
+-- A text is rejected at this offset. Numbered: a `$` there numbers an argument, and the text is rejected
+-- no earlier where arguments may have numbers. Another kind: it is rejected so there, too, and no `$`
 -- numbers an argument before or at this offset.
 abbrev pub IsUnnumberedRefusedAt : Model → Text → RefusalKind → ℕ → Type 0
 IsUnnumberedRefusedAt model t Numbered at =
@@ -63,7 +63,7 @@ IsUnnumberedRefusedAt model t Numbered at =
 IsUnnumberedRefusedAt model t kind at =
     IsWholeRefusedAt model t kind at × ((other : ℕ) → IsNumberedAt t other → at < other)
 
--- a text is accepted or refused, and never both
+-- a text is accepted or rejected, and never both
 abbrev pub IsJudged : Model → Text → Type 0
 IsJudged model t =
     (IsUnnumberedAccepted t ⊎ ((kind : RefusalKind) × (at : ℕ) × IsUnnumberedRefusedAt model t kind at))

@@ -34,7 +34,7 @@ struct PlainFront {
 
 /// Returns how many arguments a format of the whole language takes in a data model (C11 7.21.6.1,
 /// paragraphs 3 to 9; POSIX fprintf on numbered arguments). Their types, as many as `out` has room
-/// for, are put at its front, and the rest of `out` is as it was. `Err` if the format is refused:
+/// for, are put at its front, and the rest of `out` is as it was. `Err` if the format is rejected:
 /// then `out` has the same length, and its contents are unspecified.
 #[inline(always)]
 pub fn arguments(model: Model, text: &[u8], out: &mut [WholeArgType]) -> Result<u64, Refusal>
@@ -169,7 +169,7 @@ fn put_any(
 }
 
 // The arguments of a format, or its refusal. The walk has come over items that take `count` arguments, none of them by
-// number, and is at a specification that has a number or is refused.
+// number, and is at a specification that has a number or is rejected.
 #[inline(never)]
 fn other_arguments(
     model: Model,
@@ -258,7 +258,7 @@ pub(crate) fn put<T: Copy>(out: &mut [T], index: usize, element: T)
 
 /// Returns the types of the arguments that a format of the whole language takes in a data model, as
 /// `arguments` defines them. The format is read twice, and it allocates once, for as many types as
-/// there are: nothing if there are none. `Err` if the format is refused, or if memory is refused.
+/// there are: nothing if there are none. `Err` if the format is rejected, or if memory is refused.
 pub fn arguments_vec(
     alloc: Global,
     model: Model,

@@ -19,7 +19,7 @@ const FEW: usize = 16;
 /// Returns where the second format takes other arguments than the first (C11 7.21.6.1, paragraph 3;
 /// POSIX fprintf on numbered arguments): `None` if the lists of their types are equal, otherwise
 /// the first index from 0 at which they differ. If one list is a prefix of the other, that is the
-/// shorter one's length. `Err` if one is refused, the first before the second.
+/// shorter one's length. `Err` if one is rejected, the first before the second.
 pub fn fits(model: Model, first: &[u8], second: &[u8]) -> Result<Option<u64>, (Side, Refusal)>
     ensures { MatchResult result (ComparesArgumentTypes model first.now second.now)
         (FaultForFits model first.now second.now) }
@@ -36,7 +36,7 @@ pub fn fits(model: Model, first: &[u8], second: &[u8]) -> Result<Option<u64>, (S
 /// Returns where the second format takes an argument that the first doesn't have, which may leave
 /// some over at the end (C11 7.21.6.1, paragraph 2): `None` if the types of the second are a
 /// beginning of those of the first, otherwise the first index from 0 at which the second has a type
-/// that the first doesn't have there. `Err` if one is refused, the first before the second.
+/// that the first doesn't have there. `Err` if one is rejected, the first before the second.
 pub fn fits_fewer(model: Model, first: &[u8], second: &[u8]) -> Result<Option<u64>, (Side, Refusal)>
     ensures { MatchResult result (ComparesBeginning model first.now second.now)
         (FaultForFits model first.now second.now) }
@@ -103,7 +103,7 @@ fn compared(model: Model, first: &[u8], second: &[u8]) -> Result<Comparison, (Si
     }
 }
 
-// Whether a format takes the arguments that it takes: it does unless it is refused.
+// Whether a format takes the arguments that it takes: it does unless it is rejected.
 #[inline(always)]
 fn with_itself(model: Model, text: &[u8]) -> Result<Option<u64>, (Side, Refusal)>
     ensures all { MatchResult result (ComparesArgumentTypes model text.now text.now)

@@ -40,7 +40,7 @@ pub struct DirectiveSpan {
 /// Lists the conversion specifications of a format of the whole language in a data model, in the order
 /// of the text (C11 7.21.6.1, paragraphs 3 to 5; POSIX fprintf on numbered arguments), and returns
 /// their number; `%%` and `%m` do not count as one. It writes them to `out` from the front, as far as there
-/// is room, and leaves the rest of `out` as it was. `Err` for the formats that `arguments` refuses:
+/// is room, and leaves the rest of `out` as it was. `Err` for the formats that `arguments` rejects:
 /// then nothing in `out` changes.
 pub fn directives(model: Model, text: &[u8], out: &mut [DirectiveSpan]) -> Result<u64, Refusal>
     ensures directives { MatchResult result

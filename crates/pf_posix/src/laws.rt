@@ -1,4 +1,4 @@
-//! Laws of the definitions: a text has one list of argument types, or is refused for one reason and
+//! Laws of the definitions: a text has one list of argument types, or is rejected for one reason and
 //! at one offset.
 ghost use Rattle.std.specs.Prelude.{◌≡◌, ◌≢◌, false, ◌++◌, ◌<◌, ℕ, List, None, Option, length, map};
 ghost use Rattle.pf_values.specs.declared.models.Model.{Model};
@@ -19,12 +19,12 @@ ghost use Rattle.pf_posix.specs.Refusals.{IsWholeRefusedAt};
 ghost use Rattle.pf_posix.specs.Types.{widened};
 ghost use Rattle.pf_posix.specs.Unnumbered.{AcceptsUnnumbered, IsJudged, IsReadOnce, IsUnnumberedRefusedAt, TypesAreKept};
 
-/// Proves that a text is accepted, or refused.
+/// Proves that a text is accepted, or rejected.
 pub fn accepted_or_refused()
     ensures { (model : Model) (t : Text) → IsAcceptedOrRefused model t }
 {}
 
-/// Proves that no text is both accepted and refused.
+/// Proves that no text is both accepted and rejected.
 pub fn never_both()
     ensures { (model : Model) (t : Text) (types : List WholeArgType)
         (kind : RefusalKind) (at : ℕ) → HasArguments model t types
@@ -43,13 +43,13 @@ pub fn directives_once()
         → HasDirectives model t directives → HasDirectives model t others → directives ≡ others }
 {}
 
-/// Proves that a text is refused for one reason at one offset.
+/// Proves that a text is rejected for one reason at one offset.
 pub fn refused_once()
     ensures { (model : Model) (t : Text) (kind other : RefusalKind) (p q : ℕ)
         → IsWholeRefusedAt model t kind p → IsWholeRefusedAt model t other q → (kind ≡ other) × (p ≡ q) }
 {}
 
-/// Proves that a text that is refused before its end is refused so whatever bytes follow.
+/// Proves that a text that is rejected before its end is rejected so whatever bytes follow.
 pub fn refused_for_good()
     ensures { (model : Model) (t more : Text) (kind : RefusalKind) (at : ℕ)
         → IsWholeRefusedAt model t kind at → at < length t → IsWholeRefusedAt model (t ++ more) kind at }
@@ -98,7 +98,7 @@ pub fn accepts_unnumbered()
 {}
 
 /// Proves that the item `%m` makes no difference to a text without these two bytes: what it is read as and why
-/// it is refused is as the standards' items alone say.
+/// it is rejected is as the standards' items alone say.
 pub fn errno_aside()
     ensures { (t : Text) → IsWithoutErrno t → HasNoPartOfErrno t }
 {}
@@ -109,19 +109,19 @@ pub fn types_are_kept()
     ensures { (model : Model) → TypesAreKept model }
 {}
 
-/// Proves that, if arguments may have no numbers, a text is accepted or refused, and never both.
+/// Proves that, if arguments may have no numbers, a text is accepted or rejected, and never both.
 pub fn judged_unnumbered()
     ensures { (model : Model) (t : Text) → IsJudged model t }
 {}
 
-/// Proves that, if arguments may have no numbers, a text is refused for one reason at one offset.
+/// Proves that, if arguments may have no numbers, a text is rejected for one reason at one offset.
 pub fn refused_unnumbered_once()
     ensures { (model : Model) (t : Text) (kind other : RefusalKind) (p q : ℕ)
         → IsUnnumberedRefusedAt model t kind p → IsUnnumberedRefusedAt model t other q
         → (kind ≡ other) × (p ≡ q) }
 {}
 
-/// Proves that no text is refused for what the profile alone lacks; nor for the number of an
+/// Proves that no text is rejected for what the profile alone lacks; nor for the number of an
 /// argument, if arguments may have numbers.
 pub fn kinds_of_refusals()
     ensures numbered { (model : Model) (t : Text) (kind : RefusalKind) (at : ℕ)

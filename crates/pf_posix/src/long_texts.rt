@@ -20,7 +20,7 @@ pub(crate) fn refusal_at(text: &[u8], at: usize) -> Refusal
     refusal(RefusalKind::Truncated, text.len())
 }
 
-/// The refusal of a text whose front up to the limit is refused so.
+/// The refusal of a text whose front up to the limit is rejected so.
 pub(crate) fn of_long(text: &[u8], refused: Refusal) -> Refusal
     ensures { result ≡ refusal_of_long text.now refused }
 {

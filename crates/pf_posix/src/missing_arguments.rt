@@ -24,7 +24,7 @@ pub struct MissingArgument {
     pub specification: SpecificationSpan,
 }
 
-/// Returns the argument that a format leaves out, which `arguments` refuses as `MissingArgument`.
+/// Returns the argument that a format leaves out, which `arguments` rejects as `MissingArgument`.
 pub fn missing_argument(model: Model, text: &[u8]) -> MissingArgument
     requires { (at : ℕ) × IsWholeRefusedAt model text.now IsMissingKind at }
     ensures { IsMissingArgument model text.now result }

@@ -154,7 +154,7 @@ impl Table {
         }
     }
 
-    // Refuses a text at its end where an argument is missing.
+    // Rejects a text at its end where an argument is missing.
     fn finish(&self, at: usize) -> Result<(), Refusal>
         requires room { self.now.count ≤ ROOM }
         ensures { (seen : List FetchOf) → TableHolds self.now seen → MatchResult result

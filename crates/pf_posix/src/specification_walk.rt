@@ -32,7 +32,7 @@ pub struct SpecificationWalk<'a> {
 }
 
 impl<'a> SpecificationWalk<'a> {
-    /// Returns a walk before the first specification of a format. `Err` for the formats that `arguments` refuses.
+    /// Returns a walk before the first specification of a format. `Err` for the formats that `arguments` rejects.
     pub fn over(model: Model, text: &'a [u8]) -> Result<SpecificationWalk<'a>, Refusal>
         ensures { MatchResult result (λ walk. IsBefore model text.now walk)
             (λ refusal. IsWholeRefusedAt model text.now refusal.kind refusal.at) }

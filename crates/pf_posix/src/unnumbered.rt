@@ -15,7 +15,7 @@ use pf_values::{Model, RefusalKind};
 
 /// Returns the opaque directive or `%m` at an offset of a text, and where it ends: the text up to there is accepted, and
 /// no item of the profile begins there that ends within the limit. `None` at the end of the text. `Err` if the
-/// text is refused there if no argument may have a number: a `$` directly after the first number of a
+/// text is rejected there if no argument may have a number: a `$` directly after the first number of a
 /// specification as `Numbered`, and everything else as by `arguments`, at the same byte. Allocates nothing.
 #[inline(always)]
 pub fn opaque_at(model: Model, text: &[u8], at: usize) -> Result<Option<(Opaque, usize)>, Refusal>
@@ -44,7 +44,7 @@ pub fn opaque_at(model: Model, text: &[u8], at: usize) -> Result<Option<(Opaque,
     }
 }
 
-// The refusal of a text in which no specification may be numbered: a `$` that is refused as Mixed numbers an
+// The refusal of a text in which no specification may be numbered: a `$` that is rejected as Mixed numbers an
 // argument.
 #[inline(never)]
 fn numbered_instead(text: &[u8], refused: Refusal) -> Refusal

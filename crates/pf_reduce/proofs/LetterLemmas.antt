@@ -36,7 +36,7 @@ use Rattle.pf_reduce.proofs.TextCores.{no_length}
 own_letters : (model : Model) (s : Specification) (conv : Conv) → refused_as s ≡ None → s.conv ≡ conv → is_text conv ≡ true → kept_letters model s ≡ s
 own_letters model s conv allowed is e = grind (arith, no_length)
 
--- the letters of a normal directive change nothing that is refused
+-- the letters of a normal directive change nothing that is rejected
 refused_kept : (model : Model) (f : FlagSet) (w p : Option ℕ) (l : Length) (conv : Conv)
     → refused_as (record { flags = f; width = w; precision = p; length = l; conv = conv }) ≡ None
     → refused_as (record { flags = f; width = w; precision = p; length = kept_length model l; conv = kept_conv conv }) ≡ None

@@ -103,7 +103,7 @@ module _ (model : Model) {A O : Type 0} {type_of : A → ArgType} {argument_of :
         (h.out, h.renders, all_written model laws h.printing (append_cancel_left h.items h.others [] same))
 
     module _ {new : Pieces} {r : Result Piece Refusal} (steps : NextReturns before (Some r) new) where
-      -- an accepted text isn't refused
+      -- an accepted text isn't rejected
       pub no_refusal : {refusal : Refusal} → r ≡ Err refusal → ⊥
       no_refusal e =
           let g = subst (λ x. NextIs (Some x) new t h.read h.items) e (steps.next t h.read h.items h.given) in

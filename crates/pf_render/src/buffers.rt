@@ -17,7 +17,7 @@ use pf_values::Model;
 
 /// Puts what a format prints for arguments of its types in this data model at the front of a buffer
 /// that has room for all of it, and leaves any other buffer as it was (C11 7.21.6.1). Returns how many
-/// bytes are printed, either way; an `Err` if the format is refused or the arguments don't fit it, and
+/// bytes are printed, either way; an `Err` if the format is rejected or the arguments don't fit it, and
 /// `Memory` if it prints 2^63 bytes or more. Allocates nothing.
 pub fn render_into<A: FormatArgument>(
     model: Model,

@@ -27,7 +27,7 @@ impl From<ShortWrite> for WriteFault {
 /// Why a format is not rendered into a writer, or not to its end.
 #[derive(Clone, Copy, Debug, PartialEq, Eq, Error)]
 pub enum RenderFault {
-    /// The text is refused.
+    /// The text is rejected.
     #[error("{0}")]
     Refused(Refusal),
     /// The format takes another number of arguments.
@@ -58,7 +58,7 @@ impl From<WriteFault> for RenderFault {
 /// Why a format is not rendered into memory.
 #[derive(Clone, Copy, Debug, PartialEq, Eq, Error)]
 pub enum RenderVecFault {
-    /// The text is refused.
+    /// The text is rejected.
     #[error("{0}")]
     Refused(Refusal),
     /// The format takes another number of arguments.

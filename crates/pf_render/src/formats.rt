@@ -16,7 +16,7 @@ use pf_values::{Arg, Counted, Model};
 use std::io::Write;
 
 /// Writes what a format prints for arguments of its types in this data model (C11 7.21.6.1). `Err`
-/// if the text is refused, or the arguments are not those that it takes: then nothing is written. A
+/// if the text is rejected, or the arguments are not those that it takes: then nothing is written. A
 /// number out of its type's range is of another type. `Err` also if the writer fails, or takes none
 /// of some bytes: then exactly the first bytes went out, as many as the fault says, and fewer than
 /// all. It doesn't flush, and allocates nothing.

@@ -14,7 +14,7 @@ use pf_text::{Piece, Pieces};
 use pf_values::{Directive, Model};
 
 /// Checks the arguments and writes what the format prints for them, in one go. False if the text is
-/// refused, if the arguments are not those that it takes, or if the writer fails; then some of it may
+/// rejected, if the arguments are not those that it takes, or if the writer fails; then some of it may
 /// have been written.
 pub(crate) fn gather<A: FormatArgument, O: Output>(
     model: Model,

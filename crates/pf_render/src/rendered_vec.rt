@@ -8,7 +8,7 @@ use pf_values::{Arg, Counted, Model};
 use std::alloc::{Allocator, Global};
 
 /// Returns the bytes that a format prints for arguments of its types in this data model (C11
-/// 7.21.6.1). `Err` if the format is refused, if the arguments are not those that it takes, or if
+/// 7.21.6.1). `Err` if the format is rejected, if the arguments are not those that it takes, or if
 /// memory is refused.
 pub fn render_vec(
     alloc: Global,

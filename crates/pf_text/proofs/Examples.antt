@@ -1,4 +1,4 @@
--- Texts that are refused, each by the whole definition, whose reason the automaton computes. docs/DEFINITIONS.md goes through them.
+-- Texts that are rejected, each by the whole definition, whose reason the automaton computes. docs/DEFINITIONS.md goes through them.
 use Rattle.std.proofs.Common.{◌≡◌, ◌≢◌, ℕ, ◌<◌, ◌≤◌, List, [], ◌∷◌, ◌++◌, length, codes, refl, sym, subst, arith, append_assoc, Ok, Err}
 use Rattle.std.proofs.lemmas.List.{append-nil}
 use Rattle.pf_values.specs.declared.limits.TheConstants.{MAX_TEXT_LEN}

@@ -1,4 +1,4 @@
--- Where no directive begins: the automaton refuses the text before it has read one.
+-- Where no directive begins: the automaton rejects the text before it has read one.
 use Rattle.std.proofs.Common.{◌≡◌, ◌≢◌, ℕ, ◌+◌, ◌-◌, ◌*◌, ◌<◌, ◌≤◌, Bool, true, false, cond, List, [], ◌∷◌, ◌++◌, length, drop, get_or, take, refl, sym, ap, ◌∙◌, arith, subst, Ok, Err, inl, inr}
 use Rattle.std.specs.Prelude.{Option, Some, None, ◌==◌, find, is_some}
 use Rattle.std.proofs.lemmas.Bool.{cases_lt, eqb-true}
@@ -53,7 +53,7 @@ pub nothing_ends : (state : State) → EndsNone state []
 nothing_ends state [] rest s split e = none_yet state s e
 nothing_ends state (b ∷ read) rest s split e = absurd (omega (arith, ap length split))
 
--- a refused byte
+-- a rejected byte
 pub refused_ends : (state : State) (byte : ℕ) (t : Text) (kind : RefusalKind) → next state byte ≡ Err kind → EndsNone state (byte ∷ t)
 refused_ends state byte t kind h [] rest s split e = none_yet state s e
 refused_ends state byte t kind h (b ∷ read) rest s split e =
@@ -90,7 +90,7 @@ other_begins byte t other read rest s split h =
     let whole : byte ∷ t ≡ percent ∷ _ = split ∙ ap (λ u. u ++ rest) h.0.whole in
     other (cc)
 
--- where the item is refused
+-- where the item is rejected
 abbrev IsRefused : Next → Type 0
 IsRefused n = (kind : RefusalKind) × (n ≡ Err kind)
 

@@ -1,4 +1,4 @@
--- A byte that is refused has the reason of that kind, and no other but Unexpected.
+-- A byte that is rejected has the reason of that kind, and no other but Unexpected.
 use Rattle.std.proofs.Common.{append_assoc, ◌≡◌, ℕ, ◌+◌, ◌-◌, ◌*◌, ◌<◌, ◌≤◌, Bool, true, false, List, [], ◌∷◌, ◌++◌, map, refl, sym, ap, ◌∙◌, arith, subst, inl}
 use Rattle.std.proofs.Common.{inr, Ok, Err}
 use Rattle.std.specs.Prelude.{Option, Some, None, ◌==◌, ◌⊎◌, Contains}
@@ -51,7 +51,7 @@ above_is n e = grind (arith, nat_tests)
 above_not : (n : ℕ) → MAX_NUMBER < n → is_above_limit (Some n) ≡ true
 above_not n h = grind (arith, nat_tests)
 
--- a number that passes the limit is refused at one of its digits
+-- a number that passes the limit is rejected at one of its digits
 width_passes : (set : FlagSet) (n d : ℕ) → d < 10 → MAX_NUMBER < n * 10 + d → moved [] (next (Width set n) (digit_glyph false d)) ≡ Err WidthTooLarge
 width_passes set n d h many =
     let digit = digit_is d h in
@@ -160,7 +160,7 @@ module _ (front : Text) (precision : Option ℕ) (q : State × List Item) (h : I
     go true many = let no = point_large front precision h before_within many in cc
     go false few = refl
 
--- a letter that is refused wherever a specification goes on
+-- a letter that is rejected wherever a specification goes on
 record IsBad (kind : RefusalKind) (byte : ℕ) : Type 0 where
   high : 57 < byte
   modifier : modifier_of byte ≡ None

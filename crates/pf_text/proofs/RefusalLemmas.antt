@@ -61,7 +61,7 @@ module _ (text : Text) (start : ℕ) (items : List Item) (end : IsItemsEnd text 
         (omega (arith, h.after.limit, length-append (take at text) (get_or text at 0 ∷ []), length-take-le at text (omega (arith, some))))
         (subst (λ u. Reads u (items ++ Directive d ∷ [])) (sym next_byte) h.says))
 
-    -- or refused
+    -- or rejected
     pub refused_there : (scanner : Scanner) (refusal : Refusal) (new : Scanner) → IsAfter scanner (take at text) items
         → Feeds (take at text) items (get_or text at 0) (Err refusal) new → NextIsRefusal text items refusal
     refused_there scanner refusal new after h =

@@ -1,4 +1,4 @@
--- What the automaton refuses is refused for the same reason at the same place.
+-- What the automaton rejects is rejected for the same reason at the same place.
 use Rattle.std.proofs.Common.{◌≡◌, ◌≢◌, ℕ, ◌<◌, ◌≤◌, Bool, true, false, List, [], ◌∷◌, ◌++◌, length, refl, sym, ap, ◌∙◌, arith, subst, Err}
 use Rattle.std.specs.Prelude.{◌==◌, MatchBool}
 use Rattle.std.proofs.lemmas.Bool.Decides.{nat_tests}

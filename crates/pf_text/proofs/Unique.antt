@@ -1,4 +1,4 @@
--- A text is refused for one reason at one place.
+-- A text is rejected for one reason at one place.
 use Rattle.std.proofs.Common.{◌≡◌, ℕ, ◌≤◌, Bool, true, false, List, [], ◌∷◌, ◌++◌, length, refl, sym, ap, ◌∙◌, arith, subst, inl, inr, Ok, Err}
 use Rattle.std.specs.Prelude.{◌⊎◌, ◌==◌, MatchBool}
 use Rattle.std.proofs.lemmas.List.{append_assoc, append-nil}
@@ -174,7 +174,7 @@ module _ (t : Text) (kind other : RefusalKind) (p q : ℕ) (h : IsRefusedAt t ki
         let none = g.longest x h.rest h.items h.part f few (subst (λ u. IsGoodFront u h.items h.part) e h.good) in
         (e ∙ ap (λ x. g.front ++ x) none ∙ append-nil g.front, sym (f ∙ ap (λ x. x ++ h.rest) none))
 
-  -- A text is refused for one reason at one place.
+  -- A text is rejected for one reason at one place.
   pub IsRefusedAt-unique : (kind ≡ other) × (p ≡ q)
   IsRefusedAt-unique =
       let places : p ≡ q = h.offset ∙ ap length same_front.0 ∙ sym g.offset in

@@ -21,7 +21,7 @@ with_step before (steps.Byte byte) = before ++ Byte byte ∷ []
 with_step before steps.Percent = before ++ Byte percent ∷ []
 with_step before (steps.Directive d) = before ++ Directive d ∷ []
 
--- The scanner was fed the text and refused none of it. The text has these whole items and the
+-- The scanner was fed the text and rejected none of it. The text has these whole items and the
 -- beginning of one more, and the state says what has been read of that.
 pub record IsAfter (scanner : Scanner) (t : Text) (whole : List Item) : Type 0 where
   pub part : Text
@@ -31,7 +31,7 @@ pub record IsAfter (scanner : Scanner) (t : Text) (whole : List Item) : Type 0 w
   pub limit : length t ≤ MAX_TEXT_LEN
   pub no_refusal : scanner.refused ≡ None
 
--- it has refused a byte
+-- it has rejected a byte
 abbrev pub HasRefused : Scanner → Refusal → Type 0
 HasRefused scanner refusal = scanner.refused ≡ Some refusal
 
@@ -39,7 +39,7 @@ HasRefused scanner refusal = scanner.refused ≡ Some refusal
 abbrev pub refusal_by : Scanner → RefusalKind → Refusal
 refusal_by scanner kind = record { kind = kind; at = scanner.offset }
 
--- the answer for a byte that is taken, or refused at the scanner's offset
+-- the answer for a byte that is taken, or rejected at the scanner's offset
 abbrev pub refused_by : Scanner → Result Step RefusalKind → Result Step Refusal
 refused_by scanner (Ok step) = Ok step
 refused_by scanner (Err kind) = Err (refusal_by scanner kind)

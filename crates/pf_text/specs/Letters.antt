@@ -1,4 +1,4 @@
--- What single bytes mean in a specification. What is refused is this project's own.
+-- What single bytes mean in a specification. What is rejected is this project's own.
 use Rattle.std.specs.Prelude.{ℕ, ◌==◌, List, [], ◌∷◌, map, filter, Option, find, if◌then◌else◌}
 use Rattle.pf_values.specs.declared.conversions.Conv.{Conv}
 use Rattle.pf_values.specs.declared.conversions.TheConstants.Conv.{ALL as all_convs}
@@ -40,7 +40,7 @@ modifier_of byte = find (λ l. first_letter l == byte)
 abbrev pub conv_of : ℕ → Option Conv
 conv_of byte = find (λ conv. conv_letter conv == byte) all_convs
 
--- why a byte is refused that can't continue a specification, wherever it comes
+-- why a byte is rejected that can't continue a specification, wherever it comes
 abbrev pub refused_letter : ℕ → RefusalKind
 refused_letter byte =
     if byte == 0 then NulByte else

@@ -63,7 +63,7 @@ pub record IsPieceAt (t : Text) (start : ℕ) (piece : Piece) (stop : ℕ) : Typ
   pub reads : Reads (take (stop - start) (drop start t)) (items_of piece)
   pub piece_is : IsPieceOf piece t start stop
 
--- the text is refused after the items that were given
+-- the text is rejected after the items that were given
 pub record NextIsRefusal (t : Text) (items : List Item) (refusal : Refusal) : Type 0 where
   pub refused : IsRefusedAt t refusal.kind refusal.at
   pub front : Text

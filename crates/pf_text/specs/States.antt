@@ -20,7 +20,7 @@ use Rattle.pf_text.specs.Stages.{State}
 use Rattle.pf_text.specs.Stages.{Between, Opened, Flags, Width, Point, Precision, Modifier}
 use Rattle.pf_text.specs.Letters.{flag_of, modifier_of, conv_of, refused_letter}
 
--- the state after the byte and the step, or why the byte is refused
+-- the state after the byte and the step, or why the byte is rejected
 abbrev pub Next : Type 0
 Next = Result (State × Step) RefusalKind
 
@@ -32,7 +32,7 @@ inside state = Ok (state, More)
 abbrev pub is_digit : ℕ → Bool
 is_digit byte = nat_le zero_digit byte && nat_le byte 57
 
--- a whole specification is a directive, unless it is refused
+-- a whole specification is a directive, unless it is rejected
 abbrev pub judgement_of : Specification → Option RefusalKind → Next
 judgement_of s None = Ok (Between, Directive s)
 judgement_of s (Some kind) = Err kind

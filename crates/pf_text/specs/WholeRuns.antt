@@ -15,7 +15,7 @@ ended_by steps.Percent = Byte percent ∷ []
 ended_by (steps.Directive d) = Directive d ∷ []
 
 -- These are all the items of a text that is accepted, or those before the item in which it is
--- refused.
+-- rejected.
 abbrev pub HasRun : Text → List Item → Result (Unit {0}) Refusal → Type 0
 HasRun t items (Ok done) = HasItems t items
 HasRun t items (Err refusal) =

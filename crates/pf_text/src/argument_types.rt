@@ -10,7 +10,7 @@ use smallvec::SmallVec;
 use std::alloc::{Allocator, Global};
 
 /// Returns the types of the arguments that a format takes in this data model. `Err` if the format
-/// is refused, or if memory is, which may happen only if there are more than eight of them.
+/// is rejected, or if out of memory, which may happen only if there are more than eight of them.
 pub fn signature(alloc: Global, model: Model, text: &[u8]) -> Result<Signature, TextFault>
     ensures { MatchResult result (λ signature. TakesTypes model text.now (types_of signature))
         (FaultForSignature model text.now) }

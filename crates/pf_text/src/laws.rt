@@ -24,13 +24,13 @@ pub fn reads_once()
         → items ≡ others }
 {}
 
-/// Proves that a text is refused for one reason and at one offset.
+/// Proves that a text is rejected for one reason and at one offset.
 pub fn refused_once()
     ensures { (t : Text) (kind other : RefusalKind) (p q : ℕ) → IsRefusedAt t kind p
         → IsRefusedAt t other q → (kind ≡ other) × (p ≡ q) }
 {}
 
-/// Proves that the profile refuses no text for a kind with a number above 18.
+/// Proves that the profile rejects no text for a kind with a number above 18.
 pub fn kinds_of_refusals()
     ensures { (t : Text) (kind : RefusalKind) (at : ℕ) → IsRefusedAt t kind at → number kind ≤ 18 }
 {}
@@ -41,7 +41,7 @@ pub fn spelled_is_read()
 {}
 
 /// Proves that repeated calls of `next` give the pieces of the items of the text, in order, and then
-/// `None`, if it is accepted. Otherwise they give those before the item in which it is refused, and then
+/// `None`, if it is accepted. Otherwise they give those before the item in which it is rejected, and then
 /// the refusal. It returns the pieces, and how they end. `Err` if memory is refused.
 pub fn whole_run_of_pieces<'a>(
     alloc: Global,
@@ -65,7 +65,7 @@ pub fn whole_run_of_pieces<'a>(
 
 /// Proves that calls of `feed` for the bytes of a text, in order, and then one of `finish` return steps
 /// that end the items of the text, in order, if it is accepted. Otherwise these end the items before
-/// the one in which it is refused, and the refusal follows. It returns the steps, and how they end.
+/// the one in which it is rejected, and the refusal follows. It returns the steps, and how they end.
 /// `Err` if memory is refused.
 pub fn whole_run_of_steps(
     alloc: Global,

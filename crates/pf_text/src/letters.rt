@@ -51,7 +51,7 @@ pub fn conv_of(byte: u8) -> Option<Conv>
     }
 }
 
-/// Why a byte is refused that can't continue a specification, wherever it comes.
+/// Why a byte is rejected that can't continue a specification, wherever it comes.
 pub(crate) fn refused_letter(byte: u8) -> RefusalKind
     ensures { result ≡ refused_letter byte }
 {

@@ -1,8 +1,8 @@
-//! Formats of the C function `printf`: which items a text has, or where and why it is refused; how
+//! Formats of the C function `printf`: which items a text has, or where and why it is rejected; how
 //! directives are spelled; the types of the arguments that a format takes.
 //!
 //! The road through a text in memory is `walk`: a loop over `Walk::find`, with a step by the part readers of
-//! `specification` for the item that it stops at. Where a text is refused or comes in blocks, `scanner` goes on
+//! `specification` for the item that it stops at. Where a text is rejected or comes in blocks, `scanner` goes on
 //! byte by byte. The shortcuts, and what a call costs with one and without, in instructions over 4,000 formats:
 //! `marks` finds each `%` of a short text in one step (`check`: 134 and 170), `passed` knows items that need no
 //! look at their parts (bare ones in `check`: 134 and 217; canonical ones in `canonical`: 227 and 463),

@@ -41,7 +41,7 @@ impl Piece<'_> {
     }
 }
 
-/// The pieces of a text, in order, up to its end or to where it is refused. Then the refusal is
+/// The pieces of a text, in order, up to its end or to where it is rejected. Then the refusal is
 /// given once.
 #[derive(Debug, Drop)]
 pub struct Pieces<'a> {

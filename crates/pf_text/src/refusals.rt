@@ -1,4 +1,4 @@
-//! Why and where a format is refused.
+//! Why and where a format is rejected.
 ghost use Rattle.std.specs.Prelude.{◌≡◌};
 ghost use Rattle.pf_text.specs.declared.refusals.TextFault.TheVariants.{Memory};
 
@@ -6,20 +6,20 @@ use pf_values::RefusalKind;
 use std::alloc::AllocError;
 use thiserror::Error;
 
-/// The kind, and the byte at which the text is refused, counted from 0.
+/// The kind, and the byte at which the text is rejected, counted from 0.
 #[derive(Clone, Copy, Debug, PartialEq, Eq, Error)]
 #[error("refused ({kind:?}) at byte {at}")]
 pub struct Refusal {
-    /// Why it is refused.
+    /// Why it is rejected.
     pub kind: RefusalKind,
-    /// Where it is refused.
+    /// Where it is rejected.
     pub at: u64,
 }
 
 /// Why there is no answer about a text.
 #[derive(Clone, Copy, Debug, PartialEq, Eq, Error)]
 pub enum TextFault {
-    /// The text is refused.
+    /// The text is rejected.
     #[error("{0}")]
     Refused(Refusal),
     /// Memory was refused.

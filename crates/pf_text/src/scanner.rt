@@ -56,10 +56,10 @@ impl Scanner {
     }
 
     /// Takes one more byte, and returns the item that it ends, if it ends one. `Err` if the byte is
-    /// refused: it isn't taken, and from then on every call returns that refusal.
+    /// rejected: it isn't taken, and from then on every call returns that refusal.
     #[inline(always)]
     pub fn feed(&mut self, byte: u8) -> Result<Step, Refusal>
-        // One more byte of a text is taken, or is refused however the text goes on.
+        // One more byte of a text is taken, or is rejected however the text goes on.
         ensures fed { (t : Text) (items : List Item) → IsAfter self.old t items
             → Feeds t items byte result self.new }
         // A refusal is kept.
@@ -80,8 +80,8 @@ impl Scanner {
         }
     }
 
-    /// Takes one more byte, as `feed`, if nothing was refused before. It returns why a byte is
-    /// refused, and doesn't keep that.
+    /// Takes one more byte, as `feed`, if nothing was rejected before. It returns why a byte is
+    /// rejected, and doesn't keep that.
     #[inline(always)]
     pub(crate) fn take(&mut self, byte: u8) -> Result<Step, RefusalKind>
         ensures fed { (t : Text) (items : List Item) → IsAfter self.old t items
@@ -176,8 +176,8 @@ impl Scanner {
         refusal_at(kind, self.offset)
     }
 
-    /// Checks whether the text so far is whole. `Err` if not: it is refused as truncated, unless a
-    /// byte of it was refused.
+    /// Checks whether the text so far is whole. `Err` if not: it is rejected as truncated, unless a
+    /// byte of it was rejected.
     pub fn finish(&self) -> Result<(), Refusal>
         ensures finished { (t : Text) (items : List Item) → IsAfter self.now t items
             → Finishes t items result }

@@ -237,7 +237,7 @@ impl Automaton {
         }
     }
 
-    /// The specification ends, or the byte is refused.
+    /// The specification ends, or the byte is rejected.
     #[inline(always)]
     fn end_at(&mut self, byte: u8) -> Result<Move, RefusalKind>
         ensures { next_by result byte self.new

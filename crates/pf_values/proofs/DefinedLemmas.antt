@@ -17,7 +17,7 @@ pub none_first : {X : Type 0} (b : Bool) (x : X) (o : Option X) → (if b then S
 none_first true x o e = cc
 none_first false x o e = (refl, e)
 
--- no kind of a list refuses the specification
+-- no kind of a list rejects the specification
 not_broken : (kinds : List RefusalKind) (s : Specification) → first_broken kinds s ≡ None → AllByRecursion (λ kind. breaks s kind ≡ false) kinds
 not_broken [] s e = tt
 not_broken (kind ∷ kinds) s e = let here = none_first (breaks s kind) kind (first_broken kinds s) e in (here.0, not_broken kinds s here.1)

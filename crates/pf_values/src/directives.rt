@@ -65,7 +65,7 @@ impl marker::Model for Directive {
 }
 
 impl Directive {
-    /// Returns the directive of these parts. `Err` with the kind of smallest number that refuses
+    /// Returns the directive of these parts. `Err` with the kind of smallest number that rejects
     /// them: for a number above the limit, or what C11 7.21.6.1 (paragraphs 4 to 9) and POSIX leave
     /// undefined. A width of 0 means no width.
     pub fn new(
@@ -99,7 +99,7 @@ impl Directive {
     }
 
     /// Returns the directive of parts that are known to be defined, so that nothing is left to
-    /// refuse. A width of 0 means no width.
+    /// reject. A width of 0 means no width.
     #[inline(always)]
     pub fn of_defined(
         flags: FlagSet,

@@ -1,8 +1,8 @@
-//! Why a format is refused.
+//! Why a format is rejected.
 ghost use Rattle.std.specs.Prelude.{◌≡◌};
 ghost use Rattle.pf_values.specs.RefusalKinds.{name, number};
 
-/// Why a format is refused: one of the profile for the kinds up to `TooLong`, and one of the whole
+/// Why a format is rejected: one of the profile for the kinds up to `TooLong`, and one of the whole
 /// language for those that don't say that the profile lacks something. Each kind has a number and a
 /// name of its own.
 #[derive(Clone, Copy, Debug, PartialEq, Eq)]

@@ -17,7 +17,7 @@ abbrev pub FaultForWholeCanonical : Model → Text → TextFault → Type 0
 FaultForWholeCanonical model t (Refused refusal) = IsUnnumberedRefusedAt model t refusal.kind refusal.at
 FaultForWholeCanonical model t Memory = (c : Text) × IsWholeCanonicalFor model t c × (c ≢ [])
 
--- why two texts are not compared: the first is refused, or the first is accepted and the second refused
+-- why two texts are not compared: the first is rejected, or the first is accepted and the second rejected
 abbrev pub FaultForWholeSame : Model → Text → Text → Side × Refusal → Type 0
 FaultForWholeSame model t u fault =
     RefusesOne IsUnnumberedAccepted (IsUnnumberedRefusedAt model) t u fault.0 fault.1

@@ -1,5 +1,5 @@
 -- The languages of formats: the profile, and the whole language of POSIX fprintf with numbered arguments
--- and without. What is accepted there, and how other texts are refused.
+-- and without. What is accepted there, and how other texts are rejected.
 use Rattle.std.specs.Prelude.{◌≡◌, ℕ, List, ◌∷◌, ◌++◌}
 use Rattle.std.specs.List.{AllByRecursion}
 use Rattle.pf_values.specs.declared.models.Model.{Model}
@@ -23,7 +23,7 @@ AcceptsText Profile model = IsAccepted
 AcceptsText Numbered model = IsWholeAccepted model
 AcceptsText Unnumbered model = IsUnnumberedAccepted
 
--- a text is refused, for this reason at this offset
+-- a text is rejected, for this reason at this offset
 abbrev pub RefusesText : Language → Model → Text → RefusalKind → ℕ → Type 0
 RefusesText Profile model = IsRefusedAt
 RefusesText Numbered model = IsWholeRefusedAt model

@@ -17,7 +17,7 @@ use pf_values::Model;
 use std::alloc::Global;
 
 /// Checks whether a format is accepted in a data model if no argument may have a number (C11 7.21.6.1, paragraphs 3
-/// to 9; POSIX fprintf). `Err` if it isn't: a `$` directly after the first number of a specification is refused as
+/// to 9; POSIX fprintf). `Err` if it isn't: a `$` directly after the first number of a specification is rejected as
 /// `Numbered`, and everything else as by `arguments` of pf_posix, at the same byte. Allocates nothing.
 pub fn check(model: Model, text: &[u8]) -> Result<(), Refusal>
     ensures { MatchResult result (λ _. IsUnnumberedAccepted text.now)
@@ -27,7 +27,7 @@ pub fn check(model: Model, text: &[u8]) -> Result<(), Refusal>
 }
 
 /// Returns the canonical text of a format. `Err` if the format or memory is refused. It allocates once, and
-/// not at all if the text is refused or empty.
+/// not at all if the text is rejected or empty.
 pub fn canonical(alloc: Global, model: Model, text: &[u8]) -> Result<Vec<u8>, TextFault>
     ensures { MatchResult result (λ c. IsWholeCanonicalFor model text.now c.items)
         (FaultForWholeCanonical model text.now) }
@@ -50,7 +50,7 @@ pub fn canonical_with_room(
     canonical_in::<Whole>(alloc, model, text, more)
 }
 
-/// Returns how many bytes the canonical text of a format has. `Err` if it is refused. Allocates nothing.
+/// Returns how many bytes the canonical text of a format has. `Err` if it is rejected. Allocates nothing.
 pub fn canonical_len(model: Model, text: &[u8]) -> Result<u128, Refusal>
     ensures { MatchResult result
         (λ len. (c : Text) × IsWholeCanonicalFor model text.now c × (len ≡ length c))
@@ -59,7 +59,7 @@ pub fn canonical_len(model: Model, text: &[u8]) -> Result<u128, Refusal>
     canonical_len_in::<Whole>(model, text)
 }
 
-/// Returns whether a format is its own canonical text. `Err` if it is refused. Allocates nothing.
+/// Returns whether a format is its own canonical text. `Err` if it is rejected. Allocates nothing.
 pub fn is_canonical(model: Model, text: &[u8]) -> Result<bool, Refusal>
     ensures { MatchResult result
         (λ is. IsUnnumberedAccepted text.now × (IsTrue is ↔ IsWholeCanonicalOf model text.now text.now))

@@ -13,7 +13,7 @@ use pf_text::{Refusal, Side};
 use pf_values::{FlagSet, Model};
 
 /// Returns whether two formats have equal argument types, print equal bytes for all arguments, and make
-/// the same calls. `Err` if a text is refused: with the first text's refusal if it has one. Allocates
+/// the same calls. `Err` if a text is rejected: with the first text's refusal if it has one. Allocates
 /// nothing.
 pub fn same_text(model: Model, first: &[u8], second: &[u8]) -> Result<bool, (Side, Refusal)>
     ensures { MatchResult result (AreWholeSame model first.now second.now)

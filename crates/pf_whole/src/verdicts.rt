@@ -45,7 +45,7 @@ impl WholeVerdict {
     }
 }
 
-/// Compares two formats in a data model. `Err` if one is refused, the first before the second, or if
+/// Compares two formats in a data model. `Err` if one is rejected, the first before the second, or if
 /// memory is refused. Allocates only for arguments: if both are accepted, and their argument types and
 /// calls are equal, and they are not alike.
 pub fn compare(
@@ -75,7 +75,7 @@ fn all_shown(alloc: Global, args: Vec<OwnedArg>) -> Result<Vec<Option<OwnedArg>>
     Ok(shown)
 }
 
-// Compares two formats that the profile may refuse.
+// Compares two formats that the profile may reject.
 fn compare_by_stretches(
     alloc: Global,
     model: Model,

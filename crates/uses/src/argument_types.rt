@@ -46,7 +46,7 @@ pub fn other_type_at(alloc: Global, model: Model, source: &[u8], translation: &[
     }
 }
 
-/// Returns whether a translation takes no other arguments than its message. False for a refused format.
+/// Returns whether a translation takes no other arguments than its message. False for a rejected format.
 pub fn takes_no_others(model: Model, message: &[u8], translation: &[u8]) -> bool
     ensures { IsTrue result → ComparesBeginning model message.now translation.now None }
 {

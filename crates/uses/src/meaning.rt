@@ -15,7 +15,7 @@ use pf_values::{Arg, Model};
 use std::alloc::Global;
 
 /// Returns whether two formats take the same types and print the same bytes for all arguments, or
-/// `None` if one of them is refused. Allocates nothing.
+/// `None` if one of them is rejected. Allocates nothing.
 pub fn are_equivalent(model: Model, first: &[u8], second: &[u8]) -> Option<bool>
     ensures { IfSome result (λ same. IsTrue same ↔ AreEquivalent model first.now second.now) }
 {
@@ -26,7 +26,7 @@ pub fn are_equivalent(model: Model, first: &[u8], second: &[u8]) -> Option<bool>
 }
 
 /// Returns whether `new` may replace `old`, by their canonical texts. True only if both take the
-/// same types and print the same bytes for all arguments. False for a refused format, and if out of
+/// same types and print the same bytes for all arguments. False for a rejected format, and if out of
 /// memory.
 pub fn may_replace(alloc: Global, model: Model, old: &[u8], new: &[u8]) -> bool
     ensures { IsTrue result → AreEquivalent model old.now new.now }
@@ -43,7 +43,7 @@ pub fn may_replace(alloc: Global, model: Model, old: &[u8], new: &[u8]) -> bool
 
 /// Returns whether the canonical texts of two formats are equal byte for byte. By the headline, they are
 /// if and only if both formats take the same types and print the same bytes for all arguments. `None` if
-/// a format is refused, or out of memory.
+/// a format is rejected, or out of memory.
 pub fn have_one_canonical_text(
     alloc: Global,
     model: Model,

@@ -12,7 +12,7 @@ use pf_canon::same_text;
 use pf_values::Model;
 
 /// Returns whether all that a format prints, with a NUL after it, fits in a buffer of this size. False for
-/// a refused format.
+/// a rejected format.
 pub fn fits_in(model: Model, format: &[u8], size: u128) -> bool
     ensures { IsTrue result → (items : List Item) (args : List Argument) (out : Text)
         → HasItems format.now items → HasTypes model args (types model items)
@@ -28,7 +28,7 @@ pub fn fits_in(model: Model, format: &[u8], size: u128) -> bool
     }
 }
 
-/// Returns whether a format prints at least this many bytes, whatever its arguments are. False for a refused
+/// Returns whether a format prints at least this many bytes, whatever its arguments are. False for a rejected
 /// format.
 pub fn prints_at_least(model: Model, format: &[u8], count: u128) -> bool
     ensures { IsTrue result → (items : List Item) (args : List Argument) (out : Text)
@@ -43,7 +43,7 @@ pub fn prints_at_least(model: Model, format: &[u8], count: u128) -> bool
 }
 
 /// Returns how many bytes the second of two formats prints, as the first says, if they are equivalent. `None` if
-/// they are not, or one is refused.
+/// they are not, or one is rejected.
 pub fn bounds_by_first(model: Model, first: &[u8], second: &[u8]) -> Option<Bounds>
     ensures { IfSome result (λ found. AreBounds model second.now found.least found.greatest) }
 {

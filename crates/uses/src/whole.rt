@@ -22,7 +22,7 @@ pub fn are_alike(model: Model, first: &[u8], second: &[u8]) -> bool
 }
 
 /// Returns whether the canonical texts of two formats of the whole language are equal byte for byte. By the
-/// headline, they are if and only if the formats are alike. `None` if a format is refused, or out of
+/// headline, they are if and only if the formats are alike. `None` if a format is rejected, or out of
 /// memory.
 pub fn have_one_whole_canonical_text(
     alloc: Global,
@@ -65,7 +65,7 @@ pub fn print_alike(model: Model, first: &[u8], second: &[u8]) -> bool
 }
 
 /// Returns whether two formats of the profile are alike in the whole language, as the profile compares them.
-/// `None` if it refuses one of them.
+/// `None` if it rejects one of them.
 pub fn are_alike_by_profile(model: Model, first: &[u8], second: &[u8]) -> Option<bool>
     ensures { IfSome result (λ same. IsTrue same ↔ AreWholeAlike model first.now second.now) }
 {
@@ -76,7 +76,7 @@ pub fn are_alike_by_profile(model: Model, first: &[u8], second: &[u8]) -> Option
     }
 }
 
-/// Returns the canonical text of a format in the whole language, by that of the profile. `None` if it refuses the
+/// Returns the canonical text of a format in the whole language, by that of the profile. `None` if it rejects the
 /// format, or out of memory.
 pub fn whole_text_by_profile(alloc: Global, model: Model, format: &[u8]) -> Option<Vec<u8>>
     ensures { IfSome result (λ text. IsWholeCanonicalOf model format.now text.items) }
@@ -89,7 +89,7 @@ pub fn whole_text_by_profile(alloc: Global, model: Model, format: &[u8]) -> Opti
 }
 
 /// Returns the canonical text of a format in the profile, by that of the whole language. `None` if the profile
-/// refuses the format, or out of memory.
+/// rejects the format, or out of memory.
 pub fn profile_text_by_whole(alloc: Global, model: Model, format: &[u8]) -> Option<Vec<u8>>
     ensures { IfSome result (λ text. IsCanonicalOf model format.now text.items) }
 {

@@ -14,7 +14,7 @@ use pf_values::{Arg, Counted, Model};
 use std::alloc::Global;
 use std::io::Write;
 
-/// Returns the byte at which a format is refused, for an editor that marks it, or `None` if it is
+/// Returns the byte at which a format is rejected, for an editor that marks it, or `None` if it is
 /// accepted.
 pub fn fault_at(format: &[u8]) -> Option<u64>
     ensures accepted { IfNone result (IsAccepted format.now) }
@@ -26,7 +26,7 @@ pub fn fault_at(format: &[u8]) -> Option<u64>
     }
 }
 
-/// Returns why and where a format is refused: for no other reason, and at no other byte. `None` if it is
+/// Returns why and where a format is rejected: for no other reason, and at no other byte. `None` if it is
 /// accepted.
 pub fn refusal_of(format: &[u8]) -> Option<Refusal>
     ensures { IfSome result (λ refusal. (kind : RefusalKind) (at : ℕ) → IsRefusedAt format.now kind at
@@ -39,7 +39,7 @@ pub fn refusal_of(format: &[u8]) -> Option<Refusal>
     }
 }
 
-/// Returns whether a format takes no argument, as whatever items it is read. False for a refused format, and
+/// Returns whether a format takes no argument, as whatever items it is read. False for a rejected format, and
 /// if out of memory.
 pub fn takes_none(alloc: Global, model: Model, format: &[u8]) -> bool
     ensures { IsTrue result → (items : List Item) → HasItems format.now items

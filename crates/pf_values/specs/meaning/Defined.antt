@@ -13,7 +13,7 @@ abbrev pub is_above_limit : Option ℕ → Bool
 is_above_limit None = false
 is_above_limit (Some n) = nat_lt MAX_NUMBER n
 
--- Whether the parts of a specification are refused as this kind.
+-- Whether the parts of a specification are rejected as this kind.
 abbrev pub breaks : Specification → RefusalKind → Bool
 breaks s WidthTooLarge = is_above_limit s.width
 breaks s PrecisionTooLarge = is_above_limit s.precision
@@ -33,7 +33,7 @@ undefined_kinds =
 abbrev pub first_broken : List RefusalKind → Specification → Option RefusalKind
 first_broken kinds s = find (breaks s) kinds
 
--- The kind with the smallest number as which the parts of a specification are refused.
+-- The kind with the smallest number as which the parts of a specification are rejected.
 abbrev pub refused_as : Specification → Option RefusalKind
 refused_as s = first_broken (WidthTooLarge ∷ PrecisionTooLarge ∷ undefined_kinds) s
 

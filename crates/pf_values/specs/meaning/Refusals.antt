@@ -1,4 +1,4 @@
--- Where and why a text is refused. This is the project's own, except for the parts of a
+-- Where and why a text is rejected. This is the project's own, except for the parts of a
 -- specification: the standard leaves invalid ones undefined (C11 7.21.6.1 p9).
 use Rattle.std.specs.Prelude.{◌≡◌, ◌≢◌, ℕ, ◌<◌, ◌≤◌, false, List, [], ◌∷◌, ◌++◌, length, map, codes, Option, Some, Contains, ◌⊎◌, MatchBool, ◌==◌, ⊤}
 use Rattle.pf_values.specs.declared.flags.Flag.{Flag}
@@ -61,7 +61,7 @@ EndsUndefined part byte kind =
     (s : Specification) × Spells (part ++ byte ∷ []) s
     × (first_broken undefined_kinds s ≡ Some kind)
 
--- The conversions that are refused wherever they come (C11 7.21.6.1 p8; `C` and `S`: POSIX
+-- The conversions that are rejected wherever they come (C11 7.21.6.1 p8; `C` and `S`: POSIX
 -- fprintf).
 abbrev pub letters_of : RefusalKind → Text
 letters_of Float = codes "aAeEfFgG"
@@ -109,7 +109,7 @@ pub record IsRefusedByte (part : Text) (byte : ℕ) (kind : RefusalKind) : Type 
   pub others : (other : RefusalKind) → HasReason part byte other
       → (other ≡ kind) ⊎ (other ≡ Unexpected)
 
--- Why a text is refused after its longest good front. That front has `at` bytes and ends with
+-- Why a text is rejected after its longest good front. That front has `at` bytes and ends with
 -- `part`, the beginning of an item. `rest` follows it.
 abbrev pub HasCause : ℕ → Text → Text → RefusalKind → Type 0
 HasCause at part [] kind = kind ≡ Truncated

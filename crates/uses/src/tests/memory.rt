@@ -186,7 +186,7 @@ fn all_answer(alloc: Global) -> Result<bool, AllocError> {
 // The most literal bytes before the `%` in `canonical_refuses`.
 const MOST: usize = 256;
 
-// Whether `len` literal bytes and a `%` are refused.
+// Whether `len` literal bytes and a `%` are rejected.
 fn canonical_refuses(alloc: Global, len: usize) -> bool {
     let mut place = [b'x'; MOST];
     let Some(text) = place.get_mut(..len.saturating_add(1)) else {
@@ -202,7 +202,7 @@ fn canonical_refuses(alloc: Global, len: usize) -> bool {
     canonical_with_room(alloc, Model::Lp64, text, 0).err() == Some(TextFault::Refused(refusal))
 }
 
-// Whether the empty text is canonical, and texts of each length are refused.
+// Whether the empty text is canonical, and texts of each length are rejected.
 fn canonical_takes_none(alloc: Global) -> bool {
     for len in 0..MOST {
         if !canonical_refuses(alloc, len) {
@@ -255,7 +255,7 @@ fn decode_end(alloc: Global, source: &[u8]) -> Result<bool, LiteralFault> {
     }
 }
 
-// Whether `decode` gives no bytes, and refuses a text even if it has no memory for the bytes before the fault.
+// Whether `decode` gives no bytes, and rejects a text even if it has no memory for the bytes before the fault.
 fn decode_takes_none(alloc: Global) -> bool {
     let refusal = LiteralRefusal {
         kind: LiteralKind::BadEscape,

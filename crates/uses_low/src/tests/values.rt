@@ -9,7 +9,7 @@ mod counted;
 mod devices;
 mod writes;
 
-// The kind that refuses a directive of these numbers with three more faults, if any does.
+// The kind that rejects a directive of these numbers with three more faults, if any does.
 fn refusal_of(width: u16, precision: u16) -> Option<RefusalKind> {
     let flags = FlagSet::empty().with(Flag::Alt);
     match Directive::new(flags, Some(width), Some(precision), Length::L, Conv::C) {
@@ -18,7 +18,7 @@ fn refusal_of(width: u16, precision: u16) -> Option<RefusalKind> {
     }
 }
 
-// A reader refuses the greater number before it comes to the rest.
+// A reader rejects the greater number before it comes to the rest.
 #[test]
 fn the_least_number_counts(rt: HostRuntime) {
     assert!(rt;
@@ -107,7 +107,7 @@ fn each_kind_converts(rt: HostRuntime) {
     );
 }
 
-// The one kind that no text is refused for: none is so long.
+// The one kind that no text is rejected for: none is so long.
 #[test]
 fn each_kind_has_its_number_and_name(rt: HostRuntime) {
     assert!(rt; RefusalKind::TooLong.number() == 18 && RefusalKind::TooLong.name() == "TooLong");

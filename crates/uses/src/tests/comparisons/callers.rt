@@ -20,7 +20,7 @@ fn may_stand_for(alloc: Global, old: &[u8], new: &[u8]) -> Result<Standing, Comp
     }
 }
 
-// Whether it returns what CALLING.md says, and that a text is refused.
+// Whether it returns what CALLING.md says, and that a text is rejected.
 fn is_answered(alloc: Global) -> bool {
     matches!(may_stand_for(alloc, b"%5c", b"    %c"), Ok(Standing::Fits))
         && matches!(

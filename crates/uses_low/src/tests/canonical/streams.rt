@@ -84,7 +84,7 @@ fn a_stream_reads_no_further(rt: HostRuntime) {
     assert!(rt; leaves(b"a%5db", b"a%", b"b"));
 }
 
-// Whether a refused text gives these bytes and the refusal, and the bytes after the refused one are left.
+// Whether a rejected text gives these bytes and the refusal, and the bytes after the rejected one are left.
 fn stops() -> bool {
     let refusal = Refusal {
         kind: RefusalKind::Unexpected,
