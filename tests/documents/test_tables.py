@@ -190,7 +190,7 @@ def test_numbers_of_c(trials):
     words = "`FMTCANON_IN_NEITHER` is 0, `FMTCANON_IN_BOTH` is LP64 and ILP32, and `FMTCANON_IN_ALL` is all three"
     trials.expect("their words", words in page, True)
     trials.expect("kinds of the header", re.search(r"-1 to -(\d+): .*\n?.*-201 to -(\d+)", HEADER).groups(), ("22", "206"))
-    rooms = re.search(r"STACK_ROOM: usize = (\d+)", read(TOP / "crates/pf_canon/src/canonical_texts.rt"))[1]
+    rooms = re.search(r"STACK_ROOM: usize = (\d+)", read(TOP / "crates/pf_canon/src/short_texts.rt"))[1]
     trials.expect("bytes without an allocation", f"than {rooms} bytes." in HEADER, True)
     words = "65536 times the major one, 256 times the minor one, plus the patch"
     more = re.search(r"which is (\d+) more than the number", page)[1]

@@ -27,10 +27,12 @@ use crate::pairs::{pair_answer, refusal_of_first};
 use crate::questions::{FormatQuestion, OneQuestion, PairQuestion, Question};
 use crate::show_lines::show_lines;
 use crate::type_lines::{type_lines, whole_type_lines};
+use pf_canon::{Profile, canonical_in};
 use pf_literals::LiteralFault;
 use pf_render::{RenderVecFault, render_vec};
 use pf_text::{Refusal, Side};
 use pf_values::Model;
+use pf_whole::Whole;
 use std::alloc::{AllocError, Global};
 
 /// How a run ends that writes all of an answer.
@@ -293,7 +295,7 @@ fn canonical_line(
         (IsFormatFault Profile model format.now) }
 {
     // With room for the newline, so that it needs no allocation of its own.
-    let canonical = pf_canon::canonical_with_room(alloc, model, format, 1)?;
+    let canonical = canonical_in::<Profile>(alloc, model, format, 1)?;
     Ok(with_newline(notation.write(alloc, canonical)?)?)
 }
 
@@ -307,7 +309,7 @@ fn whole_canonical_line(
     ensures { MatchResult result (λ out. HasCanonicalLine notation (IsWholeCanonicalFor model format.now) out.items)
         (IsFormatFault Unnumbered model format.now) }
 {
-    let canonical = pf_whole::canonical_with_room(alloc, model, format, 1)?;
+    let canonical = canonical_in::<Whole>(alloc, model, format, 1)?;
     Ok(with_newline(notation.write(alloc, canonical)?)?)
 }
 

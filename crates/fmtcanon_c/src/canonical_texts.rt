@@ -137,7 +137,7 @@ fn put_counted_canonical<L: Language>(
     put_made::<L>(
         model,
         text,
-        canonical_of_len::<L>(alloc, front, text, len),
+        canonical_of_len::<L>(alloc, front, text, len, 0),
         out,
         error,
     )

@@ -1,7 +1,7 @@
 -- Canonical texts that are put together on the stack. This project's own.
 use Rattle.std.specs.Prelude.{◌≡◌, ◌<◌, length}
 use Rattle.pf_values.specs.meaning.Text.{Text}
-use Rattle.pf_canon.specs.declared.canonical_texts.TheConstants.{STACK_ROOM}
+use Rattle.pf_canon.specs.declared.short_texts.TheConstants.{STACK_ROOM}
 use Rattle.pf_canon.specs.declared.short_texts.Room.{Room}
 use Rattle.pf_canon.specs.declared.short_texts.Room.TheVariants as rooms
 use Rattle.pf_canon.specs.declared.short_texts.ShortText.{ShortText}

@@ -33,8 +33,8 @@ mod verbatim_front;
 
 pub use canonical_bytes::CanonBytes;
 pub use canonical_texts::{
-    canonical, canonical_in, canonical_len, canonical_len_in, canonical_of_len,
-    canonical_with_room, is_canonical, is_canonical_in,
+    canonical, canonical_in, canonical_len, canonical_len_in, canonical_of_len, is_canonical,
+    is_canonical_in,
 };
 pub use common_prefix::common_prefix_len;
 pub use comparison::{same_stream, same_text, same_text_in};

@@ -4,12 +4,15 @@ ghost use Rattle.pf_canon.specs.Languages.{HasCanonicalIn};
 ghost use Rattle.pf_canon.specs.ShortTexts.{HasRoom, IsUnused, short_text};
 ghost use Rattle.pf_canon.specs.VerbatimFronts.{IsVerbatimFront, front_model};
 
-use crate::canonical_texts::STACK_ROOM;
 use crate::languages::Language;
 use crate::sink::TextBuilder;
 use crate::verbatim_front::VerbatimFront;
 use arrayvec::ArrayVec;
 use pf_text::Refusal;
+
+/// The size in bytes of the room. The canonical text of a format that isn't longer is put together there, so that the
+/// format is read once.
+const STACK_ROOM: usize = 128;
 
 /// Whether there was room for a canonical text.
 #[derive(Clone, Copy, Debug, PartialEq, Eq)]

@@ -35,21 +35,6 @@ pub fn canonical(alloc: Global, model: Model, text: &[u8]) -> Result<Vec<u8>, Te
     canonical_in::<Whole>(alloc, model, text, 0)
 }
 
-/// Returns the canonical text, with room for `more` bytes after one that isn't empty, so that what a
-/// caller appends needs no allocation of its own. `Err` if the format or memory is refused.
-pub fn canonical_with_room(
-    alloc: Global,
-    model: Model,
-    text: &[u8],
-    more: usize,
-) -> Result<Vec<u8>, TextFault>
-    ensures answer { MatchResult result (λ c. IsWholeCanonicalFor model text.now c.items)
-        (FaultForWholeCanonical model text.now) }
-    ensures room { IfOk result (λ c. c.items ≢ [] → length c.items + more ≤ vec_capacity c) }
-{
-    canonical_in::<Whole>(alloc, model, text, more)
-}
-
 /// Returns how many bytes the canonical text of a format has. `Err` if it is rejected. Allocates nothing.
 pub fn canonical_len(model: Model, text: &[u8]) -> Result<u128, Refusal>
     ensures { MatchResult result

@@ -17,7 +17,7 @@ mod spelling;
 mod verbatim_directives;
 mod verdicts;
 
-pub use canonical_texts::{canonical, canonical_len, canonical_with_room, check, is_canonical};
+pub use canonical_texts::{canonical, canonical_len, check, is_canonical};
 pub use comparison::same_text;
 pub use directives::normal_directive;
 pub use languages::Whole;

@@ -2,7 +2,7 @@
 use exhaustion::{Exhausted, is_all_refused, is_stack_deep};
 use growths::{Call, each_is_refused};
 use pf_canon::{
-    CanonBytes, canonical_len, canonical_stream, canonical_with_room, is_canonical, same_stream,
+    CanonBytes, Profile, canonical_in, canonical_len, canonical_stream, is_canonical, same_stream,
     same_text,
 };
 use pf_compare::{CompareFault, Verdict, compare};
@@ -199,7 +199,7 @@ fn canonical_refuses(alloc: Global, len: usize) -> bool {
         kind: RefusalKind::Truncated,
         at: len as u64 + 1,
     };
-    canonical_with_room(alloc, Model::Lp64, text, 0).err() == Some(TextFault::Refused(refusal))
+    canonical_in::<Profile>(alloc, Model::Lp64, text, 0).err() == Some(TextFault::Refused(refusal))
 }
 
 // Whether the empty text is canonical, and texts of each length are rejected.
@@ -209,7 +209,7 @@ fn canonical_takes_none(alloc: Global) -> bool {
             return false;
         }
     }
-    match canonical_with_room(alloc, Model::Lp64, b"", 1) {
+    match canonical_in::<Profile>(alloc, Model::Lp64, b"", 1) {
         Ok(text) => text.is_empty(),
         Err(_) => false,
     }

@@ -16,8 +16,5 @@ returns-then-is_all g c =
     let own = rw c.of-front.ensures.model at c.is_all.ensures c.if-is_all.true in
     subst (HasCanonicalIn g.L.Language.has_front c.args.model text) (sym c.in_ok-copy_with_room.ensures.items) own
 
-pub returns-then-text-gt-STACK_ROOM : goal.returns-then-text-gt-STACK_ROOM
-returns-then-text-gt-STACK_ROOM g c = rw c.of-front.ensures.model at c.build_on_large_stack.ensures
-
-pub returns : goal.returns
-returns g c = rw c.of-front.ensures.model at c.build_on_stack.ensures
+pub returns-in-Ok-Counted : goal.returns-in-Ok-Counted
+returns-in-Ok-Counted g c = rw c.of-front.ensures.model at c.canonical_of_len.ensures

@@ -1,7 +1,7 @@
 //! Calls that make one allocation, of a known length: each is out of memory when none is free, and succeeds when one block
 //! of that length is.
 use super::exhaustion::{Exhausted, is_all_refused};
-use pf_canon::{canonical, canonical_with_room};
+use pf_canon::{Profile, canonical, canonical_in};
 use pf_literals::{LiteralFault, decode, encode};
 use pf_text::TextFault;
 use pf_values::Model;
@@ -58,7 +58,7 @@ fn canonical_seen(alloc: Global, format: &[u8], text: &[u8]) -> Seen {
 
 // A byte can be appended with no allocation.
 fn with_room_seen(alloc: Global, format: &[u8], text: &[u8], more: usize) -> Seen {
-    match canonical_with_room(alloc, Model::Lp64, format, more) {
+    match canonical_in::<Profile>(alloc, Model::Lp64, format, more) {
         Ok(found) => {
             let mut found = found;
             answer_of(found.as_slice() == text && found.push(b'\n').is_ok())

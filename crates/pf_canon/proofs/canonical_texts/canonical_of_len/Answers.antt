@@ -3,7 +3,7 @@ use Rattle.std.proofs.lemmas.Result.{err_from_is_err_and}
 use Rattle.pf_canon.specs.Languages.{HasCanonicalIn}
 use Rattle.pf_canon.proofs.SinkLemmas.{no_bytes}
 use Rattle.pf_canon.proofs.LanguageLemmas.{hindered}
-use Rattle.pf_canon.proofs.canonical_texts.build_counted.Goals as goal
+use Rattle.pf_canon.proofs.canonical_texts.canonical_of_len.Goals as goal
 
 pub returns-then-len-eq0 : goal.returns-then-len-eq0
 returns-then-len-eq0 g c =
