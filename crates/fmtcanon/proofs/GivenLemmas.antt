@@ -111,6 +111,7 @@ module _ (Needs : PairQuestion → Model → Text → Text → Type 0) (question
   first_refused fault reported h is = grind (arith, refusal_within)
 
   -- why two formats have no answer
-  pub pair_fault : (second_bytes : Text) → IsFormat second second_bytes → (fault reported : Outcome) → IsPairFault Needs question model first_bytes second_bytes fault
+  pub pair_fault : (second_bytes : Text) → IsFormat second second_bytes → (fault reported : Outcome)
+      → IsPairFault Needs question model first_bytes second_bytes fault
       → IsFaultInTexts first second (side_of fault) fault reported → IsGivenPairFault Needs question model first second reported
   pair_fault second_bytes h fault reported hinders is = grind (arith, refusal_within, first_refused)

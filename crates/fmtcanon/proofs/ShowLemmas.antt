@@ -126,7 +126,8 @@ module _ (model : Model) (old new : Pieces) (t out : Text) (h : HasShown model o
     more_shown piece part e is =
         let g : NextIsPiece new t h.read h.items piece = subst (λ r. NextIs (Some r) new t h.read h.items) e (steps.next t h.read h.items h.given) in
         let text = text_of_piece old new t h.read h.items piece h.given g in
-        let left : (drop old.at t) ≡ g.more ++ (drop new.at t) = same_rest h.read _ _ (sym h.given.split ∙ g.given.split ∙ append_assoc h.read g.more (drop new.at t)) in
+        let left : (drop old.at t) ≡ g.more ++ (drop new.at t) = same_rest h.read _ _
+        (sym h.given.split ∙ g.given.split ∙ append_assoc h.read g.more (drop new.at t)) in
         record {
           read = h.read ++ g.more;
           items = h.items ++ items_of piece;

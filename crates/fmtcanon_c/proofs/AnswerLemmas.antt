@@ -22,7 +22,8 @@ answered Is IsFault out answer error code out_now answer_now verdict renderings 
 answered Is IsFault out answer error code out_now answer_now verdict renderings is needs (inr none) = inr (Memory, needs none.0, none.1)
 
 -- the length of a canonical text
-pub length_answered : (IsCanonical : Text → Type 0) (Refuses : RefusalKind → ℕ → Type 0) (found : Result ℕ Refusal) (error : CError) (code : ℤ) (error_now : CError)
+pub length_answered : (IsCanonical : Text → Type 0) (Refuses : RefusalKind → ℕ → Type 0) (found : Result ℕ Refusal) (error : CError)
+    (code : ℤ) (error_now : CError)
     → MatchResult found (λ len. (c : Text) × IsCanonical c × (len ≡ length c)) (λ refusal. Refuses refusal.kind refusal.at)
     → IsLengthAnswer found error code error_now → AnswersLength IsCanonical Refuses error code error_now
 length_answered IsCanonical Refuses (Ok len) error code error_now h is =

@@ -34,7 +34,8 @@ module _ (Is : Model → Type 0) where
   module _ (models : List Model) (i : ℕ) (d : Model) (few : i < length models) where
     one_more_model : (sum more : ℕ) → AreModels Is 1 (take i models) sum → Adds (Is (get_or models i d)) (weight_after 1 (take i models)) more
         → AreModels Is 1 (take (i + 1) models) (sum + more)
-    one_more_model sum more h added = subst (λ ms. AreModels Is 1 ms (sum + more)) (next_model models i d few) (one_of_more (get_or models i d) more 1 (take i models) sum h added)
+    one_more_model sum more h added = subst (λ ms. AreModels Is 1 ms (sum + more)) (next_model models i d few)
+        (one_of_more (get_or models i d) more 1 (take i models) sum h added)
 
     pub one_more_weight : weight_after 1 (take (i + 1) models) ≡ 2 * weight_after 1 (take i models)
     one_more_weight = ap (weight_after 1) (sym (next_model models i d few)) ∙ weight_of_more 1 (take i models) (get_or models i d)

@@ -106,15 +106,24 @@ converted_itself signed B16 v h = record { fits = h; times = pos 0; differs = om
 converted_itself signed B32 v h = record { fits = h; times = pos 0; differs = omega (arith, ints) }
 converted_itself signed B64 v h = record { fits = h; times = pos 0; differs = omega (arith, ints) }
 
-in_row : (model : Model) (v : ℤ) (length : Length) → (FitsIn true (bit_count (bits_under model length)) v → IsInRange model (type_of_kind model kinds.Signed length) v)
+in_row : (model : Model) (v : ℤ) (length : Length) → (FitsIn true (bit_count (bits_under model length)) v
+    → IsInRange model (type_of_kind model kinds.Signed length) v)
     × (FitsIn false (bit_count (bits_under model length)) v → IsInRange model (type_of_kind model (kinds.Unsigned Decimal false) length) v)
-in_row model v = each_row model (λ r. (FitsIn true (bit_count r.bits) v → IsInRange model r.signed v) × (FitsIn false (bit_count r.bits) v → IsInRange model r.unsigned v))
-    ((λ h. let a = h.0 in let b = h.1 in (omega (arith, ints), omega (arith, ints))), λ h. let a = h.0 in let b = h.1 in (omega (arith, ints), omega (arith, ints)))
-    ((λ h. let a = h.0 in let b = h.1 in (omega (arith, ints), omega (arith, ints))), λ h. let a = h.0 in let b = h.1 in (omega (arith, ints), omega (arith, ints)))
+in_row model v = each_row model (λ r. (FitsIn true (bit_count r.bits) v → IsInRange model r.signed v)
+    × (FitsIn false (bit_count r.bits) v → IsInRange model r.unsigned v)) (
+      (λ h. let a = h.0 in let b = h.1 in (omega (arith, ints), omega (arith, ints))),
+      λ h. let a = h.0 in let b = h.1 in
+          (omega (arith, ints), omega (arith, ints)),
+    ) (
+      (λ h. let a = h.0 in let b = h.1 in (omega (arith, ints), omega (arith, ints))),
+      λ h. let a = h.0 in let b = h.1 in
+          (omega (arith, ints), omega (arith, ints)),
+    )
     (λ h. h, λ h. h) (λ h. h, λ h. h) (λ h. h, λ h. h)
 
 -- of the expected type
-pub value_typed : (model : Model) (k : Kind) (length : Length) (v : ℤ) → IsFalse (prints_text k) → FitsIn (prints_signed k) (bit_count (bits_under model length)) v
+pub value_typed : (model : Model) (k : Kind) (length : Length) (v : ℤ) → IsFalse (prints_text k)
+    → FitsIn (prints_signed k) (bit_count (bits_under model length)) v
     → HasType model (Number v) (type_of_kind model k length)
 value_typed model kinds.Signed length v e h = (in_row model v length).0 h
 value_typed model (kinds.Unsigned base capitals) length v e h = (in_row model v length).1 h

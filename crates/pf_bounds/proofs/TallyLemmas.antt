@@ -118,7 +118,8 @@ module _ (model : Model) where
         short = record { least_is = omega (arith, some, least); spread_is = omega (arith, some, spread) };
       }
 
-  pub directive_tallied : (t : Text) (d : Specification) (tally : Tally) → IsReadAs t (Directive d) → AreBoundsOf (CanPrint model d) tally.least (largest_of tally)
+  pub directive_tallied : (t : Text) (d : Specification) (tally : Tally) → IsReadAs t (Directive d)
+      → AreBoundsOf (CanPrint model d) tally.least (largest_of tally)
       → 0 < length t → tally.least ≤ item_limit → tally.spread ≤ item_limit → IsTallied model t tally
   directive_tallied t d tally read bounds =
       item_tallied t (Directive d) tally read (item_bounds model d tally.least (largest_of tally) bounds)
@@ -160,9 +161,11 @@ module _ (model : Model) where
         let n = new.at - old.at in
         let run = take n (drop old.at text) in
         let place : old.at + n ≡ new.at = omega (arith, h.from) in
-        let long : length run ≡ n = length-take-le n (drop old.at text) (omega (arith, length-drop old.at text, h.from, still_within _ text few old new over h low)) in
+        let long : length run ≡ n = length-take-le n (drop old.at text)
+        (omega (arith, length-drop old.at text, h.from, still_within _ text few old new over h low)) in
         let literal : AllByRecursion IsLiteral run =
-        subst (λ t. AllByRecursion IsLiteral (take n (drop old.at t))) (text_is _ text few old new over h) (run_is_literal (take n (drop old.at new.text.now)) h.items h.run) in
+        subst (λ t. AllByRecursion IsLiteral (take n (drop old.at t))) (text_is _ text few old new over h)
+        (run_is_literal (take n (drop old.at new.text.now)) h.items h.run) in
         subst (λ k. IsTallied model (take k text) sum) place
         (tallied_more text old.at n sum one other g (bytes_tallied run other literal (omega (arith, least, long)) spread bounded) e)
 
@@ -177,9 +180,11 @@ module _ (model : Model) where
       (omega (arith, ap length bytes)) (omega (arith, least)) (omega (arith, spread))
 
   -- a directive of a conversion alone
-  pub bare_tallied : (text : Text) (at : ℕ) (conv : Conv) (tally : Tally) → HasPercent text at → conv_of (get_or text (at + 1) 0) ≡ Some conv → AreBoundsOf (CanPrint model (bare conv)) tally.least (largest_of tally)
+  pub bare_tallied : (text : Text) (at : ℕ) (conv : Conv) (tally : Tally) → HasPercent text at
+      → conv_of (get_or text (at + 1) 0) ≡ Some conv → AreBoundsOf (CanPrint model (bare conv)) tally.least (largest_of tally)
       → tally.least ≤ item_limit → tally.spread ≤ item_limit → IsTallied model (take 2 (drop at text)) tally
   bare_tallied text at conv tally h e bounds least spread =
       let bytes = two_bytes text at h ∙ ap (λ b. percent ∷ b ∷ []) (byte_of_conv (get_or text (at + 1) 0) conv e) in
-      directive_tallied (take 2 (drop at text)) (bare conv) tally (subst (λ t. IsReadAs t (Directive (bare conv))) (sym bytes) (conv_read conv (bare conv) refl)) bounds
+      directive_tallied (take 2 (drop at text)) (bare conv) tally
+      (subst (λ t. IsReadAs t (Directive (bare conv))) (sym bytes) (conv_read conv (bare conv) refl)) bounds
       (omega (arith, ap length bytes)) least spread

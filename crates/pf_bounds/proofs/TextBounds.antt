@@ -36,7 +36,8 @@ module _ (model : Model) (s : Specification) (kind : kind_of s.conv ≡ kinds.Ch
         typed = subst (λ k. HasType model (Number (pos 0)) (type_of_kind model k s.length)) (sym kind) (omega (arith, ints), omega (arith, ints));
         prints = (
           0 ∷ [],
-          subst (λ k. PrintsKind model k s (Number (pos 0)) (0 ∷ [])) (sym kind) (0, converted_itself false B8 (pos 0) (omega (arith, ints), omega (arith, ints)), refl),
+          subst (λ k. PrintsKind model k s (Number (pos 0)) (0 ∷ [])) (sym kind)
+              (0, converted_itself false B8 (pos 0) (omega (arith, ints), omega (arith, ints)), refl),
           refl,
         );
       }

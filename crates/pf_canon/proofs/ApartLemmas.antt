@@ -44,7 +44,8 @@ module _ (has_front : Front) (model : Model) (passes : Text → Type 0) (comes :
       → length (t ++ x ∷ u) ≤ MAX_TEXT_LEN → (more : Text) × HasCanonicalIn has_front model (t ++ x ∷ u) (out ++ x ∷ more)
   goes_on_with t out held x u h other made limit =
       let (literal, rest) = first_byte (Either AreRead passes) x u other made in
-      let (more, still, all) = in_made has_front model passes comes (t ++ x ∷ []) (out ++ x ∷ []) held u (in_byte has_front model t out held x h literal) rest in
+      let (more, still, all) = in_made has_front model passes comes (t ++ x ∷ []) (out ++ x ∷ []) held u
+      (in_byte has_front model t out held x h literal) rest in
       let last = flat_map item_spelling (silents still) in
       let text : (t ++ x ∷ []) ++ u ≡ t ++ x ∷ u = append_assoc t (x ∷ []) u in
       let put : ((out ++ x ∷ []) ++ more) ++ last ≡ out ++ x ∷ (more ++ last) =

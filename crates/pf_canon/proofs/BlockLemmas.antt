@@ -20,7 +20,11 @@ module _ {S : Type 0} {given : S → S → Text → Type 0} (laws : IsSink given
   none_taken s r = (
     [],
     laws.none s,
-    λ model t out items h. (items, subst (λ u. IsThrough model r u items (out ++ [])) (sym (append-nil t)) (subst (IsThrough model r t items) (sym (append-nil out)) h)),
+    λ model t out items h. (
+      items,
+      subst (λ u. IsThrough model r u items (out ++ [])) (sym (append-nil t))
+          (subst (IsThrough model r t items) (sym (append-nil out)) h),
+    ),
   )
 
   -- one part after another
@@ -96,5 +100,6 @@ module _ (model : Model) (r : Transducer) (t out text : Text) (at : ℕ) (some :
   pub byte_inside : output ≡ outputs.Nothing → (now : List Item) × IsThrough model r (t ++ take (at + 1) text) now out
   byte_inside e = (
     items ++ h.more,
-    subst (IsThrough model r (t ++ take (at + 1) text) (items ++ h.more)) (ap (λ o. out ++ byte_output_text o (get_or text at 0)) e ∙ append-nil out) byte_taken,
+    subst (IsThrough model r (t ++ take (at + 1) text) (items ++ h.more))
+        (ap (λ o. out ++ byte_output_text o (get_or text at 0)) e ∙ append-nil out) byte_taken,
   )

@@ -88,7 +88,8 @@ module _ (t u : Text) (at n : ℕ) (first : at + n ≤ length t) (second : at + 
       let a = get_or t (at + r) 0 in
       let b = get_or u (at + r) 0 in
       let place : get_or differences r false ≡ unlike a b =
-      get_or-zip2 unlike (chunk at n t) (chunk at n u) r 0 0 false (omega (arith, inside, length-chunk at n t first)) (omega (arith, inside, length-chunk at n u second))
+      get_or-zip2 unlike (chunk at n t) (chunk at n u) r 0 0 false (omega (arith, inside, length-chunk at n t first))
+      (omega (arith, inside, length-chunk at n u second))
       ∙ ap (λ x. unlike x (get_or (chunk at n u) r 0)) (get_or-chunk at n t r 0 inside) ∙ ap (unlike a) (get_or-chunk at n u r 0 inside) in
       let stops : not (get_or differences r false) ≡ false = subst (λ k. not (get_or differences k false) ≡ false) (sym counted)
       (prefix_len_stops not differences false (omega (arith, counted, long, inside))) in
@@ -101,7 +102,8 @@ module _ (t u : Text) (at n : ℕ) (first : at + n ≤ length t) (second : at + 
   counted_run some = ap (count_trailing_zeros 64) mask_is
       ∙ trailing_mask_l (λ b. b) 64 differences (omega (arith, lanes, long)) (omega (arith, some, mask_is))
 
-  pub first_same : mask ≢ 0 → (count_trailing_zeros 64 mask ≤ n) × (take (count_trailing_zeros 64 mask) (drop at t) ≡ take (count_trailing_zeros 64 mask) (drop at u))
+  pub first_same : mask ≢ 0 → (count_trailing_zeros 64 mask ≤ n)
+      × (take (count_trailing_zeros 64 mask) (drop at t) ≡ take (count_trailing_zeros 64 mask) (drop at u))
   first_same some = same_run (count_trailing_zeros 64 mask) (counted_run some)
 
   pub first_other : mask ≢ 0 → count_trailing_zeros 64 mask < n

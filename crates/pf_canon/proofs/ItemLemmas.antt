@@ -41,7 +41,8 @@ module _ {S : Type 0} {given : S → S → Text → Type 0} (laws : IsSink given
   )
 
   -- and one part after another
-  pub both_put : (old mid new : S) (start at stop held now still : ℕ) → start ≤ at → at ≤ stop → PutsItems given written old mid (between start at text) held now
+  pub both_put : (old mid new : S) (start at stop held now still : ℕ) → start ≤ at → at ≤ stop
+      → PutsItems given written old mid (between start at text) held now
       → PutsItems given written mid new (between at stop text) now still → PutsItems given written old new (between start stop text) held still
   both_put old mid new start at stop held now still low high (a, first, f) (b, then, g) = (
     a ++ b,
@@ -98,7 +99,8 @@ module _ {S : Type 0} {given : S → S → Text → Type 0} (laws : IsSink given
           let left = between start at text in
           let rest = between next stop text in
           let order : ((out ++ a) ++ left) ++ spelled ≡ (out ++ (a ++ b)) ++ rest =
-          append_assoc (out ++ a) left spelled ∙ ap (λ t. (out ++ a) ++ t) e ∙ sym (append_assoc (out ++ a) b rest) ∙ ap (λ t. t ++ rest) (append_assoc out a b) in
+          append_assoc (out ++ a) left spelled ∙ ap (λ t. (out ++ a) ++ t) e ∙ sym (append_assoc (out ++ a) b rest)
+          ∙ ap (λ t. t ++ rest) (append_assoc out a b) in
           subst (λ t. written (before ++ t) ((out ++ (a ++ b)) ++ rest) 0) (between-join text first at stop low high)
           (subst (λ t. written t ((out ++ (a ++ b)) ++ rest) 0) (append_assoc before x y)
           (subst (λ u. written ((before ++ x) ++ y) u 0) order

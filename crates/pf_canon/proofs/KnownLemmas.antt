@@ -158,7 +158,8 @@ module _ (has_front : Front) (model : Model) where
 pub three_parts : (text : Text) (at stop : ℕ) → at ≤ stop → take at text ++ (between at stop text ++ drop stop text) ≡ text
 three_parts text at stop low =
     let place : at + (stop - at) ≡ stop = omega (arith, low) in
-    sym (append_assoc (take at text) (between at stop text) (drop stop text)) ∙ ap (λ u. u ++ drop stop text) (sym (take-add at (stop - at) text) ∙ ap (λ n. take n text) place)
+    sym (append_assoc (take at text) (between at stop text) (drop stop text))
+    ∙ ap (λ u. u ++ drop stop text) (sym (take-add at (stop - at) text) ∙ ap (λ n. take n text) place)
     ∙ take-append-drop stop text
 
 pub two_parts : (text : Text) (at stop : ℕ) → at ≤ stop → take at text ++ between at stop text ≡ take stop text

@@ -113,7 +113,8 @@ module _ (has_front : Front) (model : Model) where
   -- so a stretch completes the canonical text
   pub completed : (t more : Text) (held : ℕ) → ((before out : Text) → IsWrittenIn has_front model before out 0
       → IsWrittenIn has_front model (before ++ t) (out ++ more) held) → CompletesIn has_front model t (more ++ flat_map item_spelling (silents held))
-  completed t more held step before out h limit = subst (HasCanonicalIn has_front model (before ++ t)) (append_assoc out more (flat_map item_spelling (silents held)))
+  completed t more held step before out h limit = subst (HasCanonicalIn has_front model (before ++ t))
+      (append_assoc out more (flat_map item_spelling (silents held)))
       (all_put (before ++ t) (out ++ more) held limit (step before out h))
 
   -- items of the profile come after what is written
@@ -191,7 +192,8 @@ module _ (has_front : Front) (model : Model) where
               (subst (λ v. IsWrittenIn has_front model ((before ++ u) ++ piece) v 0) (append_assoc out u piece) g)
 
           after_run : (u piece : Text) (items : List Item) → Holds u → IsCanonicalRun model piece items → Holds (u ++ piece)
-          after_run u piece items g run = together u piece (extends_in piece piece 0 0 (λ b o w. run_written model b o piece items w run) (before ++ u) (out ++ u) g)
+          after_run u piece items g run = together u piece (extends_in piece piece 0 0 (λ b o w. run_written model b o piece items w run)
+              (before ++ u) (out ++ u) g)
 
           step : (u piece : Text) → Holds u → IsPiece (Either (AreItems IsNormalInEach) passes) piece → Holds (u ++ piece)
           step u piece g (inl literal) =
@@ -221,7 +223,8 @@ module _ (has_front : Front) (model : Model) where
       more_in out more held still h step =
           subst (λ u. IsWrittenIn has_front model u (out ++ more) still) (sym (up_to t start at low)) (step (take start t) out h)
 
-      pub complete_in : at ≤ MAX_TEXT_LEN → (out more : Text) → IsWrittenIn has_front model (take start t) out 0 → CompletesIn has_front model (between start at t) more
+      pub complete_in : at ≤ MAX_TEXT_LEN → (out more : Text) → IsWrittenIn has_front model (take start t) out 0
+          → CompletesIn has_front model (between start at t) more
           → HasCanonicalIn has_front model (take at t) (out ++ more)
       complete_in limit out more h completes =
           let whole = up_to t start at low in
@@ -284,7 +287,8 @@ module _ (model : Model) (t : Text) where
       subst (λ u. IsCanonicalFor model u c) last (subst (IsCanonicalFor model h.last) own h.ends)
 
   -- items end where none begins
-  pub ends_items : (at : ℕ) (c : Text) → at ≤ length t → BeginsNoItem (drop at (take MAX_TEXT_LEN t)) → HasCanonicalIn no_front model (take at t) c → IsItemsEnd t at
+  pub ends_items : (at : ℕ) (c : Text) → at ≤ length t → BeginsNoItem (drop at (take MAX_TEXT_LEN t))
+      → HasCanonicalIn no_front model (take at t) c → IsItemsEnd t at
   ends_items at c within none h =
       let last : h.last ≡ take at t = sym (h.split ∙ ap (λ u. u ++ h.last) h.begins.0) in
       record {

@@ -101,7 +101,8 @@ module _ (has_front : Front) (model : Model) where
 
   module _ (passes : Text → Type 0) (comes : ComesVerbatim has_front passes model) where
     -- what passes
-    in_passed : (t out : Text) (held : ℕ) (u : Text) → IsSettledIn t out held → passes u → (more : Text) × (still : ℕ) × IsSettledIn (t ++ u) (out ++ more) still
+    in_passed : (t out : Text) (held : ℕ) (u : Text) → IsSettledIn t out held → passes u → (more : Text) × (still : ℕ)
+        × IsSettledIn (t ++ u) (out ++ more) still
     in_passed t out held u h p =
         let rest = flat_map item_spelling (silents held) in
         let own = h.own ++ rest in

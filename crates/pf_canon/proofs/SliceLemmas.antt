@@ -66,7 +66,8 @@ pub alone : (w : CanonicalSlices) (now : PendingOutput) (bytes : Text) → pendi
 alone w now bytes none is = ap (λ t. t ++ pending_text now) (none_both w.bytes.now (pending_text w.output) none).0 ∙ is
 
 -- slices have a data model and a text
-pub are_slices : (has_front : Front) (refuses : Refuses) (model : Model) (w : CanonicalSlices) (text given : Text) → SlicesHaveGiven has_front refuses model w text given
+pub are_slices : (has_front : Front) (refuses : Refuses) (model : Model) (w : CanonicalSlices) (text given : Text)
+    → SlicesHaveGiven has_front refuses model w text given
     → AreSlices has_front refuses w
 are_slices has_front refuses model w text given h = (
   given,
@@ -158,7 +159,8 @@ module _ (has_front : Front) (model : Model) where
           omega (arith, place.1, w.ends.few, length-take walk.at text, ap length w.split, length-append w.front w.last)
 
       -- verbatim bytes come
-      pub verbatim_taken : (stop : ℕ) → walk.at ≤ stop → stop ≤ length walk.text.now → IsVerbatimAfter (IsWrittenIn has_front model) held (between walk.at stop walk.text.now)
+      pub verbatim_taken : (stop : ℕ) → walk.at ≤ stop → stop ≤ length walk.text.now
+          → IsVerbatimAfter (IsWrittenIn has_front model) held (between walk.at stop walk.text.now)
           → IsMidway has_front model (record walk { at = stop }) held text (out ++ between walk.at stop walk.text.now)
       verbatim_taken stop low within verbatim =
           let place = midway_within stop within in
@@ -187,7 +189,8 @@ module _ (has_front : Front) (model : Model) where
             over = moved_over text walk found.stop h.over;
             within = there.within;
             written = more_in has_front model text walk.at found.stop low out settled held still h.written
-                (extends_in has_front model (between walk.at found.stop text) settled held still (λ before own w. directive_written model before own (between walk.at found.stop text) settled held still found.directive w
+                (extends_in has_front model (between walk.at found.stop text) settled held still
+                (λ before own w. directive_written model before own (between walk.at found.stop text) settled held still found.directive w
                 (subst (λ t. IsReadAs t (Directive found.directive)) same there.read) (omega (arith, one, long)) short
                 (λ items. settles own items [] (omega (arith, few_held)))));
           }
@@ -201,7 +204,8 @@ module _ (has_front : Front) (model : Model) where
           (take_all walk.at text (omega (arith, e))) here
 
       -- and an item comes that the profile lacks
-      pub other_taken : (stop : ℕ) (spelling : Text) → has_front model (take stop text) ((out ++ flat_map item_spelling (silents held)) ++ spelling) → walk.at < stop
+      pub other_taken : (stop : ℕ) (spelling : Text) → has_front model (take stop text)
+          ((out ++ flat_map item_spelling (silents held)) ++ spelling) → walk.at < stop
           → stop ≤ length text → stop ≤ MAX_TEXT_LEN → length spelling ≤ 20
           → IsMidway has_front model (record walk { at = stop }) 0 text (out ++ (flat_map item_spelling (silents held) ++ spelling))
       other_taken stop spelling front some within limit short =

@@ -83,7 +83,8 @@ percents_written model t out run held more h g =
     record {
       items = h.items ++ more;
       reads = Reads-canonical model t run h.items more h.reads (record { canonical = canonical; whole = g.whole });
-      made = subst (λ u. IsMaking model (out ++ u) held (h.items ++ more) []) (sym g.whole) (percents_made model more out held (h.items ++ more) [] g.passed start);
+      made = subst (λ u. IsMaking model (out ++ u) held (h.items ++ more) []) (sym g.whole)
+          (percents_made model more out held (h.items ++ more) [] g.passed start);
       few = omega (arith, h.few, length-append t run);
       short = omega (arith, h.short, length-append out run, ap length g.whole, run_is_short model more canonical, most_len-append h.items more);
     }

@@ -78,7 +78,8 @@ numeric_token-open notation count h = rw h refl
 token_inside-begun : (rest : Bytes) → IsUnfinishedEscape rest → token_inside rest ≡ Invalid Unterminated (length rest)
 token_inside-begun rest h = ap token_inside h.whole ∙ go h.notation h.digits h.digits_are h.zeros h.room
     ∙ ap (λ t. Invalid Unterminated (length t)) (sym h.whole) where
-      go : (notation : Notation) (digits : Bytes) → AreEscapeDigits notation digits → escape_number notation digits ≡ 0 → is_full notation (length digits) ≡ false
+      go : (notation : Notation) (digits : Bytes) → AreEscapeDigits notation digits → escape_number notation digits ≡ 0
+          → is_full notation (length digits) ≡ false
           → token_inside (escape notation digits) ≡ Invalid Unterminated (length (escape notation digits))
       go Octal [] are none room = refl
       go Hexadecimal [] are none room = refl

@@ -122,7 +122,8 @@ module _ (model : Model) (first second : Text) (old new old2 new2 : List WholeAr
         others = k.types;
         first_accepted = h.accepted;
         second_accepted = k.accepted;
-        difference = rw e (f h.types k.types old old2 h.front k.front h.count_is k.count_is (one_short (length h.types) (length k.types) h.count_is k.count_is));
+        difference = rw e (f h.types k.types old old2 h.front k.front h.count_is k.count_is
+            (one_short (length h.types) (length k.types) h.count_is k.count_is));
         count_is = n ∙ k.count_is;
       }
     where
@@ -133,7 +134,8 @@ module _ (model : Model) (first second : Text) (old new old2 new2 : List WholeAr
       ]
 
 -- one of two numbers of types is small
-pub few_of_counts : (model : Model) (first second : Text) (count second_count : ℕ) → AreCounted model first second count second_count → min count second_count ≤ ROOM
+pub few_of_counts : (model : Model) (first second : Text) (count second_count : ℕ) → AreCounted model first second count second_count
+    → min count second_count ≤ ROOM
     → AreFew model first second
 few_of_counts model first second count second_count h few types others a b = elim (cases_lt ROOM (length types)) [
   | inl long ↦
@@ -194,10 +196,12 @@ many_left model order types start none h many = go h.types_are where
       absurd (omega (arith, last))
 
 -- at the end there is nothing more
-pub left_none : (model : Model) (order : TypesInOrder) (types : List WholeArgType) → HasLeft model order types → order.left ≡ 0 → length order.text.now ≤ order.at
+pub left_none : (model : Model) (order : TypesInOrder) (types : List WholeArgType) → HasLeft model order types → order.left ≡ 0
+    → length order.text.now ≤ order.at
     → types ≡ []
 left_none model order types h none over = go h.items h.reads h.types_are where
-  go : (items : List WholeItem) → ReadsWhole (drop order.at order.text.now) items → types ≡ ints_up_to order.left order.last ++ wanted_types (fetched model items)
+  go : (items : List WholeItem) → ReadsWhole (drop order.at order.text.now) items
+      → types ≡ ints_up_to order.left order.last ++ wanted_types (fetched model items)
       → types ≡ []
   go [] reads e = e ∙ ap (λ n. ints_up_to n order.last ++ []) none
   go (item ∷ later) reads e = let no : item ∷ later ≡ [] = items_once _ (item ∷ later) [] reads (drop_all order.at order.text.now over) in cc
@@ -224,7 +228,8 @@ differ_behind (x ∷ xs) ys zs other = let rest = differ_behind xs ys zs other i
   at (suc k) less rest = rest k (omega (arith, less))
 
 module _ (model : Model) (first second : Text) (count second_count : ℕ) where
-  pub compared_none : (one other : TypesInOrder) (h : AreCounted model first second count second_count) → HasLeft model one h.types → HasLeft model other h.others
+  pub compared_none : (one other : TypesInOrder) (h : AreCounted model first second count second_count) → HasLeft model one h.types
+      → HasLeft model other h.others
       → AreComparedTo model first second count second_count one other 0
   compared_none one other h a b =
       record { counted = h; done = []; left = h.types; right = h.others; first_is = refl; second_is = refl; first_left = a; second_left = b; index_is = refl }
@@ -251,7 +256,8 @@ module _ (model : Model) (first second : Text) (count second_count : ℕ) where
 
     -- after all types of the shorter list
     module _ (over : min count second_count ≤ index) where
-      pub all_same : count ≡ second_count → (types others : List WholeArgType) → HasArguments model first types → HasArguments model second others → types ≡ others
+      pub all_same : count ≡ second_count → (types others : List WholeArgType) → HasArguments model first types
+          → HasArguments model second others → types ≡ others
       all_same e =
           let a : h.left ≡ [] = nil_from_length h.left (omega (arith, sizes, over, e)) in
           let b : h.right ≡ [] = nil_from_length h.right (omega (arith, sizes, over, e)) in
@@ -295,7 +301,8 @@ module _ (model : Model) (first second : Text) (count second_count : ℕ) where
               other_left = q.1;
             }
 
-      pub next_differ : number_of_type a ≢ number_of_type b → (types others : List WholeArgType) → HasArguments model first types → HasArguments model second others
+      pub next_differ : number_of_type a ≢ number_of_type b → (types others : List WholeArgType) → HasArguments model first types
+          → HasArguments model second others
           → IsFirstDifference types others (Some index)
       next_differ apart =
           let n = heads in

@@ -191,7 +191,8 @@ pub record IsListing (model : Model) (t : Text) (walk : Walk) (fetched count : �
 
 module _ (model : Model) (t : Text) where
   -- before the first item
-  unfoldable pub listing_starts : (types : List WholeArgType) → HasArguments model t types → (walk : Walk) → IsWalkOver t walk → walk.at ≡ 0 → (old : List DirectiveSpan)
+  unfoldable pub listing_starts : (types : List WholeArgType) → HasArguments model t types → (walk : Walk) → IsWalkOver t walk → walk.at ≡ 0
+      → (old : List DirectiveSpan)
       → IsListing model t walk 0 0 old old
   listing_starts types given walk over start old =
       let all = directives_from model 0 0 t given.items given.reads in
@@ -264,4 +265,10 @@ module _ (model : Model) (t : Text) where
       go [] reads e = sym (append-nil h.done) ∙ sym e
 
     pub listing_ends : length t ≤ walk.at → HasDirectiveCount model t old new count
-    listing_ends over = record { directives = h.done; listed = has_listed model t h.types h.given h.done (all_listed over); count_is = h.count_is; front = h.front }
+    listing_ends over = record {
+      directives = h.done;
+      listed = has_listed model t h.types h.given h.done
+          (all_listed over);
+      count_is = h.count_is;
+      front = h.front;
+    }

@@ -9,7 +9,8 @@ use Rattle.pf_posix.specs.Laws.{HasNoPartOfErrno, IsOfFprintf, IsWithoutErrno}
 -- what comes after an item is without it, too
 rest_without : (t first rest : Text) → t ≡ first ++ rest → IsWithoutErrno t → IsWithoutErrno rest
 rest_without t first rest e h front more f =
-    h (first ++ front) more (e ∙ ap (λ u. first ++ u) f ∙ sym (append_assoc first (front ++ errno) more) ∙ ap (λ u. u ++ more) (sym (append_assoc first front errno)))
+    h (first ++ front) more (e ∙ ap (λ u. first ++ u) f ∙ sym (append_assoc first (front ++ errno) more)
+    ∙ ap (λ u. u ++ more) (sym (append_assoc first front errno)))
 
 others : (t : Text) (items : List WholeItem) → IsWithoutErrno t → ReadsWhole t items → AllByRecursion IsOfFprintf items
 others t [] h reads = tt

@@ -48,7 +48,8 @@ abbrev found : Model → Text → Found
 found model t = (halts_in model (stopped model t), Stop.at (stopped model t), is_end (Stop.state (stopped model t)) (Stop.rest (stopped model t)))
 
 refused : (model : Model) (t : Text) (kind : RefusalKind) (at : ℕ) → found model t ≡ (Some kind, at, false) → IsWholeRefusedAt model t kind at
-refused model t kind at e = refused_with model t kind at (λ whole. let no : true ≡ false = sym whole ∙ ap (λ v. v.2) e in cc) (ap (λ v. v.0) e) (ap (λ v. v.1) e)
+refused model t kind at e = refused_with model t kind at (λ whole. let no : true ≡ false = sym whole ∙ ap (λ v. v.2) e in cc)
+    (ap (λ v. v.0) e) (ap (λ v. v.1) e)
 
 -- `n` points to what its modifier names in the data model
 counted_in_lp64 : conversion_type Lp64 (Integer lengths.Z) Count ≡ PointerToLong

@@ -175,7 +175,8 @@ module _ (model : Model) (t : Text) (start : ℕ) (items : List WholeItem) (shor
 
   -- two types at a byte with which an argument is fetched
   conflict_refused : (at : ℕ) (part : Text) (position : Option ℕ) (own : List Fetch) (byte : ℕ) (f : Fetch) → HasBytes t start at part
-      → IsBegunAs part position own → AreAgreed (seen ++ own) → FollowsBy (numbering_of seen) position → get_or t at 0 ≡ byte → byte ≢ 0 → byte ≢ percent → byte ≢ errno_letter
+      → IsBegunAs part position own → AreAgreed (seen ++ own) → FollowsBy (numbering_of seen) position → get_or t at 0 ≡ byte → byte ≢ 0
+      → byte ≢ percent → byte ≢ errno_letter
       → (FollowsBy (numbering_of (seen ++ own)) position → FetchesStar part byte f ⊎ FetchesLast model (numbering_of (seen ++ own)) part byte f)
       → conflicts (seen ++ own) f ≡ true → IsWholeRefusedAt model t TwoTypes at
   conflict_refused at part position own byte f bytes begun agreed before there nul other errno fetches c =

@@ -351,8 +351,13 @@ module _ (model : Model) (before : List Fetch) where
           let same : now ≡ with_fetch f q = g.fetches_are ∙ ap (λ l. seen ++ l) (own_step h.state to (sign_of byte) h.goes)
           ∙ sym (with_own seen (own_in h.state) q) in
           let c = continues model byte f h.state to h.goes (star_numbered h.state less h.after) q refl (subst AreAgreed same g.agreed)
-          (subst (λ l. MayGoOn (numbering_of l) to) same g.begun.1) in
-          (f, Some h.state, front_by g.items g.whole less g.reads front_is refl c.0 (h.after, c.1.0), ap (next_of f) c.1.1 ∙ ap (λ l. Goes l (Some to)) (sym same))
+          (subst (λ l. MayGoOn (numbering_of l) to) same g.begun.1) in (
+            f,
+            Some h.state,
+            front_by g.items g.whole less g.reads front_is refl c.0 (h.after, c.1.0),
+            ap (next_of f) c.1.1
+                ∙ ap (λ l. Goes l (Some to)) (sym same),
+          )
     ]
 
   module _ (front : Text) (byte : ℕ) (now : List Fetch) (g : IsFrontIn model before (front ++ byte ∷ []) now None) where
@@ -381,7 +386,8 @@ module _ (model : Model) (before : List Fetch) where
       by_item : (item : WholeItem) → g.items ≡ earlier ++ item ∷ [] → IsWholeReadAs last item → Retreats front byte now None
       by_item (Byte b) e h = by_percent (b == percent) refl h where
         by_percent : (c : Bool) → (b == percent) ≡ c → MatchBool c (last ≡ percent ∷ percent ∷ []) ((b ≢ 0) × (last ≡ b ∷ [])) → Retreats front byte now None
-        by_percent true c h = by_byte b (Byte b) refl e (Some Opened) (percent ∷ []) (h ∙ ap (λ k. percent ∷ k ∷ []) (sym (eqb-true b percent c))) refl (λ n. (refl, tt))
+        by_percent true c h = by_byte b (Byte b) refl e (Some Opened) (percent ∷ [])
+            (h ∙ ap (λ k. percent ∷ k ∷ []) (sym (eqb-true b percent c))) refl (λ n. (refl, tt))
             (λ f. ap (next model f (Some Opened)) (eqb-true b percent c))
         by_percent false c h = let some = ne_eqb b 0 h.0 in by_byte b (Byte b) refl e None [] h.1 refl (λ n. refl) (λ f. rw (some, c) refl)
       by_item Errno e h = by_byte errno_letter Errno refl e (Some Opened) (percent ∷ []) h refl (λ n. (refl, tt)) (λ f. refl)

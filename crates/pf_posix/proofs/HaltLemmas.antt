@@ -270,7 +270,8 @@ digits_halt t start begin numbering place before digits n stop h is_before follo
 
 -- of a width
 module _ (t : Text) (start begin : ℕ) (numbering : Numbering) (position : Option ℕ) (before : Text) (set : FlagSet) (h : HasBytes t begin start before)
-    (spelled : SpellsUpToFlags before position set) (follows : FollowsBy numbering position) (n stop : ℕ) (read : HasBytes t start stop (width_spelled (Some n)))
+    (spelled : SpellsUpToFlags before position set) (follows : FollowsBy numbering position) (n stop : ℕ)
+    (read : HasBytes t start stop (width_spelled (Some n)))
     (some : Some n ≢ Some 0) (few : is_above_limit (Some n) ≡ false) (ends : EndsWidth (Some n) t stop) where
   pub width_halts : (refusal : Refusal) → refusal ≡ record { kind = WidthTooLarge; at = stop } → stop < length t → is_digit (get_or t stop 0) ≡ true
       → Halts t begin numbering position [] refusal
@@ -411,7 +412,8 @@ pub halt_begins_no : (t : Text) (start : ℕ) (numbering : Numbering) (position 
     → IsHalt t start numbering position own refusal → is_of_combination refusal.kind ≡ false → BeginsNoAfter numbering (drop start t)
 halt_begins_no t start numbering position own refusal h early text rest s spelled e follows =
     halt_begins t start numbering position own refusal h text rest s spelled e follows (λ some.
-    bool_no (of_combination s.flags (is_some s.width) (is_some s.precision) s.modifier s.conversion refusal.kind (find_holds (is_undefined_as s.flags (is_some s.width) (is_some s.precision) s.modifier s.conversion)
+    bool_no (of_combination s.flags (is_some s.width) (is_some s.precision) s.modifier s.conversion refusal.kind
+    (find_holds (is_undefined_as s.flags (is_some s.width) (is_some s.precision) s.modifier s.conversion)
     combinations refusal.kind some)) early) where
       combinations : List RefusalKind
       combinations = AltUndefined ∷ ZeroUndefined ∷ GroupUndefined ∷ PrecisionUndefined ∷ LengthUndefined ∷ CountUndefined ∷ []

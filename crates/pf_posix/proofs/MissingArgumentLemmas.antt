@@ -209,7 +209,8 @@ module _ (model : Model) (k : ℕ) where
     either false b e = inr e
 
 -- if one has a number, each has one
-some_numbered : (fs : List Fetch) (k : ℕ) (numbering : Numbering) → IsFetched k fs → AllByRecursion (λ f. numbering_by f.number ≡ numbering) fs → numbering ≡ Numbered
+some_numbered : (fs : List Fetch) (k : ℕ) (numbering : Numbering) → IsFetched k fs
+    → AllByRecursion (λ f. numbering_by f.number ≡ numbering) fs → numbering ≡ Numbered
 some_numbered [] k numbering h all = absurd h
 some_numbered (f ∷ fs) k numbering (inl e) all = sym all.0 ∙ ap numbering_by e
 some_numbered (f ∷ fs) k numbering (inr h) all = some_numbered fs k numbering h all.1
@@ -266,7 +267,8 @@ leaves_out model t at h =
     let gap = end.2 in
     let whole : t ≡ good.whole =
     h.split ∙ ap₂ (λ u v. u ++ v) good.split end.0 ∙ append-nil (good.whole ++ h.part) ∙ ap (λ p. good.whole ++ p) end.1 ∙ append-nil good.whole in
-    let all : h.fetches ≡ fetched model good.items = good.fetches_are ∙ ap (λ own. fetched model good.items ++ own) (own_none good.begun end.1) ∙ append-nil _ in
+    let all : h.fetches ≡ fetched model good.items = good.fetches_are
+    ∙ ap (λ own. fetched model good.items ++ own) (own_none good.begun end.1) ∙ append-nil _ in
     let reads = subst (λ u. ReadsWhole u good.items) (sym whole) good.reads in
     let within = items_within model t good.items reads in
     let there = subst (IsFetched gap.1) all gap.3 in

@@ -200,7 +200,8 @@ shrinks (Modified numbers modifier) t byte h = inr (go modifier h.2 h.3) where
   two first second last m some g e = earlier (Modified numbers second) t byte (h.0 ++ last ∷ []) last (Modified numbers first)
       (h.0, h.1, ap (λ u. h.0 ++ u) (sym m), some) g (e ∙ sym (append_assoc h.0 (last ∷ []) (last ∷ [])))
 
-  go : (modifier : WholeLength) → t ++ byte ∷ [] ≡ h.0 ++ modifier_letters modifier → modifier ≢ Integer lengths.None → Earlier (Modified numbers modifier) t byte
+  go : (modifier : WholeLength) → t ++ byte ∷ [] ≡ h.0 ++ modifier_letters modifier → modifier ≢ Integer lengths.None
+      → Earlier (Modified numbers modifier) t byte
   go LongDouble e some = one LongDouble 76 e refl
   go (Integer lengths.None) e some = absurd (some refl)
   go (Integer lengths.Hh) e some = two (Integer lengths.H) (Integer lengths.Hh) 104 refl (λ f. cc) refl e

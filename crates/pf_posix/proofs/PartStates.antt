@@ -55,7 +55,8 @@ more_than t position set h = let s = state_of_place t (Width position set) h in 
   go (Flags other more) k e = inl k.1
   go _ k e = cc
 
-pub in_part : (t part : Text) (numbers : Numbers) (modifier : WholeLength) → SpellsUpToPrecision t numbers.position numbers.flags numbers.width numbers.precision
+pub in_part : (t part : Text) (numbers : Numbers) (modifier : WholeLength)
+    → SpellsUpToPrecision t numbers.position numbers.flags numbers.width numbers.precision
     → part ≡ t ++ modifier_letters modifier → EndsInPart part numbers.position (own_of numbers)
 in_part t part n modifier h e =
     record { before = t; set = n.flags; width = n.width; precision = n.precision; modifier = modifier; before_is = h; whole = e; own_is = refl }

@@ -368,7 +368,8 @@ module _ (t : Text) (start : ℕ) (numbering : Numbering) (position : Option ℕ
               whole : HasBytes t start (d + 1) (part ++ conversion_letter conversion ∷ [])
               whole = bytes_join t start d (d + 1) part (conversion_letter conversion ∷ []) part_bytes letter
 
-        module _ (other : get_or t (start + 1) 0 ≢ 37) (errno : get_or t (start + 1) 0 ≢ 109) (first : position ≡ None → IsFirstWidth t (start + 1)) (width_ends : WidthEnds t b position width)
+        module _ (other : get_or t (start + 1) 0 ≢ 37) (errno : get_or t (start + 1) 0 ≢ 109)
+            (first : position ≡ None → IsFirstWidth t (start + 1)) (width_ends : WidthEnds t b position width)
             (precision_ends : PrecisionEnds t b c position precision) (modifier_ends : ModifierEnds t d modifier) where
           abbrev byte : ℕ
           byte = get_or t d 0
@@ -499,7 +500,8 @@ refused_position t start numbering refusal less percent halts refused is =
     let h = halts start (bytes_one t start 37 less (sym percent)) in
     refuse t start numbering None [] refusal _ refused is h (record { width = tt; precision = tt; own_is = λ has. refl })
 
-conversion_plain : (conversion : WholeConv) → (conversion_letter conversion == 0 || (conversion_letter conversion == 37 || conversion_letter conversion == 109)) ≡ false
+conversion_plain : (conversion : WholeConv) → (conversion_letter conversion == 0 ||
+    (conversion_letter conversion == 37 || conversion_letter conversion == 109)) ≡ false
 conversion_plain conversion = grind arith
 
 -- a specification that was read, but isn't defined
@@ -527,7 +529,8 @@ refused_undefined t start numbering read stop kind is undefined refused made =
       own = star_fetches (specification_read read).width ++ star_fetches (specification_read read).precision
 
       begun : IsBegunAs part read.position own
-      begun = inl (in_part s.before part (numbers_by read.position read.parts.flags (specification_read read).width (specification_read read).precision) read.parts.modifier s.before_is refl)
+      begun = inl (in_part s.before part (numbers_by read.position read.parts.flags (specification_read read).width
+          (specification_read read).precision) read.parts.modifier s.before_is refl)
 
       place : start + (stop - start) ≡ stop
       place = omega (arith, is.read.some)

@@ -80,7 +80,8 @@ module _ (t : Text) where
           → (span : SpecificationSpan) → span.directive ≡ directive_between walk.model walk.walk.at end walk.fetched (specification_read read)
           → span.parts ≡ read.parts → span.offsets ≡ offsets_read read
           → (more : ℕ) → more ≡ length (fetches walk.model (specification_read read)) → more ≤ 3
-          → IsAhead t (record walk { walk = record walk.walk { at = end }; fetched = walk.fetched + more }) all (done ++ span.directive ∷ []) × HasItsParts t span
+          → IsAhead t (record walk { walk = record walk.walk { at = end }; fetched = walk.fetched + more }) all
+          (done ++ span.directive ∷ []) × HasItsParts t span
       ahead_found read listed behind places span spanned parts offsets more counted many =
           let own = length (fetches walk.model (specification_read read)) in
           let spanned_there = subst (λ d. IsListedTo walk.model t all end (walk.fetched + own) (done ++ d ∷ [])) (sym spanned) listed in (

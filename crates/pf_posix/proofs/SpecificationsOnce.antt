@@ -146,7 +146,8 @@ same_there t start found h text rest s spelled e =
     let split : drop start t ≡ take (stop - start) (drop start t) ++ drop stop t =
     sym (take-append-drop (stop - start) (drop start t))
     ∙ ap (λ u. take (stop - start) (drop start t) ++ u) (drop-drop (stop - start) start t ∙ ap (λ k. drop k t) place) in
-    let same = specification_once (take (stop - start) (drop start t)) text (drop stop t) rest (specification_read found.0) s h.spelled spelled (sym split ∙ e) in
+    let same = specification_once (take (stop - start) (drop start t)) text (drop stop t) rest
+    (specification_read found.0) s h.spelled spelled (sym split ∙ e) in
     (same.0, same.1)
 
 -- no reason holds
@@ -169,6 +170,7 @@ no_reason set width precision modifier conversion e =
     let g = none_first _ _ _ f.1 in
     record { alt = a.0; zero_flag = b.0; group = c.0; precision_is = d.0; modifier_is = f.0; count = g.0 }
 
-pub is_defined : (set : FlagSet) (width precision : Bool) (modifier : WholeLength) (conversion : WholeConv) → HasNoReason set width precision modifier conversion
+pub is_defined : (set : FlagSet) (width precision : Bool) (modifier : WholeLength) (conversion : WholeConv)
+    → HasNoReason set width precision modifier conversion
     → undefined_as set width precision modifier conversion ≡ None
 is_defined set width precision modifier conversion h = rw (h.alt, h.zero_flag, h.group, h.precision_is, h.modifier_is, h.count) refl

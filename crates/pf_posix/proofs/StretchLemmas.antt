@@ -173,7 +173,8 @@ module _ (t : Text) where
       (one_byte at left less no h).0 (grind (arith, nat_tests, test, no))
 
   -- `%%`
-  pub found_percent : (at : ℕ) → get_or t at 0 ≡ 37 → (get_or t (at + 1) 0 == 37) ≡ true → at + 1 < length t → (left : Stretches) → ReadsStretches (drop at t) left
+  pub found_percent : (at : ℕ) → get_or t at 0 ≡ 37 → (get_or t (at + 1) 0 == 37) ≡ true → at + 1 < length t → (left : Stretches)
+      → ReadsStretches (drop at t) left
       → IsFound t at left (found.Items (at + 2))
   found_percent at first second less left h =
       let split = percent_split t at first second less in
@@ -182,7 +183,8 @@ module _ (t : Text) where
       (Byte 37 ∷ [], 37 ∷ 37 ∷ [], r.later, (37 ∷ 37 ∷ [], [], refl, refl, refl), r.reads, split, r.whole)
 
   -- `%m`
-  pub found_errno : (at : ℕ) → get_or t at 0 ≡ 37 → (get_or t (at + 1) 0 == 109) ≡ true → at + 1 < length t → (left : Stretches) → ReadsStretches (drop at t) left
+  pub found_errno : (at : ℕ) → get_or t at 0 ≡ 37 → (get_or t (at + 1) 0 == 109) ≡ true → at + 1 < length t → (left : Stretches)
+      → ReadsStretches (drop at t) left
       → IsFound t at left (found.Opaque Errno (at + 2))
   found_errno at first second less left h =
       let split = errno_split t at first second less in

@@ -107,7 +107,8 @@ dollar_found false _ sign h = cc
 
 module _ (model : Model) where
   -- the front of a text, with items that aren't numbered
-  abbrev pub plain_front : (front whole part : Text) (items : List WholeItem) (state : Option State) → ReadsWhole whole items → AllByRecursion IsUnnumbered items
+  abbrev pub plain_front : (front whole part : Text) (items : List WholeItem) (state : Option State) → ReadsWhole whole items
+      → AllByRecursion IsUnnumbered items
       → front ≡ whole ++ part → AreFree (own_at state) → IsPart Unnumbered state part
       → IsFrontIn model ahead front (first_one ∷ (fetched model items ++ own_at state)) state
   plain_front front whole part items state reads unnumbered split own begun = front_by items whole part reads split refl
@@ -384,7 +385,8 @@ module _ (model : Model) (t : Text) (at : ℕ) (within : at ≤ length t) (front
   own_none = go h.follows where
     go : IsUndecided h.part ⊎ FollowsBy Unnumbered position → AreFree own
     go (inl undecided) = subst AreFree (sym (undecided_own h.part position own undecided h.begun)) tt
-    go (inr f) = all_map _ _ own (λ g e. unnumbered_none g.number (e ∙ ap numbering_by (without_number position f))) (begun_numbering h.part position own h.begun)
+    go (inr f) = all_map _ _ own (λ g e. unnumbered_none g.number (e ∙ ap numbering_by (without_number position f)))
+        (begun_numbering h.part position own h.begun)
 
   abbrev taken : List Fetch
   taken = fetched model (accepted_there (take at t) front).items ++ own_in s.state

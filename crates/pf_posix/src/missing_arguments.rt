@@ -90,7 +90,8 @@ fn first_later(model: Model, text: &[u8], argument: u64) -> Option<Specification
     requires { IsReadable text.now }
     ensures { (items : List WholeItem) (reads : ReadsWhole text.now items) → MatchOption result
         (AllByRecursion (λ d. takes_later d argument ≡ false) (directives_from model 0 0 text.now items reads))
-        (λ span. IsFirstLater (directives_from model 0 0 text.now items reads) argument span.directive × HasItsParts text.now span) }
+        (λ span. IsFirstLater (directives_from model 0 0 text.now items reads) argument span.directive
+        × HasItsParts text.now span) }
 {
     let mut walk = SpecificationWalk::of(model, text);
     while let Some(span) = walk.next() {

@@ -61,7 +61,8 @@ impl<'a> SpecificationWalk<'a> {
     /// Returns the next specification, or `None` at the end of the text.
     #[inline(always)]
     pub fn next(&mut self) -> Option<SpecificationSpan>
-        requires { (t : Text) × (all : List DirectiveSpanOf) × (done : List DirectiveSpanOf) × IsAhead t self.old all done }
+        requires { (t : Text) × (all : List DirectiveSpanOf) × (done : List DirectiveSpanOf)
+            × IsAhead t self.old all done }
         ensures next { (t : Text) (all done : List DirectiveSpanOf) → IsAhead t self.old all done
             → MatchOption result (done ≡ all)
             (λ span. IsAhead t self.new all (done ++ span.directive ∷ []) × HasItsParts t span) }
@@ -87,7 +88,8 @@ impl<'a> SpecificationWalk<'a> {
 
     /// Returns how many specifications are ahead.
     pub fn count(&self) -> u64
-        requires { (t : Text) × (all : List DirectiveSpanOf) × (done : List DirectiveSpanOf) × IsAhead t self.now all done }
+        requires { (t : Text) × (all : List DirectiveSpanOf) × (done : List DirectiveSpanOf)
+            × IsAhead t self.now all done }
         ensures { (t : Text) (all done : List DirectiveSpanOf) → IsAhead t self.now all done
             → (spans : List SpecificationSpanOf) × AreTheRest t all done spans × (result ≡ length spans) }
     {
@@ -115,7 +117,8 @@ pub(crate) fn item_at(text: &[u8], at: usize) -> (Option<Specification>, usize)
     ensures further { at < result.1 }
     ensures item { (items : List WholeItem) → ReadsWhole (drop at text.now) items
         → IsBehindItem text.now items result.0 result.1 }
-    ensures listed { (model : ModelOf) (all done : List DirectiveSpanOf) (next : ℕ) → IsListedTo model text.now all at next done
+    ensures listed { (model : ModelOf) (all done : List DirectiveSpanOf) (next : ℕ)
+        → IsListedTo model text.now all at next done
         → IsListedBehind model text.now all at next done result.0 result.1 }
     ensures parts { IfSome result.0 (λ read. AreWholePartsAt text.now at result.1 (offsets_read read) (specification_read read)) }
 {

@@ -227,7 +227,8 @@ fn position_at(
     requires within { start ≤ length text.now }
     requires other { get_or text.now start 0 ≢ percent }
     requires errno { get_or text.now start 0 ≢ errno_letter }
-    ensures bytes { IfOk result (λ read. (bytes : Text) × SpellsPosition bytes read.0 × HasBytes text.now start read.1 bytes) }
+    ensures bytes { IfOk result (λ read. (bytes : Text) × SpellsPosition bytes read.0
+        × HasBytes text.now start read.1 bytes) }
     ensures follows { IfOk result (λ read. FollowsBy numbering read.0) }
     ensures first { IfOk result (λ read. read.0 ≡ None → IsFirstWidth text.now start) }
     ensures halt { IfErr result (HaltsAtPosition text.now start numbering) }
@@ -269,7 +270,8 @@ fn star_number_at(
         × (is_some read.0 ≡ is_some position) × HasBytes text.now start read.1 bytes) }
     ensures ended { IfOk result (λ read. position ≡ None → is_digit (get_or text.now read.1 0) ≡ false) }
     ensures halt { IfErr result (HaltsAtStar text.now start position too_large) }
-    ensures early { is_of_combination too_large ≡ false → IfErr result (λ refusal. is_of_combination refusal.kind ≡ false) }
+    ensures early { is_of_combination too_large ≡ false → IfErr result
+        (λ refusal. is_of_combination refusal.kind ≡ false) }
 {
     if position.is_none() {
         if has_digit(text, start) {
@@ -355,10 +357,12 @@ fn after_point(
     position: Option<u16>,
 ) -> Result<(OpaqueAmount, Option<u16>, usize), Refusal>
     requires within { start ≤ length text.now }
-    ensures bytes { IfOk result (λ read. (bytes : Text) × SpellsWholePrecision (point ∷ bytes) position (amount_at (Some read.0) read.1)
+    ensures bytes { IfOk result (λ read. (bytes : Text)
+        × SpellsWholePrecision (point ∷ bytes) position (amount_at (Some read.0) read.1)
         × HasBytes text.now start read.2 bytes) }
     ensures number { IfOk result (λ read. NumbersStar (Some read.0) read.1) }
-    ensures ended { (before : ℕ) → start ≡ before + 1 → IfOk result (λ read. PrecisionEnds text.now before read.2 position (Some read.0)) }
+    ensures ended { (before : ℕ) → start ≡ before + 1 → IfOk result
+        (λ read. PrecisionEnds text.now before read.2 position (Some read.0)) }
     ensures halt { IfErr result (HaltsAtPoint text.now start position) }
     ensures early { IfErr result (λ refusal. is_of_combination refusal.kind ≡ false) }
 {

@@ -21,7 +21,8 @@ pub unsigned_form : (model : Model) (s : Specification) (k : Kind) → prints_te
     → IsNormalUnprefixed model s → HasNormalForm model k s
 unsigned_form model s k text signed alt h = grind (arith, unprefixed_under)
 
-signed_form : (model : Model) (s : Specification) (k : Kind) → prints_signed k ≡ true → has s.flags Zero ≡ false → IsNormalSigned model s → HasNormalForm model k s
+signed_form : (model : Model) (s : Specification) (k : Kind) → prints_signed k ≡ true → has s.flags Zero ≡ false → IsNormalSigned model s
+    → HasNormalForm model k s
 signed_form model s k signed unfilled h = grind arith
 
 module _ (model : Model) (s : Specification) (parts : HasPlainParts s) (text : is_text s.conv ≡ false) (unfilled : has s.flags Zero ≡ false)

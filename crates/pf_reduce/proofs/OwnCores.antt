@@ -98,7 +98,8 @@ false_else b h = grind arith
 
 -- those of a number without a sign
 module _ (model : Model) (s : Specification) (h : IsNormal model s) (signed : is_signed s.conv ≡ false) where
-  no_sign_flags : (flags : FlagSet) → flags.minus ≡ false → flags.plus ≡ false → flags.space ≡ false → flags.alt ≡ has s.flags Alt → flags.zero ≡ has s.flags Zero
+  no_sign_flags : (flags : FlagSet) → flags.minus ≡ false → flags.plus ≡ false → flags.space ≡ false → flags.alt ≡ has s.flags Alt
+      → flags.zero ≡ has s.flags Zero
       → flags.group ≡ false → with_side (has s.flags Minus) flags ≡ s.flags
   no_sign_flags flags right p b a z g = on_side _ flags s.flags refl right (p ∙ sym (false_else s.flags.plus (λ e. sym signed ∙ h.no_plus e)))
       (b ∙ sym (false_else s.flags.space (λ e. sym signed ∙ h.no_space e))) a z (g ∙ sym h.no_group)
@@ -169,7 +170,8 @@ own_filled_prefixed model s h form alt fill =
     let f = s.flags in
     let parts = filled_parts f.zero f.minus s.precision fill in
     let signed = prefixed_unsigned s.conv form in
-    own_core model s (padding_of s) (with_flag (with_flag no_flags Alt) Zero) None h (filled_alt_flags model s h signed alt parts.0) (sym parts.2) refl refl refl
+    own_core model s (padding_of s) (with_flag (with_flag no_flags Alt) Zero) None h (filled_alt_flags model s h signed alt parts.0)
+    (sym parts.2) refl refl refl
 
 -- the side is seen
 pub seen_from : (p w least : ℕ) → (0 < w) × (p ≡ 0 → least < w) → unseen_width p least < w

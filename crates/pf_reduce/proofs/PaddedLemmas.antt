@@ -53,7 +53,14 @@ module _ (model : Model) (s : Specification) (parts : HasPlainParts s) (text : i
   width_is = omega (arith, wide)
 
   kept_width : (least : ℕ) → least < most → HasNoIdleWidth field least field
-  kept_width least less = record { same = λ body some. refl; constant = refl; left = refl; idle = λ few. absurd (omega (arith, few, less, width_is)); kept = λ more. refl }
+  kept_width least less = record {
+    same = λ body some. refl;
+    constant = refl;
+    left = refl;
+    idle = λ few. absurd
+        (omega (arith, few, less, width_is));
+    kept = λ more. refl;
+  }
 
   seen : (unseen : ℕ) → unseen < most → IsRightIfUnseen field unseen field
   seen unseen less = record { same = λ body h. refl; constant = refl; width = refl; wide = λ e. (e, omega (arith, less, width_is)); right = λ h. refl }

@@ -186,7 +186,8 @@ module _ (model : Model) (s : Specification) (defined : IsDefined s) (raises : i
 
     own_octal : padded_core model s b (with_flag no_flags Alt) (kept_precision p) ≡ itself model s
     own_octal = let most = octal_is.most in own_number model s b (with_flag no_flags Alt) p h (ap prints_text e)
-        (alt_flags model s h (ap prints_signed e) alt octal_is.not_filled) precision_own (omega (arith, field.constant, narrow.constant, most, d_is)) width_own side_own
+        (alt_flags model s h (ap prints_signed e) alt octal_is.not_filled) precision_own
+        (omega (arith, field.constant, narrow.constant, most, d_is)) width_own side_own
 
     not_hoisted : (b.left ≡ true) ⊎ (b.width ≡ 0) → ⊥
     not_hoisted no_spaces = let least = octal_is.least in seen_before _ _ no_spaces (side_own ∙ octal_is.right) (omega (arith, width_own, least))
@@ -202,7 +203,12 @@ module _ (model : Model) (s : Specification) (defined : IsDefined s) (raises : i
       let normal : IsNormal model (core_of_parts model s b (with_flag no_flags Alt) (kept_precision p)) =
       normal_octal model s b p raises (omega (arith, wider, narrow.width, w), omega (arith, p_is, few)) right (omega (arith, p_is))
       (omega (arith, least, wider, narrow.width, d_is)) least (omega (arith, least, wider, narrow.width, d_is)) in
-      record { normal = normal; reduced = octal_reduced model s b p e alt (refl, normal) (omega (arith, field.constant, narrow.constant, w)) in_field; kept = own_octal }
+      record {
+        normal = normal;
+        reduced = octal_reduced model s b p e alt (refl, normal)
+            (omega (arith, field.constant, narrow.constant, w)) in_field;
+        kept = own_octal;
+      }
 
   -- otherwise that is constant
   pub octal_after_hoisted : (b.left ≡ true) ⊎ (b.width ≡ 0) → (z : ℕ) (c q : Padding) → z ≡ 1 + (p - 1 - d) → HasHoistedZeros b z c → IsRightIfUnseen c 1 q
@@ -280,7 +286,11 @@ module _ (model : Model) (s : Specification) (defined : IsDefined s) (form : is_
       normal_prefixed model s q p form (omega (arith, right.width, wider, narrow.width, w), omega (arith, p_is, few))
       (λ some. let least = left.1 (omega (arith, right.width, some)) in omega (arith, right.width, least))
       (omega (arith, right.width, wider, narrow.width, d_is))
-      (λ l. let wide = (right.wide l).1 in (omega (arith, right.width, wide), λ zero. let three : 3 < b.width = rw zero at wide in omega (arith, right.width, three))) in
+      (λ l. let wide = (right.wide l).1 in (
+        omega (arith, right.width, wide),
+        λ zero. let three : 3 < b.width = rw zero at wide in omega
+            (arith, right.width, three),
+      )) in
       record {
         normal = normal;
         reduced = prefixed_reduced model s form alt q p idle p_is (refl, normal) (omega (arith, right.constant, field.constant, narrow.constant, w)) (λ body is.

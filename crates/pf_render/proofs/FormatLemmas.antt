@@ -38,7 +38,13 @@ module _ {A : Type 0} (type_of : A → ArgType) (argument_of : A → Argument) w
       renders_items out prints =
           let here = subst (λ i. PrintsAll model i (map argument_of args) out) same_items prints in
           let typed = subst (λ i. HasTypes model (map argument_of args) (types model i)) same_items typed_items in
-          record { takes = h.takes; typed = h.typed; prints = here; only = λ other g. same_printed model h.takes.items (map argument_of args) other out typed g here }
+          record {
+            takes = h.takes;
+            typed = h.typed;
+            prints = here;
+            only = λ other g. same_printed model h.takes.items
+                (map argument_of args) other out typed g here;
+          }
 
     -- it prints something
     pub renders : (out : Text) × RendersBy type_of argument_of model t args out

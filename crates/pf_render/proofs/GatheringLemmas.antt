@@ -82,10 +82,12 @@ module _ (model : Model) {A O : Type 0} {type_of : A → ArgType} {argument_of :
 
   -- some items, and then more
   pub more_gathered : (old mid new : O) (items more : List Item) (own others : List A) → IsGatheredSoFar type_of argument_of wrote model old mid items own
-      → IsGatheredSoFar type_of argument_of wrote model mid new more others → IsGatheredSoFar type_of argument_of wrote model old new (items ++ more) (own ++ others)
+      → IsGatheredSoFar type_of argument_of wrote model mid new more others
+      → IsGatheredSoFar type_of argument_of wrote model old new (items ++ more) (own ++ others)
   more_gathered old mid new items more own others h g =
       record {
-        matching = subst (Match type_of argument_of model (own ++ others)) (sym (types-append model items more)) (match_append type_of argument_of model own others _ _ h.matching g.matching);
+        matching = subst (Match type_of argument_of model (own ++ others)) (sym (types-append model items more))
+            (match_append type_of argument_of model own others _ _ h.matching g.matching);
         out = h.out ++ g.out;
         prints = rw map-append (PrintsAll-append model items more (map argument_of own) (map argument_of others) h.out g.out h.prints g.prints);
         put = laws.joined old mid new h.out g.out h.put g.put;
@@ -115,7 +117,8 @@ module _ (model : Model) {A O : Type 0} {type_of : A → ArgType} {argument_of :
     given_more = subst (λ x. NextIs (Some x) new t h.read h.items) is (steps.next t h.read h.items h.given)
 
     -- a piece that takes no argument
-    pub literal_gathered : IsGatheredSoFar type_of argument_of wrote model now after items [] → IsGathering type_of argument_of wrote model old t args after new taken
+    pub literal_gathered : IsGatheredSoFar type_of argument_of wrote model now after items []
+        → IsGathering type_of argument_of wrote model old t args after new taken
     literal_gathered g =
         record {
           read = h.read ++ given_more.more;
@@ -143,13 +146,15 @@ module _ (model : Model) {A O : Type 0} {type_of : A → ArgType} {argument_of :
         }
 
   -- all pieces were gathered, for all arguments
-  pub all_gathered : {new : Pieces} → NextReturns before None new → taken ≡ length args → RendersToBy type_of argument_of model t args (λ out. wrote old now out)
+  pub all_gathered : {new : Pieces} → NextReturns before None new → taken ≡ length args
+      → RendersToBy type_of argument_of model t args (λ out. wrote old now out)
   all_gathered steps all =
       let accepted = steps.next t h.read h.items h.given in
       let so_far = subst (IsGatheredSoFar type_of argument_of wrote model old now h.items) (take_all taken args (omega (arith, all))) h.so_far in
       let types_are = types_matched type_of argument_of model args (types model h.items) so_far.matching in
       let takes : TakesArguments type_of argument_of model t args = record {
         takes = record { items = h.items; accepted = accepted; types_are = types_are };
-        typed = subst (HasTypes model (map argument_of args)) (sym types_are) (typed_matched type_of argument_of model args (types model h.items) so_far.matching);
+        typed = subst (HasTypes model (map argument_of args)) (sym types_are)
+            (typed_matched type_of argument_of model args (types model h.items) so_far.matching);
       } in
       (so_far.out, renders_items type_of argument_of model t args takes h.items accepted.reads so_far.out so_far.prints, so_far.put)

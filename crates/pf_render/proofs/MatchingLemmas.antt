@@ -158,7 +158,8 @@ module _ {A : Type 0} (type_of : A → ArgType) (argument_of : A → Argument) w
     all_matched e =
         let given = take_all check.matched args (omega arith) in
         let wanted = take_all check.matched types (omega (arith, h.wanted_is)) in
-        let all : Match model args types = subst (λ ts. Match model args ts) wanted (subst (λ xs. Match model xs (take check.matched types)) given h.matching) in
+        let all : Match model args types = subst (λ ts. Match model args ts) wanted
+        (subst (λ xs. Match model xs (take check.matched types)) given h.matching) in
         let types_are = types_matched model args types all in
         record {
           takes = subst (signatures.TakesTypes model t) (sym types_are) takes;
@@ -198,7 +199,8 @@ module _ {A : Type 0} {type_of : A → ArgType} {argument_of : A → Argument} w
     pub all_checked : {new : Pieces} → NextReturns before None new → signatures.TakesTypes model t h.types
     all_checked {new} steps = all_found model before new t h.types h.found steps
 
-    module _ {new : Pieces} {r : Result Piece Refusal} (steps : NextReturns before (Some r) new) {piece : Piece} (is : r ≡ Ok piece) (after : ArgumentCheck) where
+    module _ {new : Pieces} {r : Result Piece Refusal} (steps : NextReturns before (Some r) new) {piece : Piece} (is : r ≡ Ok piece)
+        (after : ArgumentCheck) where
       piece_checked : (wanted : List ArgType) → wanted ≡ types model (items_of piece) → HasChecked type_of argument_of model after args (h.types ++ wanted)
           → IsChecked type_of argument_of model new t args after
       piece_checked wanted same checked =
@@ -220,5 +222,7 @@ module _ {A : Type 0} {type_of : A → ArgType} {argument_of : A → Argument} w
           → HasChecked type_of argument_of model after args (h.types ++ type ∷ []) → IsChecked type_of argument_of model new t args after
       directive_checked d type e same checked = piece_checked (type ∷ []) (ap (λ x. x ∷ []) same ∙ sym (ap (λ p. types model (items_of p)) e)) checked
 
-      pub other_checked : ((d : Specification) → piece ≡ pieces.Directive d → ⊥) → HasChecked type_of argument_of model after args h.types → IsChecked type_of argument_of model new t args after
-      other_checked other checked = piece_checked [] (sym (no_types model piece other)) (subst (HasChecked type_of argument_of model after args) (sym (append-nil h.types)) checked)
+      pub other_checked : ((d : Specification) → piece ≡ pieces.Directive d → ⊥) → HasChecked type_of argument_of model after args h.types
+          → IsChecked type_of argument_of model new t args after
+      other_checked other checked = piece_checked [] (sym (no_types model piece other))
+          (subst (HasChecked type_of argument_of model after args) (sym (append-nil h.types)) checked)

@@ -129,7 +129,8 @@ module _ (model : Model) {A O : Type 0} {argument_of : A → Argument} {wrote : 
 
         pub wrote_on : WritesOn wrote stopped now new progress after text (arity model part) → IsPrinting argument_of wrote model old args out new after later
         wrote_on w =
-            let behind : drop (arity model part) left ≡ drop after.taken (map argument_of args) = drop-drop (arity model part) progress.taken (map argument_of args)
+            let behind : drop (arity model part) left ≡ drop after.taken (map argument_of args) = drop-drop
+            (arity model part) progress.taken (map argument_of args)
             ∙ ap (λ n. drop n (map argument_of args)) (sym w.taken) in
             record {
               typed = subst (λ a. HasTypes model a (types model later)) behind types_split.1;

@@ -137,7 +137,8 @@ module _ (t : Text) (start a b c : ℕ) (flags : FlagSet) (width precision : Opt
     found_there =
         let front = parts_there in
         let letters = bytes_join t start c ending.between front.0 (length_letters ending.length) front.2 ending.letters in
-        let all = bytes_join t start ending.between (ending.between + 1) (front.0 ++ length_letters ending.length) (conv_letter ending.conv ∷ []) letters ending.letter in
+        let all = bytes_join t start ending.between (ending.between + 1) (front.0 ++ length_letters ending.length)
+        (conv_letter ending.conv ∷ []) letters ending.letter in
         let s : Specification = specification_of flags width precision ending.length ending.conv in
         let same : s.width ≡ width = given_is width some in
         let whole : take (found.stop - start) (drop start t) ≡ (front.0 ++ length_letters ending.length) ++ conv_letter ending.conv ∷ [] =
@@ -191,7 +192,8 @@ spelled_there t start a b c flags width precision (Some found) percent_is f w so
     let one = bytes_join t start (start + 1) a (percent ∷ []) (flags_spelled flags) (percent_at t start percent_is) f in
     let two = bytes_join t start a b (percent ∷ flags_spelled flags) (width_spelled width) one w in
     let head = bytes_join t start b c (percent ∷ flags_spelled flags ++ width_spelled width) (precision_spelled precision) two p in
-    let letters = bytes_join t start c h.between (percent ∷ flags_spelled flags ++ width_spelled width ++ precision_spelled precision) (length_letters h.length) head h.letters in
+    let letters = bytes_join t start c h.between (percent ∷ flags_spelled flags ++ width_spelled width ++ precision_spelled precision)
+    (length_letters h.length) head h.letters in
     let all = bytes_join t start h.between (h.between + 1) _ (conv_letter h.conv ∷ []) letters h.letter in
     let same : width_given width ≡ width = given_is width some in
     record {

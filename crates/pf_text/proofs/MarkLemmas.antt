@@ -38,7 +38,8 @@ bit_set true e = refl
 bit_set false e = absurd (omega (arith, e))
 
 -- the bits of what one vector holds
-module _ (text : Text) (at n : ℕ) (room : at + n ≤ length text) (few : at + n ≤ 64) (mask : ℕ) (is : mask ≡ mask_l (map (is_byte2 37 0) (chunk at n text))) where
+module _ (text : Text) (at n : ℕ) (room : at + n ≤ length text) (few : at + n ≤ 64) (mask : ℕ)
+    (is : mask ≡ mask_l (map (is_byte2 37 0) (chunk at n text))) where
   abbrev lanes : List Bool
   lanes = map (is_byte2 37 0) (chunk at n text)
 

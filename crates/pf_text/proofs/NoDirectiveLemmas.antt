@@ -166,7 +166,8 @@ GoesNoPrecision (Some n) byte = is_digit byte ≡ true → MAX_NUMBER < 10 * n +
 
 module _ (byte : ℕ) (rest : Text) (conv : conv_of byte ≡ None) where
   -- after flags
-  flag_ends : (flags : List Flag) → flag_of byte ≡ None → is_digit byte ≡ false → byte ≢ point → modifier_of byte ≡ None → EndsNone (at_flags flags) (byte ∷ rest)
+  flag_ends : (flags : List Flag) → flag_of byte ≡ None → is_digit byte ≡ false → byte ≢ point → modifier_of byte ≡ None
+      → EndsNone (at_flags flags) (byte ∷ rest)
   flag_ends [] flag digit dot modifier = go (byte == percent) refl where
     go : (b : Bool) → (byte == percent) ≡ b → EndsNone Opened (byte ∷ rest)
     go true e = subst (λ k. EndsNone Opened (k ∷ rest)) (sym (eqb-true byte percent e)) (percent_ends rest)
@@ -188,7 +189,8 @@ module _ (byte : ℕ) (rest : Text) (conv : conv_of byte ≡ None) where
       let after = width_refused byte conv (flag_set flags) n over dot modifier in
       refused_ends (Width (flag_set flags) n) byte rest after.0 after.1
 
-  point_ends : (flags : List Flag) (width precision : Option ℕ) (t : Text) (s : SpellsPrecision t precision) → (width ≡ None → precision ≡ None → flag_of byte ≡ None)
+  point_ends : (flags : List Flag) (width precision : Option ℕ) (t : Text) (s : SpellsPrecision t precision)
+      → (width ≡ None → precision ≡ None → flag_of byte ≡ None)
       → (precision ≡ None → GoesNoWidth width byte) → GoesNoPrecision precision byte → modifier_of byte ≡ None
       → EndsNone (at_point flags width precision t s) (byte ∷ rest)
   point_ends flags width None t s flag number dot modifier = width_ends flags width (λ e. flag e refl) (number refl) dot modifier

@@ -52,7 +52,8 @@ module _ (t : Text) (at : ℕ) where
   pub none_at_nul : at < length t → get_or t at 0 ≡ 0 → BeginsNoItem (drop at t)
   none_at_nul some e =
       subst BeginsNoItem (sym (drop_more t at 0 some))
-      (none_of (drop (at + 1) t) (get_or t at 0) (other_begins (get_or t at 0) (drop (at + 1) t) (λ p. (let no : 0 ≡ percent = sym e ∙ p in omega (arith, no)))) (inr e)
+      (none_of (drop (at + 1) t) (get_or t at 0) (other_begins (get_or t at 0) (drop (at + 1) t)
+      (λ p. (let no : 0 ≡ percent = sym e ∙ p in omega (arith, no)))) (inr e)
       (λ rest p. (let no : 0 ≡ percent = sym e ∙ p in absurd (omega (arith, no)))))
 
   -- a `%` that is the last byte

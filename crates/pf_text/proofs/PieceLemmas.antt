@@ -55,7 +55,8 @@ module _ (t read : Text) (stop : ℕ) (long : length read ≡ stop) where
   ends_at : stop < length (take MAX_TEXT_LEN t) → Passes (is_byte2 37 0) (take MAX_TEXT_LEN t) stop → EndsRun read (drop stop t)
   ends_at inside passes =
       let some : stop < length t = omega (arith, inside, length-take MAX_TEXT_LEN t) in
-      let byte : get_or (take MAX_TEXT_LEN t) stop 0 ≡ get_or t stop 0 = get_or-take MAX_TEXT_LEN t stop 0 (omega (arith, inside, length-take MAX_TEXT_LEN t)) in
+      let byte : get_or (take MAX_TEXT_LEN t) stop 0 ≡ get_or t stop 0 = get_or-take MAX_TEXT_LEN t stop 0
+      (omega (arith, inside, length-take MAX_TEXT_LEN t)) in
       subst (EndsRun read) (sym (drop_more t stop 0 some)) (or_full (get_or t stop 0) _ (stops (get_or t stop 0) (ap (is_byte2 37 0) (sym byte) ∙ passes)))
 
   ends_past : stop ≡ length (take MAX_TEXT_LEN t) → EndsRun read (drop stop t)

@@ -177,7 +177,8 @@ pub moved_over : (text : Text) (walk : Walk) (at : ℕ) → IsWalkOver text walk
 moved_over text walk at h = record { walk_is = record { few = h.walk_is.few; runs = h.walk_is.runs }; text_is = h.text_is }
 
 -- a walk over a text that isn't too long has come to another offset
-module _ (passes : Item → Type 0) (text : Text) (few : length text ≤ MAX_TEXT_LEN) (old new : Walk) (over : IsWalkOver text old) (h : HasPassed passes old new) where
+module _ (passes : Item → Type 0) (text : Text) (few : length text ≤ MAX_TEXT_LEN) (old new : Walk) (over : IsWalkOver text old)
+    (h : HasPassed passes old new) where
   pub text_is : new.text.now ≡ text
   text_is = h.text ∙ over.text_is ∙ take_all MAX_TEXT_LEN text few
 

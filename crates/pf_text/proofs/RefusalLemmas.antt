@@ -51,9 +51,11 @@ module _ (text : Text) (start : ℕ) (items : List Item) (end : IsItemsEnd text 
     fed_more steps.More new h = subst (λ u. IsAfter new u items) (sym next_byte) h.after
     fed_more (steps.Byte b) new h = absurd (ended (Byte b) h.after.limit h.says.0)
       where
-        ended : (item : Item) → length (take at text ++ get_or text at 0 ∷ []) ≤ MAX_TEXT_LEN → Reads (take at text ++ get_or text at 0 ∷ []) (items ++ item ∷ []) → ⊥
+        ended : (item : Item) → length (take at text ++ get_or text at 0 ∷ []) ≤ MAX_TEXT_LEN
+            → Reads (take at text ++ get_or text at 0 ∷ []) (items ++ item ∷ []) → ⊥
         ended item few all = no_more (at + 1) item (omega (arith, up)) (omega (arith, some))
-            (omega (arith, few, length-append (take at text) (get_or text at 0 ∷ []), length-take-le at text (omega (arith, some)))) (subst (λ u. Reads u (items ++ item ∷ [])) (sym next_byte) all)
+            (omega (arith, few, length-append (take at text) (get_or text at 0 ∷ []), length-take-le at text (omega (arith, some))))
+            (subst (λ u. Reads u (items ++ item ∷ [])) (sym next_byte) all)
     fed_more steps.Percent new h = absurd (no_more (at + 1) (Byte percent) (omega (arith, up)) (omega (arith, some))
         (omega (arith, h.after.limit, length-append (take at text) (get_or text at 0 ∷ []), length-take-le at text (omega (arith, some))))
         (subst (λ u. Reads u (items ++ Byte percent ∷ [])) (sym next_byte) h.says))
@@ -86,7 +88,8 @@ module _ (text : Text) (start : ℕ) (items : List Item) (end : IsItemsEnd text 
     whole_there all =
         let bytes = take (at - start) (drop start text) in
         let more : Reads bytes [] = read_rest items [] (take start text) bytes reads
-        (subst (λ u. Reads u (items ++ [])) (take_between text start at (omega (arith, over, end.within))) (subst (Reads (take at text)) (sym (append-nil items)) all)) in
+        (subst (λ u. Reads u (items ++ [])) (take_between text start at (omega (arith, over, end.within)))
+        (subst (Reads (take at text)) (sym (append-nil items)) all)) in
         omega (arith, over, end.within, ap length more, length-take (at - start) (drop start text), length-drop start text)
 
     -- or cut off

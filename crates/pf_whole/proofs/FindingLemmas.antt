@@ -395,7 +395,8 @@ pub shows_neutral : (model : Model) (t u : Text) (a b : Stretches) → ReadsStre
 shows_neutral model t u a b h g one tells =
     record { shown_is = refl; apart = telling_is_apart model t u a b (neutral_shown model a) h g one (neutral_somewhere model a b tells) }
 
-pub shows_probe : (model : Model) (t u : Text) (a b : Stretches) (shown : List (Option Argument)) → ReadsStretches t a → ReadsStretches u b → HaveOneShape model a b
+pub shows_probe : (model : Model) (t u : Text) (a b : Stretches) (shown : List (Option Argument)) → ReadsStretches t a → ReadsStretches u b
+    → HaveOneShape model a b
     → ShowsTelling model a b shown → ShowsProbe model a b shown
 shows_probe model t u a b shown h g one telling =
     let first = told model a b shown telling in

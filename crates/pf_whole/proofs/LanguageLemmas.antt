@@ -54,7 +54,8 @@ module _ (model : Model) where
         ap (λ u. u ++ normal_spelling model (item_of_opaque found.0)) (sym h.whole) ∙ ap (λ u. c ++ u) (sym is) in
         subst (λ u. IsWholeFront model u (c ++ spelling)) text
         (subst (IsWholeFront model ((h.front ++ h.last) ++ middle)) put
-        (past_opaque model h.front h.out h.last h.own middle h.ends.items (item_of_opaque found.0) h.begins h.ends.accepted.reads h.ends.canonical_is there.spelled))
+        (past_opaque model h.front h.out h.last h.own middle h.ends.items
+        (item_of_opaque found.0) h.begins h.ends.accepted.reads h.ends.canonical_is there.spelled))
 
 module _ (model : Model) (t : Text) where
   pub fault_of_whole : (fault : TextFault) → FaultIn IsWholeFront IsUnnumberedRefusedAt model t fault → FaultForWholeCanonical model t fault
@@ -74,14 +75,16 @@ module _ (model : Model) (t : Text) where
   answer_of_whole of (Err fault) h = fault_of_whole fault h
 
   pub len_of_whole : (r : Result ℕ Refusal)
-      → MatchResult r (λ len. (c : Text) × HasCanonicalIn IsWholeFront model t c × (len ≡ length c)) (λ refusal. IsUnnumberedRefusedAt model t refusal.kind refusal.at)
+      → MatchResult r (λ len. (c : Text) × HasCanonicalIn IsWholeFront model t c × (len ≡ length c))
+      (λ refusal. IsUnnumberedRefusedAt model t refusal.kind refusal.at)
       → MatchResult r (λ len. (c : Text) × IsWholeCanonicalFor model t c × (len ≡ length c)) (λ refusal. IsUnnumberedRefusedAt model t refusal.kind refusal.at)
   len_of_whole (Ok len) h = (h.0, whole_canonical model t h.0 h.1, h.2)
   len_of_whole (Err refusal) h = h
 
   pub decided_of_whole : (r : Result Bool Refusal)
       → MatchResult r (DecidesIn IsWholeFront model t) (λ refusal. IsUnnumberedRefusedAt model t refusal.kind refusal.at)
-      → MatchResult r (λ is. IsUnnumberedAccepted t × (IsTrue is ↔ IsWholeCanonicalOf model t t)) (λ refusal. IsUnnumberedRefusedAt model t refusal.kind refusal.at)
+      → MatchResult r (λ is. IsUnnumberedAccepted t × (IsTrue is ↔ IsWholeCanonicalOf model t t))
+      (λ refusal. IsUnnumberedRefusedAt model t refusal.kind refusal.at)
   decided_of_whole (Ok is) h =
       let w = whole_canonical model t h.0 h.1 in
       (w.accepted, (λ yes. subst (IsWholeCanonicalOf model t) (h.2.0 yes) w.canonical_is, λ own. h.2.1 (w.kept own)))

@@ -56,7 +56,8 @@ part_left CanBe true amount none h = none
 part_left CanBe false amount none h = h
 
 -- a text that is the specification
-module _ (model : Model) (s : WholeSpecification) (unnumbered : s.position ≡ None) (text : Text) (h : IsWholeReadAs text (Specification s)) (set : PartSet) where
+module _ (model : Model) (s : WholeSpecification) (unnumbered : s.position ≡ None) (text : Text) (h : IsWholeReadAs text (Specification s))
+    (set : PartSet) where
   parts : HasParts text s
   parts = parts_of text s h.0 unnumbered
 
@@ -140,7 +141,8 @@ module _ (model : Model) (s : WholeSpecification) (unnumbered : s.position ≡ N
   not_called other none =
       let w = whole_spelled model s unnumbered text h set in
       let v = rest_spelled model s unnumbered text h set in
-      let read : ReadsStretches (whole_spelling_of rest) (pushed_or (is_opaque rest) rest (Last [])) = reads_alone (whole_spelling_of rest) rest v kept unnumbered in
+      let read : ReadsStretches (whole_spelling_of rest) (pushed_or (is_opaque rest) rest (Last [])) = reads_alone
+      (whole_spelling_of rest) rest v kept unnumbered in
       let narrow_read : ReadsStretches (whole_spelling_of rest) (pushed_or false rest (Last [])) =
       subst (λ b. ReadsStretches (whole_spelling_of rest) (pushed_or b rest (Last []))) other read in
       (alike_is_corresponding model (whole_spelling_of s) (whole_spelling_of rest) (alone_opaque s) (pushed_or false rest (Last []))
@@ -178,7 +180,8 @@ module _ (model : Model) (s : WholeSpecification) (unnumbered : s.position ≡ N
   pub spelled_without : (t : Text) × IsWholeReadAs t (Specification less)
   spelled_without = (whole_spelling_of less, (rest_spelled model s unnumbered text h set, defined_without s set h.1))
 
-  narrow_read : (t : Text) (p : WholeSpecification) → p.position ≡ None → IsWholeDefined p → is_opaque p ≡ false → SpellsWhole t p → ReadsStretches t (alone_narrow p)
+  narrow_read : (t : Text) (p : WholeSpecification) → p.position ≡ None → IsWholeDefined p → is_opaque p ≡ false → SpellsWhole t p
+      → ReadsStretches t (alone_narrow p)
   narrow_read t p none defined is spelled = subst (λ b. ReadsStretches t (pushed_or b p (Last []))) is (reads_alone t p spelled defined none)
 
   -- it prints the same, or it has an effect

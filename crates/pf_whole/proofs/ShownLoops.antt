@@ -263,7 +263,8 @@ abbrev pub HasShownDifference : Model → Stretches → Stretches → List (Opti
 HasShownDifference model a b shown = ShowsDifference model a b (shown_as shown) × AllZip HasShownType shown (whole_types model a)
 
 -- what holds of one reading holds of each
-pub shown_once : (model : Model) (t u : Text) (a b x y : Stretches) (shown : List (Option OwnedArg)) → ReadsStretches t a → ReadsStretches u b → ReadsStretches t x
+pub shown_once : (model : Model) (t u : Text) (a b x y : Stretches) (shown : List (Option OwnedArg)) → ReadsStretches t a
+    → ReadsStretches u b → ReadsStretches t x
     → ReadsStretches u y
     → HasShownDifference model a b shown → HasShownDifference model x y shown
 shown_once model t u a b x y shown h g k l is =

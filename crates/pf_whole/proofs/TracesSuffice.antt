@@ -25,7 +25,8 @@ use Rattle.pf_whole.proofs.TwoValues.{count, count_is, whole_neutrals_typed, nth
 use Rattle.pf_whole.proofs.TwoValues.{whole_another, whole_neutral, whole_neutrals}
 
 -- an opaque directive takes at least one argument
-some_type : (model : Model) (s : WholeSpecification) → (type : WholeArgType) × (more : List WholeArgType) × (types_of_opaque model (OpaqueSpecification s) ≡ type ∷ more)
+some_type : (model : Model) (s : WholeSpecification) → (type : WholeArgType) × (more : List WholeArgType)
+    × (types_of_opaque model (OpaqueSpecification s) ≡ type ∷ more)
 some_type model s = go (star_fetches s.width ++ star_fetches s.precision) where
   go : (front : List _) → (type : WholeArgType) × (more : List WholeArgType)
       × (map (λ f. f.wanted) (front ++ fetch s.position (conversion_type model s.modifier s.conversion) ∷ []) ≡ type ∷ more)
@@ -72,7 +73,8 @@ called_alike model items own s p rest more args (Calls text call trace) h g =
 module _ (model : Model) (t u : Text) (items own : List Item) (s : WholeSpecification) (p : OpaqueItem) (rest more : Stretches)
     (spelled : SpellsOpaqueItem t (OpaqueSpecification s)) (also : SpellsOpaqueItem u p)
     (h : HaveSameTraces model (Before items (OpaqueSpecification s) rest) (Before own p more)) where
-  called : (args : List WholeArgument) → HasWholeTypes model args (whole_types model (Before items (OpaqueSpecification s) rest)) → AreCalledAlike model items own (OpaqueSpecification s) p args
+  called : (args : List WholeArgument) → HasWholeTypes model args (whole_types model (Before items (OpaqueSpecification s) rest))
+      → AreCalledAlike model items own (OpaqueSpecification s) p args
   called args typed =
       let trace = some_trace model (Before items (OpaqueSpecification s) rest) args typed in
       called_alike model items own s p rest more args trace.0 trace.1 ((h.same_traces args trace.0 typed).0 trace.1)
@@ -127,7 +129,8 @@ no_call model items own p more h =
       go args (Ends text) x y = y
       go args (Calls text call rest) x y = x
 
-corresponding : (model : Model) (t u : Text) (a b : Stretches) → ReadsStretches t a → ReadsStretches u b → HasNoErrno a → HasNoErrno b → HaveSameTraces model a b
+corresponding : (model : Model) (t u : Text) (a b : Stretches) → ReadsStretches t a → ReadsStretches u b → HasNoErrno a → HasNoErrno b
+    → HaveSameTraces model a b
     → Correspond model a b
 corresponding model t u (Last items) (Last own) h g m n same = traced_last model items own same
 corresponding model t u (Last items) (Before own p more) h g m n same = no_call model items own p more same

@@ -23,7 +23,8 @@ use Rattle.pf_whole.proofs.AnswerLemmas.{comparison_is}
 use Rattle.pf_whole.proofs.Telling.{calls_give_shape}
 
 -- the types that a comparison of types finds are those of the stretches
-compared_types : (model : Model) (t u : Text) (index : Option ℕ) → (h : IsUnnumberedAccepted t) → (g : IsUnnumberedAccepted u) → ComparesArgumentTypes model t u index
+compared_types : (model : Model) (t u : Text) (index : Option ℕ) → (h : IsUnnumberedAccepted t) → (g : IsUnnumberedAccepted u)
+    → ComparesArgumentTypes model t u index
     → IsFirstDifference (whole_types model h.stretches) (whole_types model g.stretches) index
 compared_types model t u index h g found =
     let first : found.types ≡ whole_types model h.stretches =

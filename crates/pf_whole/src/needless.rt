@@ -67,7 +67,8 @@ impl Question {
     fn each(&self) -> PartSet
         requires { IsPartQuestion self.now }
         ensures { (part : PartOf) → IsTrue (has_part result part)
-            ↔ (IsTrue (has_part self.now.given part) × HaveNoEffect self.now.model (parts_of_opaque self.now.directive) (only part)) }
+            ↔ (IsTrue (has_part self.now.given part)
+            × HaveNoEffect self.now.model (parts_of_opaque self.now.directive) (only part)) }
     {
         let each = self.ask(PartSet::empty(), Part::Flag(Flag::Minus));
         let each = self.ask(each, Part::Flag(Flag::Plus));

@@ -214,7 +214,8 @@ fn has_normal_precision(directive: OpaqueDirective) -> bool
 #[inline(always)]
 fn has_normal_letters(directive: OpaqueDirective) -> bool
     ensures conversion { IsTrue result → kept_conversion directive.conversion ≡ directive.conversion }
-    ensures modifier { IsTrue result → (model : ModelOf) → kept_modifier model directive.conversion directive.modifier ≡ directive.modifier }
+    ensures modifier { IsTrue result → (model : ModelOf)
+        → kept_modifier model directive.conversion directive.modifier ≡ directive.modifier }
 {
     match directive.conversion {
         WholeConv::Profile(Conv::C | Conv::S) | WholeConv::Pointer => true,

@@ -21,7 +21,8 @@ pub plus-requires-clause-few_more : goal.plus-requires-clause-few_more
 plus-requires-clause-few_more c =
     let text = c.args.text.now in
     let i = c.loop-model.invariant in
-    let within = still_within _ text (omega (arith, c.if-text-gt-MAX_TALLIED.false)) c.loop-model.walk c.find.new.self i.over (items_walked _ _ _ c.find.ensures.passed)
+    let within = still_within _ text (omega (arith, c.if-text-gt-MAX_TALLIED.false)) c.loop-model.walk c.find.new.self i.over
+    (items_walked _ _ _ c.find.ensures.passed)
     (omega (arith, i.at, i.within)) in
     (omega (arith, c.exactly.ensures.least, within, c.if-text-gt-MAX_TALLIED.false), omega (arith, c.exactly.ensures.spread))
 
@@ -30,8 +31,10 @@ plus-sum-requires-clause-few c =
     let text = c.args.text.now in
     let i = c.loop-model.invariant in
     let few : length text ≤ 2 ^ 32 = omega (arith, c.if-text-gt-MAX_TALLIED.false) in
-    let within = still_within _ text (omega (arith, few)) c.loop-model.walk c.find.new.self i.over (items_walked _ _ _ c.find.ensures.passed) (omega (arith, i.at, i.within)) in
-    let old = small_tally c.args.model (take c.loop-model.from text) c.loop-model.sum (omega (arith, few, i.within, length-take-le c.loop-model.from text i.within)) i.tallied in
+    let within = still_within _ text (omega (arith, few)) c.loop-model.walk c.find.new.self i.over
+    (items_walked _ _ _ c.find.ensures.passed) (omega (arith, i.at, i.within)) in
+    let old = small_tally c.args.model (take c.loop-model.from text) c.loop-model.sum
+    (omega (arith, few, i.within, length-take-le c.loop-model.from text i.within)) i.tallied in
     (omega (arith, c.plus.ensures.least, c.exactly.ensures.least, within, few, old.0), omega (arith, c.plus.ensures.spread, c.exactly.ensures.spread, old.1))
 
 pub plus-sum-requires-clause-few_more : goal.plus-sum-requires-clause-few_more
@@ -41,7 +44,8 @@ plus-sum-requires-clause-few_more c =
     let item = c.in_ok-item in
     let here = c.find.new.self in
     let few : length text ≤ 2 ^ 32 = omega (arith, c.if-text-gt-MAX_TALLIED.false) in
-    let same : c.text.result.now ≡ text = c.text.ensures ∙ text_is _ text (omega (arith, few)) c.loop-model.walk here i.over (items_walked _ _ _ c.find.ensures.passed) in
+    let same : c.text.result.now ≡ text = c.text.ensures ∙ text_is _ text (omega (arith, few)) c.loop-model.walk here i.over
+    (items_walked _ _ _ c.find.ensures.passed) in
     let within : item.stop ≤ length text = subst (λ t. item.stop ≤ length t) same item.ensures.1 in
     let part = take (item.stop - here.at) (drop here.at c.text.result.now) in
     let small = small_tally c.args.model part item.item

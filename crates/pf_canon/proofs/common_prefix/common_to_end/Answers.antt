@@ -11,7 +11,8 @@ returns-clause-common g c =
     let at = c.args.most - g.row.N in
     let run = c.equal_at.ensures in
     let within : at + c.equal_at.result ≤ c.args.most = omega (arith, r.room, run.few) in
-    common_more x y at c.equal_at.result (common_fewer x y c.args.known at r.common r.few) (omega (arith, within, r.first)) (omega (arith, within, r.second)) run.same
+    common_more x y at c.equal_at.result (common_fewer x y c.args.known at r.common r.few) (omega (arith, within, r.first))
+    (omega (arith, within, r.second)) run.same
 
 pub returns-clause-ends : goal.returns-clause-ends
 returns-clause-ends g c = ends_within c.args.x.now c.args.y.now c.args.most (c.args.most - g.row.N) g.row.N c.equal_at.result

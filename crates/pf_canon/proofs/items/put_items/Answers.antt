@@ -107,7 +107,8 @@ loop-at-preserved g c =
     let end = c.run_end-at-in-None.ensures in
     let none : put.result.1 ≡ 0 = omega (arith, c.if-held-gt0.false) in
     let all = both_put laws written text c.args.sink.now c.put.new.self put.new.sink c.args.from at stop 0 0 put.result.1 i.first
-    put.ensures.within.0 (rest_put laws written text c.args.sink.now c.loop-at.sink c.put.new.self c.args.from c.loop-at.from at i.put (rw c.text-text.ensures at c.put.ensures))
+    put.ensures.within.0 (rest_put laws written text c.args.sink.now c.loop-at.sink c.put.new.self c.args.from c.loop-at.from at i.put
+    (rw c.text-text.ensures at c.put.ensures))
     (items_put laws written text c.args.model (extends_in g.L.Language.has_front c.args.model) c.put.new.self put.new.sink _ 0 put.result.1 put.ensures.put) in
     record {
       first = omega (arith, i.first, put.ensures.within.0, end.within);
@@ -132,6 +133,7 @@ returns-clause-put g c =
     let rest = drop start text in
     let end : at ≡ length text = omega (arith, i.within, ap length c.text-text.ensures, c.loop-at-test.false) in
     let all : between start at text ≡ rest = take_all (at - start) rest (omega (arith, i.low, length-drop start text, end)) in
-    rw c.text-text.ensures (subst (λ n. PutsItems g.S.Sink.given (IsWrittenIn g.L.Language.has_front c.args.model) c.args.sink.now c.put-2.new.self (between c.args.from n text) 0 0) end
+    rw c.text-text.ensures (subst (λ n. PutsItems g.S.Sink.given
+    (IsWrittenIn g.L.Language.has_front c.args.model) c.args.sink.now c.put-2.new.self (between c.args.from n text) 0 0) end
     (rest_put g.met.S.Sink.laws (IsWrittenIn g.L.Language.has_front c.args.model) text c.args.sink.now c.loop-at.sink c.put-2.new.self c.args.from start at i.put
     (rw (take_rest, c.text-text.ensures, sym all) at c.put-2.ensures)))

@@ -21,7 +21,8 @@ loop-other-init g c =
     record {
       within = pass.ensures.within.1;
       none = pass.ensures.stopped;
-      read = λ out held h. goes_on_to g.L.Language.has_front c.args.model g.L.Passed.passes (g.met.L.Language.has_passed c.args.model) text start pass.result low
+      read = λ out held h. goes_on_to g.L.Language.has_front c.args.model g.L.Passed.passes
+          (g.met.L.Language.has_passed c.args.model) text start pass.result low
           place.2 out held h (subst (IsMadeOf (Either AreRead g.L.Passed.passes)) same pass.ensures.read);
     }
 
@@ -71,7 +72,8 @@ loop-other-preserved g c =
           let front = (out ++ more) ++ spelling in
           let to = item_in has_front model text c.loop-other.at other.stop (out ++ more) spelling before (next (out ++ more) before) placed.0 placed.1
           placed.3 in
-          let (own, all) = goes_on_to has_front model g.L.Passed.passes (g.met.L.Language.has_passed model) text other.stop pass.result low place.2 front 0 to made in
+          let (own, all) = goes_on_to has_front model g.L.Passed.passes
+          (g.met.L.Language.has_passed model) text other.stop pass.result low place.2 front 0 to made in
           let whole : front ++ own ≡ out ++ ((more ++ spelling) ++ own) =
           ap (λ t. t ++ own) (append_assoc out more spelling) ∙ append_assoc out (more ++ spelling) own in
           ((more ++ spelling) ++ own, subst (HasCanonicalIn has_front model (take pass.result text)) whole all);

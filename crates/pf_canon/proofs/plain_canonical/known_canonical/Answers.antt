@@ -71,4 +71,5 @@ returns g c =
     let text = c.args.text.now in
     let has_front = g.L.Language.has_front in
     let short : length text ≤ MAX_TEXT_LEN = omega (arith, c.if-text-gt-MAX_TEXT_LEN.false) in
-    all_kept has_front c.args.model text short (subst (IsKeptIn has_front c.args.model) (take_all c.loop-at.at text (omega (arith, c.loop-at-test.false))) c.loop-at.invariant.kept)
+    all_kept has_front c.args.model text short (subst (IsKeptIn has_front c.args.model)
+    (take_all c.loop-at.at text (omega (arith, c.loop-at-test.false))) c.loop-at.invariant.kept)

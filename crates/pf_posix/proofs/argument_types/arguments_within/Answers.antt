@@ -25,7 +25,8 @@ loop-model-init c =
 pub other_arguments-requires-clause-front : goal.other_arguments-requires-clause-front
 other_arguments-requires-clause-front c =
     let i = c.loop-model.invariant in
-    (front_walked c.args.model c.args.out.now c.loop-model.out c.loop-model.count c.loop-model.walk c.find.new.self (items_walked _ _ _ c.find.ensures.passed) i.front i.within).0.plain
+    (front_walked c.args.model c.args.out.now c.loop-model.out c.loop-model.count c.loop-model.walk c.find.new.self
+    (items_walked _ _ _ c.find.ensures.passed) i.front i.within).0.plain
 
 pub other_arguments-requires-clause-never : goal.other_arguments-requires-clause-never
 other_arguments-requires-clause-never c =
@@ -53,7 +54,8 @@ returns-then-front-walk-clause-types c =
     let put = subst (λ u. IsPut model u here.at c.loop-model.out front.new.out c.loop-model.count front.result) c.text.ensures front.ensures in
     let none = none_put model t here.at c.loop-model.out front.new.out c.loop-model.count front.result put c.if-front-walk.true in
     let other = c.other_arguments in
-    let types = subst (λ l. MatchResult other.result (λ count. HasCount model t l other.new.out count) (λ refusal. IsWholeRefusedAt model t refusal.kind refusal.at))
+    let types = subst (λ l. MatchResult other.result (λ count. HasCount model t l other.new.out count)
+    (λ refusal. IsWholeRefusedAt model t refusal.kind refusal.at))
     none.1 other.ensures.types in
     subst (λ u. MatchResult other.result (λ count. HasCount model u c.args.out.now other.new.out count)
     (λ refusal. IsWholeRefusedAt model u refusal.kind refusal.at)) (passed.text ∙ i.over.text_is)

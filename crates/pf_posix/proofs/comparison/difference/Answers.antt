@@ -37,7 +37,8 @@ returns-then-count-second_count c a b start from e f x y few =
     let over : (c.args.count ≤ k) ⊎ (c.args.second_count ≤ k) = elim c.loop-index-test.branch [
       | then-loop-index-test+then-index-count+else-index-second_count w ↦ inr (omega (arith, w.if-index-second_count.false))
       | then-loop-index-test+else-index-count w ↦ inl (omega (arith, w.if-index-count.false))
-      | else-loop-index-test w ↦ full (length c.args.types.now) c.args.count c.args.second_count k (length a) (length b) x y (omega (arith, w.loop-index-test.false)) few
+      | else-loop-index-test w ↦ full (length c.args.types.now) c.args.count c.args.second_count k (length a) (length b) x y
+          (omega (arith, w.loop-index-test.false)) few
     ] in
     let ends = both_end c.args.count c.args.second_count k c.if-count-second_count.true i.first i.second over in
     same_lists a b k (i.same a b start from e f x y) (sym x ∙ ends.0) (sym y ∙ ends.1)
@@ -49,7 +50,8 @@ returns c a b start from e f x y few =
     let over : (c.args.count ≤ k) ⊎ (c.args.second_count ≤ k) = elim c.loop-index-test.branch [
       | then-loop-index-test+then-index-count+else-index-second_count w ↦ inr (omega (arith, w.if-index-second_count.false))
       | then-loop-index-test+else-index-count w ↦ inl (omega (arith, w.if-index-count.false))
-      | else-loop-index-test w ↦ full (length c.args.types.now) c.args.count c.args.second_count k (length a) (length b) x y (omega (arith, w.loop-index-test.false)) few
+      | else-loop-index-test w ↦ full (length c.args.types.now) c.args.count c.args.second_count k (length a) (length b) x y
+          (omega (arith, w.loop-index-test.false)) few
     ] in
     one_longer a b k (i.same a b start from e f x y) (λ same. c.if-count-second_count.false (x ∙ same ∙ sym y))
     (omega (arith, i.first, x)) (omega (arith, i.second, y)) (over_lists c.args.count c.args.second_count k (length a) (length b) x y over)

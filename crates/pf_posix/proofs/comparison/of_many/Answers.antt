@@ -9,7 +9,8 @@ pub returns-then-min : goal.returns-then-min
 returns-then-min c = counted c.args.model c.args.first.now c.args.second.now _ c.args.count c.requires c.difference_in_order.ensures
 
 pub by_tables-requires : goal.by_tables-requires
-by_tables-requires c = few_of_counts c.args.model c.args.first.now c.args.second.now c.args.count c.args.second_count c.requires (omega (arith, c.min.ensures, c.if-min.false))
+by_tables-requires c = few_of_counts c.args.model c.args.first.now c.args.second.now c.args.count c.args.second_count c.requires
+    (omega (arith, c.min.ensures, c.if-min.false))
 
 pub returns-in-Ok : goal.returns-in-Ok
 returns-in-Ok c = counted_too c.args.model c.args.first.now c.args.second.now _ c.args.count c.requires c.in-Ok.ensures

@@ -13,7 +13,8 @@ loop-walk-preserved-in-None-default c =
     let i = c.loop-walk.invariant.0 in
     let item = c.item_at in
     let there = item.ensures.listed c.args.model _ i.done c.loop-walk.fetched i.listed in (
-      listing_passed c.args.model c.args.text.now c.loop-walk.walk _ _ _ _ i item.result.1 item.ensures.further c.find.new.self (items_walked _ _ _ c.find.ensures.passed)
+      listing_passed c.args.model c.args.text.now c.loop-walk.walk _ _ _ _ i item.result.1 item.ensures.further c.find.new.self
+          (items_walked _ _ _ c.find.ensures.passed)
           (rw c.in-None-default.is-0 at there),
       c.loop-walk.invariant.1,
     )

@@ -30,7 +30,8 @@ returns-then-has_digit-clause-halt c = λ begin h.
     let number = c.number_at-number in
     let digit = c.if-has_digit.ensures in
     position_over c.args.text.now c.args.start begin c.args.numbering h c.in-Some.number number.result.1 (rw c.in-Some.is at number.ensures.bytes)
-    (rw c.in-Some.is at number.ensures.some) (rw c.in-Some.is at number.ensures.small) (rw c.in-Some.is at number.ensures.ended) c.refusal.result c.refusal.ensures
+    (rw c.in-Some.is at number.ensures.some) (rw c.in-Some.is at number.ensures.small)
+    (rw c.in-Some.is at number.ensures.ended) c.refusal.result c.refusal.ensures
     (digit.within refl) (sym digit.same)
 
 pub returns-in-Unnumbered-clause-halt : goal.returns-in-Unnumbered-clause-halt
@@ -46,7 +47,8 @@ returns-in_default-numbering-2 c =
     let number = c.number_at-number in
     let dollar = c.if-has_byte.ensures in
     let read = position_read c.args.text.now c.args.start c.in-Some.number number.result.1 (rw c.in-Some.is at number.ensures.bytes)
-    (rw c.in-Some.is at number.ensures.some) (rw c.in-Some.is at number.ensures.small) (rw c.in-Some.is at number.ensures.ended) (dollar.within refl) (sym dollar.same) in
+    (rw c.in-Some.is at number.ensures.some) (rw c.in-Some.is at number.ensures.small) (rw c.in-Some.is at number.ensures.ended)
+    (dollar.within refl) (sym dollar.same) in
     record {
       bytes = read;
       follows = may_be_numbered c.args.numbering c.in-Some.number c.in_default-numbering-2.not-Unnumbered;
@@ -59,7 +61,8 @@ pub returns-in-Numbered-numbering-clause-halt : goal.returns-in-Numbered-numberi
 returns-in-Numbered-numbering-clause-halt c = λ begin h.
     let number = c.number_at-number in
     position_open c.args.text.now c.args.start begin c.args.numbering h c.in-Some.number number.result.1 (rw c.in-Some.is at number.ensures.bytes)
-    (rw c.in-Some.is at number.ensures.some) (rw c.in-Some.is at number.ensures.small) (rw c.in-Some.is at number.ensures.ended) c.stray_at-in-Numbered-numbering.result
+    (rw c.in-Some.is at number.ensures.some) (rw c.in-Some.is at number.ensures.small)
+    (rw c.in-Some.is at number.ensures.ended) c.stray_at-in-Numbered-numbering.result
     c.stray_at-in-Numbered-numbering.ensures (sym c.if-has_digit.ensures.same) (sym c.if-has_byte.ensures.same) c.in-Numbered-numbering.is
 
 pub returns-in_default-numbering-3 : goal.returns-in_default-numbering-3
@@ -71,7 +74,8 @@ returns-in_default-numbering-3 c =
       bytes = ([], refl, bytes_none t start c.requires.within);
       follows = may_be_unnumbered c.args.numbering c.in_default-numbering-3.not-Numbered;
       first = λ none. first_width t start c.in-Some.number number.result.1 (rw c.in-Some.is at number.ensures.bytes) (rw c.in-Some.is at number.ensures.some)
-          (rw c.in-Some.is at number.ensures.small) (rw c.in-Some.is at number.ensures.ended) (sym c.if-has_digit.ensures.same) (sym c.if-has_byte.ensures.same);
+          (rw c.in-Some.is at number.ensures.small) (rw c.in-Some.is at number.ensures.ended) (sym c.if-has_digit.ensures.same)
+          (sym c.if-has_byte.ensures.same);
       halt = tt;
       early = tt;
     }

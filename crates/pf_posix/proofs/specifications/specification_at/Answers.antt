@@ -8,7 +8,8 @@ pub returns-in-Err : goal.returns-in-Err
 returns-in-Err c =
     let err = c.in-Err in
     let none = c.none-none.ensures in
-    unread c.args.text.now c.args.start c.args.numbering c.refused.result err.refusal _ c.refused.ensures (refused_position c.args.text.now c.args.start c.args.numbering err.refusal c.requires.start c.requires.percent err.ensures.halt
+    unread c.args.text.now c.args.start c.args.numbering c.refused.result err.refusal _ c.refused.ensures
+    (refused_position c.args.text.now c.args.start c.args.numbering err.refusal c.requires.start c.requires.percent err.ensures.halt
     c.refused.result (rw none at c.refused.ensures)) err.ensures.early
 
 pub returns-in-Err-width_at : goal.returns-in-Err-width_at
@@ -17,7 +18,8 @@ returns-in-Err-width_at c =
     let flags = c.flags_at-at in
     let err = c.in-Err-width_at in
     let none = c.none-none.ensures in
-    unread c.args.text.now c.args.start c.args.numbering c.refused-in-Err-width_at.result err.refusal _ c.refused-in-Err-width_at.ensures (refused_width c.args.text.now c.args.start c.args.numbering number.read.0 number.read.1 number.ensures.follows flags.result.0
+    unread c.args.text.now c.args.start c.args.numbering c.refused-in-Err-width_at.result err.refusal _ c.refused-in-Err-width_at.ensures
+    (refused_width c.args.text.now c.args.start c.args.numbering number.read.0 number.read.1 number.ensures.follows flags.result.0
     flags.result.1 flags.ensures.flags flags.ensures.ended c.requires.start c.requires.percent number.ensures.bytes err.refusal err.ensures.halt
     c.refused-in-Err-width_at.result (rw none at c.refused-in-Err-width_at.ensures)) err.ensures.early
 

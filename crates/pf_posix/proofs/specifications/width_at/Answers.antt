@@ -11,7 +11,8 @@ returns-in-Err-clause-halt c = λ begin numbering before set h spelled follows.
     let start = c.args.start in
     let star = c.if-has_byte.ensures in
     c.in-Err.ensures.halt begin numbering before []
-    (bytes_join t begin start (start + 1) before (42 ∷ []) h (bytes_one t start 42 (star.within refl) (byte_is t start 42 (sym star.same)))) (set, spelled, refl)
+    (bytes_join t begin start (start + 1) before (42 ∷ []) h (bytes_one t start 42 (star.within refl) (byte_is t start 42 (sym star.same))))
+    (set, spelled, refl)
     follows
 
 pub returns-clause-bytes : goal.returns-clause-bytes
@@ -28,6 +29,7 @@ pub returns-then-has_digit-clause-halt : goal.returns-then-has_digit-clause-halt
 returns-then-has_digit-clause-halt c = λ begin numbering before set h spelled follows.
     let number = c.number_at-number in
     let digit = c.if-has_digit.ensures in
-    width_halts c.args.text.now c.args.start begin numbering c.args.position before set h spelled follows c.in-Some.number number.result.1 (rw c.in-Some.is at number.ensures.bytes)
+    width_halts c.args.text.now c.args.start begin numbering c.args.position before set h spelled follows c.in-Some.number number.result.1
+    (rw c.in-Some.is at number.ensures.bytes)
     (rw c.in-Some.is at number.ensures.some) (rw c.in-Some.is at number.ensures.small) (rw c.in-Some.is at number.ensures.ended) c.refusal.result
     c.refusal.ensures (digit.within refl) (sym digit.same)

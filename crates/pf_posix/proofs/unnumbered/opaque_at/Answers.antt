@@ -47,7 +47,8 @@ defined_at-requires-clause-other c =
     let q = c.requires in
     let t = c.args.text.now in
     let e = c.within_limit-front.ensures in
-    λ second. no_second c.args.model t c.args.at q.within q.front (inside_front c.args.model t c.args.at q.within q.front c.within_limit-front.result.now e c.if-at-front.false)
+    λ second. no_second c.args.model t c.args.at q.within q.front
+    (inside_front c.args.model t c.args.at q.within q.front c.within_limit-front.result.now e c.if-at-front.false)
     q.none (sym (ap (λ u. get_or u c.args.at 0) e) ∙ c.if-front-at-ne37.false) (sym (ap (λ u. get_or u (c.args.at + 1) 0) e) ∙ second)
 
 pub returns-in-Ok : goal.returns-in-Ok

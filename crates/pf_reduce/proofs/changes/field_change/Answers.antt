@@ -22,5 +22,12 @@ returns c =
     let r = c.requires in
     let most = c.most_printed-most in
     let wide : most.result < width_of s = omega (arith, c.if-width-most.false, c.width-width.ensures.value) in
-    let change = padded_change model s r.parts r.number r.unfilled r.precision most.result wide most.ensures in
-    (sym (flags_are model s r.parts r.number r.unfilled r.precision most.result wide), r.precision, change.0, omega (arith, c.if-most-ge100.false), wide, change.1)
+    let change = padded_change model s r.parts r.number r.unfilled r.precision most.result wide most.ensures in (
+      sym (flags_are model s r.parts r.number r.unfilled r.precision most.result wide),
+      r.precision,
+      change.0,
+      omega
+          (arith, c.if-most-ge100.false),
+      wide,
+      change.1,
+    )

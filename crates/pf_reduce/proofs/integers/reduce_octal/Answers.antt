@@ -18,5 +18,7 @@ reduced_core-requires-2 c = rw (c.empty-2.ensures, c.kept_precision-kept.ensures
     c.requires.octal c.requires.alt c.max-precision.result c.max_digits-digits.result _ c.without_idle_width-padding.result
     (c.max-precision.ensures ∙ ap (λ k. max k 1) c.effective_precision.ensures.value) c.max_digits-digits.ensures.value
     (rw (c.of.ensures.value, c.max.ensures) at c.with_width_at_most.ensures) c.without_idle_width-padding.ensures
-    (c.has_spaces_before.ensures.no c.if-has_spaces_before.false) (1 + c.saturating_sub-zeros.result) _ c.right_justify_if_unseen-padding.result (ap (λ k. 1 + k) c.saturating_sub-zeros.ensures) c.hoist_zeros.ensures
+    (c.has_spaces_before.ensures.no c.if-has_spaces_before.false)
+    (1 + c.saturating_sub-zeros.result) _ c.right_justify_if_unseen-padding.result
+    (ap (λ k. 1 + k) c.saturating_sub-zeros.ensures) c.hoist_zeros.ensures
     c.right_justify_if_unseen-padding.ensures)

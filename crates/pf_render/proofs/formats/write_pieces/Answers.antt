@@ -5,7 +5,12 @@ use Rattle.pf_render.proofs.ProgressLemmas.{next_typed, next_within, wrote_part}
 use Rattle.pf_render.proofs.formats.write_pieces.Goals as goal
 
 pub loop-piece-init : goal.loop-piece-init
-loop-piece-init g c = record { can = tt; finite = tt; so_far = under_way c.args.model g.met.O.Output.laws _ c.new-progress.result c.requires (search rules) c.new-progress.ensures }
+loop-piece-init g c = record {
+  can = tt;
+  finite = tt;
+  so_far = under_way c.args.model g.met.O.Output.laws _ c.new-progress.result c.requires
+      (search rules) c.new-progress.ensures;
+}
 
 pub unreachable-requires : goal.unreachable-requires
 unreachable-requires g c = no_refusal c.args.model g.met.O.Output.laws c.loop-piece.invariant.so_far c.in-Some.ensures.steps c.in-Err.is
@@ -16,12 +21,14 @@ write-requires-clause-few g c = counts c.args.model g.met.O.Output.laws c.loop-p
 pub write-requires-clause-within : goal.write-requires-clause-within
 write-requires-clause-within g c =
     let so_far = c.loop-piece.invariant.so_far in
-    next_within c.args.model g.met.O.Output.laws so_far.printing c.of.result _ (others_are c.args.model g.met.O.Output.laws so_far c.in-Some.ensures.steps c.in-Ok.is c.of.result c.of.ensures)
+    next_within c.args.model g.met.O.Output.laws so_far.printing c.of.result _
+    (others_are c.args.model g.met.O.Output.laws so_far c.in-Some.ensures.steps c.in-Ok.is c.of.result c.of.ensures)
 
 pub write-requires-clause-typed : goal.write-requires-clause-typed
 write-requires-clause-typed g c =
     let so_far = c.loop-piece.invariant.so_far in
-    next_typed c.args.model g.met.O.Output.laws so_far.printing c.of.result _ (others_are c.args.model g.met.O.Output.laws so_far c.in-Some.ensures.steps c.in-Ok.is c.of.result c.of.ensures)
+    next_typed c.args.model g.met.O.Output.laws so_far.printing c.of.result _
+    (others_are c.args.model g.met.O.Output.laws so_far c.in-Some.ensures.steps c.in-Ok.is c.of.result c.of.ensures)
 
 pub loop-piece-preserved : goal.loop-piece-preserved
 loop-piece-preserved g c =

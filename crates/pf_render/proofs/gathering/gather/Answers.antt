@@ -10,7 +10,8 @@ loop-piece-preserved-in-Directive g c =
     record {
       can = tt;
       finite = tt;
-      so_far = argument_gathered c.args.model g.met.O.Output.laws c.loop-piece.invariant.so_far c.in-Some.ensures.steps c.in-Ok.is _ _ (ap items_of c.in-Directive.is) taken.0 taken.1
+      so_far = argument_gathered c.args.model g.met.O.Output.laws c.loop-piece.invariant.so_far c.in-Some.ensures.steps c.in-Ok.is _ _
+          (ap items_of c.in-Directive.is) taken.0 taken.1
           taken.2;
     }
 
@@ -19,7 +20,8 @@ loop-piece-preserved-else-not-gather_bytes g c =
     record {
       can = tt;
       finite = tt;
-      so_far = literal_gathered c.args.model g.met.O.Output.laws c.loop-piece.invariant.so_far c.in-Some.ensures.steps c.in-Ok.is _ _ (ap items_of c.in-Literal.is)
+      so_far = literal_gathered c.args.model g.met.O.Output.laws c.loop-piece.invariant.so_far c.in-Some.ensures.steps c.in-Ok.is _ _
+          (ap items_of c.in-Literal.is)
           (bytes_gathered c.args.model g.met.O.Output.laws _ _ _ (c.gather_bytes.ensures (search rules)));
     }
 
@@ -28,7 +30,8 @@ loop-piece-preserved g c =
     record {
       can = tt;
       finite = tt;
-      so_far = literal_gathered c.args.model g.met.O.Output.laws c.loop-piece.invariant.so_far c.in-Some.ensures.steps c.in-Ok.is _ _ (ap items_of c.in-Percent.is)
+      so_far = literal_gathered c.args.model g.met.O.Output.laws c.loop-piece.invariant.so_far c.in-Some.ensures.steps c.in-Ok.is _ _
+          (ap items_of c.in-Percent.is)
           (bytes_gathered c.args.model g.met.O.Output.laws _ _ _ (c.gather_bytes-in-Percent.ensures (search rules)));
     }
 

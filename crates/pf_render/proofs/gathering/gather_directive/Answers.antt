@@ -9,5 +9,6 @@ returns-in-Ok g c written =
     let out = c.in-Ok.ensures in (
       _,
       slice_get_read _ _ c.args.index _ refl there.3.0 there.1,
-      directive_gathered c.args.model g.met.O.Output.laws _ _ c.args.directive.now _ c.arg_type.result out.0 c.arg_type.ensures (c.has_type.ensures.yes (search rules)) out.1.0 out.2.0,
+      directive_gathered c.args.model g.met.O.Output.laws _ _ c.args.directive.now _ c.arg_type.result out.0 c.arg_type.ensures
+          (c.has_type.ensures.yes (search rules)) out.1.0 out.2.0,
     )

@@ -35,8 +35,10 @@ loop-model-preserved c =
 pub returns-then-walk-text : goal.returns-then-walk-text
 returns-then-walk-text c =
     let found = take c.loop-model.count c.loop-model.types in
-    let now = typed_passed_too c.args.model c.args.text.now c.loop-model.walk c.find.new.self found c.loop-model.invariant.typed (items_walked _ _ _ c.find.ensures.passed) in (
+    let now = typed_passed_too c.args.model c.args.text.now c.loop-model.walk c.find.new.self found c.loop-model.invariant.typed
+    (items_walked _ _ _ c.find.ensures.passed) in (
       c.loop-model.invariant.room,
-      typed_all c.args.model c.args.text.now c.find.new.self found now (no_item c.find.new.self.text.now c.find.new.self.at (c.find.ensures.ended c.loop-model-test.false)) c.if-walk-text.true,
+      typed_all c.args.model c.args.text.now c.find.new.self found now
+          (no_item c.find.new.self.text.now c.find.new.self.at (c.find.ensures.ended c.loop-model-test.false)) c.if-walk-text.true,
       c.loop-model.invariant.rest,
     )

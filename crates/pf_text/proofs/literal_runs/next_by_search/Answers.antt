@@ -5,7 +5,8 @@ use Rattle.pf_text.proofs.WalkLemmas.{none_in_rest}
 use Rattle.pf_text.proofs.literal_runs.next_by_search.Goals as goal
 
 pub returns-then-end-text : goal.returns-then-end-text
-returns-then-end-text c = none_in_rest c.args.text.now c.args.from (length c.args.text.now) c.literal_len.result (omega (arith, c.if-end-text.true)) (rw take_rest at c.literal_len.ensures.none)
+returns-then-end-text c = none_in_rest c.args.text.now c.args.from (length c.args.text.now) c.literal_len.result
+    (omega (arith, c.if-end-text.true)) (rw take_rest at c.literal_len.ensures.none)
 
 pub returns : goal.returns
 returns c =

@@ -19,7 +19,8 @@ returns-then-len c =
     let len = length text in
     let last = c.marks_at-last in
     let end : len - 16 + 16 ≡ len = omega (arith, c.if-len-lt-LANES.false) in
-    both_marked c.marks_at-marks.result last.result text 0 16 (len - 16) len c.marks_at-marks.ensures (subst (IsMarked last.result text (len - 16)) end last.ensures)
+    both_marked c.marks_at-marks.result last.result text 0 16 (len - 16) len c.marks_at-marks.ensures
+    (subst (IsMarked last.result text (len - 16)) end last.ensures)
     (omega (arith, c.if-len.true)) (omega (arith, c.if-len-lt-LANES.false))
 
 pub returns-then-len-2 : goal.returns-then-len-2

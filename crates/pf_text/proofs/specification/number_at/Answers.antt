@@ -7,7 +7,8 @@ use Rattle.pf_text.proofs.specification.number_at.Goals as goal
 pub returns-in-49-to-57-clause-bytes : goal.returns-in-49-to-57-clause-bytes
 returns-in-49-to-57-clause-bytes c =
     let digits = c.digits_at-number in
-    let (bytes, spelled, few, h) = width_read c.args.text.now c.args.start digits.result.1 digits.result.0 (omega (arith, c.if-start-text.false)) (omega (arith, c.in-49-to-57))
+    let (bytes, spelled, few, h) = width_read c.args.text.now c.args.start digits.result.1 digits.result.0
+    (omega (arith, c.if-start-text.false)) (omega (arith, c.in-49-to-57))
     (omega (arith, c.in-49-to-57)) digits.ensures.small (rw c.from.ensures at digits.ensures.digits) in
     subst (HasBytes c.args.text.now c.args.start digits.result.1) (width_is_spelled bytes (Some digits.result.0) spelled few) h
 

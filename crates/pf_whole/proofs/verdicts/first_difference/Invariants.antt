@@ -8,7 +8,8 @@ use Rattle.pf_whole.proofs.verdicts.first_difference.Given as goal
 
 abbrev pub invariant-loop-stretch : goal.invariant-loop-stretch
 invariant-loop-stretch l =
-    (a b left more : Stretches) × ReadsStretches l.first a × ReadsStretches l.second b × ReadsStretches (drop l.at l.first) left × ReadsStretches (drop l.from l.second) more
+    (a b left more : Stretches) × ReadsStretches l.first a × ReadsStretches l.second b × ReadsStretches (drop l.at l.first) left
+    × ReadsStretches (drop l.from l.second) more
     × (l.at ≤ length l.first) × (l.from ≤ length l.second) × HaveOneShape l.model left more
     × IsComparedUpTo l.model a b left more (shown_as l.shown.items) l.is_found × IsTypedUpTo l.model a left l.shown.items
     × (l.is_found ≡ false → IsNeutralUpTo l.model a left l.shown.items)

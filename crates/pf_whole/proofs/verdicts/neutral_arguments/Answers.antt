@@ -14,8 +14,11 @@ next_stretch-requires c = c.loop-stretch.invariant.within
 
 pub neutrals_of-requires : goal.neutrals_of-requires
 neutrals_of-requires c =
-    let i = c.loop-stretch.invariant in
-    (first_items i.left, stretch_has c.args.text.now c.loop-stretch.at i.left c.in-Some.stretch (c.in-Some.ensures.head i.left i.reads_left) c.requires.accepted.limit)
+    let i = c.loop-stretch.invariant in (
+      first_items i.left,
+      stretch_has c.args.text.now c.loop-stretch.at i.left c.in-Some.stretch
+          (c.in-Some.ensures.head i.left i.reads_left) c.requires.accepted.limit,
+    )
 
 pub returns-in_default-opaque : goal.returns-in_default-opaque
 returns-in_default-opaque c = λ a reads.

@@ -10,7 +10,8 @@ returns-in-Ok c =
     let answer = c.in-Ok.answer in
     let is = subst (λ t. IsAnswer c.args.question.now t answer.ending) (sym c.as_bytes.ensures) c.in-Ok.ensures in
     λ asked formats sent replies about h. reply_added asked formats sent replies _ _ h push.written c.args.question.now about c.as_bytes.result.now
-    (outcome_of answer.ending) (inl (answer.ending, is, refl)) c.status.result (c.status.ensures ∙ ap status_of c.outcome.ensures.value) c.push.result push.bytes push.greatest push.none push.same
+    (outcome_of answer.ending) (inl (answer.ending, is, refl)) c.status.result
+    (c.status.ensures ∙ ap status_of c.outcome.ensures.value) c.push.result push.bytes push.greatest push.none push.same
 
 pub push_failed-requires : goal.push_failed-requires
 push_failed-requires c = fault_digit c.args.question.now c.in-Err.failed c.in-Err.ensures

@@ -40,7 +40,8 @@ returns-in-Ok-Some-clause-given g c model text given h =
     let held = flat_map item_spelling (silents w.held) in
     let next = rw (h.model_is, h.text_is, c.in-Ok-Some.field-0-is) at c.in-Ok-Some.ensures.next in
     let placed = rw (h.text_is, c.in-Ok-Some.field-0-is) at c.in-Ok-Some.ensures.placed in
-    let now = other_taken has_front model text w.walk w.held given m other.stop other.spelling.items (next (given ++ held) (here has_front model text w.walk w.held given m))
+    let now = other_taken has_front model text w.walk w.held given m other.stop other.spelling.items
+    (next (given ++ held) (here has_front model text w.walk w.held given m))
     placed.0 placed.1 placed.2 placed.3 in
     record {
       model_is = h.model_is;

@@ -22,7 +22,8 @@ loop-at-preserved g c =
       put = more_taken laws c.args.sink.now front.new.sink c.put_item.new.sink c.args.self.now front.new.self c.put_item.new.self block mid c.in-Ok.len
           (more_taken laws c.args.sink.now c.loop-at.sink front.new.sink c.args.self.now c.loop-at.self front.new.self block at front.result
           c.loop-at.invariant.put (rw take_rest at front.ensures.put))
-          (item_taken g.S.Sink.given front.new.sink c.put_item.new.sink front.new.self c.put_item.new.self (drop mid block) c.in-Ok.len (rw take_rest at c.in-Ok.ensures.put));
+          (item_taken g.S.Sink.given front.new.sink c.put_item.new.sink front.new.self c.put_item.new.self (drop mid block) c.in-Ok.len
+          (rw take_rest at c.in-Ok.ensures.put));
     }
 
 pub loop-at-smaller : goal.loop-at-smaller

@@ -22,14 +22,16 @@ returns-clause-put g c =
     let front = take len text in
     let place = front_of_walk text c.new.result c.new.ensures.over len put.ensures.within in
     let same : take len c.new.result.text.now ≡ front = sym (front_is c.new.result.text.now len) ∙ place.0 in
-    let (more, given, written) = subst (λ t. PutsItems g.S.Sink.given (IsWritten r.model) c.args.sink.now put.new.sink t r.silents put.new.self.silents) same put.ensures.put in
+    let (more, given, written) = subst (λ t. PutsItems g.S.Sink.given
+    (IsWritten r.model) c.args.sink.now put.new.sink t r.silents put.new.self.silents) same put.ensures.put in
     let reads : (items : List Item) × Reads front items = subst (λ t. (items : List Item) × Reads t items) same put.ensures.reads in
     let long : length front ≡ len = length-take-le len text place.1 in (
       more,
       given,
       λ model t out items h.
           let may = c.may_pass.ensures t items h.after c.if-not-may_pass.false in
-          let after = c.pass_items.ensures t front items reads.0 (rw put.ensures.scanner h.after) may.0 reads.1 long (rw put.ensures.scanner (omega (arith, may.1, place.1))) in (
+          let after = c.pass_items.ensures t front items reads.0 (rw put.ensures.scanner h.after) may.0 reads.1 long
+          (rw put.ensures.scanner (omega (arith, may.1, place.1))) in (
             items ++ reads.0,
             written_through model r _ t out front more items reads.0 h may.0 put.ensures.model (rw h.model_is at written) reads.1 after,
           ),

@@ -42,7 +42,8 @@ returns-in-Literal-clause-put g c =
           let now = c.loop-at.invariant.through model t out items h in
           let fed = rw c.in-Ok.is at c.feed.ensures.fed model (t ++ take at text) out now.0 now.1 in (
             now.0 ++ fed.more,
-            subst (λ o. IsThrough model c.feed.new.self (t ++ take (at + 1) text) (now.0 ++ fed.more) (out ++ byte_output_text o (get_or text at 0))) c.in-Literal.is
+            subst (λ o. IsThrough model c.feed.new.self (t ++ take (at + 1) text) (now.0 ++ fed.more)
+                (out ++ byte_output_text o (get_or text at 0))) c.in-Literal.is
                 (byte_taken model c.feed.new.self t out text at c.loop-at-test.true now.0 c.in-Ok.output fed),
           ),
     )
@@ -57,7 +58,8 @@ returns-in-Output-clause-put g c =
           let now = c.loop-at.invariant.through model t out items h in
           let fed = rw c.in-Ok.is at c.feed.ensures.fed model (t ++ take at text) out now.0 now.1 in (
             now.0 ++ fed.more,
-            subst (λ o. IsThrough model c.feed.new.self (t ++ take (at + 1) text) (now.0 ++ fed.more) (out ++ byte_output_text o (get_or text at 0))) c.in-Output.is
+            subst (λ o. IsThrough model c.feed.new.self (t ++ take (at + 1) text) (now.0 ++ fed.more)
+                (out ++ byte_output_text o (get_or text at 0))) c.in-Output.is
                 (byte_taken model c.feed.new.self t out text at c.loop-at-test.true now.0 c.in-Ok.output fed),
           ),
     )

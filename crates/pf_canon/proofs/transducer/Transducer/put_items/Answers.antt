@@ -35,7 +35,9 @@ put_items-len-requires-clause-next g c = next_run (λ byte. ⊤) c.args.walk.tex
 pub returns-clause-put : goal.returns-clause-put
 returns-clause-put g c =
     let none : c.args.self.now.silents ≡ 0 = omega (arith, c.if-self-gt0.false) in
-    rw (none, sym (front_is c.args.walk.text.now c.put_items-len.result.0)) (let (more, given, step) = c.put_items-len.ensures.put in (more, given, profile_step c.args.self.now.model _ more 0 c.put_items-len.result.1 step))
+    rw (none, sym (front_is c.args.walk.text.now c.put_items-len.result.0))
+    (let (more, given, step) = c.put_items-len.ensures.put in
+    (more, given, profile_step c.args.self.now.model _ more 0 c.put_items-len.result.1 step))
 
 pub returns-clause-reads : goal.returns-clause-reads
 returns-clause-reads g c =

@@ -23,8 +23,11 @@ put_others-requires-clause-front g c =
     let text = c.args.text.now in
     let stretch = c.put_stretch-stop in
     let (own, given, completes) = stretch.ensures.put in
-    let place = front_of_walk text front.walk c.requires.over stretch.result stretch.ensures.within.1 in
-    (own, of_nothing g.L.Language.has_front front.model (g.met.L.Language.has_none front.model) _ _ own place.0 (within_limit text stretch.result place.2) completes)
+    let place = front_of_walk text front.walk c.requires.over stretch.result stretch.ensures.within.1 in (
+      own,
+      of_nothing g.L.Language.has_front front.model (g.met.L.Language.has_none front.model) _ _ own place.0
+          (within_limit text stretch.result place.2) completes,
+    )
 
 pub returns : goal.returns
 returns g c =
@@ -36,4 +39,5 @@ returns g c =
     front_put g.met.S.Sink.laws (HasCanonicalIn g.L.Language.has_front front.model text)
     (λ refusal. g.L.Language.refuses front.model text refusal.kind refusal.at) own c.args.sink.now stretch.new.sink c.put_others.new.sink c.put_others.result given
     (c.put_others.ensures own
-    (of_nothing g.L.Language.has_front front.model (g.met.L.Language.has_none front.model) _ _ own place.0 (within_limit text stretch.result place.2) completes))
+    (of_nothing g.L.Language.has_front front.model (g.met.L.Language.has_none front.model) _ _ own place.0
+    (within_limit text stretch.result place.2) completes))
