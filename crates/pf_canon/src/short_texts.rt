@@ -55,6 +55,7 @@ impl ShortText {
 
     /// Puts the canonical text of a format in a language, if there is room for it. `Err` if the format is
     /// rejected.
+    #[inline(always)]
     pub fn put<L: Language>(
         &mut self,
         front: &VerbatimFront<'_>,
