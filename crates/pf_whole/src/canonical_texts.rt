@@ -1,8 +1,7 @@
 //! Whether a format of the whole language is accepted, and its canonical text: each stretch before, between and after the
 //! directives that the profile lacks is replaced by the canonical text that it has as a format of its own,
 //! and each of these directives by its normal spelling.
-ghost use Rattle.std.specs.Prelude.{◌≡◌, ◌≢◌, ◌≤◌, ◌+◌, ◌↔◌, [], IfOk, IsTrue, MatchResult, length};
-ghost use Rattle.std.specs.Vec.{vec_capacity};
+ghost use Rattle.std.specs.Prelude.{◌≡◌, ◌↔◌, IsTrue, MatchResult, length};
 ghost use Rattle.pf_values.specs.meaning.Text.{Text};
 ghost use Rattle.pf_posix.specs.Stretches.{IsUnnumberedAccepted};
 ghost use Rattle.pf_posix.specs.Unnumbered.{IsUnnumberedRefusedAt};
