@@ -20,13 +20,13 @@ enum Call<'a> {
 
 // How a call ended: as with ample memory, out of memory, or otherwise.
 #[derive(Clone, Copy, PartialEq, Eq)]
-enum Seen {
+pub(super) enum Seen {
     Answer,
     Memory,
     Wrong,
 }
 
-fn answer_of(right: bool) -> Seen {
+pub(super) fn answer_of(right: bool) -> Seen {
     if right { Seen::Answer } else { Seen::Wrong }
 }
 

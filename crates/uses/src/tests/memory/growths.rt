@@ -1,22 +1,11 @@
 //! Calls that allocate more than once, and that neither the program nor the C library shows: each allocation of a call
 //! is refused in turn.
+use super::blocks::{Seen, answer_of};
 use super::exhaustion::Exhausted;
 use pf_compare::confirms;
 use pf_render::{RenderVecFault, render_vec};
 use pf_values::{Arg, Model};
 use std::alloc::{AllocError, Global};
-
-// How a call ended: as with ample memory, out of memory, or otherwise.
-#[derive(Clone, Copy, PartialEq, Eq)]
-enum Seen {
-    Answer,
-    Memory,
-    Wrong,
-}
-
-fn answer_of(right: bool) -> Seen {
-    if right { Seen::Answer } else { Seen::Wrong }
-}
 
 #[derive(Clone, Copy)]
 pub(super) enum Call {
