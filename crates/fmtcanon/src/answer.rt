@@ -8,8 +8,9 @@ ghost use Rattle.fmtcanon.specs.Faults.{of_literal};
 ghost use Rattle.fmtcanon.specs.FormatArguments.{IsArgumentFault, IsPrinted};
 ghost use Rattle.fmtcanon.specs.Formats.{IsFormat};
 ghost use Rattle.pf_whole.specs.Languages.{AcceptsText, Profile, Unnumbered};
-ghost use Rattle.pf_canon.specs.Answers.{IsCanonicalFor};
+ghost use Rattle.pf_canon.specs.Answers.{FaultForCanonical, IsCanonicalFor};
 ghost use Rattle.pf_whole.specs.Answers.{IsWholeCanonicalFor};
+ghost use Rattle.pf_whole.specs.Faults.{FaultForWholeCanonical};
 ghost use Rattle.fmtcanon.specs.Lines.{line, output_bytes};
 ghost use Rattle.fmtcanon.specs.Outcomes.{outcome_of, status_of};
 ghost use Rattle.fmtcanon.specs.PairAnswers.{IsPairAnswerIn};
@@ -27,10 +28,10 @@ use crate::pairs::{pair_answer, refusal_of_first};
 use crate::questions::{FormatQuestion, OneQuestion, PairQuestion, Question};
 use crate::show_lines::show_lines;
 use crate::type_lines::{type_lines, whole_type_lines};
-use pf_canon::{Profile, canonical_in};
+use pf_canon::canonical_in;
 use pf_literals::LiteralFault;
 use pf_render::{RenderVecFault, render_vec};
-use pf_text::{Refusal, Side};
+use pf_text::{Refusal, Side, TextFault};
 use pf_values::Model;
 use pf_whole::Whole;
 use std::alloc::{AllocError, Global};
@@ -294,12 +295,19 @@ fn canonical_line(
     ensures { MatchResult result (λ out. HasCanonicalLine notation (IsCanonicalFor model format.now) out.items)
         (IsFormatFault Profile model format.now) }
 {
-    // With room for the newline, so that it needs no allocation of its own.
-    let canonical = canonical_in::<Profile>(alloc, model, format, 1)?;
+    let canonical = canonical_text(alloc, model, format)?;
     Ok(with_newline(notation.write(alloc, canonical)?)?)
 }
 
-// That of a format of the whole language.
+// The canonical text of a format, with room for a newline, so that it needs no allocation of its own.
+fn canonical_text(alloc: Global, model: Model, format: &[u8]) -> Result<Vec<u8>, TextFault>
+    ensures { MatchResult result (λ c. IsCanonicalFor model format.now c.items)
+        (FaultForCanonical model format.now) }
+{
+    canonical_in::<pf_canon::Profile>(alloc, model, format, 1)
+}
+
+// The same for a format of the whole language.
 fn whole_canonical_line(
     alloc: Global,
     notation: Notation,
@@ -309,8 +317,15 @@ fn whole_canonical_line(
     ensures { MatchResult result (λ out. HasCanonicalLine notation (IsWholeCanonicalFor model format.now) out.items)
         (IsFormatFault Unnumbered model format.now) }
 {
-    let canonical = canonical_in::<Whole>(alloc, model, format, 1)?;
+    let canonical = whole_canonical_text(alloc, model, format)?;
     Ok(with_newline(notation.write(alloc, canonical)?)?)
+}
+
+fn whole_canonical_text(alloc: Global, model: Model, format: &[u8]) -> Result<Vec<u8>, TextFault>
+    ensures { MatchResult result (λ c. IsWholeCanonicalFor model format.now c.items)
+        (FaultForWholeCanonical model format.now) }
+{
+    canonical_in::<Whole>(alloc, model, format, 1)
 }
 
 /// Returns a text with a newline after it. `Err` if memory is refused.
