@@ -34,3 +34,4 @@ pub mod SpecificationSpanLemmas
 pub mod SpecificationWalkLemmas
 mod RefusedSpecificationLemmas
 mod MissingArgumentLemmas
+pub mod ListingLemmas

@@ -31,7 +31,8 @@ filled_full [] before more full = refl
 filled_full (o ∷ old) [] more full = absurd (omega arith)
 filled_full (o ∷ old) (y ∷ before) more full = ap (λ l. y ∷ l) (filled_full old before more (omega (arith, full)))
 
-ends : (at from : ℕ) (item : WholeItem) (first rest other more : Text) → IsWholeReadAs first item → IsWholeReadAs other item → at ≡ from
+-- the same item ends at the same offset
+pub ends : (at from : ℕ) (item : WholeItem) (first rest other more : Text) → IsWholeReadAs first item → IsWholeReadAs other item → at ≡ from
     → first ++ rest ≡ other ++ more → (at + length first ≡ from + length other) × (rest ≡ more)
 ends at from item first rest other more h k a e =
     let same = (item_once item item first rest other more (text_there first item h) (text_there other item k) e).1 in

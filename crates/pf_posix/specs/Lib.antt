@@ -27,3 +27,4 @@ pub mod SpecificationWalks
 pub mod RefusedSpecifications
 pub mod MissingArguments
 pub mod Plain
+pub mod Listings

@@ -168,10 +168,10 @@ fn put_any(
     }
 }
 
-// The arguments of a format, or its refusal. The walk has come over items that take `count` arguments, none of them by
-// number, and is at a specification that has a number or is rejected.
+/// The arguments of a format, or its refusal. The walk has come over items that take `count` arguments, none of them by
+/// number, and is at a specification that has a number or is rejected.
 #[inline(never)]
-fn other_arguments(
+pub(crate) fn other_arguments(
     model: Model,
     walk: Walk<'_>,
     count: usize,
@@ -196,9 +196,9 @@ fn other_arguments(
     }
 }
 
-// Whether specifications are numbered after this many arguments without numbers.
+/// Whether specifications are numbered after this many arguments without numbers.
 #[inline(always)]
-fn numbering_after(count: usize) -> Numbering
+pub(crate) fn numbering_after(count: usize) -> Numbering
     ensures { result ≡ numbering_after count }
 {
     match count {

@@ -9,14 +9,17 @@ ghost use Rattle.pf_posix.specs.PartsInText.{specification_read};
 ghost use Rattle.pf_posix.specs.Refusals.{IsWholeRefusedAt};
 ghost use Rattle.pf_posix.specs.Types.{fetches, star_fetches};
 
-use crate::argument_types::{arguments, put, room_for};
+use crate::argument_types::{put, room_for};
 use crate::fetches::conversion_type;
+use crate::listings::directives_within;
+use crate::long_texts::{of_long, too_long};
 use crate::opaque_directives::{OpaqueAmount, is_star};
 use crate::specification_walk::item_at;
 use crate::specifications::Specification;
 use crate::types::WholeArgType;
 use pf_text::{Percents, Refusal, TextFault, Walk};
 use pf_values::Model;
+use pf_values::limits::MAX_TEXT_LEN;
 use std::alloc::{AllocError, Global};
 
 /// A conversion specification in a format: its bytes, and the arguments that it takes (C11 7.21.6.1,
@@ -41,16 +44,21 @@ pub struct DirectiveSpan {
 /// of the text (C11 7.21.6.1, paragraphs 3 to 5; POSIX fprintf on numbered arguments), and returns
 /// their number; `%%` and `%m` do not count as one. It writes them to `out` from the front, as far as there
 /// is room, and leaves the rest of `out` as it was. `Err` for the formats that `arguments` rejects:
-/// then nothing in `out` changes.
+/// then `out` has the same length, and its contents are unspecified.
 pub fn directives(model: Model, text: &[u8], out: &mut [DirectiveSpan]) -> Result<u64, Refusal>
     ensures directives { MatchResult result
         (λ count. HasDirectiveCount model text.now out.old out.new count)
-        (λ refusal. IsWholeRefusedAt model text.now refusal.kind refusal.at × (out.new ≡ out.old)) }
+        (λ refusal. IsWholeRefusedAt model text.now refusal.kind refusal.at) }
     ensures length { length out.new ≡ length out.old }
 {
-    match arguments(model, text, &mut []) {
-        Ok(_) => Ok(put_directives(model, text, out)),
-        Err(refusal) => Err(refusal),
+    match directives_within(model, text, out) {
+        Ok(count) => {
+            if text.len() as u64 > MAX_TEXT_LEN {
+                return Err(too_long());
+            }
+            Ok(count)
+        }
+        Err(refusal) => Err(of_long(text, refusal)),
     }
 }
 
@@ -77,9 +85,8 @@ pub fn directives_vec(
     Ok(listed)
 }
 
-// Puts the specifications of an accepted format at the front of a slice. By a `SpecificationWalk`, `directives` takes
-// 1,024 instructions instead of 782 (4,000 formats).
-fn put_directives(model: Model, text: &[u8], out: &mut [DirectiveSpan]) -> u64
+/// Puts the specifications of an accepted format at the front of a slice.
+pub(crate) fn put_directives(model: Model, text: &[u8], out: &mut [DirectiveSpan]) -> u64
     requires { IsWholeAccepted model text.now }
     ensures directives { HasDirectiveCount model text.now out.old out.new result }
     ensures length { length out.new ≡ length out.old }

@@ -3,7 +3,8 @@
 //! Formats without numbered arguments, split at what the profile lacks.
 //!
 //! The road is `specifications`, which reads a specification part by part, up to its end or to where it can't go
-//! on. `argument_types` goes from one to the next, and `numbered` keeps the arguments of numbered ones in a table.
+//! on. `argument_types` goes from one to the next, `listings` does so and lists them, and `numbered` keeps the
+//! arguments of numbered ones in a table.
 //! The shortcuts, and what a call costs with one and without, in instructions over 4,000 formats: `argument_types`
 //! reads conversions alone and directives of the profile first (`arguments`: 243 and 455), and `comparison`
 //! compares the bytes of two formats first (`fits`: 256 and 462).
@@ -16,6 +17,7 @@ mod directive_spans;
 mod fetches;
 pub mod laws;
 mod letters;
+mod listings;
 mod long_texts;
 mod missing_arguments;
 mod numbered;
