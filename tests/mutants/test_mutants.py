@@ -513,7 +513,6 @@ class Twins(unittest.TestCase):
     WITHOUT = {
         "pf_values": 8,
         "pf_canon": 6,
-        "pf_posix": 2,
         "pf_whole": 6,
         "fmtcanon": 8,
         "fmtcanon_c": 11,
