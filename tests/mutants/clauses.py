@@ -39,8 +39,14 @@ EXCEPTIONS = {
 }
 
 
+def clauses_in(code, start, end):
+    """Returns the clauses between two offsets: the name of each, or nothing, and what it says."""
+    found = CLAUSE.finditer(code, start, end)
+    return [(it[1], code[it.end() : rattle_functions.group_end(code, it.end())]) for it in found]
+
+
 def clauses_of_traits(crates):
-    """Returns the names of the clauses that each trait of the crates declares for each of its methods."""
+    """Returns the clauses that each trait of the crates declares for each of its methods."""
     found = {}
     for name in crates.names():
         for text in sources_of(crates.folder(name)).values():
@@ -49,24 +55,26 @@ def clauses_of_traits(crates):
                 inside = code[trait.end() : rattle_functions.group_end(code, trait.end())]
                 starts = [*METHOD.finditer(inside), None]
                 for method, following in zip(starts, starts[1:]):
-                    listed = CLAUSE.findall(inside, method.end(), following.start() if following else len(inside))
-                    found[trait[1], method[1]] = listed
+                    end = following.start() if following else len(inside)
+                    found[trait[1], method[1]] = clauses_in(inside, method.end(), end)
     return found
 
 
 def clauses_of(function, code, of_traits):
-    """Returns the names of the clauses of a function: its own, or those of the trait that it is a method of."""
-    own = CLAUSE.findall(code[function.contract : function.start])
+    """Returns the clauses of a function: its own, or those of the trait that it is a method of."""
+    own = clauses_in(code, function.contract, function.start)
     if own or " for " not in function.block:
         return own
     _, head = rattle_functions.split_parameters(function.block)
     method = rattle_functions.plain_name(head.partition(" for ")[0]), function.path.rpartition("::")[2]
     block = code[code.rfind("\nimpl", 0, function.head) : function.head]
-    return of_traits.get(method, [""] if GHOST.search(block) else [])
+    return of_traits.get(method, [("", "")] if GHOST.search(block) else [])
 
 
 def public_clauses(folder, of_traits):
-    """Yields the path of each public function of a crate, with the name of a clause, or nothing for one without."""
+    """Yields the path of each public function of a crate, with the name of a clause, or nothing for one without, and
+    what it says.
+    """
     sources = sources_of(folder)
     homes, (names, modules) = rattle_functions.homes_of(sources), exported(sources)
     for path, text in sources.items():
@@ -74,7 +82,7 @@ def public_clauses(folder, of_traits):
         for function in rattle_functions.functions(text, path, homes):
             if is_public(function, names, modules) and has_body(text, function):
                 for clause in clauses_of(function, code, of_traits):
-                    yield function.path, clause
+                    yield function.path, *clause
 
 
 def refusals(lines):
@@ -99,7 +107,7 @@ def unbroken(names):
     mutants = Mutants(crates, kit_of(crates.folder(crates.names()[0])))
     for name in names or crates.names():
         refused = refusals(mutants.current(name))
-        for path, clause in public_clauses(crates.folder(name), of_traits):
+        for path, clause, _ in public_clauses(crates.folder(name), of_traits):
             if is_broken(path, clause, refused):
                 count += 1
             else:

@@ -512,10 +512,6 @@ class Twins(unittest.TestCase):
     # How many mutants of a crate have no twin. There are to be no more of them, and none in the end.
     WITHOUT = {
         "pf_values": 8,
-        "pf_render": 2,
-        "pf_canon": 6,
-        "pf_posix": 2,
-        "pf_whole": 6,
         "fmtcanon": 8,
         "fmtcanon_c": 11,
         "uses_low": 1,
