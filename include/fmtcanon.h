@@ -50,7 +50,7 @@ extern "C" {
 
 /* The version of this header. fmtcanon_version() returns the version of the library. */
 #define FMTCANON_VERSION_MAJOR 1
-#define FMTCANON_VERSION_MINOR 0
+#define FMTCANON_VERSION_MINOR 1
 #define FMTCANON_VERSION_PATCH 0
 
 /* Out of memory, or no memory could hold the answer. */

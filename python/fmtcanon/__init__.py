@@ -125,7 +125,7 @@ __all__ = [
 ]
 
 # The version of this module, and of the library that comes with it; version() returns that of the one that is loaded.
-__version__ = "1.0.0"
+__version__ = "1.1.0"
 
 Format = Union[str, bytes, bytearray, memoryview]
 # An argument that a format prints.

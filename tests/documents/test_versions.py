@@ -27,6 +27,8 @@ NAMED = r"fmtcanon[ _-]v?(\d+\.\d+(?:\.\d+)*)"
 NUMBER = r"(?<![\w.])\d+\.\d+\.\d+(?!\.?\w)"
 # Other numbers of this form: paragraphs of the C standard, and the version of SARIF.
 OTHER = r"[5-7]\.\d+\.\d+|2\.1\.0"
+# A version that a page names since it was never published.
+UNPUBLISHED = {"CHANGELOG.md": {"1.0.0"}}
 # Pages with versions of other programs.
 RELEASES = {"docs/FINDINGS.md", "docs/TRANSLATIONS.md", "tests/field/RESULTS.md"}
 
@@ -46,7 +48,7 @@ def others_in(name, text):
     numbers = set(re.findall(NAMED, text)) | (
         {it for it in re.findall(NUMBER, text) if not re.fullmatch(OTHER, it)} if name not in RELEASES else set()
     )
-    return sorted(libraries | numbers - {VERSION})
+    return sorted(libraries | numbers - {VERSION} - UNPUBLISHED.get(name, set()))
 
 
 def test_versions(trials):

@@ -101,7 +101,7 @@ LIMITS = {
     "docs/internals/DECISIONS.md": 2080,
     "docs/CONTRIBUTING.md": 980,
     "SECURITY.md": 162,
-    "CHANGELOG.md": 1535,
+    "CHANGELOG.md": 1080,
     CALLING: 9400,
     # What works in proofs, with an index by what rt prints, and how four crates are proved.
     PROOFS: 4200,

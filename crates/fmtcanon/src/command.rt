@@ -146,7 +146,7 @@ fn top<'a>(alloc: Global) -> Result<Command<'a>, AllocError>
 {
     Command::new(alloc, "fmtcanon")
         .about("Reads printf formats: canonical texts, argument types, interchangeability")
-        .version("1.0.0")
+        .version("1.1.0")
         .after_help(PROGRAM_HELP)
         .no_binary_name(true)
         .subcommand_required(true)

@@ -235,7 +235,7 @@ fn put_each<C: Copy, V: Coded<C>>(out: &mut [C], values: &[V])
 /// Returns the version: 65,536 for each major one, 256 for each minor one, and the patch.
 #[unsafe(no_mangle)]
 pub extern "C" fn fmtcanon_version() -> u32
-    ensures { result ≡ 65536 }
+    ensures { result ≡ 65792 }
 {
-    0x1_0000
+    0x1_0100
 }
