@@ -28,7 +28,7 @@ NUMBER = r"(?<![\w.])\d+\.\d+\.\d+(?!\.?\w)"
 # Other numbers of this form: paragraphs of the C standard, and the version of SARIF.
 OTHER = r"[5-7]\.\d+\.\d+|2\.1\.0"
 # A version that a page names since it was never published.
-UNPUBLISHED = {"CHANGELOG.md": {"1.0.0"}}
+UNPUBLISHED = {name: {"1.0.0"} for name in ["CHANGELOG.md", "tests/documents/test_versions.py"]}
 # Pages with versions of other programs.
 RELEASES = {"docs/FINDINGS.md", "docs/TRANSLATIONS.md", "tests/field/RESULTS.md"}
 
