@@ -511,7 +511,6 @@ class Twins(unittest.TestCase):
 
     # How many mutants of a crate have no twin. There are to be no more of them, and none in the end.
     WITHOUT = {
-        "pf_values": 8,
         "fmtcanon": 8,
         "fmtcanon_c": 11,
         "uses_low": 1,

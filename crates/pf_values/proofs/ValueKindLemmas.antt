@@ -1,11 +1,11 @@
 -- The values of each width, as the program makes them.
-use Rattle.std.proofs.Common.{◌≡◌, ℕ, ◌-◌, ◌^◌, ◌<◌, true, false, ◌∙◌, ap, refl, arith, ℤ, pos, negsuc, w8, w32, w64, to_z}
+use Rattle.std.proofs.Common.{◌≡◌, ℕ, ◌-◌, ◌^◌, ◌<◌, Bool, true, false, ◌∙◌, ap, refl, arith, ℤ, pos, negsuc, w8, w32, w64, to_z}
 use Rattle.std.specs.Prelude.{nat_abs}
 use Rattle.std.specs.Int.{Width, w16, int_rem_euclid}
 use Rattle.std.proofs.lemmas.Int.{ints}
 use Rattle.std.proofs.lemmas.Bool.Decides.{nat_tests}
 use Rattle.pf_values.specs.meaning.Arguments.{IsConverted}
-use Rattle.pf_values.specs.meaning.DataModel.{Bits, B8, B16, B32, B64, bit_count}
+use Rattle.pf_values.specs.meaning.DataModel.{FitsIn, Bits, B8, B16, B32, B64, bit_count}
 use Rattle.pf_values.proofs.Values.{wrapped, signed_from, converted-is, IsConverted-unique}
 
 remainder-is : (modulus : ℕ) (a : ℤ) → int_rem_euclid a (pos modulus) ≡ pos (wrapped modulus a)
@@ -42,3 +42,7 @@ signed-converted bits a b v w d h e =
     let small : v < 2 ^ bit_count bits = omega (arith, ints) in
     let same : v ≡ wrapped (2 ^ bit_count bits) a = omega (arith, ints) in
     rw (e ∙ to_z-is bits v small ∙ ap (signed_from (2 ^ (bit_count bits - 1))) same) (converted-is bits true a)
+
+-- a number in the range is its own value; the search uses this for a branch that returns a number
+pub converted_within : (signed : Bool) (bits : ℕ) (a b : ℤ) → FitsIn signed bits b → a ≡ b → IsConverted signed bits a b
+converted_within signed bits a b h e = record { fits = h; times = pos 0; differs = omega (arith, ints) }

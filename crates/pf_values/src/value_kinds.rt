@@ -34,6 +34,7 @@ impl ValueKind for u8 {
 
     ghost number = { pos };
 
+    #[tactic(auto, using(crate::proofs::ValueKindLemmas::converted_within))]
     fn of(argument: i128) -> u8 {
         argument.rem_euclid(1 << 8) as u8
     }
@@ -54,6 +55,7 @@ impl ValueKind for u16 {
 
     ghost number = { pos };
 
+    #[tactic(auto, using(crate::proofs::ValueKindLemmas::converted_within))]
     fn of(argument: i128) -> u16 {
         argument.rem_euclid(1 << 16) as u16
     }
@@ -74,6 +76,7 @@ impl ValueKind for u32 {
 
     ghost number = { pos };
 
+    #[tactic(auto, using(crate::proofs::ValueKindLemmas::converted_within))]
     fn of(argument: i128) -> u32 {
         argument.rem_euclid(1 << 32) as u32
     }
@@ -94,6 +97,7 @@ impl ValueKind for u64 {
 
     ghost number = { pos };
 
+    #[tactic(auto, using(crate::proofs::ValueKindLemmas::converted_within))]
     fn of(argument: i128) -> u64 {
         argument.rem_euclid(1 << 64) as u64
     }
@@ -114,6 +118,7 @@ impl ValueKind for i8 {
 
     ghost number = { λ n. n };
 
+    #[tactic(auto, using(crate::proofs::ValueKindLemmas::converted_within))]
     fn of(argument: i128) -> i8 {
         u8::of(argument).cast_signed()
     }
@@ -134,6 +139,7 @@ impl ValueKind for i16 {
 
     ghost number = { λ n. n };
 
+    #[tactic(auto, using(crate::proofs::ValueKindLemmas::converted_within))]
     fn of(argument: i128) -> i16 {
         u16::of(argument).cast_signed()
     }
@@ -154,6 +160,7 @@ impl ValueKind for i32 {
 
     ghost number = { λ n. n };
 
+    #[tactic(auto, using(crate::proofs::ValueKindLemmas::converted_within))]
     fn of(argument: i128) -> i32 {
         u32::of(argument).cast_signed()
     }
@@ -174,6 +181,7 @@ impl ValueKind for i64 {
 
     ghost number = { λ n. n };
 
+    #[tactic(auto, using(crate::proofs::ValueKindLemmas::converted_within))]
     fn of(argument: i128) -> i64 {
         u64::of(argument).cast_signed()
     }
