@@ -513,7 +513,6 @@ class Twins(unittest.TestCase):
     WITHOUT = {
         "fmtcanon": 8,
         "fmtcanon_c": 11,
-        "uses_low": 1,
     }
 
     def test_each_has_one(self):
