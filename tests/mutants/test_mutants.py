@@ -512,8 +512,7 @@ class Twins(unittest.TestCase):
     # How many mutants of a crate have no twin. There are to be no more of them, and none in the end.
     WITHOUT = {
         "fmtcanon": 8,
-        "fmtcanon_c": 11,
-        "uses_low": 1,
+        "fmtcanon_c": 9,
     }
 
     def test_each_has_one(self):
