@@ -19,7 +19,7 @@ from tests.mutants import mutant_keys
 from tests.mutants import toy_crates
 from tests.mutants.crates import TOP, Crates
 from tests.mutants.definitions import bare, definitions_in, without_comments
-from tests.mutants.mutant_files import Mutant, Pair, Reader, homes_in, mutant_of, mutants_of
+from tests.mutants.mutant_files import Mutant, Pair, mutants_of
 from tests.mutants.mutant_keys import Keys
 from tests.mutants.mutant_trials import answers_of
 from tests.mutants.mutants import Mutants
@@ -511,22 +511,10 @@ class Twins(unittest.TestCase):
 
     # How many mutants of a crate have no twin. There are to be no more of them, and none in the end.
     WITHOUT = {
-        "fmtcanon": 8,
-        "fmtcanon_c": 9,
+        "fmtcanon_c": 7,
     }
 
     def test_each_has_one(self):
         every = {name: mutants_of(Crates().folder(name)) for name in Crates().names()}
         counts = {name: sum(it.twin is None for it in found) for name, found in every.items()}
         self.assertEqual({name: count for name, count in counts.items() if count}, self.WITHOUT)
-
-    def test_untried(self):
-        """Each wording of untried/ is of a mutant that has no twin, applies as it stands, and has a twin."""
-        for file in sorted((Path(__file__).parent / "untried").glob("*.txt")):
-            folder, listed = Crates().folder(file.stem), Reader().read(file.read_text(encoding="utf-8"))
-            without = {it.name for it in mutants_of(folder) if it.twin is None}
-            homes, worded = homes_in(folder), {**listed.mutants, **listed.twins}
-            for name, pairs in worded.items():
-                self.assertEqual(mutant_of(name, pairs, folder, homes).why_broken, "", f"{file.stem}/{name}")
-                self.assertTrue(any(it.same is not None for it in pairs), f"{file.stem}/{name}")
-            self.assertLessEqual(worded.keys(), without)
