@@ -1,6 +1,7 @@
-"""The names that definitions of two crates have: a name means one thing, whichever crate defines it.
+"""The names of definitions: a name means one thing, whichever crate defines it, and a thing has one name.
 
-The `specs/` of two crates define no name, except a few with a reason each.
+The `specs/` of two crates define no name, except a few with a reason each. What the whole language has of its own bears the
+name that the profile gives it, with `Whole` before it, and not the name of a standard.
 """
 
 import re
@@ -10,6 +11,10 @@ from tests.frame.harness import TOP
 
 # A name that two crates define, and why it may stay so.
 EXCEPTIONS = {}
+# Comments, and the names of a crate and its tests.
+CRATE = re.compile(r"(?://|--).*|\bpf_posix\b|\bmod posix\b")
+# Words that stood for `WholeConv`, `WholeLength` and `WholeArgType`, and for `Whole`.
+OTHER_WORDS = re.compile(r"\b(?:Whole)?(?:Conversion|Modifier|ArgumentType)\b(?=::)|\w*[Pp]osix\w*")
 
 
 def definitions(path):
@@ -43,6 +48,13 @@ def test_definitions(trials):
     names = sorted(found.keys() - EXCEPTIONS.keys())
     trials.expect("names that definitions of two crates have", {name: found[name] for name in names}, {})
     trials.expect("exceptions that are not needed", sorted(EXCEPTIONS.keys() - found.keys()), [])
+
+
+def test_vocabulary(trials):
+    """The whole language has the profile's words, and nothing but a crate and its tests is named for POSIX."""
+    for path in sorted([*TOP.glob("crates/*/specs/**/*.antt"), *TOP.glob("crates/*/src/**/*.rt")]):
+        code = CRATE.sub("", path.read_text(encoding="utf-8"))
+        trials.expect(f"other words of {path.relative_to(TOP)}", sorted(set(OTHER_WORDS.findall(code))), [])
 
 
 Tests = tests_of(globals())
