@@ -1,7 +1,7 @@
 use Rattle.std.proofs.Common.{◌≡◌, ◌∙◌, Bool, ap, false, not, refl, sym, true}
 use Rattle.std.specs.Prelude.{is_some}
 use Rattle.pf_posix.specs.Stretches.{Last}
-use Rattle.uses.proofs.tests.whole.stretches.is_one_stretch.Goals as goal
+use Rattle.uses.proofs.tests.posix.stretches.is_one_stretch.Goals as goal
 
 told_none : (is : Bool) → false ≡ not is → is ≡ true
 told_none true e = refl
