@@ -49,7 +49,7 @@ use Rattle.pf_compare.specs.declared.differences.LoneDifference.{LoneDifference}
 use Rattle.pf_compare.specs.declared.owned_args.OwnedArg.{OwnedArg}
 use Rattle.pf_compare.specs.declared.witnesses.Witness.{Witness}
 use Rattle.pf_compare.specs.Answers.{HaveSameTypes, IsCandidateAt, PrintTheSame, PrintUnlike, probe_at}
-use Rattle.pf_compare.specs.Layouts.{ReplacementsEqual, ReplacementsDiffer, FindsUnlike, IsFirstUnlike}
+use Rattle.pf_compare.specs.Spans.{ReplacementsEqual, ReplacementsDiffer, FindsUnlike, IsFirstUnlike}
 use Rattle.pf_compare.specs.Lone.{
   AreToldApartAt,
   DifferInItems,
@@ -384,11 +384,10 @@ module _ (model : Model) (xs ys : List Item) (difference : LoneDifference) (h : 
 
     pub lone_awaits : (candidate_index : ℕ) (args : List OwnedArg) → FindsUnlike model [] (span_alone difference.first) (span_alone difference.second)
         (arg_type model difference.first) (Some candidate_index) → AreNeutral (types model xs) args
-        → AwaitsCandidate model (types model xs) args (arg_type model difference.first) (record { index = difference.index; candidate_index = candidate_index })
+        → AwaitsCandidate model (types model xs) args (record { index = difference.index; candidate_index = candidate_index })
     lone_awaits candidate_index args found neutral = record {
       neutral = neutral;
       candidate = (found.argument, record { type = arg_type model difference.first; type_is = lone_type_at; argument_is = found.argument_is });
-      type_is = lone_type_at;
     }
 
     back_in : (found : Option Witness) → FindsWitness model (h.before ++ Directive difference.first ∷ h.after)

@@ -1,11 +1,9 @@
 -- The argument types of two texts, side by side.
-use Rattle.std.proofs.Common.{◌≡◌, ◌≢◌, ℕ, zero, suc, ◌+◌, List, [], ◌∷◌, ◌++◌, drop, length, refl, sym, ap, ◌∙◌, subst, arith, Some, None, Ok, Err, Result, Option}
+use Rattle.std.proofs.Common.{◌≡◌, ◌≢◌, ℕ, ◌+◌, List, [], ◌∷◌, ◌++◌, drop, length, refl, sym, ap, ◌∙◌, subst, arith, Some, None, Ok, Err, Result, Option}
 use Rattle.std.specs.Prelude.{slice_get, MatchOption}
-use Rattle.std.proofs.lemmas.List.{append-nil, append_assoc, length-map, length_push}
-use Rattle.std.proofs.lemmas.Option.{slice_get_within}
+use Rattle.std.proofs.lemmas.List.{append-nil, append_assoc, length_push}
 use Rattle.pf_values.specs.declared.models.Model.{Model}
 use Rattle.pf_values.specs.declared.types.ArgType.{ArgType}
-use Rattle.pf_values.specs.meaning.DataModel.{arg_type}
 use Rattle.pf_values.specs.meaning.Items.{IsAccepted, Item, Reads, types}
 use Rattle.pf_values.specs.meaning.Text.{Text}
 use Rattle.pf_values.proofs.ItemTypes.{types-append}
@@ -17,12 +15,8 @@ use Rattle.pf_text.specs.Signatures.{TakesTypes}
 use Rattle.pf_text.proofs.SignatureLemmas.{HasFound, all_found, more_found, refused}
 use Rattle.pf_text.proofs.Texts.{Reads-unique}
 use Rattle.pf_render.proofs.ItemLemmas.{front_items}
-use Rattle.pf_render.proofs.MatchingLemmas.{get_some}
 use Rattle.pf_render.specs.Rendering.{DifferFirstAt}
-use Rattle.pf_compare.specs.declared.layouts.PrintedSpan.{PrintedSpan}
-use Rattle.pf_compare.specs.declared.layouts.Layout.{Layout}
 use Rattle.pf_compare.specs.Answers.{HaveSameTypes}
-use Rattle.pf_compare.specs.Layouts.{IsLayoutOf, span_types}
 use Rattle.pf_compare.specs.TypeLists.{HasGivenTypes}
 use Rattle.pf_compare.proofs.ListLemmas.{take_whole}
 
@@ -141,32 +135,3 @@ same_types_of model t u a b same =
       first = record { items = a.0; accepted = a.1; types_are = refl };
       second = record { items = b.0; accepted = b.1; types_are = same a.0 b.0 a.1.reads b.1.reads };
     }
-
--- The types of spans are those of the items.
-pub length-hole_types : (model : Model) (spans : List PrintedSpan) → length (span_types model spans) ≡ length spans
-length-hole_types model spans = length-map spans (λ span. arg_type model span.directive)
-
-hole_type_got : (model : Model) (spans : List PrintedSpan) (i : ℕ) (span : PrintedSpan) → slice_get spans i ≡ Some span
-    → slice_get (span_types model spans) i ≡ Some (arg_type model span.directive)
-hole_type_got model [] i span e = absurd (cc)
-hole_type_got model (h ∷ spans) zero span e = let is : h ≡ span = cc in ap (λ (o : PrintedSpan). Some (arg_type model o.directive)) is
-hole_type_got model (h ∷ spans) (suc i) span e = hole_type_got model spans i span e
-
-same_lists : (xs ys : List ArgType) → length xs ≡ length ys → ((i : ℕ) (x : ArgType) → slice_get xs i ≡ Some x → slice_get ys i ≡ Some x) → xs ≡ ys
-same_lists [] [] e h = refl
-same_lists [] (y ∷ ys) e h = absurd (omega arith)
-same_lists (x ∷ xs) [] e h = absurd (omega arith)
-same_lists (x ∷ xs) (y ∷ ys) e h =
-    let first : Some y ≡ Some x = h zero x refl in
-    let rest = same_lists xs ys (omega arith) (λ i z f. h (suc i) z f) in
-    let same : y ≡ x = cc in
-    cc
-
-pub hole_types_are : (model : Model) (items : List Item) (layout : Layout) → IsLayoutOf model items layout
-    → span_types model layout.spans.items ≡ types model items
-hole_types_are model items layout h = same_lists (span_types model layout.spans.items) (types model items)
-    (length-hole_types model layout.spans.items ∙ h.count) (λ i x e.
-    let less = slice_get_within (span_types model layout.spans.items) i x e in
-    let span = get_some layout.spans.items i (omega (arith, less, length-hole_types model layout.spans.items)) in
-    let is = h.spans i span.0 span.1 in
-    is.type_is ∙ sym (hole_type_got model layout.spans.items i span.0 span.1) ∙ e)

@@ -9,8 +9,8 @@ use Rattle.pf_text.specs.declared.pieces.Pieces.{Pieces}
 use Rattle.pf_text.specs.PieceHistory.{HasGiven}
 use Rattle.pf_reduce.specs.Reducing.{core_of}
 use Rattle.pf_reduce.specs.declared.results.Reduced.{Reduced}
-use Rattle.pf_compare.specs.Layouts.{FindsUnlike, IsFirstUnlike}
-use Rattle.pf_compare.specs.declared.layouts.PrintedSpan.{PrintedSpan}
+use Rattle.pf_compare.specs.Spans.{FindsUnlike, IsFirstUnlike}
+use Rattle.pf_compare.specs.declared.neutral_texts.PrintedSpan.{PrintedSpan}
 use Rattle.pf_compare.specs.declared.differences.ItemDifference.{ItemDifference}
 use Rattle.pf_compare.specs.declared.differences.ItemDifference.TheVariants.{Lone, Nowhere, Unknown}
 use Rattle.pf_compare.specs.declared.differences.LoneDifference.{LoneDifference}

@@ -13,7 +13,6 @@ ghost use Rattle.pf_compare.specs.declared.comparisons.Verdict.TheVariants.{Same
 use crate::differences::{
     ItemDifference, LoneDifference, are_unlike, first_type_difference, item_difference,
 };
-use crate::layouts::lay_out;
 use crate::owned_args::OwnedArg;
 use crate::reductions::print_alike;
 use crate::witnesses::{Witness, first_candidate_alone, first_witness, witness_at};
@@ -206,9 +205,7 @@ fn compare_bytes(
     requires types { HaveSameTypes model first.now second.now }
     ensures { IfOk result (IsComparisonOf model first.now second.now) }
 {
-    let first_layout = lay_out(alloc, model, first)?;
-    let second_layout = lay_out(alloc, model, second)?;
-    match first_witness(alloc, model, &first_layout, &second_layout)? {
+    match first_witness(alloc, model, first, second)? {
         Some(Witness { args, renderings }) => Ok(Comparison {
             verdict: Verdict::Args(args),
             renderings,

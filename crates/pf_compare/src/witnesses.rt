@@ -1,6 +1,6 @@
 //! Arguments for which two formats print different bytes: the first of the probes that tell them apart.
 //! One is searched only where the formats print the same for neutral arguments.
-ghost use Rattle.std.specs.Prelude.{◌≡◌, ◌≢◌, ◌≤◌, ◌+◌, ◌-◌, [], ◌++◌, IfOk, IsTrue, List, MatchBool, Some, drop, length, take};
+ghost use Rattle.std.specs.Prelude.{◌≡◌, ◌≢◌, ◌≤◌, ◌+◌, ◌-◌, [], ◌++◌, IfOk, IsTrue, List, MatchBool, MatchOption, Some, drop, length, take};
 ghost use Rattle.pf_values.specs.Arg.{argument_of};
 ghost use Rattle.pf_values.specs.Candidates.{neutral};
 ghost use Rattle.pf_values.specs.declared.models.Model.TheVariants.{Lp64};
@@ -9,13 +9,14 @@ ghost use Rattle.pf_values.specs.meaning.Arguments.{HasType};
 ghost use Rattle.pf_values.specs.meaning.DataModel.{arg_type};
 ghost use Rattle.pf_values.specs.meaning.Items.{HasItems, Item, Reads, types};
 ghost use Rattle.pf_probes.specs.Candidate as probes;
-ghost use Rattle.pf_compare.specs.Answers.{FindsProbe};
-ghost use Rattle.pf_compare.specs.Layouts.{HaveSameTypesAndBytes, HaveSameTypeLists, AreTriedBelow, ReplacementsEqual, ReplacementsDiffer, FindsUnlike, IsSpanIn, IsLayoutOf, replace_span, span_types};
+ghost use Rattle.pf_compare.specs.Answers.{FindsProbe, HaveSameTypes};
+ghost use Rattle.pf_compare.specs.Spans.{AreTriedBelow, ReplacementsEqual, ReplacementsDiffer, FindsUnlike, IsSpanIn, PrintOneText, PrintUnlikeNeutral, replace_span};
+ghost use Rattle.pf_compare.specs.CandidateStrings.{IsCandidateString};
 ghost use Rattle.pf_compare.specs.Lone.{AreToldApartAt, DifferInOne, span_alone};
 ghost use Rattle.pf_compare.specs.Witnesses.{AwaitsCandidate, FindsWitness, HasCandidate, IsWitnessAt};
 
 use crate::differences::{LoneDifference, are_equal, are_unlike};
-use crate::layouts::{Layout, PrintedSpan, neutrals, neutrals_of, print};
+use crate::neutral_texts::{PrintedSpan, Spans, neutral_text, neutrals_of, print};
 use crate::owned_args::OwnedArg;
 use pf_probes::{Candidate, candidate_row};
 use pf_values::{Arg, ArgType, Directive, Model};
@@ -33,43 +34,55 @@ pub(crate) struct Witness {
 pub(crate) fn first_witness(
     alloc: Global,
     model: Model,
-    first: &Layout,
-    second: &Layout,
+    first: &[u8],
+    second: &[u8],
 ) -> Result<Option<Witness>, AllocError>
-    requires { HaveSameTypeLists model first.now second.now }
-    ensures { IfOk result (λ found.
-        (xs ys : List Item) → IsLayoutOf model xs first.now → IsLayoutOf model ys second.now
-        → types model xs ≡ types model ys → FindsWitness model xs ys found) }
+    requires { HaveSameTypes model first.now second.now }
+    ensures { IfOk result (λ found. (xs ys : List Item)
+        → Reads first.now xs → Reads second.now ys → FindsWitness model xs ys found) }
 {
-    if are_unlike(&first.bytes, &second.bytes) {
-        let args = neutrals(alloc, model, &first.spans)?;
+    let Some(whole) = common_text(alloc, model, first, second)? else {
         return Ok(Some(Witness {
-            args,
+            args: neutrals_of(alloc, model, first)?,
             renderings: 1,
         }));
-    }
-    let found = first_probe(alloc, model, first, second)?;
-    match found {
-        Some(probe) => {
-            let witness = witness_of(alloc, model, &first.spans, probe)?;
-            Ok(Some(witness))
-        }
+    };
+    match first_probe(alloc, model, first, second, &whole)? {
+        Some(probe) => Ok(Some(witness_of(alloc, model, first, probe)?)),
         None => Ok(None),
     }
+}
+
+// What two formats of equal types print for neutral arguments, if it is the same.
+fn common_text(
+    alloc: Global,
+    model: Model,
+    first: &[u8],
+    second: &[u8],
+) -> Result<Option<Vec<u8>>, AllocError>
+    requires { HaveSameTypes model first.now second.now }
+    ensures { IfOk result (λ found. MatchOption found (PrintUnlikeNeutral model first.now second.now)
+        (λ whole. PrintOneText model first.now second.now whole.items)) }
+{
+    let whole = neutral_text(alloc, model, first)?;
+    let other = neutral_text(alloc, model, second)?;
+    if are_unlike(&whole, &other) {
+        return Ok(None);
+    }
+    Ok(Some(whole))
 }
 
 fn witness_of(
     alloc: Global,
     model: Model,
-    spans: &[PrintedSpan],
+    first: &[u8],
     probe: Probe,
 ) -> Result<Witness, AllocError>
-    requires { HasCandidate model (span_types model spans.now) probe }
-    ensures { IfOk result (IsWitnessAt model (span_types model spans.now) probe) }
+    requires { (xs : List Item) × HasItems first.now xs × HasCandidate model (types model xs) probe }
+    ensures { IfOk result (λ witness. (xs : List Item) → Reads first.now xs
+        → IsWitnessAt model (types model xs) probe witness) }
 {
-    let args = neutrals(alloc, model, spans)?;
-    let arg_type = spans[probe.index].directive.arg_type(model);
-    with_candidate(alloc, model, args, arg_type, probe)
+    Ok(with_candidate(model, neutrals_of(alloc, model, first)?, probe))
 }
 
 /// Arguments for which two formats print different bytes that differ in one directive alone, of the
@@ -87,37 +100,29 @@ pub(crate) fn witness_at(
     ensures { IfOk result (λ witness. (xs ys : List Item)
         → Reads first.now xs → DifferInOne xs ys difference.now → FindsWitness model xs ys (Some witness)) }
 {
-    let args = neutrals_of(alloc, model, first)?;
     let probe = Probe {
         index: difference.index,
         candidate_index,
     };
-    with_candidate(alloc, model, args, difference.first.arg_type(model), probe)
+    Ok(with_candidate(model, neutrals_of(alloc, model, first)?, probe))
 }
 
 // The arguments of a probe, of neutral ones.
-fn with_candidate(
-    alloc: Global,
-    model: Model,
-    args: Vec<OwnedArg>,
-    arg_type: ArgType,
-    probe: Probe,
-) -> Result<Witness, AllocError>
-    requires { (ts : List ArgType) × AwaitsCandidate model ts args.items arg_type probe }
-    ensures { IfOk result (λ witness. (ts : List ArgType)
-        → AwaitsCandidate model ts args.items arg_type probe
-        → IsWitnessAt model ts probe witness) }
+fn with_candidate(model: Model, args: Vec<OwnedArg>, probe: Probe) -> Witness
+    requires { (ts : List ArgType) × AwaitsCandidate model ts args.items probe }
+    ensures { (ts : List ArgType) → AwaitsCandidate model ts args.items probe
+        → IsWitnessAt model ts probe result }
 {
     let mut args = args;
+    let arg_type = args[probe.index].as_arg().arg_type();
     args[probe.index] = OwnedArg::of(
-        alloc,
         arg_type,
         candidate_row(model, arg_type)[probe.candidate_index],
-    )?;
-    Ok(Witness {
+    );
+    Witness {
         args,
         renderings: probe.candidate_index as u8 + 1,
-    })
+    }
 }
 
 /// All arguments are neutral, except the one with this index: it is the candidate with
@@ -128,29 +133,27 @@ pub(crate) struct Probe {
     pub(crate) candidate_index: usize,
 }
 
-/// The first probe for which two formats print different bytes. They print the same for neutral
-/// arguments, so what each prints for a probe differs from that in one span alone.
-pub(crate) fn first_probe(
+// The first probe for which two formats print different bytes. They print the same for neutral
+// arguments, so what each prints for a probe differs from that in one span alone.
+fn first_probe(
     alloc: Global,
     model: Model,
-    first: &Layout,
-    second: &Layout,
+    first: &[u8],
+    second: &[u8],
+    whole: &[u8],
 ) -> Result<Option<Probe>, AllocError>
-    requires equal { HaveSameTypesAndBytes model first.now second.now }
-    ensures { IfOk result (λ found.
-        (xs ys : List Item) → IsLayoutOf model xs first.now → IsLayoutOf model ys second.now
-        → types model xs ≡ types model ys → FindsProbe model xs ys found) }
+    requires { PrintOneText model first.now second.now whole.now }
+    ensures { IfOk result (λ found. (xs ys : List Item)
+        → Reads first.now xs → Reads second.now ys → FindsProbe model xs ys found) }
 {
+    let mut first_spans = Spans::new(first);
+    let mut second_spans = Spans::new(second);
     let mut index = 0;
-    while index < first.spans.len() {
-        let found = first_candidate(
-            alloc,
-            model,
-            &first.bytes,
-            &first.spans[index],
-            &second.spans[index],
-        )?;
-        match found {
+    while let Some(first_span) = first_spans.next(alloc, model)? {
+        let Some(second_span) = second_spans.next(alloc, model)? else {
+            unreachable!();
+        };
+        match first_candidate(alloc, model, whole, &first_span, &second_span)? {
             Some(candidate_index) => {
                 return Ok(Some(Probe {
                     index,
@@ -283,13 +286,14 @@ fn candidate_differs(
     requires second_type { arg_type model second.now.directive ≡ wanted }
     requires typed { HasType model (probes.candidate_argument candidate) wanted }
     requires held { HasType Lp64 (probes.candidate_argument candidate) wanted }
+    requires string { IsCandidateString candidate }
     requires first { IsSpanIn whole.now first.now }
     requires second { IsSpanIn whole.now second.now }
     ensures { IfOk result (λ told. MatchBool told
         (ReplacementsDiffer model whole.now first.now second.now (probes.candidate_argument candidate))
         (ReplacementsEqual model whole.now first.now second.now (probes.candidate_argument candidate))) }
 {
-    let argument = OwnedArg::of(alloc, wanted, candidate)?;
+    let argument = OwnedArg::of(wanted, candidate);
     printed_differ(alloc, model, whole, first, second, argument.as_arg())
 }
 

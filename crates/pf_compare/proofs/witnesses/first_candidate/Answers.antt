@@ -1,6 +1,6 @@
 use Rattle.std.proofs.Common.{rules, subst, sym}
 use Rattle.pf_values.specs.declared.types.ArgType.{ArgType}
-use Rattle.pf_compare.specs.Layouts.{AreTriedBelow}
+use Rattle.pf_compare.specs.Spans.{AreTriedBelow}
 use Rattle.pf_compare.proofs.ProbeLemmas.{alike_itself, first_tried}
 use Rattle.pf_compare.proofs.witnesses.first_candidate.Goals as goal
 

@@ -1,6 +1,6 @@
 use Rattle.std.proofs.Common.{arith}
 use Rattle.pf_probes.specs.Candidate.{candidate_argument}
-use Rattle.pf_compare.proofs.CandidateLemmas.{argument_in, candidate_has_type, candidate_held, within_row}
+use Rattle.pf_compare.proofs.CandidateLemmas.{argument_in, candidate_has_type, candidate_held, candidate_string, within_row}
 use Rattle.pf_compare.proofs.ProbeLemmas.{told_alike, told_unlike, tried_more}
 use Rattle.pf_compare.proofs.witnesses.first_candidate_from.Goals as goal
 
@@ -14,6 +14,11 @@ candidate_differs-requires-clause-typed c = candidate_has_type c.args.model c.ar
 
 pub candidate_differs-requires-clause-held : goal.candidate_differs-requires-clause-held
 candidate_differs-requires-clause-held c = candidate_held c.args.model c.args.wanted c.loop-index.index _
+    (argument_in c.args.model candidate_argument c.candidate_row-row.result.now c.args.wanted c.candidate_row-row.ensures.value c.loop-index.index _
+    (omega (arith, c.loop-index-test.true)))
+
+pub candidate_differs-requires-clause-string : goal.candidate_differs-requires-clause-string
+candidate_differs-requires-clause-string c = candidate_string c.args.model c.args.wanted c.loop-index.index _
     (argument_in c.args.model candidate_argument c.candidate_row-row.result.now c.args.wanted c.candidate_row-row.ensures.value c.loop-index.index _
     (omega (arith, c.loop-index-test.true)))
 

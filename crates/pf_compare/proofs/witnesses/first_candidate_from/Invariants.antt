@@ -1,5 +1,5 @@
 use Rattle.std.proofs.Common.{◌-◌, length}
-use Rattle.pf_compare.specs.Layouts.{AreTriedBelow}
+use Rattle.pf_compare.specs.Spans.{AreTriedBelow}
 use Rattle.pf_compare.proofs.witnesses.first_candidate_from.Given as goal
 
 abbrev pub invariant-loop-index : goal.invariant-loop-index

@@ -1,12 +1,15 @@
-use Rattle.std.proofs.Common.{◌≤◌, ◌-◌, length}
-use Rattle.pf_compare.proofs.ProbeLemmas.{AreTried}
+use Rattle.std.proofs.Common.{List, ◌-◌, length}
+use Rattle.pf_values.specs.meaning.Items.{Item, Reads}
+use Rattle.pf_compare.specs.Spans.{HasPassed}
+use Rattle.pf_compare.proofs.ProbeLemmas.{AreTriedTo}
 use Rattle.pf_compare.proofs.witnesses.first_probe.Given as goal
 
-abbrev pub invariant-loop-index : goal.invariant-loop-index
-invariant-loop-index l = record {
-  within : l.index ≤ length l.first.spans.items;
-  tried : AreTried l.model l.first l.second l.index;
+abbrev pub invariant-loop-first_span : goal.invariant-loop-first_span
+invariant-loop-first_span l = record {
+  first : HasPassed l.model l.first_spans l.first l.index;
+  second : HasPassed l.model l.second_spans l.second l.index;
+  tried : (xs ys : List Item) → Reads l.first xs → Reads l.second ys → AreTriedTo l.model xs ys l.index;
 }
 
-abbrev pub decreases-loop-index : goal.decreases-loop-index
-decreases-loop-index l = length l.first.spans.items - l.index
+abbrev pub decreases-loop-first_span : goal.decreases-loop-first_span
+decreases-loop-first_span l = length l.first - l.index

@@ -3,7 +3,7 @@ use Rattle.std.proofs.lemmas.Result.{IfOk-weaker}
 use Rattle.pf_values.specs.Arg.{argument_of}
 use Rattle.pf_values.specs.meaning.Printing.{Prints}
 use Rattle.pf_values.specs.meaning.Text.{Text}
-use Rattle.pf_compare.proofs.layouts.print.Goals as goal
+use Rattle.pf_compare.proofs.neutral_texts.print.Goals as goal
 
 pub returns : goal.returns
 returns c = IfOk-weaker c.print_after.result _ _ (λ bytes h. subst (Prints c.args.model c.args.directive.now (argument_of c.args.argument))

@@ -4,7 +4,7 @@ use Rattle.pf_text.specs.PieceHistory.{items_of}
 use Rattle.pf_compare.specs.declared.owned_args.OwnedArg.{OwnedArg}
 use Rattle.pf_compare.specs.Witnesses.{AreNeutral}
 use Rattle.pf_compare.proofs.WitnessLemmas.{neutral_more, neutral_still}
-use Rattle.pf_compare.proofs.layouts.push_neutral.Goals as goal
+use Rattle.pf_compare.proofs.neutral_texts.push_neutral.Goals as goal
 
 pub returns-in_ok-push-in-Some : goal.returns-in_ok-push-in-Some
 returns-in_ok-push-in-Some c = λ items h.

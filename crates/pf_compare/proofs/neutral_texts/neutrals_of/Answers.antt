@@ -1,18 +1,17 @@
-use Rattle.std.proofs.Common.{◌≡◌, List, [], refl, rules, subst, sym}
+use Rattle.std.proofs.Common.{List, [], refl, subst, sym}
 use Rattle.pf_text.specs.declared.pieces.Pieces.{Pieces}
 use Rattle.pf_compare.specs.declared.owned_args.OwnedArg.{OwnedArg}
 use Rattle.pf_compare.proofs.WitnessLemmas.{HasNeutrals, all_neutrals, neutrals_more, neutrals_refused}
-use Rattle.pf_compare.proofs.layouts.neutrals_of.Goals as goal
+use Rattle.pf_compare.proofs.neutral_texts.neutrals_of.Goals as goal
 
 pub loop-piece-init : goal.loop-piece-init
 loop-piece-init c =
-    let none : c.new-args.result.items ≡ [] = search rules in
     record {
       can = tt;
       finite = tt;
-      neutrals = subst (λ (pieces : Pieces). HasNeutrals c.args.model pieces c.args.text.now c.new-args.result.items)
+      neutrals = subst (λ (pieces : Pieces). HasNeutrals c.args.model pieces c.args.text.now c.in_ok-args.args.items)
           (sym c.into_iter-piece-iterator.ensures.into_iter_gives)
-          (subst (λ (args : List OwnedArg). HasNeutrals c.args.model c.new-piece-items.result c.args.text.now args) (sym none)
+          (subst (λ (args : List OwnedArg). HasNeutrals c.args.model c.new-piece-items.result c.args.text.now args) (sym c.in_ok-args.ensures.items)
           (record { read = []; items = []; given = c.new-piece-items.ensures; neutral = record { args_are = refl; types_are = refl } }));
     }
 
