@@ -9,7 +9,7 @@ ghost use Rattle.fmtcanon.specs.RecordRuns.{HasReplies, HasSaid, HasSaidFirst, w
 ghost use Rattle.fmtcanon.specs.Records.{IsReply, Reply, reply_bytes};
 ghost use Rattle.fmtcanon.specs.declared.questions.Question.{Question as QuestionOf};
 
-use crate::answer::answer_to;
+use crate::answer::{answer_about_one, answer_to};
 use crate::outcome::{Outcome, error_line};
 use crate::questions::{Question, RecordQuestion};
 use pf_values::{Counted, write_bytes};
@@ -58,9 +58,18 @@ impl Replies {
             × HasReplies self.new sent (replies ++ reply ∷ []))
             (λ _. HasReplies self.new sent replies) }
     {
-        match answer_to(alloc, question) {
-            Ok(answer) => self.push(answer.ending.outcome().status(), answer.output.as_bytes()),
-            Err(failed) => self.push_failed(&failed),
+        match question {
+            // The bytes alone: an answer around them would be moved several times.
+            Question::One(asked, model, format) => {
+                match answer_about_one(alloc, asked, *model, format) {
+                    Ok(bytes) => self.push(Outcome::Done.status(), &bytes),
+                    Err(failed) => self.push_failed(&failed),
+                }
+            }
+            Question::Two(_, _, _, _) => match answer_to(alloc, question) {
+                Ok(answer) => self.push(answer.ending.outcome().status(), answer.output.as_bytes()),
+                Err(failed) => self.push_failed(&failed),
+            },
         }
     }
 

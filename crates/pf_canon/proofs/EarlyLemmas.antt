@@ -1,5 +1,6 @@
 -- Texts that are known to differ without their canonical texts.
-use Rattle.std.proofs.Common.{◌≡◌, ◌≢◌, ℕ, ◌≤◌, ◌<◌, Bool, true, false, not, ◌&&◌, List, [], ◌∷◌, length, get_or, refl, sym, ap, ◌∙◌, subst, arith, inl}
+use Rattle.std.proofs.Common.{◌≡◌, ◌≢◌, ℕ, ◌≤◌, ◌<◌, Bool, true, false, not, ◌&&◌, List, [], ◌∷◌, length, get_or, take, refl, sym, ap, ◌∙◌, subst, arith, inl}
+use Rattle.std.proofs.lemmas.List.{take_all}
 use Rattle.std.specs.Prelude.{IsTrue}
 use Rattle.std.specs.Cmp.Lexicographic.{pointwise}
 use Rattle.pf_values.specs.declared.limits.TheConstants.{MAX_TEXT_LEN}
@@ -16,7 +17,7 @@ use Rattle.pf_text.proofs.WalkLemmas.{made_of_one}
 use Rattle.pf_text.proofs.Texts.{Reads-unique}
 use Rattle.pf_canon.specs.ChangedDirectives.{between}
 use Rattle.pf_canon.specs.Comparison.{AreTextsSame}
-use Rattle.pf_canon.proofs.ItemLemmas.{all_of_walk}
+use Rattle.pf_canon.proofs.ItemLemmas.{front_of_walk}
 use Rattle.pf_canon.proofs.OneCanonical.{are_same}
 use Rattle.pf_canon.proofs.SomeCanonical.{some_canonical}
 
@@ -48,9 +49,16 @@ literal_made passes [] some few h = absurd (omega arith)
 literal_made passes (byte ∷ []) some few h = made_of_one passes (byte ∷ []) (inl (h, tt))
 literal_made passes (byte ∷ other ∷ t) some few h = absurd (omega arith)
 
+-- a text up to where its items end
+pub front_made : (passes : Text → Type 0) (text : Text) (walk : Walk) (stop : ℕ) → IsWalkOver text walk → walk.at ≡ 0 → EndsItems passes walk stop
+    → IsMadeOf (Either AreRead passes) (take stop text) × (stop ≤ length text) × (stop ≤ MAX_TEXT_LEN)
+front_made passes text walk stop over at h =
+    let (whole, within, limit) = front_of_walk text walk over stop h.within.1 in
+    (subst (IsMadeOf (Either AreRead passes)) (ap (λ k. between k stop walk.text.now) at ∙ whole) h.read, within, limit)
+
 -- a text whose items end at its end
 pub all_made : (passes : Text → Type 0) (text : Text) (walk : Walk) (stop : ℕ) → IsWalkOver text walk → walk.at ≡ 0 → EndsItems passes walk stop
     → stop ≡ length text → IsMadeOf (Either AreRead passes) text × (length text ≤ MAX_TEXT_LEN)
 all_made passes text walk stop over at h e =
-    let (whole, limit) = all_of_walk text walk over stop h.within.1 (omega (arith, e)) in
-    (subst (IsMadeOf (Either AreRead passes)) (ap (λ k. between k stop walk.text.now) at ∙ whole) h.read, limit)
+    let (made, within, limit) = front_made passes text walk stop over at h in
+    (subst (IsMadeOf (Either AreRead passes)) (take_all stop text (omega (arith, e))) made, omega (arith, e, limit))

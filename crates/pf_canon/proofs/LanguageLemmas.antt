@@ -232,11 +232,11 @@ module _ (has_front : Front) (model : Model) where
           (completes (take start t) out h (omega (arith, within_limit t at limit, ap length whole)))
 
 -- a text that goes on so is accepted
-pub some_accepted : (has_front : Front) (refuses : Refuses) (model : Model) (t : Text) (r : Result (Unit {0}) Refusal)
-    → MatchResult r (λ done. (more : Text) × HasCanonicalIn has_front model t more) (λ refusal. refuses model t refusal.kind refusal.at)
+pub some_accepted : (has_front : Front) (refuses : Refuses) (model : Model) (t out : Text) (r : Result (Unit {0}) Refusal)
+    → MatchResult r (λ done. (more : Text) × HasCanonicalIn has_front model t (out ++ more)) (λ refusal. refuses model t refusal.kind refusal.at)
     → MatchResult r (λ done. IsAcceptedIn has_front model t) (λ refusal. refuses model t refusal.kind refusal.at)
-some_accepted has_front refuses model t (Ok done) h = h
-some_accepted has_front refuses model t (Err refusal) h = h
+some_accepted has_front refuses model t out (Ok done) (more, h) = (out ++ more, h)
+some_accepted has_front refuses model t out (Err refusal) h = h
 
 -- there may be no memory for a text of some bytes
 pub hindered : (has_front : Front) (refuses : Refuses) (model : Model) (t c : Text) → HasCanonicalIn has_front model t c

@@ -13,9 +13,9 @@ use Rattle.pf_text.specs.Walks.{AreRead, Either, IsMadeOf, IsPiece}
 use Rattle.pf_text.proofs.LiteralLemmas.{Reads-literals}
 use Rattle.pf_text.proofs.WalkLemmas.{by_pieces}
 use Rattle.pf_canon.specs.ChangedDirectives.{between}
-use Rattle.pf_canon.specs.Languages.{ComesVerbatim, Front, HasCanonicalIn, IsWrittenIn}
+use Rattle.pf_canon.specs.Languages.{ComesVerbatim, Front, GoesOnIn, HasCanonicalIn, IsWrittenIn}
 use Rattle.pf_canon.specs.declared.limits.TheConstants.{MAX_DIRECTIVE_LEN}
-use Rattle.pf_canon.proofs.LanguageLemmas.{up_to, within_limit}
+use Rattle.pf_canon.proofs.LanguageLemmas.{front_written, up_to, within_limit}
 use Rattle.pf_canon.proofs.OutputLemmas.{length-silents}
 use Rattle.pf_canon.proofs.SomeCanonical.{IsSettled, start_settled, settled_byte, settled_canonical, settled_more, settled_of, settled_whole}
 use Rattle.pf_canon.proofs.TextLemmas.{items_few}
@@ -168,20 +168,30 @@ module _ (has_front : Front) (model : Model) where
       step before piece (more, held, g) (inr (begins, inr p)) =
           let (next, still, k) = in_passed (t ++ before) (out ++ more) held piece g p in together before piece more next still k
 
-    -- so a text that is written goes on
-    pub goes_on : (t out : Text) (held : ℕ) (u : Text) → IsWrittenIn has_front model t out held → IsMadeOf (Either AreRead passes) u
-        → length (t ++ u) ≤ MAX_TEXT_LEN → (more : Text) × HasCanonicalIn has_front model (t ++ u) (out ++ more)
-    goes_on t out held u h made limit =
-        let (more, still, all) = in_made t out held u (settled_in t out held h) made in
+    -- so a text goes on
+    settled_goes_on : (t out : Text) (held : ℕ) → IsSettledIn t out held → GoesOnIn has_front passes model t out
+    settled_goes_on t out held h u made limit =
+        let (more, still, all) = in_made t out held u h made in
         let rest = flat_map item_spelling (silents still) in (
           more ++ rest,
           subst (HasCanonicalIn has_front model (t ++ u)) (append_assoc out more rest) (in_whole (t ++ u) (out ++ more) still limit all),
         )
 
+    pub goes_on : (t out : Text) (held : ℕ) → IsWrittenIn has_front model t out held → GoesOnIn has_front passes model t out
+    goes_on t out held h = settled_goes_on t out held (settled_in t out held h)
+
+    -- also a front that is such items
+    pub made_goes_on : has_front model [] [] → (t : Text) (at front : ℕ) → at ≡ front → IsMadeOf (Either AreRead passes) (take front t)
+        → (out : Text) × GoesOnIn has_front passes model (take at t) out
+    made_goes_on none t at front e made =
+        let start = settled_in [] [] 0 (front_written has_front model [] [] none (omega arith)) in
+        let (out, held, h) = in_made [] [] 0 (take at t) start (subst (λ n. IsMadeOf (Either AreRead passes) (take n t)) (sym e) made) in
+        (out, settled_goes_on (take at t) out held h)
+
     -- and one up to an offset goes on to another
-    pub goes_on_to : (t : Text) (start at : ℕ) → start ≤ at → at ≤ MAX_TEXT_LEN → (out : Text) (held : ℕ) → IsWrittenIn has_front model (take start t) out held
+    pub goes_on_to : (t : Text) (start at : ℕ) → start ≤ at → at ≤ MAX_TEXT_LEN → (out : Text) → GoesOnIn has_front passes model (take start t) out
         → IsMadeOf (Either AreRead passes) (between start at t) → (more : Text) × HasCanonicalIn has_front model (take at t) (out ++ more)
-    goes_on_to t start at low limit out held h made =
+    goes_on_to t start at low limit out h made =
         let whole = up_to t start at low in
-        let (more, all) = goes_on (take start t) out held (between start at t) h made (omega (arith, within_limit t at limit, ap length whole)) in
+        let (more, all) = h (between start at t) made (omega (arith, within_limit t at limit, ap length whole)) in
         (more, subst (λ u. HasCanonicalIn has_front model u (out ++ more)) (sym whole) all)

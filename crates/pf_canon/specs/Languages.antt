@@ -7,6 +7,7 @@ use Rattle.pf_values.specs.meaning.Canonical.{IsCanonicalOf}
 use Rattle.pf_values.specs.meaning.Items.{Item, Reads}
 use Rattle.pf_values.specs.meaning.Text.{Text}
 use Rattle.pf_text.specs.Refusals.{RefusesOne}
+use Rattle.pf_text.specs.Walks.{AreRead, Either, IsMadeOf}
 use Rattle.pf_text.specs.declared.refusals.Refusal.{Refusal}
 use Rattle.pf_text.specs.declared.refusals.Side.{Side}
 use Rattle.pf_text.specs.declared.refusals.TextFault.{TextFault}
@@ -48,6 +49,11 @@ pub record IsWrittenIn (has_front : Front) (model : Model) (t out : Text) (held 
   pub ends : IsWritten model last own held
   pub whole : out ≡ before ++ own
   pub few : length before ≤ MAX_DIRECTIVE_LEN * length front
+
+-- after a text come items of the profile and what passes: the canonical text begins with these bytes
+abbrev pub GoesOnIn : Front → (Text → Type 0) → Model → Text → Text → Type 0
+GoesOnIn has_front passes model t out = (u : Text) → IsMadeOf (Either AreRead passes) u → length (t ++ u) ≤ MAX_TEXT_LEN
+    → (more : Text) × HasCanonicalIn has_front model (t ++ u) (out ++ more)
 
 -- a stretch comes after a text that is written, and these bytes complete the canonical text
 abbrev pub CompletesIn : Front → Model → Text → Text → Type 0

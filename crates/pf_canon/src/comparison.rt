@@ -1,6 +1,8 @@
 //! Two texts, compared in step.
-ghost use Rattle.std.specs.Prelude.{◌≡◌, ◌≤◌, Some, Err, IfErr, IfOk, MatchResult, ◌≢◌, [], IsTrue, MatchBool};
+ghost use Rattle.std.specs.Prelude.{◌≡◌, ◌≤◌, take, Some, Err, IfErr, IfOk, MatchResult, ◌≢◌, [], IsTrue, MatchBool};
 ghost use Rattle.pf_values.specs.Counting.{HasFailed, Known, device_of, failures_of};
+ghost use Rattle.pf_text.specs.Walks.{AreRead, Either, IsMadeOf};
+ghost use Rattle.pf_values.specs.declared.limits.TheConstants.{MAX_TEXT_LEN};
 ghost use Rattle.pf_values.specs.declared.models.Model.{Model as ModelOf};
 ghost use Rattle.pf_values.specs.meaning.Text.{Text};
 ghost use Rattle.pf_canon.specs.Comparison.{AreCommon, AreTextsSame, CountsBehind, CountsSides, EndsBoth, HaveCommon, IsFilledInStep, IsInStep, StopsSide, TextStops};
@@ -11,9 +13,9 @@ ghost use Rattle.pf_canon.specs.Languages.{AreSameIn, StopsIn};
 use crate::canonical_bytes::{ByteSource, ByteTransducer};
 use crate::canonical_slices::{CanonicalSlices, place_in};
 use crate::common_prefix::common_prefix_len;
-use crate::early_difference::{differ_after, has_stray, item_start};
+use crate::early_difference::{differ_after, items_before, seem_rejected};
 use crate::faults::{SideFault, StreamFault};
-use crate::languages::{Language, Profile, check_in};
+use crate::languages::{Language, Profile, check_after, check_in};
 use pf_text::{Refusal, Side, Walk, items_end_from};
 use pf_values::{Counted, Model};
 use std::io::Read;
@@ -61,8 +63,9 @@ pub fn same_text_in<L: Language>(
     if are_all(first, second, common) {
         return same_itself::<L>(model, first);
     }
-    if item_start(first, common) < common {
-        return same_inside_directive::<L>(model, first, second, common);
+    let front = items_before::<L>(first, common);
+    if front < common {
+        return same_inside_directive::<L>(model, first, second, common, front);
     }
     if differ_after::<L>(model, first, second, common) {
         return Ok(false);
@@ -70,34 +73,46 @@ pub fn same_text_in<L: Language>(
     same_after_common::<L>(model, first, second, common)
 }
 
-// Compares two texts that seem to differ inside a directive. If one has a byte there that no directive has, it is
-// most often rejected. So both are checked first: a rejected text is read once then, and not three times.
+// Compares two texts whose first `front` bytes are equal whole items, and that seem to differ inside the directive
+// after these. If one seems to be rejected there, the rests of both are checked first: so a rejected text is read once,
+// and not three times.
 #[inline(never)]
 fn same_inside_directive<L: Language>(
     model: Model,
     first: &[u8],
     second: &[u8],
     common: usize,
+    front: usize,
 ) -> Result<bool, (Side, Refusal)>
-    requires { AreCommon first.now second.now common }
+    requires common { AreCommon first.now second.now common }
+    requires within { (front ≤ common) × (front ≤ MAX_TEXT_LEN) }
+    requires read { IsMadeOf (Either AreRead L.passes) (take front first.now) }
     ensures { MatchResult result (AreSameIn L.has_front model first.now second.now)
         (StopsIn L.has_front L.refuses model first.now second.now) }
 {
-    if has_stray(first, common) || has_stray(second, common) {
-        check_both::<L>(model, first, second)?;
+    if seem_rejected(first, second, common) {
+        check_both::<L>(model, first, second, front)?;
     }
     same_after_common::<L>(model, first, second, common)
 }
 
-// Checks two texts, the first before the second.
+// Checks two texts whose first `front` bytes are equal whole items, the first before the second.
 #[inline(always)]
-fn check_both<L: Language>(model: Model, first: &[u8], second: &[u8]) -> Result<(), (Side, Refusal)>
+fn check_both<L: Language>(
+    model: Model,
+    first: &[u8],
+    second: &[u8],
+    front: usize,
+) -> Result<(), (Side, Refusal)>
+    requires common { AreCommon first.now second.now front }
+    requires few { front ≤ MAX_TEXT_LEN }
+    requires read { IsMadeOf (Either AreRead L.passes) (take front first.now) }
     ensures { IfErr result (StopsIn L.has_front L.refuses model first.now second.now) }
 {
-    if let Err(refusal) = check_in::<L>(model, first) {
+    if let Err(refusal) = check_after::<L>(model, first, front) {
         return Err((Side::First, refusal));
     }
-    match check_in::<L>(model, second) {
+    match check_after::<L>(model, second, front) {
         Ok(()) => Ok(()),
         Err(refusal) => Err((Side::Second, refusal)),
     }

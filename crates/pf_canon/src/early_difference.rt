@@ -12,10 +12,10 @@ use pf_text::{Walk, items_end_from, known_types};
 use pf_values::limits::MAX_TEXT_LEN;
 use pf_values::{ArgType, Model};
 
-/// Whether two texts whose first `common` bytes are equal are known to differ. Either these are whole
-/// items, and then come different ordinary characters, or one text ends: so they print different bytes
-/// for all arguments. Or one goes on with `%`, and they take arguments of different types. False if
-/// neither is so, if they differ in a directive, or if a text is rejected.
+/// Whether two texts whose first `common` bytes are equal whole items are known to differ. Either then come
+/// different ordinary characters, or one text ends: so they print different bytes for all arguments. Or
+/// one goes on with `%`, and they take arguments of different types. False if neither is so, or if a text
+/// is rejected.
 #[inline(always)]
 pub(crate) fn differ_after<L: Language>(
     model: Model,
@@ -23,7 +23,8 @@ pub(crate) fn differ_after<L: Language>(
     second: &[u8],
     common: usize,
 ) -> bool
-    requires { AreCommon first.now second.now common }
+    requires common { AreCommon first.now second.now common }
+    requires read { IsMadeOf (Either AreRead L.passes) (take common first.now) }
     ensures { IsTrue result → AreSameIn L.has_front model first.now second.now false }
 {
     let first_rest = &first[common..];
@@ -31,7 +32,7 @@ pub(crate) fn differ_after<L: Language>(
     if !begin_apart(first_rest, second_rest) {
         return take_other_types(model, first, second);
     }
-    if !is_short(first) || !is_short(second) || !are_items::<L>(first, common) {
+    if !is_short(first) || !is_short(second) {
         return false;
     }
     if !is_rest::<L>(first_rest) {
@@ -63,21 +64,38 @@ pub fn item_start(text: &[u8], at: usize) -> usize
     at
 }
 
-/// Whether a text has no byte at an offset, or one that no directive of any language has.
+/// Whether two texts with equal bytes up to an offset seem to differ there inside a directive, and one has a byte there
+/// that no directive has. Then that one is most often rejected.
 #[inline(always)]
-pub(crate) fn has_stray(text: &[u8], at: usize) -> bool {
+pub(crate) fn seem_rejected(first: &[u8], second: &[u8], common: usize) -> bool
+    requires { common ≤ length first.now }
+{
+    if item_start(first, common) == common {
+        return false;
+    }
+    has_stray(first, common) || has_stray(second, common)
+}
+
+// Whether a text has no byte at an offset, or one that no directive of any language has.
+#[inline(always)]
+fn has_stray(text: &[u8], at: usize) -> bool {
     match text.get(at) {
-        Some(byte) => !may_be_within(*byte) && !may_end(*byte),
+        Some(byte) => !may_be_in_directive(*byte),
         None => true,
     }
 }
 
-// Whether a byte may come after those of a directive that come before its conversion.
+// Whether a directive of some language may have a byte. No ranges, which would be tested one after another: single
+// bytes are looked up.
 #[inline(always)]
-fn may_end(byte: u8) -> bool {
+#[rattlefmt::skip]
+fn may_be_in_directive(byte: u8) -> bool {
     matches!(
         byte,
-        b'$' | b'%' | b'*' | b'A'..=b'G' | b'L' | b'S' | b'X' | b'a'..=b'i' | b'm'..=b'p' | b's' | b'u' | b'x'
+        b' ' | b'#' | b'$' | b'%' | b'\'' | b'*' | b'+' | b'-' | b'.' | b'0' | b'1' | b'2' | b'3' | b'4' | b'5'
+            | b'6' | b'7' | b'8' | b'9' | b'A' | b'B' | b'C' | b'D' | b'E' | b'F' | b'G' | b'L' | b'S' | b'X'
+            | b'a' | b'b' | b'c' | b'd' | b'e' | b'f' | b'g' | b'h' | b'i' | b'j' | b'l' | b'm' | b'n' | b'o'
+            | b'p' | b's' | b't' | b'u' | b'x' | b'z'
     )
 }
 
@@ -129,16 +147,17 @@ fn are_unequal(first: &[ArgType], second: &[ArgType]) -> bool
     first != second
 }
 
-// Whether the first `len` bytes of a text are whole items. 0 bytes are, without a look.
+/// Returns how many of the first `len` bytes of a text are known to be whole items.
 #[inline(always)]
-fn are_items<L: Language>(text: &[u8], len: usize) -> bool
+pub(crate) fn items_before<L: Language>(text: &[u8], len: usize) -> usize
     requires { len ≤ length text.now }
-    ensures { IsTrue result → IsMadeOf (Either AreRead L.passes) (take len text.now) }
+    ensures within { (result ≤ len) × (result ≤ LIMIT) }
+    ensures read { IsMadeOf (Either AreRead L.passes) (take result text.now) }
 {
     if len == 0 {
-        return true;
+        return 0;
     }
-    is_format::<L>(&text[..len])
+    read_end::<L>(&text[..len])
 }
 
 // Whether a text that doesn't begin with `%` is accepted. Most often it is one byte, or none.
@@ -149,7 +168,7 @@ fn is_rest<L: Language>(text: &[u8]) -> bool
     match text {
         [] => true,
         [byte] => is_literal(*byte),
-        _ => is_format::<L>(text),
+        _ => read_end::<L>(text) == text.len(),
     }
 }
 
@@ -160,13 +179,13 @@ fn is_literal(byte: u8) -> bool
     byte != b'%' && byte != 0
 }
 
-// Whether a text is known to be accepted.
-// Never inlined, since three texts are checked.
+// Up to which offset a text is known to be whole items. Never inlined, since three texts are read.
 #[inline(never)]
-fn is_format<L: Language>(text: &[u8]) -> bool
-    ensures { IsTrue result → IsMadeOf (Either AreRead L.passes) text.now }
+fn read_end<L: Language>(text: &[u8]) -> usize
+    ensures within { (result ≤ length text.now) × (result ≤ LIMIT) }
+    ensures read { IsMadeOf (Either AreRead L.passes) (take result text.now) }
 {
-    items_end_from::<L>(Walk::new(text)) == text.len()
+    items_end_from::<L>(Walk::new(text))
 }
 
 // Whether two texts begin with different ordinary characters, or one does and the other is empty.

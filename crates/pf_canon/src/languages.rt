@@ -1,13 +1,13 @@
 //! The languages of formats: what each has that the profile lacks.
-ghost use Rattle.std.specs.Prelude.{ℕ, ◌≡◌, ◌<◌, ◌≤◌, ◌++◌, [], drop, length, take, refl, IfOk, IfSome, MatchOption, MatchResult, ⊤};
+ghost use Rattle.std.specs.Prelude.{◌≡◌, ◌<◌, ◌≤◌, ◌++◌, [], drop, length, take, refl, IfOk, IfSome, MatchOption, MatchResult, ⊤};
 ghost use Rattle.arrayvec.specs.ArrayVec.{array_vec_len};
 ghost use Rattle.pf_values.specs.declared.limits.TheConstants.{MAX_TEXT_LEN};
 ghost use Rattle.pf_values.specs.declared.models.Model.{Model};
 ghost use Rattle.pf_values.specs.meaning.Refusals.{IsRefusedAt};
 ghost use Rattle.pf_values.specs.meaning.Text.{Text};
 ghost use Rattle.pf_text.specs.FoundDirectives.{BeginsNoItem};
-ghost use Rattle.pf_text.specs.Walks.{IsWalkOver};
-ghost use Rattle.pf_canon.specs.Languages.{ComesVerbatim, Front, HasCanonicalIn, IsAcceptedIn, IsWrittenIn, Refuses};
+ghost use Rattle.pf_text.specs.Walks.{AreRead, Either, IsMadeOf, IsWalkOver};
+ghost use Rattle.pf_canon.specs.Languages.{ComesVerbatim, Front, GoesOnIn, HasCanonicalIn, IsAcceptedIn, Refuses};
 
 use crate::items::{put_stretch, run_end};
 use crate::sink::Sink;
@@ -88,6 +88,21 @@ pub fn check_in<L: Language>(model: Model, text: &[u8]) -> Result<(), Refusal>
     check_from::<L>(model, text, Walk::new(text))
 }
 
+/// Checks whether a text is accepted whose first `front` bytes are whole items.
+#[inline(always)]
+pub(crate) fn check_after<L: Language>(
+    model: Model,
+    text: &[u8],
+    front: usize,
+) -> Result<(), Refusal>
+    requires within { (front ≤ length text.now) × (front ≤ MAX_TEXT_LEN) }
+    requires read { IsMadeOf (Either AreRead L.passes) (take front text.now) }
+    ensures { MatchResult result (λ _. IsAcceptedIn L.has_front model text.now)
+        (λ refusal. L.refuses model text.now refusal.kind refusal.at) }
+{
+    check_from::<L>(model, text, Walk::from(text, front))
+}
+
 /// Checks whether a text is accepted. What comes before a walk over it is.
 pub(crate) fn check_from<L: Language>(
     model: Model,
@@ -96,8 +111,8 @@ pub(crate) fn check_from<L: Language>(
 ) -> Result<(), Refusal>
     requires over { IsWalkOver text.now walk }
     requires within { walk.at ≤ length walk.text.now }
-    requires written { (out : Text) × (held : ℕ) × IsWrittenIn L.has_front model (take walk.at text.now) out held }
-    ensures { (out : Text) (held : ℕ) → IsWrittenIn L.has_front model (take walk.entry.at text.now) out held
+    requires front { (out : Text) × GoesOnIn L.has_front L.passes model (take walk.at text.now) out }
+    ensures { (out : Text) → GoesOnIn L.has_front L.passes model (take walk.entry.at text.now) out
         → MatchResult result (λ _. (more : Text) × HasCanonicalIn L.has_front model text.now (out ++ more))
         (λ refusal. L.refuses model text.now refusal.kind refusal.at) }
 {

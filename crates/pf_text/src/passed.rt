@@ -92,10 +92,14 @@ impl Passed for Canonical {
 
     #[inline(always)]
     fn len(text: &[u8], at: usize) -> usize {
-        if ends_canonical_item(text[at + 1]) {
+        let letter = text[at + 1];
+        if ends_canonical_item(letter) {
             return 2;
         }
-        canonical_parts_len(text, at)
+        match letter {
+            b'#' | b'h' | b'l' => canonical_parts_len(text, at),
+            _ => 0,
+        }
     }
 }
 

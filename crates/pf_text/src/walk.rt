@@ -34,6 +34,20 @@ impl<'a> Walk<'a> {
         }
     }
 
+    /// Returns a walk from an offset on. It takes fewer steps than that from the first byte on if little comes after
+    /// the offset.
+    #[inline(always)]
+    pub fn from(text: &'a [u8], at: usize) -> Walk<'a>
+        ensures over { IsWalkOver text.now result }
+        ensures at { result.at ≡ at }
+    {
+        Walk {
+            text: within_limit(text),
+            runs: LiteralRuns::by_search(),
+            at,
+        }
+    }
+
     /// Returns the text, up to the limit.
     #[inline(always)]
     pub fn text(&self) -> &'a [u8]

@@ -12,6 +12,6 @@ returns-then-items_end_from-text g c =
     let model = c.args.model in
     let (made, limit) = all_made g.L.Passed.passes text c.new.result c.items_end_from.result c.new.ensures.over c.new.ensures.at c.items_end_from.ensures
     c.if-items_end_from-text.true in
-    let (canonical, h) = goes_on has_front model g.L.Passed.passes (g.met.L.Language.has_passed model) [] [] 0 text
-    (front_written has_front model [] [] (g.met.L.Language.has_none model) (omega arith)) made limit in
+    let (canonical, h) = goes_on has_front model g.L.Passed.passes (g.met.L.Language.has_passed model) [] [] 0
+    (front_written has_front model [] [] (g.met.L.Language.has_none model) (omega arith)) text made limit in
     told_itself has_front model text canonical h

@@ -14,5 +14,5 @@ returns g c = λ is.
     let one = rw take_rest at (c.if-not-is_rest.ensures refl) in
     let other = rw take_rest at (c.is_rest-2.ensures is) in
     apart_after g.L.Language.has_front c.args.model g.L.Passed.passes (g.met.L.Language.has_passed c.args.model) (g.met.L.Language.has_none c.args.model)
-    c.args.first.now c.args.second.now c.args.common c.requires apart (c.if-not-is_short.ensures refl)
-    (c.if-not-is_short-2.ensures refl) (c.if-not-are_items.ensures refl) one other
+    c.args.first.now c.args.second.now c.args.common c.requires.common apart (c.if-not-is_short.ensures refl)
+    (c.if-not-is_short-2.ensures refl) c.requires.read one other
