@@ -1,4 +1,5 @@
-/* Each call over long texts: what it answers, how many allocations it makes, and that none is held after it.
+/* Each call over long texts: what it answers, how many allocations it makes, how much two comparisons hold at most, and that
+ * nothing is held after it.
  *
  *   sizes SECONDS UNITS NAME      the row of this name over UNITS units, within SECONDS seconds of the processor
  *   sizes                         the names of the rows
@@ -6,6 +7,7 @@
  * The answers are worked out from the number of units. It is linked with malloc, realloc and free wrapped. */
 #define _GNU_SOURCE
 #include "fmtcanon.h"
+#include <malloc.h>
 #include <signal.h>
 #include <stdio.h>
 #include <stdlib.h>
@@ -16,7 +18,7 @@
 #define WANT(holds) ((holds) ? (void)0 : failed(#holds))
 #define COUNT(rows) (sizeof(rows) / sizeof *(rows))
 
-enum { LP64 = FMTCANON_LP64, SPARE = 64, WORD = 8 };
+enum { LP64 = FMTCANON_LP64, SPARE = 64, WORD = 8, LITTLE = 1024 };
 
 static const char *now = "";
 static size_t units;
@@ -25,27 +27,39 @@ static size_t first_len, second_len, room;
 static fmtcanon_error error;
 static fmtcanon_comparison found;
 static int growths, held;
+static size_t bytes, most;
 void *__real_malloc(size_t n);
 void *__real_realloc(void *p, size_t n);
 void __real_free(void *p);
+
+/* Counts the bytes of a block that is held from now on. */
+static void *counted(void *p)
+{
+    bytes += malloc_usable_size(p);
+    if (bytes > most) most = bytes;
+    return p;
+}
 
 void *__wrap_malloc(size_t n)
 {
     void *p = __real_malloc(n);
     growths++, held += p != NULL;
-    return p;
+    return counted(p);
 }
 
 void *__wrap_realloc(void *p, size_t n)
 {
+    size_t before = malloc_usable_size(p);
     void *q = __real_realloc(p, n);
     growths++, held += p == NULL && q != NULL;
+    if (q) bytes -= before, counted(q);
     return q;
 }
 
 void __wrap_free(void *p)
 {
     held -= p != NULL;
+    bytes -= malloc_usable_size(p);
     __real_free(p);
 }
 
@@ -171,6 +185,7 @@ static void compare_last(void)
     WANT(found.verdict == FMTCANON_DIFFERENT && found.number == units + 1);
     for (size_t k = 0; k < units; k++) WANT(!memcmp(out + 4 * k, "n:0", 4));
     WANT(!memcmp(out + 4 * units, "n:-1", 5));
+    WANT(most <= 21 * first_len + LITTLE);
 }
 
 static void arguments(void)
@@ -284,6 +299,7 @@ static void whole_compare_last(void)
     WANT(found.verdict == FMTCANON_DIFFERENT && found.number == 2 * units + 1);
     for (size_t k = 0; k < units; k++) WANT(!memcmp(out + 8 * k, "n:0\0any", 8));
     WANT(!memcmp(out + 8 * units, "n:-1", 5));
+    WANT(most <= 14 * first_len + LITTLE);
 }
 
 static void decode(void)
@@ -338,6 +354,7 @@ static void try_row(size_t k, long seconds)
     signal(SIGPROF, too_slow);
     setitimer(ITIMER_PROF, &limit, NULL);
     growths = held = 0;
+    bytes = most = 0;
     ROWS[k].make();
     WANT(held == 0);
 }

@@ -25,7 +25,7 @@ use Rattle.pf_text.specs.PieceHistory.{NextReturns, NextIs, NextIsPiece, NextIsR
 use Rattle.pf_values.specs.meaning.Refusals.{IsRefusedAt}
 use Rattle.pf_compare.specs.declared.neutral_texts.PrintedSpan.{PrintedSpan}
 use Rattle.pf_compare.specs.declared.neutral_texts.Spans.{Spans}
-use Rattle.pf_compare.specs.Spans.{HasPassed, IsNextSpan, IsSpanAfter, IsSpanOf, PrintOneText, PrintsNeutral, counted, replace_span}
+use Rattle.pf_compare.specs.Spans.{HaveGivenSpans, IsNextSpan, IsSpanAfter, IsSpanOf, PrintOneText, PrintsNeutral, counted, replace_span}
 use Rattle.pf_compare.proofs.ListLemmas.{
   take_front,
   drop_front,
@@ -158,7 +158,7 @@ module _ (model : Model) (old new : Pieces) (t bytes : Text) (h : HasPrinted mod
       subst (λ l. PrintsNeutral model l bytes) (Reads-unique t h.items items whole.reads reads) h.prints
 
 -- the next piece, and where the span ends that it prints
-module _ (model : Model) (old new : Spans) (t : Text) (count : ℕ) (h : HasPassed model old t count) where
+module _ (model : Model) (old new : Spans) (t : Text) (count : ℕ) (h : HaveGivenSpans model old t count) where
   module _ (next : Result Piece Refusal) (steps : NextReturns old.pieces (Some next) new.pieces) where
     pub span_refused : (refusal : Refusal) → next ≡ Err refusal → IsAccepted t → ⊥
     span_refused refusal e accepted = let g : NextIsRefusal t h.items refusal = subst (λ r. NextIs (Some r) new.pieces t h.read h.items) e
@@ -172,7 +172,7 @@ module _ (model : Model) (old new : Spans) (t : Text) (count : ℕ) (h : HasPass
       end_counted : new.end ≡ counted (h.front ++ printed)
       end_counted = omega (arith, end, h.end_is, length-append h.front printed)
 
-      pub piece_passed : (more : ℕ) → more ≡ length (types model (items_of piece)) → HasPassed model new t (count + more)
+      pub piece_passed : (more : ℕ) → more ≡ length (types model (items_of piece)) → HaveGivenSpans model new t (count + more)
       piece_passed more is = record {
         read = h.read ++ next_given.more;
         items = h.items ++ items_of piece;
@@ -212,7 +212,7 @@ module _ (model : Model) (old new : Spans) (t : Text) (count : ℕ) (h : HasPass
   pub spans_over : NextReturns old.pieces None new.pieces → IsNextSpan model new t count None
   spans_over steps = (h.items, steps.next t h.read h.items h.given, h.count_is)
 
--- a piece that is no directive takes no argument
+-- a piece takes no argument, unless it is a directive
 pub none_taken : (model : Model) (piece : Piece) → ((s : Specification) → piece ≡ pieces.Directive s → ⊥) → 0 ≡ length (types model (items_of piece))
 none_taken model (pieces.Literal run) h = sym (ap length (types-bytes model run.now))
 none_taken model pieces.Percent h = refl
@@ -250,8 +250,8 @@ span_in model t whole xs count span h reads prints few =
 pub record AreBothIn (model : Model) (xs ys : List Item) (t u whole : Text) (first second : Spans) (n : ℕ) (one two : PrintedSpan) : Type 0 where
   pub first_in : IsSpanOf model xs whole n one
   pub second_in : IsSpanOf model ys whole n two
-  pub first_passed : HasPassed model first t (n + 1)
-  pub second_passed : HasPassed model second u (n + 1)
+  pub first_passed : HaveGivenSpans model first t (n + 1)
+  pub second_passed : HaveGivenSpans model second u (n + 1)
 
 module _ (model : Model) (t u whole : Text) (r : PrintOneText model t u whole) (n : ℕ) (first second : Spans) where
   pub both_next : (one two : PrintedSpan) (a b : Option PrintedSpan) → IsNextSpan model first t n a → IsNextSpan model second u n b → a ≡ Some one
@@ -282,8 +282,8 @@ module _ (model : Model) (t u whole : Text) (r : PrintOneText model t u whole) (
       let i = subst (IsNextSpan model first t n) e h in
       i.2 ∙ ap (λ l. length (types model l)) (Reads-unique t i.0 r.xs i.1.reads r.accepted_first.reads)
 
--- so many arguments are taken as there are bytes at most
-pub few_passed : (model : Model) (spans : Spans) (t : Text) (count : ℕ) → HasPassed model spans t count → count ≤ length t
+-- at most one argument is taken for each byte
+pub few_passed : (model : Model) (spans : Spans) (t : Text) (count : ℕ) → HaveGivenSpans model spans t count → count ≤ length t
 few_passed model spans t count h = omega (
   arith,
   h.count_is,

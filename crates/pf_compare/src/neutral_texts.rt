@@ -1,5 +1,5 @@
 //! What formats print for neutral arguments, and the span of each directive in that.
-ghost use Rattle.std.specs.Prelude.{◌≡◌, [], ◌∷◌, ◌++◌, IfOk, List, MatchOption, ℕ, length, map};
+ghost use Rattle.std.specs.Prelude.{◌≡◌, [], ◌++◌, IfOk, List, ℕ};
 ghost use Rattle.pf_values.specs.Arg.{argument_of, bytes_of, type_of};
 ghost use Rattle.pf_values.specs.meaning.Arguments.{HasType};
 ghost use Rattle.pf_values.specs.Candidates.{neutral};
@@ -8,7 +8,7 @@ ghost use Rattle.pf_values.specs.meaning.Items.{IsAccepted, Item, Reads, types};
 ghost use Rattle.pf_values.specs.meaning.Printing.{Prints};
 ghost use Rattle.pf_values.specs.meaning.Text.{Text};
 ghost use Rattle.pf_text.specs.PieceHistory.{items_of};
-ghost use Rattle.pf_compare.specs.Spans.{HasPassed, IsNextSpan, PrintsNeutral};
+ghost use Rattle.pf_compare.specs.Spans.{HaveGivenSpans, IsNextSpan, PrintsNeutral};
 ghost use Rattle.pf_compare.specs.Witnesses.{AreNeutral};
 
 use crate::owned_args::OwnedArg;
@@ -83,7 +83,7 @@ pub(crate) struct Spans<'a> {
 impl<'a> Spans<'a> {
     /// All spans of a format.
     pub(crate) fn new(text: &'a [u8]) -> Spans<'a>
-        ensures { (model : Model) → HasPassed model result text.now 0 }
+        ensures { (model : Model) → HaveGivenSpans model result text.now 0 }
     {
         Spans {
             pieces: Pieces::new(text),
@@ -98,7 +98,7 @@ impl<'a> Spans<'a> {
         model: Model,
     ) -> Result<Option<PrintedSpan>, AllocError>
         ensures { IfOk result (λ found. (t : Text) (count : ℕ)
-            → IsAccepted t → HasPassed model self.old t count
+            → IsAccepted t → HaveGivenSpans model self.old t count
             → IsNextSpan model self.new t count found) }
     {
         while let Some(piece) = self.pieces.next() {

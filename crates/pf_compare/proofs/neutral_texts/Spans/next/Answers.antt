@@ -1,7 +1,7 @@
 use Rattle.std.proofs.Common.{arith, ap, length, refl, subst}
 use Rattle.std.proofs.lemmas.List.{length-append}
 use Rattle.pf_text.specs.PieceHistory.{items_of}
-use Rattle.pf_compare.specs.Spans.{HasPassed}
+use Rattle.pf_compare.specs.Spans.{HaveGivenSpans}
 use Rattle.pf_compare.proofs.SpanLemmas.{none_taken, piece_passed, span_given, span_refused, spans_over}
 use Rattle.pf_compare.proofs.neutral_texts.Spans.next.Goals as goal
 
@@ -23,7 +23,7 @@ returns-in-Directive c = λ t count accepted h.
 pub loop-piece-preserved-in-Ok : goal.loop-piece-preserved-in-Ok
 loop-piece-preserved-in-Ok c = λ t count accepted h.
     let made = c.in_ok-printed.ensures in
-    subst (HasPassed c.args.model (record { pieces = c.next.new.self; end = c.saturating_add-self.result }) t) (omega arith)
+    subst (HaveGivenSpans c.args.model (record { pieces = c.next.new.self; end = c.saturating_add-self.result }) t) (omega arith)
     (piece_passed c.args.model c.loop-piece.self (record { pieces = c.next.new.self; end = c.saturating_add-self.result }) t count
     (c.loop-piece.invariant t count accepted h) c.in-Some.piece c.in-Some.ensures.steps c.in-Ok.piece made.0 c.in-Ok.is made.1
     (omega (
