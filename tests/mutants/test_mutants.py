@@ -511,7 +511,7 @@ class Twins(unittest.TestCase):
 
     # How many mutants of a crate have no twin. There are to be no more of them, and none in the end.
     WITHOUT = {
-        "fmtcanon_c": 7,
+        "fmtcanon_c": 6,
     }
 
     def test_each_has_one(self):
