@@ -509,12 +509,6 @@ class Sampling(unittest.TestCase):
 class Twins(unittest.TestCase):
     """The twins of this repository's mutants."""
 
-    # How many mutants of a crate have no twin. There are to be no more of them, and none in the end.
-    WITHOUT = {
-        "fmtcanon_c": 7,
-    }
-
     def test_each_has_one(self):
         every = {name: mutants_of(Crates().folder(name)) for name in Crates().names()}
-        counts = {name: sum(it.twin is None for it in found) for name, found in every.items()}
-        self.assertEqual({name: count for name, count in counts.items() if count}, self.WITHOUT)
+        self.assertEqual([f"{name}/{it.name}" for name, found in every.items() for it in found if it.twin is None], [])
