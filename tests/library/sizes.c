@@ -299,7 +299,7 @@ static void whole_compare_last(void)
     WANT(found.verdict == FMTCANON_DIFFERENT && found.number == 2 * units + 1);
     for (size_t k = 0; k < units; k++) WANT(!memcmp(out + 8 * k, "n:0\0any", 8));
     WANT(!memcmp(out + 8 * units, "n:-1", 5));
-    WANT(most <= 14 * first_len + LITTLE);
+    WANT(most <= 15 * first_len + LITTLE);
 }
 
 static void decode(void)
