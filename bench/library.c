@@ -15,12 +15,25 @@ static char texts[4 * MOST], other[MOST], out[MOST];
 static int types[MOST];
 static fmtcanon_directive found[MOST];
 static fmtcanon_specification parts[MOST];
-/* The lengths of the formats without their last directives, and the number of the format of this call. */
-static size_t fronts[MOST], now;
+/* The lengths of the formats without their last directives, the offsets of the conversions of these, and the number of the
+ * format of this call. */
+static size_t fronts[MOST], conversions[MOST], now;
 static fmtcanon_error error;
 
 /* A byte that begins no directive and is another than this one. */
 static char another(char byte) { return byte == 'q' ? 'r' : 'q'; }
+
+/* A conversion that a directive may have in place of this one; NUL in place of NUL. */
+static char another_conversion(char byte)
+{
+    switch (byte) {
+    case 0: return 0;
+    case 'd': return 'i';
+    case 'b': case 'o': case 'X': return 'x';
+    case 'x': return 'X';
+    default: return 'd';
+    }
+}
 
 static int64_t same(const char *text, size_t len, size_t other_len)
 {
@@ -67,6 +80,13 @@ static size_t front_of(const char *text, size_t len)
     return front;
 }
 
+/* Where the last directive has its conversion, or where the text ends. */
+static size_t conversion_of(const char *text, size_t len)
+{
+    size_t front = front_of(text, len);
+    return front + strcspn(text + front, "bcdiosuxX");
+}
+
 static int64_t fits_front(const char *text, size_t len)
 {
     return fmtcanon_fits_fewer(FMTCANON_LP64, text, len, other, fronts[now++], &error);
@@ -106,6 +126,9 @@ static int64_t whole_same(const char *text, size_t len, size_t other_len)
 static int64_t whole_itself(const char *text, size_t len) { return whole_same(text, len, len); }
 static int64_t whole_appended(const char *text, size_t len) { return other[len] = 'x', whole_same(text, len, len + 1); }
 
+static void change_conversion(void) { other[conversions[now]] = another_conversion(other[conversions[now]]), now++; }
+static int64_t whole_conversion(const char *text, size_t len) { return change_conversion(), whole_same(text, len, len); }
+
 static int64_t same_itself(const char *text, size_t len) { return same(text, len, len); }
 static int64_t first_changed(const char *text, size_t len) { return other[0] = another(other[0]), same(text, len, len); }
 
@@ -115,6 +138,8 @@ static int64_t last_changed(const char *text, size_t len)
 }
 
 static int64_t appended(const char *text, size_t len) { return other[len] = 'x', same(text, len, len + 1); }
+static int64_t last_conversion(const char *text, size_t len) { return change_conversion(), same(text, len, len); }
+static int64_t percents(const char *text, size_t len) { return other[len] = other[len + 1] = '%', same(text, len, len + 2); }
 
 static const struct {
     const char *name;
@@ -136,12 +161,15 @@ static const struct {
     {"same, first byte changed", first_changed},
     {"same, last byte changed", last_changed},
     {"same, a byte appended", appended},
+    {"same, last conversion changed", last_conversion},
+    {"same, `%%` appended", percents},
     {"directives", directives},
     {"specifications", specifications},
     {"whole_canonical", whole_canonical},
     {"whole_canonical_length", whole_length},
     {"whole_same, itself", whole_itself},
     {"whole_same, a byte appended", whole_appended},
+    {"whole_same, last conversion changed", whole_conversion},
 };
 
 int main(int count, char **words)
@@ -153,7 +181,10 @@ int main(int count, char **words)
     if (size == 0 || size == sizeof texts || texts[size - 1] != 0) return 2;
     while (strcmp(CALLS[which].name, words[1]))
         if (++which == sizeof CALLS / sizeof *CALLS) return 2;
-    for (const char *text = texts; text < texts + size; text += strlen(text) + 1) fronts[now++] = front_of(text, strlen(text));
+    for (const char *text = texts; text < texts + size; text += strlen(text) + 1) {
+        conversions[now] = conversion_of(text, strlen(text));
+        fronts[now++] = front_of(text, strlen(text));
+    }
     for (round = 0; round < atoi(words[2]); round++) {
         const char *text = texts;
         now = 0;

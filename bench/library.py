@@ -24,6 +24,8 @@ HEADERS = BENCH.parent / "include"
 ONE = ["check", "types", "bounds", "arguments", "is_canonical", "canonical", "canonical_length"]
 TWO = ["fits, itself", "fits_fewer, itself", "fits_fewer, the last directive left out", "same, itself", "same, first byte changed", "same, a byte appended", "same, last byte changed"]
 WHOLE = ["arguments", "directives", "specifications", "whole_canonical", "whole_canonical_length"]
+# Counted for a shortcut alone: pairs that go on alike up to their ends, and are both accepted.
+ALIKE = ["same, last conversion changed", "same, `%%` appended", "whole_same, last conversion changed"]
 WHOLE_TWO = ["fits, itself", "whole_same, itself", "whole_same, a byte appended"]
 # The formats of printing.c, in its order.
 PRINTED = ["%d %s", r"Total: %5d of %-8s.\n", "%300d %s"]

@@ -6,7 +6,7 @@ A shortcut is a faster way to a result that another way gives, too. The crates a
 import shutil
 
 from formats import DIRECTIVE_PAIRS, records, shapes
-from library import ONE, PLAIN, TWO, WHOLE, count
+from library import ALIKE, ONE, PLAIN, TWO, WHOLE, count
 from shortcut_edits import shortcuts
 from unproved import build, output
 
@@ -18,7 +18,7 @@ OF_PAIRS = " of a pair"
 def words_of(call, rounds, texts):
     """The program and the arguments that make a call on each text of a file, or on a pair of texts."""
     if not call.startswith("crate "):
-        if call not in ["nothing", *ONE, *TWO, *WHOLE]:
+        if call not in ["nothing", *ONE, *TWO, *WHOLE, *ALIKE]:
             raise ValueError(f"library.c has no call {call}")
         return "library", [call, str(rounds), texts]
     how = ["pair", *texts] if isinstance(texts, tuple) else ["formats", texts]

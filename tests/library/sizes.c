@@ -18,7 +18,8 @@
 #define WANT(holds) ((holds) ? (void)0 : failed(#holds))
 #define COUNT(rows) (sizeof(rows) / sizeof *(rows))
 
-enum { LP64 = FMTCANON_LP64, SPARE = 64, WORD = 8, LITTLE = 1024 };
+/* LITTLE: what is held besides, and what a large block is rounded up by. */
+enum { LP64 = FMTCANON_LP64, SPARE = 64, WORD = 8, LITTLE = 8192 };
 
 static const char *now = "";
 static size_t units;
@@ -185,7 +186,17 @@ static void compare_last(void)
     WANT(found.verdict == FMTCANON_DIFFERENT && found.number == units + 1);
     for (size_t k = 0; k < units; k++) WANT(!memcmp(out + 4 * k, "n:0", 4));
     WANT(!memcmp(out + 4 * units, "n:-1", 5));
-    WANT(most <= 21 * first_len + LITTLE);
+    WANT(most <= 12 * first_len + LITTLE);
+}
+
+/* Two directives differ, so what the texts print is compared. */
+static void compare_two(void)
+{
+    two("%9d", "%05d%05d", "%9d", "%.5d%.5d");
+    WANT(fmtcanon_compare(LP64, first, first_len, second, second_len, out, room, &found, &error) == (int64_t)(4 * units + 9));
+    WANT(found.verdict == FMTCANON_DIFFERENT && found.number == units + 2);
+    WANT(is_repeated(out, "n:0", 1) && !memcmp(out + 4 * units, "n:-1\0n:0", 9));
+    WANT(most <= 16 * first_len + LITTLE);
 }
 
 static void arguments(void)
@@ -299,7 +310,18 @@ static void whole_compare_last(void)
     WANT(found.verdict == FMTCANON_DIFFERENT && found.number == 2 * units + 1);
     for (size_t k = 0; k < units; k++) WANT(!memcmp(out + 8 * k, "n:0\0any", 8));
     WANT(!memcmp(out + 8 * units, "n:-1", 5));
-    WANT(most <= 15 * first_len + LITTLE);
+    WANT(most <= 10 * first_len + LITTLE);
+}
+
+/* No format takes more arguments for its length. */
+static void whole_compare_stars(void)
+{
+    two("%*d", "%05d", "%*d", "%.5d");
+    WANT(fmtcanon_whole_compare(LP64, first, first_len, second, second_len, out, room, &found, &error) == (int64_t)(8 * units + 5));
+    WANT(found.verdict == FMTCANON_DIFFERENT && found.number == 2 * units + 1);
+    for (size_t k = 0; k < 2 * units; k++) WANT(!memcmp(out + 4 * k, "any", 4));
+    WANT(!memcmp(out + 8 * units, "n:-1", 5));
+    WANT(most <= 16 * first_len + LITTLE);
 }
 
 static void decode(void)
@@ -331,10 +353,10 @@ static const struct {
     void (*make)(void);
 } ROWS[] = {
     {"check", check}, {"refused", refused}, {"is_canonical", is_canonical}, {"canonical_length", canonical_length},
-    {"canonical", canonical}, {"types", types}, {"bounds", bounds}, {"same", same}, {"compare", compare}, {"compare_last", compare_last},
+    {"canonical", canonical}, {"types", types}, {"bounds", bounds}, {"same", same}, {"compare", compare}, {"compare_last", compare_last}, {"compare_two", compare_two},
     {"arguments", arguments}, {"fits", fits}, {"fits_fewer", fits_fewer},
     {"directives", directives}, {"specifications", specifications}, {"literal_runs", literal_runs}, {"whole_profile", whole_profile}, {"whole_canonical", whole_canonical}, {"whole_same", whole_same},
-    {"whole_compare_last", whole_compare_last}, {"decode_literal", decode}, {"encode_literal", encode}, {"source_offset", source_offset},
+    {"whole_compare_last", whole_compare_last}, {"whole_compare_stars", whole_compare_stars}, {"decode_literal", decode}, {"encode_literal", encode}, {"source_offset", source_offset},
 };
 
 static void make_room(void)

@@ -9,7 +9,7 @@ ghost use Rattle.fmtcanon.specs.declared.questions.PairQuestion.TheVariants.{Sam
 use crate::answer::{Answer, Ending};
 use crate::lines::{Output, difference_line, line_of};
 use crate::outcome::Outcome;
-use pf_compare::OwnedArg;
+use pf_compare::{OwnedArg, first_difference};
 use pf_values::Model;
 use pf_whole::WholeVerdict;
 use std::alloc::{AllocError, Global};
@@ -28,8 +28,8 @@ pub fn comparison_in(
         answer.ending)
         (IsPairFault NeedsMemory Same model first.now second.now) }
 {
-    let comparison = pf_compare::compare(alloc, model, first, second)?;
-    let verdict = WholeVerdict::of_profile(alloc, comparison.verdict)?;
+    let difference = first_difference(alloc, model, first, second)?;
+    let verdict = WholeVerdict::of_profile(alloc, model, first, difference)?;
     Ok(verdict_answer(alloc, &verdict)?)
 }
 

@@ -1,13 +1,14 @@
 //! How two formats compare.
-ghost use Rattle.std.specs.Prelude.{◌≡◌, ◌++◌, IfOk, MatchResult};
+ghost use Rattle.std.specs.Prelude.{◌≡◌, MatchOption, length, pos};
 ghost use Rattle.pf_compare.specs.Answers.{FaultForCompare};
 ghost use Rattle.pf_whole.specs.Comparisons.{FaultForWholeCompare, IsProfileVerdict, ShowsArguments};
 ghost use Rattle.fmtcanon_c.specs.Comparisons.{AnswersVerdict, IsComparisonCode, IsUncountedVerdict, PutsComparison, IsFaultCode, verdict_code, verdict_number, words_of};
 ghost use Rattle.fmtcanon_c.specs.Models.{InModel};
-ghost use Rattle.fmtcanon_c.specs.Words.{ended_words, word_or_any};
+ghost use Rattle.fmtcanon_c.specs.Buffers.{put};
 
-use crate::interface::{CError, NO_MEMORY, NO_MODEL, model_of, put_bytes, put_refusal};
-use pf_compare::{CompareFault, OwnedArg};
+use crate::interface::{CError, NO_MEMORY, NO_MODEL, model_of, put_refusal};
+use crate::words::put_words;
+use pf_compare::{CompareFault, first_difference};
 use pf_whole::WholeVerdict;
 use std::alloc::{AllocError, Global};
 
@@ -46,11 +47,11 @@ pub extern "C" fn fmtcanon_compare(
     let Some(model) = model_of(model) else {
         return NO_MODEL;
     };
-    match pf_compare::compare(alloc, model, first, second) {
+    match first_difference(alloc, model, first, second) {
         Ok(found) => {
-            let renderings = u32::from(found.renderings);
-            match WholeVerdict::of_profile(alloc, found.verdict) {
-                Ok(verdict) => put_verdict(alloc, &verdict, renderings, out, comparison),
+            let renderings = u32::from(found.renderings());
+            match WholeVerdict::of_profile(alloc, model, first, found) {
+                Ok(verdict) => put_verdict(&verdict, renderings, out, comparison),
                 Err(AllocError) => NO_MEMORY,
             }
         }
@@ -82,14 +83,13 @@ pub extern "C" fn fmtcanon_whole_compare(
         return NO_MODEL;
     };
     match pf_whole::compare(alloc, model, first, second) {
-        Ok(verdict) => put_verdict(alloc, &verdict, 0, out, comparison),
+        Ok(verdict) => put_verdict(&verdict, 0, out, comparison),
         Err(fault) => fault_code(error, fault),
     }
 }
 
-// Puts a verdict, unless there is no memory for the words.
+// Puts a verdict, unless no memory has room for the words.
 fn put_verdict(
-    alloc: Global,
     verdict: &WholeVerdict,
     renderings: u32,
     out: &mut [u8],
@@ -98,13 +98,26 @@ fn put_verdict(
     ensures { (error : _) → AnswersVerdict verdict.now renderings out.old comparison.old error result
         out.new comparison.new error }
 {
-    match words_of(alloc, verdict) {
-        Ok(words) => {
-            put_bytes(out, &words);
+    match put_words_of(out, verdict) {
+        Some(len) => {
             *comparison = c_comparison(verdict, renderings);
-            words.len() as i64
+            len
         }
-        Err(_) => NO_MEMORY,
+        None => NO_MEMORY,
+    }
+}
+
+// Puts the words of the arguments that a verdict shows, each terminated by NUL.
+fn put_words_of(out: &mut [u8], verdict: &WholeVerdict) -> Option<i64>
+    ensures { MatchOption result ((out.new ≡ out.old) × ShowsArguments verdict.now)
+        (λ len. (len ≡ pos (length (words_of verdict.now)))
+        × (out.new ≡ put (words_of verdict.now) out.old)) }
+{
+    match verdict {
+        WholeVerdict::Same => Some(0),
+        WholeVerdict::Types(_) => Some(0),
+        WholeVerdict::Directives(_) => Some(0),
+        WholeVerdict::Args(shown) => put_words(out, shown),
     }
 }
 
@@ -138,41 +151,5 @@ fn verdict_numbers(verdict: &WholeVerdict) -> (u32, u64)
         WholeVerdict::Types(index) => (2, *index),
         WholeVerdict::Directives(index) => (4, *index),
         WholeVerdict::Args(shown) => (3, shown.len() as u64),
-    }
-}
-
-// Returns the words of the arguments that a verdict shows, each terminated by NUL.
-fn words_of(alloc: Global, verdict: &WholeVerdict) -> Result<Vec<u8>, AllocError>
-    ensures { MatchResult result (λ out. out.items ≡ words_of verdict.now)
-        (λ _. ShowsArguments verdict.now) }
-{
-    match verdict {
-        WholeVerdict::Same => Ok(Vec::new(alloc)),
-        WholeVerdict::Types(_) => Ok(Vec::new(alloc)),
-        WholeVerdict::Directives(_) => Ok(Vec::new(alloc)),
-        WholeVerdict::Args(shown) => ended_words(alloc, shown),
-    }
-}
-
-// Most words have as many bytes, with the NUL after them: "any", "n:0".
-const USUAL_WORD: usize = 4;
-
-fn ended_words(alloc: Global, shown: &[Option<OwnedArg>]) -> Result<Vec<u8>, AllocError>
-    ensures { IfOk result (λ out. out.items ≡ ended_words shown.now) }
-{
-    let mut out = Vec::with_capacity(alloc, shown.len().saturating_mul(USUAL_WORD))?;
-    for argument in shown {
-        push_word_or_any(argument, &mut out)?;
-        out.push(0)?;
-    }
-    Ok(out)
-}
-
-fn push_word_or_any(argument: &Option<OwnedArg>, out: &mut Vec<u8>) -> Result<(), AllocError>
-    ensures { IfOk result (λ _. out.new.items ≡ out.old.items ++ word_or_any argument.now) }
-{
-    match argument {
-        Some(argument) => argument.push_word(out),
-        None => out.extend_from_slice(b"any"),
     }
 }

@@ -161,16 +161,6 @@ pub(crate) fn model_of(number: i32) -> Option<Model>
     Model::ALL.get(place).copied()
 }
 
-/// Puts bytes at the front of a buffer that has room for them, and leaves any other as it is.
-pub(crate) fn put_bytes(out: &mut [u8], bytes: &[u8])
-    ensures { out.new ≡ put bytes.now out.old }
-{
-    if bytes.len() <= out.len() {
-        let (front, _) = out.split_at_mut(bytes.len());
-        front.copy_from_slice(bytes);
-    }
-}
-
 /// Puts bytes and a NUL after them at the front of a buffer that has room for them, and leaves any other
 /// as it is.
 pub(crate) fn put_string(out: &mut [u8], bytes: &[u8])

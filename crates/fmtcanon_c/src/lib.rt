@@ -13,3 +13,4 @@ mod literals;
 mod relations;
 mod rendering;
 mod specifications;
+mod words;

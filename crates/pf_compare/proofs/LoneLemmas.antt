@@ -46,11 +46,10 @@ use Rattle.pf_text.specs.declared.refusals.Refusal.{Refusal}
 use Rattle.pf_text.specs.PieceHistory.{NextReturns, NextIs, NextIsPiece, HasGiven, items_of}
 use Rattle.pf_text.proofs.Texts.{Reads-unique}
 use Rattle.pf_compare.specs.declared.differences.LoneDifference.{LoneDifference}
-use Rattle.pf_compare.specs.declared.owned_args.OwnedArg.{OwnedArg}
-use Rattle.pf_compare.specs.declared.witnesses.Witness.{Witness}
-use Rattle.pf_compare.specs.Answers.{HaveSameTypes, IsCandidateAt, PrintTheSame, PrintUnlike, probe_at}
+use Rattle.pf_compare.specs.Answers.{FindsProbe, HaveSameTypes, IsCandidateAt, IsFirstProbe, PrintTheSame, PrintUnlike, probe_at}
 use Rattle.pf_compare.specs.Spans.{ReplacementsEqual, ReplacementsDiffer, FindsUnlike, IsFirstUnlike}
 use Rattle.pf_compare.specs.Lone.{
+  AreToldApartAt,
   AreToldApartAt,
   DifferInItems,
   DifferInOne,
@@ -63,7 +62,6 @@ use Rattle.pf_compare.specs.Lone.{
   PrintAlikeOnCandidates,
   span_alone,
 }
-use Rattle.pf_compare.specs.Witnesses.{AreNeutral, AwaitsCandidate, FindsWitness, IsWitnessAt}
 use Rattle.pf_compare.proofs.CandidateLemmas.{candidate_has_type, contains_at, neutral_first, set_neutral}
 use Rattle.pf_compare.proofs.TypeListLemmas.{differ_after_front}
 use Rattle.pf_render.specs.Rendering.{DifferFirstAt}
@@ -256,56 +254,36 @@ module _ (model : Model) (s t : Specification) (after : List Item) where
         (span_alone s) (span_alone t) (neutral (arg_type model s))
     neutral_level candidate_index h = h.earlier 0 (neutral (arg_type model s)) (omega arith) (neutral_first model (arg_type model s))
 
-    -- the one candidate that is named
-    argument_is : (candidate_index : ℕ) (one other : Argument) → slice_get (candidates model (arg_type model s)) candidate_index ≡ Some one
-        → IsCandidateAt model
-        (types model first_items) argument_index candidate_index other → one ≡ other
-    argument_is candidate_index one other e c = let both : Some one ≡ Some other = sym e ∙ candidate_here argument_index candidate_index other refl c in cc
-
-    pub found_alone : (candidate_index : ℕ) (witness : Witness) → IsFirstUnlike model [] (span_alone s) (span_alone t) (arg_type model s) candidate_index
-        → IsWitnessAt model
-        (types model first_items) (record { index = argument_index; candidate_index = candidate_index }) witness
-        → FindsWitness model first_items second_items (Some witness)
-    found_alone zero witness h w =
-        let is = argument_is 0 h.argument w.argument h.argument_is w.candidate in
+    -- the neutral argument tells them apart
+    pub neutral_alone : IsFirstUnlike model [] (span_alone s) (span_alone t) (arg_type model s) 0
+        → PrintUnlike model first_items second_items (neutrals (types model first_items))
+    neutral_alone h =
         let first : Some (neutral (arg_type model s)) ≡ Some h.argument = sym (neutral_first model (arg_type model s)) ∙ h.argument_is in
         let also : h.argument ≡ neutral (arg_type model s) = cc in
-        let neutral_args : probe_at (types model first_items) argument_index w.argument ≡ neutrals (types model first_items)
-        = ap (λ x. probe_at (types model first_items) argument_index x) (sym is ∙ also)
-        ∙ set_neutral (types model first_items) argument_index (arg_type model s)
-        (type_at before) in (
-          w.types_are,
-          inl (record {
-            args_are = w.args_are ∙ neutral_args;
-            unlike = subst (PrintUnlike model first_items second_items) (ap (λ x. probe_at (types model first_items) argument_index x) is ∙ sym w.args_are)
-                (unlike_here 0 h.argument h.argument_is h.unlike);
-            renderings_are = w.renderings_are;
-          }),
-        )
-    found_alone (suc candidate_index) witness h w =
-        let is = argument_is (suc candidate_index) h.argument w.argument h.argument_is w.candidate in
+        subst (PrintUnlike model first_items second_items)
+        (ap (λ x. probe_at (types model first_items) argument_index x) also
+        ∙ set_neutral (types model first_items) argument_index (arg_type model s) (type_at before))
+        (unlike_here 0 h.argument h.argument_is h.unlike)
+
+    -- another one does
+    pub probe_alone : (candidate_index : ℕ) (h : IsFirstUnlike model [] (span_alone s) (span_alone t) (arg_type model s) (suc candidate_index))
+        → PrintTheSame model first_items second_items (neutrals (types model first_items))
+        × IsFirstProbe model first_items second_items argument_index (suc candidate_index) h.argument
+    probe_alone candidate_index h =
         let level = neutral_level candidate_index h in (
-          w.types_are,
-          inr (record {
-            neutral_same = all_neutral level;
-            index = argument_index;
-            candidate_index = suc candidate_index;
-            argument = w.argument;
-            probe = record {
-              candidate = w.candidate;
-              unlike = subst (λ x. PrintUnlike model first_items second_items (probe_at (types model first_items) argument_index x)) is
-                  (unlike_here (suc candidate_index) h.argument h.argument_is h.unlike);
-              earlier = λ i k other c order. elim order [
-                | inl less ↦ beside level i k other c (λ e. absurd (omega (arith, less, e)))
-                | inr at ↦ here level i k other c at.0 (λ e. h.earlier k other at.1 e)
-              ];
-            };
-            args_are = w.args_are;
-            renderings_are = w.renderings_are;
-          }),
+          all_neutral level,
+          record {
+            candidate = record { type = arg_type model s; type_is = type_at before; argument_is = h.argument_is };
+            unlike = unlike_here (suc candidate_index) h.argument h.argument_is h.unlike;
+            earlier = λ i k other c order. elim order [
+              | inl less ↦ beside level i k other c (λ e. absurd (omega (arith, less, e)))
+              | inr at ↦ here level i k other c at.0 (λ e. h.earlier k other at.1 e)
+            ];
+          },
         )
 
-    pub none_alone : FindsUnlike model [] (span_alone s) (span_alone t) (arg_type model s) None → FindsWitness model first_items second_items None
+    pub none_alone : FindsUnlike model [] (span_alone s) (span_alone t) (arg_type model s) None
+        → PrintTheSame model first_items second_items (neutrals (types model first_items)) × FindsProbe model first_items second_items None
     none_alone h =
         let level = h 0 (neutral (arg_type model s)) (neutral_first model (arg_type model s)) in
         (all_neutral level, λ i k other c. anywhere level i k other c (λ at e. h k other e))
@@ -378,34 +356,30 @@ module _ (model : Model) (xs ys : List Item) (difference : LoneDifference) (h : 
     pub lone_same_types : types model xs ≡ types model ys
     lone_same_types = first_types ∙ ap (λ type. types model h.before ++ type ∷ types model h.after) same_type ∙ sym second_types
 
-    lone_type_at : slice_get (types model xs) difference.index ≡ Some (arg_type model difference.first)
+    pub lone_type_at : slice_get (types model xs) difference.index ≡ Some (arg_type model difference.first)
     lone_type_at = ap (slice_get (types model xs)) (h.index_is model) ∙ ap (λ l. slice_get (types model l) (length (types model h.before))) h.first_is
         ∙ type_at model difference.first difference.second h.after h.before
 
-    pub lone_awaits : (candidate_index : ℕ) (args : List OwnedArg) → FindsUnlike model [] (span_alone difference.first) (span_alone difference.second)
-        (arg_type model difference.first) (Some candidate_index) → AreNeutral (types model xs) args
-        → AwaitsCandidate model (types model xs) args (record { index = difference.index; candidate_index = candidate_index })
-    lone_awaits candidate_index args found neutral = record {
-      neutral = neutral;
-      candidate = (found.argument, record { type = arg_type model difference.first; type_is = lone_type_at; argument_is = found.argument_is });
-    }
+    pub lone_neutral : AreToldApartAt model difference 0 → PrintUnlike model xs ys (neutrals (types model xs))
+    lone_neutral found = subst (λ l. PrintUnlike model l ys (neutrals (types model l))) (sym h.first_is)
+        (subst (λ l. PrintUnlike model (h.before ++ Directive difference.first ∷ h.after) l
+        (neutrals (types model (h.before ++ Directive difference.first ∷ h.after)))) (sym h.second_is)
+        (neutral_alone model difference.first difference.second h.after h.before same_type found))
 
-    back_in : (found : Option Witness) → FindsWitness model (h.before ++ Directive difference.first ∷ h.after)
-        (h.before ++ Directive difference.second ∷ h.after) found → FindsWitness model xs ys found
-    back_in found w = subst (λ l. FindsWitness model l ys found) (sym h.first_is)
-        (subst (λ l. FindsWitness model (h.before ++ Directive difference.first ∷ h.after) l found) (sym h.second_is) w)
-
-    pub lone_found : (candidate_index : ℕ) (witness : Witness) → FindsUnlike model [] (span_alone difference.first) (span_alone difference.second)
-        (arg_type model difference.first) (Some candidate_index)
-        → IsWitnessAt model (types model xs) (record { index = difference.index; candidate_index = candidate_index }) witness
-        → FindsWitness model xs ys (Some witness)
-    lone_found candidate_index witness found w =
-        let there : IsWitnessAt model (types model (h.before ++ Directive difference.first ∷ h.after))
-        (record { index = difference.index; candidate_index = candidate_index }) witness
-        = subst (λ l. IsWitnessAt model (types model l) (record { index = difference.index; candidate_index = candidate_index }) witness) h.first_is w in
-        back_in (Some witness) (found_alone model difference.first difference.second h.after h.before same_type candidate_index witness found
-        (subst (λ i. IsWitnessAt model (types model (h.before ++ Directive difference.first ∷ h.after))
-        (record { index = i; candidate_index = candidate_index }) witness) (h.index_is model) there))
+    pub lone_told : (k : ℕ) (found : AreToldApartAt model difference k) → k ≢ 0 → PrintTheSame model xs ys (neutrals (types model xs))
+        × IsFirstProbe model xs ys difference.index k found.argument
+    lone_told zero found other = absurd (other refl)
+    lone_told (suc k) found other =
+        let there = probe_alone model difference.first difference.second h.after h.before same_type k found in
+        let placed = subst (λ i. IsFirstProbe model (h.before ++ Directive difference.first ∷ h.after)
+        (h.before ++ Directive difference.second ∷ h.after) i (suc k) found.argument) (sym (h.index_is model)) there.1 in (
+          subst (λ l. PrintTheSame model l ys (neutrals (types model l))) (sym h.first_is)
+              (subst (λ l. PrintTheSame model (h.before ++ Directive difference.first ∷ h.after) l
+              (neutrals (types model (h.before ++ Directive difference.first ∷ h.after)))) (sym h.second_is) there.0),
+          subst (λ l. IsFirstProbe model l ys difference.index (suc k) found.argument) (sym h.first_is)
+              (subst (λ l. IsFirstProbe model (h.before ++ Directive difference.first ∷ h.after) l difference.index (suc k) found.argument)
+              (sym h.second_is) placed),
+        )
 
     -- they print different texts for some arguments
     pub lone_apart : (candidate_index : ℕ) → AreToldApartAt model difference candidate_index → (args : List Argument) × HasTypes model args

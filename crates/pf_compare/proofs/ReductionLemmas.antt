@@ -120,7 +120,8 @@ module _ (model : Model) (s t : Specification) (r q : Reduced) (first : IsReduce
     -- and those that no candidate tells apart are reduced to the same
     pub alike_same_parts : PrintAlikeOnCandidates model s t → HaveSameParts r q
     alike_same_parts h =
-        let same = on_probes model (Directive s ∷ []) (Directive t ∷ []) (none_alone model s t [] [] same_type h) in
+        let none = none_alone model s t [] [] same_type h in
+        let same = on_probes model (Directive s ∷ []) (Directive t ∷ []) none.0 none.1 in
         parts_of_items r q
         (tail_claim model (length (reduced_items r) + length (reduced_items q)) (reduced_items r) (reduced_items q) [] (omega arith)
         (reduced_canonical model s r first) (reduced_canonical model t q second) reduced_types (agree same) (inl refl)).1

@@ -25,7 +25,7 @@ use Rattle.pf_text.specs.PieceHistory.{NextReturns, NextIs, NextIsPiece, NextIsR
 use Rattle.pf_values.specs.meaning.Refusals.{IsRefusedAt}
 use Rattle.pf_compare.specs.declared.neutral_texts.PrintedSpan.{PrintedSpan}
 use Rattle.pf_compare.specs.declared.neutral_texts.Spans.{Spans}
-use Rattle.pf_compare.specs.Spans.{HaveGivenSpans, IsNextSpan, IsSpanAfter, IsSpanOf, PrintOneText, PrintsNeutral, counted, replace_span}
+use Rattle.pf_compare.specs.Spans.{AreBothIn, HaveGivenSpans, IsNextSpan, IsSpanAfter, IsSpanOf, PrintOneText, PrintsNeutral, counted, replace_span}
 use Rattle.pf_compare.proofs.ListLemmas.{
   take_front,
   drop_front,
@@ -245,13 +245,6 @@ span_in model t whole xs count span h reads prints few =
     subst (λ l. IsSpanOf model l whole count span) (sym more.1) (subst (λ u. IsSpanOf model (read_items ++ more.0) u count span) (sym is)
     (subst (λ n. IsSpanOf model (read_items ++ more.0) ((h.front ++ h.printed) ++ tail) n span) (sym h.count_is)
     (subst (IsSpanOf model (read_items ++ more.0) ((h.front ++ h.printed) ++ tail) (length (types model h.before))) (sym same) placed)))
-
--- what two next spans are in the text that both print
-pub record AreBothIn (model : Model) (xs ys : List Item) (t u whole : Text) (first second : Spans) (n : ℕ) (one two : PrintedSpan) : Type 0 where
-  pub first_in : IsSpanOf model xs whole n one
-  pub second_in : IsSpanOf model ys whole n two
-  pub first_passed : HaveGivenSpans model first t (n + 1)
-  pub second_passed : HaveGivenSpans model second u (n + 1)
 
 module _ (model : Model) (t u whole : Text) (r : PrintOneText model t u whole) (n : ℕ) (first second : Spans) where
   pub both_next : (one two : PrintedSpan) (a b : Option PrintedSpan) → IsNextSpan model first t n a → IsNextSpan model second u n b → a ≡ Some one

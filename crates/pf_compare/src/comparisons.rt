@@ -5,17 +5,19 @@ ghost use Rattle.pf_values.specs.meaning.DataModel.{arg_type};
 ghost use Rattle.pf_values.specs.meaning.Text.{Text};
 ghost use Rattle.pf_canon.specs.Comparison.{AreTextsSame};
 ghost use Rattle.pf_render.specs.Rendering.{Renders};
-ghost use Rattle.pf_compare.specs.Answers.{AreUnlike, HaveSameTypes, FaultForCompare, IsComparisonOf, PrintsSome, TellApart};
-ghost use Rattle.pf_compare.specs.Lone.{AreToldApartAt, FormatsDifferInOne};
+ghost use Rattle.pf_compare.specs.Answers.{AreUnlike, HaveSameTypes, FaultForCompare, IsComparisonOf, IsDifferenceOf, IsShown, PrintsSome, TellApart};
+ghost use Rattle.pf_compare.specs.Lone.{FormatsDifferInOne};
 ghost use Rattle.pf_compare.specs.declared.comparisons.CompareFault.TheVariants.{Memory};
-ghost use Rattle.pf_compare.specs.declared.comparisons.Verdict.TheVariants.{Same};
 
 use crate::differences::{
     ItemDifference, LoneDifference, are_unlike, first_type_difference, item_difference,
 };
+use crate::neutral_texts::neutrals_of;
 use crate::owned_args::OwnedArg;
 use crate::reductions::print_alike;
-use crate::witnesses::{Witness, first_candidate_alone, first_witness, witness_at};
+use crate::witnesses::{
+    Probe, arguments_of, common_text, first_candidate_alone, first_probe, lone_probe,
+};
 use pf_canon::same_text;
 use pf_render::{RenderVecFault, render_vec};
 use pf_text::{Refusal, Side};
@@ -36,6 +38,53 @@ pub fn compare(
     ensures { MatchResult result (IsComparisonOf model first.now second.now)
         (FaultForCompare model first.now second.now) }
 {
+    let found = first_difference(alloc, model, first, second)?;
+    Ok(comparison_of(alloc, model, first, found)?)
+}
+
+// A difference of a format from another one, with the arguments that show it.
+fn comparison_of(
+    alloc: Global,
+    model: Model,
+    text: &[u8],
+    difference: Difference,
+) -> Result<Comparison, AllocError>
+    requires { (u : Text) × IsDifferenceOf model text.now u difference }
+    ensures { MatchResult result
+        (λ comparison. (u : Text) → IsDifferenceOf model text.now u difference
+        → IsComparisonOf model text.now u comparison)
+        (λ _. IsShown difference) }
+{
+    match difference {
+        Difference::Nowhere => Ok(Comparison {
+            verdict: Verdict::Same,
+            renderings: 0,
+        }),
+        Difference::Types(index) => Ok(Comparison {
+            verdict: Verdict::Types(index),
+            renderings: 0,
+        }),
+        Difference::Neutral => Ok(Comparison {
+            verdict: Verdict::Args(neutrals_of(alloc, model, text)?),
+            renderings: 1,
+        }),
+        Difference::Probe(probe) => Ok(Comparison {
+            verdict: Verdict::Args(arguments_of(alloc, model, text, probe)?),
+            renderings: probe.renderings,
+        }),
+    }
+}
+
+/// Returns in what two formats differ first in a data model: `compare` without the arguments. `Err` as there.
+pub fn first_difference(
+    alloc: Global,
+    model: Model,
+    first: &[u8],
+    second: &[u8],
+) -> Result<Difference, CompareFault>
+    ensures { MatchResult result (IsDifferenceOf model first.now second.now)
+        (FaultForCompare model first.now second.now) }
+{
     if are_unlike(first, second) {
         return compare_unlike(alloc, model, first, second);
     }
@@ -50,13 +99,13 @@ fn compare_unlike(
     model: Model,
     first: &[u8],
     second: &[u8],
-) -> Result<Comparison, CompareFault>
-    ensures { MatchResult result (IsComparisonOf model first.now second.now)
+) -> Result<Difference, CompareFault>
+    ensures { MatchResult result (IsDifferenceOf model first.now second.now)
         (FaultForCompare model first.now second.now) }
 {
     match item_difference(first, second) {
-        ItemDifference::Nowhere => Ok(same_comparison()),
-        ItemDifference::Lone(difference) => compare_lone(alloc, model, first, second, &difference),
+        ItemDifference::Nowhere => Ok(Difference::Nowhere),
+        ItemDifference::Lone(difference) => compare_lone(alloc, model, &difference),
         ItemDifference::Unknown => compare_any(alloc, model, first, second),
     }
 }
@@ -67,12 +116,12 @@ fn compare_any(
     model: Model,
     first: &[u8],
     second: &[u8],
-) -> Result<Comparison, CompareFault>
-    ensures { MatchResult result (IsComparisonOf model first.now second.now)
+) -> Result<Difference, CompareFault>
+    ensures { MatchResult result (IsDifferenceOf model first.now second.now)
         (FaultForCompare model first.now second.now) }
 {
     match are_equivalent(model, first, second) {
-        Ok(true) => Ok(same_comparison()),
+        Ok(true) => Ok(Difference::Nowhere),
         Ok(false) => compare_apart(alloc, model, first, second),
         Err(fault) => Err(fault),
     }
@@ -95,16 +144,13 @@ fn compare_apart(
     model: Model,
     first: &[u8],
     second: &[u8],
-) -> Result<Comparison, CompareFault>
+) -> Result<Difference, CompareFault>
     requires { AreTextsSame model first.now second.now false }
-    ensures { MatchResult result (IsComparisonOf model first.now second.now)
+    ensures { MatchResult result (IsDifferenceOf model first.now second.now)
         (FaultForCompare model first.now second.now) }
 {
     if let Some(index) = first_type_difference(model, first, second) {
-        return Ok(Comparison {
-            verdict: Verdict::Types(index),
-            renderings: 0,
-        });
+        return Ok(Difference::Types(index));
     }
     Ok(compare_bytes(alloc, model, first, second)?)
 }
@@ -113,21 +159,15 @@ fn compare_apart(
 fn compare_lone(
     alloc: Global,
     model: Model,
-    first: &[u8],
-    second: &[u8],
     difference: &LoneDifference,
-) -> Result<Comparison, CompareFault>
-    requires { FormatsDifferInOne first.now second.now difference.now }
-    ensures { MatchResult result (IsComparisonOf model first.now second.now)
-        (FaultForCompare model first.now second.now) }
+) -> Result<Difference, CompareFault>
+    ensures { (t u : Text) → FormatsDifferInOne t u difference.now
+        → MatchResult result (IsDifferenceOf model t u) (FaultForCompare model t u) }
 {
     if have_different_types(model, &difference.first, &difference.second) {
-        return Ok(Comparison {
-            verdict: Verdict::Types(difference.index as u64),
-            renderings: 0,
-        });
+        return Ok(Difference::Types(difference.index as u64));
     }
-    compare_directives(alloc, model, first, second, difference)
+    compare_directives(alloc, model, difference)
 }
 
 fn have_different_types(model: Model, first: &Directive, second: &Directive) -> bool
@@ -137,60 +177,23 @@ fn have_different_types(model: Model, first: &Directive, second: &Directive) -> 
     first.arg_type(model) != second.arg_type(model)
 }
 
-// Compares two formats where the candidate is known that tells their two directives apart.
-fn compare_at(
-    alloc: Global,
-    model: Model,
-    first: &[u8],
-    second: &[u8],
-    difference: &LoneDifference,
-    candidate_index: usize,
-) -> Result<Comparison, AllocError>
-    requires lone { FormatsDifferInOne first.now second.now difference.now }
-    requires types { arg_type model difference.now.first ≡ arg_type model difference.now.second }
-    requires found { AreToldApartAt model difference.now candidate_index }
-    ensures { IfOk result (IsComparisonOf model first.now second.now) }
-{
-    match witness_at(alloc, model, first, difference, candidate_index) {
-        Ok(Witness { args, renderings }) => Ok(Comparison {
-            verdict: Verdict::Args(args),
-            renderings,
-        }),
-        Err(error) => Err(error),
-    }
-}
-
 // Compares two formats that differ in one directive of equal types: they are equivalent if the two
 // directives print the same.
 fn compare_directives(
     alloc: Global,
     model: Model,
-    first: &[u8],
-    second: &[u8],
     difference: &LoneDifference,
-) -> Result<Comparison, CompareFault>
-    requires lone { FormatsDifferInOne first.now second.now difference.now }
+) -> Result<Difference, CompareFault>
     requires types { arg_type model difference.now.first ≡ arg_type model difference.now.second }
-    ensures { MatchResult result (IsComparisonOf model first.now second.now)
-        (FaultForCompare model first.now second.now) }
+    ensures { (t u : Text) → FormatsDifferInOne t u difference.now
+        → MatchResult result (IsDifferenceOf model t u) (FaultForCompare model t u) }
 {
     if print_alike(model, &difference.first, &difference.second) {
-        return Ok(same_comparison());
+        return Ok(Difference::Nowhere);
     }
     match first_candidate_alone(alloc, model, &difference.first, &difference.second)? {
-        Some(candidate_index) => {
-            Ok(compare_at(alloc, model, first, second, difference, candidate_index)?)
-        }
+        Some(candidate_index) => Ok(lone_probe(model, difference, candidate_index)),
         None => unreachable!(),
-    }
-}
-
-fn same_comparison() -> Comparison
-    ensures { result ≡ record { verdict = Same; renderings = 0 } }
-{
-    Comparison {
-        verdict: Verdict::Same,
-        renderings: 0,
     }
 }
 
@@ -200,17 +203,47 @@ fn compare_bytes(
     model: Model,
     first: &[u8],
     second: &[u8],
-) -> Result<Comparison, AllocError>
+) -> Result<Difference, AllocError>
     requires apart { AreTextsSame model first.now second.now false }
     requires types { HaveSameTypes model first.now second.now }
-    ensures { IfOk result (IsComparisonOf model first.now second.now) }
+    ensures { IfOk result (IsDifferenceOf model first.now second.now) }
 {
-    match first_witness(alloc, model, first, second)? {
-        Some(Witness { args, renderings }) => Ok(Comparison {
-            verdict: Verdict::Args(args),
-            renderings,
-        }),
+    let Some(whole) = common_text(alloc, model, first, second)? else {
+        return Ok(Difference::Neutral);
+    };
+    match first_probe(alloc, model, first, second, &whole)? {
+        Some(probe) => Ok(Difference::Probe(probe)),
         None => unreachable!(),
+    }
+}
+
+/// In what two formats differ first.
+#[derive(Clone, Copy, Debug, PartialEq, Eq)]
+pub enum Difference {
+    /// In nothing: they are equivalent.
+    Nowhere,
+    /// In their argument types, at this index, as in `Verdict::Types`.
+    Types(u64),
+    /// In what they print for neutral arguments. Their argument types are equal.
+    Neutral,
+    /// In what they print for this probe, the first that shows a difference. Their argument types are equal,
+    /// and what they print for neutral arguments.
+    Probe(Probe),
+}
+
+impl Difference {
+    ghost use Rattle.pf_compare.specs.Answers.{renderings_of};
+
+    /// Returns the number of the candidate that shows the difference, as `Comparison` has it.
+    pub fn renderings(&self) -> u8
+        ensures { result ≡ renderings_of self.now }
+    {
+        match self {
+            Difference::Nowhere => 0,
+            Difference::Types(_) => 0,
+            Difference::Neutral => 1,
+            Difference::Probe(probe) => probe.renderings,
+        }
     }
 }
 

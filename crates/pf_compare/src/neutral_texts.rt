@@ -1,5 +1,5 @@
 //! What formats print for neutral arguments, and the span of each directive in that.
-ghost use Rattle.std.specs.Prelude.{◌≡◌, [], ◌++◌, IfOk, List, ℕ};
+ghost use Rattle.std.specs.Prelude.{◌≡◌, [], ◌++◌, IfOk, List, length, ℕ};
 ghost use Rattle.pf_values.specs.Arg.{argument_of, bytes_of, type_of};
 ghost use Rattle.pf_values.specs.meaning.Arguments.{HasType};
 ghost use Rattle.pf_values.specs.Candidates.{neutral};
@@ -9,7 +9,7 @@ ghost use Rattle.pf_values.specs.meaning.Printing.{Prints};
 ghost use Rattle.pf_values.specs.meaning.Text.{Text};
 ghost use Rattle.pf_text.specs.PieceHistory.{items_of};
 ghost use Rattle.pf_compare.specs.Spans.{HaveGivenSpans, IsNextSpan, PrintsNeutral};
-ghost use Rattle.pf_compare.specs.Witnesses.{AreNeutral};
+ghost use Rattle.pf_compare.specs.Witnesses.{AddsConverted, AreConverted, AreNeutral};
 
 use crate::owned_args::OwnedArg;
 use pf_render::render_one;
@@ -104,8 +104,7 @@ impl<'a> Spans<'a> {
         while let Some(piece) = self.pieces.next() {
             if let Ok(piece) = piece {
                 let start = self.end;
-                let printed = print_piece(Vec::new(alloc), model, &piece)?;
-                self.end = start.saturating_add(printed.len());
+                self.end = start.saturating_add(neutral_len(alloc, model, &piece)?);
                 if let Piece::Directive(directive) = piece {
                     return Ok(Some(PrintedSpan {
                         directive,
@@ -116,6 +115,21 @@ impl<'a> Spans<'a> {
             }
         }
         Ok(None)
+    }
+}
+
+// How many bytes a piece prints for a neutral argument.
+fn neutral_len(alloc: Global, model: Model, piece: &Piece<'_>) -> Result<usize, AllocError>
+    ensures { IfOk result (λ len. (printed : Text)
+        × PrintsNeutral model (items_of piece.now) printed × (len ≡ length printed)) }
+{
+    match piece {
+        Piece::Literal(literal) => Ok(literal.len()),
+        Piece::Percent => Ok(1),
+        Piece::Directive(directive) => {
+            let argument = neutral_arg(directive.arg_type(model));
+            Ok(print(alloc, model, directive, argument)?.len())
+        }
     }
 }
 
@@ -147,18 +161,17 @@ fn no_bytes() -> CBytes<'static>
 
 /// Returns the neutral arguments of an accepted format: 0 for each number, and empty strings. `Err`
 /// if memory is refused.
-pub fn neutrals_of(alloc: Global, model: Model, text: &[u8]) -> Result<Vec<OwnedArg>, AllocError>
+pub fn neutrals_of<T: From<OwnedArg> + Drop>(
+    alloc: Global,
+    model: Model,
+    text: &[u8],
+) -> Result<Vec<T>, AllocError>
     requires { IsAccepted text.now }
     ensures { IfOk result (λ args. (items : List Item) → Reads text.now items
-        → AreNeutral (types model items) args.items) }
+        → AreConverted T.from_gives (AreNeutral (types model items)) args.items) }
 {
     let mut args = Vec::with_capacity(alloc, argument_count(text))?;
-    for piece in Pieces::new(text) {
-        match piece {
-            Ok(piece) => push_neutral(model, &piece, &mut args)?,
-            Err(_) => unreachable!(),
-        }
-    }
+    push_neutrals(model, text, &mut args)?;
     Ok(args)
 }
 
@@ -173,14 +186,36 @@ fn argument_count(text: &[u8]) -> usize {
     count
 }
 
-fn push_neutral(model: Model, piece: &Piece<'_>, args: &mut Vec<OwnedArg>) -> Result<(), AllocError>
-    ensures { IfOk result (λ _. (items : List Item)
-        → AreNeutral (types model items) args.old.items
-        → AreNeutral (types model (items ++ items_of piece.now)) args.new.items) }
+/// Puts the neutral arguments of an accepted format after what `args` has. `Err` if memory is refused.
+pub fn push_neutrals<T: From<OwnedArg> + Drop>(
+    model: Model,
+    text: &[u8],
+    args: &mut Vec<T>,
+) -> Result<(), AllocError>
+    requires { IsAccepted text.now }
+    ensures { IfOk result (λ _. (items : List Item) → Reads text.now items
+        → AddsConverted T.from_gives (AreNeutral (types model items)) args.old.items args.new.items) }
+{
+    for piece in Pieces::new(text) {
+        match piece {
+            Ok(piece) => push_neutral(model, &piece, args)?,
+            Err(_) => unreachable!(),
+        }
+    }
+    Ok(())
+}
+
+fn push_neutral<T: From<OwnedArg> + Drop>(
+    model: Model,
+    piece: &Piece<'_>,
+    args: &mut Vec<T>,
+) -> Result<(), AllocError>
+    ensures { IfOk result (λ _. AddsConverted T.from_gives
+        (AreNeutral (types model (items_of piece.now))) args.old.items args.new.items) }
 {
     match piece.arg_type(model) {
         Some(arg_type) => {
-            args.push(OwnedArg::neutral(arg_type))?;
+            args.push(T::from(OwnedArg::neutral(arg_type)))?;
             Ok(())
         }
         None => Ok(()),

@@ -1,20 +1,23 @@
 //! Arguments for which two formats print different bytes: the first of the probes that tell them apart.
 //! One is searched only where the formats print the same for neutral arguments.
-ghost use Rattle.std.specs.Prelude.{◌≡◌, ◌≢◌, ◌≤◌, ◌+◌, ◌-◌, [], ◌++◌, IfOk, IsTrue, List, MatchBool, MatchOption, Some, drop, length, take};
+ghost use Rattle.std.specs.Prelude.{◌≡◌, ◌≢◌, ◌<◌, ◌≤◌, ◌+◌, ◌-◌, [], ◌++◌, IfOk, IsTrue, List, MatchBool, MatchOption, Some, drop, length, slice_get, take, ℕ};
 ghost use Rattle.pf_values.specs.Arg.{argument_of};
-ghost use Rattle.pf_values.specs.Candidates.{neutral};
+ghost use Rattle.pf_values.specs.Candidates.{candidates, neutral};
 ghost use Rattle.pf_values.specs.declared.models.Model.TheVariants.{Lp64};
 ghost use Rattle.pf_values.specs.declared.types.ArgType.{ArgType};
-ghost use Rattle.pf_values.specs.meaning.Arguments.{HasType};
+ghost use Rattle.pf_values.specs.meaning.Arguments.{Argument, HasType};
 ghost use Rattle.pf_values.specs.meaning.DataModel.{arg_type};
 ghost use Rattle.pf_values.specs.meaning.Items.{HasItems, Item, Reads, types};
+ghost use Rattle.pf_values.specs.meaning.Text.{Text};
 ghost use Rattle.pf_probes.specs.Candidate as probes;
 ghost use Rattle.pf_compare.specs.Answers.{FindsProbe, HaveSameTypes};
-ghost use Rattle.pf_compare.specs.Spans.{AreTriedBelow, ReplacementsEqual, ReplacementsDiffer, FindsUnlike, IsSpanIn, PrintOneText, PrintUnlikeNeutral, replace_span};
+ghost use Rattle.pf_compare.specs.Spans.{AreNextSpans, AreTriedBelow, HaveGivenSpans, ReplacementsEqual, ReplacementsDiffer, FindsUnlike, IsSpanIn, PrintOneText, PrintUnlikeNeutral, replace_span};
 ghost use Rattle.pf_compare.specs.CandidateStrings.{IsCandidateString};
 ghost use Rattle.pf_compare.specs.Lone.{AreToldApartAt, DifferInOne, span_alone};
-ghost use Rattle.pf_compare.specs.Witnesses.{AwaitsCandidate, FindsWitness, HasCandidate, IsWitnessAt};
+ghost use Rattle.pf_compare.specs.Owned.{argument_of_owned, type_of_owned};
+ghost use Rattle.pf_compare.specs.Witnesses.{AreArgumentsOf, AreConverted, AreNeutral, DifferBy};
 
+use crate::comparisons::Difference;
 use crate::differences::{LoneDifference, are_equal, are_unlike};
 use crate::neutral_texts::{PrintedSpan, Spans, neutral_text, neutrals_of, print};
 use crate::owned_args::OwnedArg;
@@ -22,39 +25,35 @@ use pf_probes::{Candidate, candidate_row};
 use pf_values::{Arg, ArgType, Directive, Model};
 use std::alloc::{AllocError, Global};
 
-/// Arguments for which two formats print different bytes, and the number of the candidate that is
-/// among them, counted from 1.
-#[derive(Drop)]
-pub(crate) struct Witness {
-    pub(crate) args: Vec<OwnedArg>,
-    pub(crate) renderings: u8,
+/// Neutral arguments, except for one.
+#[derive(Clone, Copy, Debug, PartialEq, Eq)]
+pub struct Probe {
+    /// The index of that argument, counted from 0.
+    pub index: usize,
+    /// The argument, which is a candidate of its type.
+    pub argument: OwnedArg,
+    /// The number of the candidate in the row of its type, counted from 1.
+    pub renderings: u8,
 }
 
-/// The first probe for which two formats of equal types print different bytes.
-pub(crate) fn first_witness(
-    alloc: Global,
-    model: Model,
-    first: &[u8],
-    second: &[u8],
-) -> Result<Option<Witness>, AllocError>
-    requires { HaveSameTypes model first.now second.now }
-    ensures { IfOk result (λ found. (xs ys : List Item)
-        → Reads first.now xs → Reads second.now ys → FindsWitness model xs ys found) }
+// The probe of a candidate of a type.
+fn probe_of(model: Model, index: usize, wanted: ArgType, candidate_index: usize) -> Probe
+    requires { (argument : Argument) × (slice_get (candidates model wanted) candidate_index ≡ Some argument) }
+    ensures index { result.index ≡ index }
+    ensures candidate { slice_get (candidates model wanted) candidate_index
+        ≡ Some (argument_of_owned result.argument) }
+    ensures arg_type { type_of_owned result.argument ≡ wanted }
+    ensures renderings { result.renderings ≡ candidate_index + 1 }
 {
-    let Some(whole) = common_text(alloc, model, first, second)? else {
-        return Ok(Some(Witness {
-            args: neutrals_of(alloc, model, first)?,
-            renderings: 1,
-        }));
-    };
-    match first_probe(alloc, model, first, second, &whole)? {
-        Some(probe) => Ok(Some(witness_of(alloc, model, first, probe)?)),
-        None => Ok(None),
+    Probe {
+        index,
+        argument: OwnedArg::of(wanted, candidate_row(model, wanted)[candidate_index]),
+        renderings: candidate_index as u8 + 1,
     }
 }
 
-// What two formats of equal types print for neutral arguments, if it is the same.
-fn common_text(
+/// What two formats of equal types print for neutral arguments, if it is the same.
+pub(crate) fn common_text(
     alloc: Global,
     model: Model,
     first: &[u8],
@@ -72,70 +71,56 @@ fn common_text(
     Ok(Some(whole))
 }
 
-fn witness_of(
-    alloc: Global,
+/// The difference of two formats that differ in one directive alone, of the candidate that tells the two
+/// directives apart.
+pub(crate) fn lone_probe(
     model: Model,
-    first: &[u8],
-    probe: Probe,
-) -> Result<Witness, AllocError>
-    requires { (xs : List Item) × HasItems first.now xs × HasCandidate model (types model xs) probe }
-    ensures { IfOk result (λ witness. (xs : List Item) → Reads first.now xs
-        → IsWitnessAt model (types model xs) probe witness) }
-{
-    Ok(with_candidate(model, neutrals_of(alloc, model, first)?, probe))
-}
-
-/// Arguments for which two formats print different bytes that differ in one directive alone, of the
-/// candidate that tells the two directives apart.
-pub(crate) fn witness_at(
-    alloc: Global,
-    model: Model,
-    first: &[u8],
     difference: &LoneDifference,
     candidate_index: usize,
-) -> Result<Witness, AllocError>
+) -> Difference
     requires one_type { arg_type model difference.now.first ≡ arg_type model difference.now.second }
-    requires first { (xs ys : List Item) × HasItems first.now xs × DifferInOne xs ys difference.now }
     requires found { AreToldApartAt model difference.now candidate_index }
-    ensures { IfOk result (λ witness. (xs ys : List Item)
-        → Reads first.now xs → DifferInOne xs ys difference.now → FindsWitness model xs ys (Some witness)) }
+    ensures { (xs ys : List Item) → DifferInOne xs ys difference.now → DifferBy model xs ys result }
 {
-    let probe = Probe {
-        index: difference.index,
+    if candidate_index == 0 {
+        return Difference::Neutral;
+    }
+    Difference::Probe(probe_of(
+        model,
+        difference.index,
+        difference.first.arg_type(model),
         candidate_index,
-    };
-    Ok(with_candidate(model, neutrals_of(alloc, model, first)?, probe))
+    ))
+}
+
+/// Returns the arguments of a probe for an accepted format. `Err` if memory is refused.
+pub fn arguments_of<T: From<OwnedArg> + Drop>(
+    alloc: Global,
+    model: Model,
+    text: &[u8],
+    probe: Probe,
+) -> Result<Vec<T>, AllocError>
+    requires { (items : List Item) × HasItems text.now items × (probe.index < length (types model items)) }
+    ensures { IfOk result (λ args. (items : List Item) → Reads text.now items
+        → AreConverted T.from_gives (AreArgumentsOf (types model items) probe) args.items) }
+{
+    Ok(with_candidate(neutrals_of(alloc, model, text)?, probe))
 }
 
 // The arguments of a probe, of neutral ones.
-fn with_candidate(model: Model, args: Vec<OwnedArg>, probe: Probe) -> Witness
-    requires { (ts : List ArgType) × AwaitsCandidate model ts args.items probe }
-    ensures { (ts : List ArgType) → AwaitsCandidate model ts args.items probe
-        → IsWitnessAt model ts probe result }
+fn with_candidate<T: From<OwnedArg> + Drop>(args: Vec<T>, probe: Probe) -> Vec<T>
+    requires { probe.index < length args.items }
+    ensures { (ts : List ArgType) → AreConverted T.from_gives (AreNeutral ts) args.items
+        → AreConverted T.from_gives (AreArgumentsOf ts probe) result.items }
 {
     let mut args = args;
-    let arg_type = args[probe.index].as_arg().arg_type();
-    args[probe.index] = OwnedArg::of(
-        arg_type,
-        candidate_row(model, arg_type)[probe.candidate_index],
-    );
-    Witness {
-        args,
-        renderings: probe.candidate_index as u8 + 1,
-    }
+    args[probe.index] = T::from(probe.argument);
+    args
 }
 
-/// All arguments are neutral, except the one with this index: it is the candidate with
-/// `candidate_index` in the row of its type.
-#[derive(Clone, Copy)]
-pub(crate) struct Probe {
-    pub(crate) index: usize,
-    pub(crate) candidate_index: usize,
-}
-
-// The first probe for which two formats print different bytes. They print the same for neutral
-// arguments, so what each prints for a probe differs from that in one span alone.
-fn first_probe(
+/// The first probe for which two formats print different bytes. They print the same for neutral
+/// arguments, so what each prints for a probe differs from that in one span alone.
+pub(crate) fn first_probe(
     alloc: Global,
     model: Model,
     first: &[u8],
@@ -149,21 +134,38 @@ fn first_probe(
     let mut first_spans = Spans::new(first);
     let mut second_spans = Spans::new(second);
     let mut index = 0;
-    while let Some(first_span) = first_spans.next(alloc, model)? {
-        let Some(second_span) = second_spans.next(alloc, model)? else {
-            unreachable!();
-        };
-        match first_candidate(alloc, model, whole, &first_span, &second_span)? {
+    while let Some((one, two)) = next_spans(alloc, model, &mut first_spans, &mut second_spans)? {
+        match first_candidate(alloc, model, whole, &one, &two)? {
             Some(candidate_index) => {
-                return Ok(Some(Probe {
-                    index,
-                    candidate_index,
-                }));
+                let wanted = one.directive.arg_type(model);
+                return Ok(Some(probe_of(model, index, wanted, candidate_index)));
             }
             None => index += 1,
         }
     }
     Ok(None)
+}
+
+// The next spans of two formats that print one text for neutral arguments, or none at the end of both.
+fn next_spans(
+    alloc: Global,
+    model: Model,
+    first: &mut Spans<'_>,
+    second: &mut Spans<'_>,
+) -> Result<Option<(PrintedSpan, PrintedSpan)>, AllocError>
+    requires { (t u whole : Text) × (count : ℕ) × PrintOneText model t u whole
+        × HaveGivenSpans model first.old t count × HaveGivenSpans model second.old u count }
+    ensures { IfOk result (λ found. (t u whole : Text) (count : ℕ) (r : PrintOneText model t u whole)
+        → HaveGivenSpans model first.old t count → HaveGivenSpans model second.old u count
+        → AreNextSpans model t u whole r count first.new second.new found) }
+{
+    let Some(one) = first.next(alloc, model)? else {
+        return Ok(None);
+    };
+    let Some(two) = second.next(alloc, model)? else {
+        unreachable!();
+    };
+    Ok(Some((one, two)))
 }
 
 // The index of the first candidate for which the bytes of two directives, put into their spans, make

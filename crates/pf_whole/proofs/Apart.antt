@@ -23,7 +23,7 @@ use Rattle.pf_whole.proofs.SomeTrace.{call_of, known_printed, some_trace, trace_
 use Rattle.pf_whole.proofs.SpelledNormally.{opaque_normally}
 use Rattle.pf_whole.proofs.TraceLemmas.{calls_back, known_count, length_map, traces_of_alike, traces_sym}
 use Rattle.pf_whole.proofs.TwoValues.{whole_neutrals_typed, whole_neutrals}
-use Rattle.pf_whole.proofs.ZipLemmas.{zip_append}
+use Rattle.pf_compare.proofs.ListLemmas.{zip_append}
 
 -- what has the same normal spelling takes the same types
 pub spelling_types : (model : Model) (t u : Text) (s p : OpaqueItem) → SpellsOpaqueItem t s → SpellsOpaqueItem u p

@@ -16,6 +16,7 @@ use Rattle.pf_whole.specs.Calls.{CallsDiffer, IsCallNext, IsNextCall}
 use Rattle.pf_whole.specs.meaning.NormalSpellings.{normal_spelling}
 use Rattle.pf_whole.specs.meaning.Traces.{PlacedCall, placed_calls}
 use Rattle.pf_whole.proofs.CallLemmas.{after_same}
+use Rattle.pf_whole.proofs.HeadLemmas.{first_items}
 
 pub record IsCallsUpTo (model : Model) (t u : Text) (one two : Rest) : Type 0 where
   pub a : Stretches
@@ -63,7 +64,11 @@ next_of model t (Before items s later) rest call after h =
       calls_are = ap₂ (λ c l. c ∷ l) (ap₂ (call_at model) (sym h.index_is) same) (ap (λ n. placed_calls model n later) (sym h.after_is));
     }
 
--- no call is left
+-- no call is left: the last stretch
+pub last_of : (model : Model) (t : Text) (left : Stretches) (rest : Rest) → IsNextCall model t left rest None → left ≡ Last (first_items left)
+last_of model t (Last items) rest h = refl
+last_of model t (Before items s later) rest h = absurd h
+
 pub no_next : (model : Model) (t : Text) (left : Stretches) (rest : Rest) → IsNextCall model t left rest None → placed_calls model rest.index left ≡ []
 no_next model t (Last items) rest h = refl
 no_next model t (Before items s later) rest h = absurd h

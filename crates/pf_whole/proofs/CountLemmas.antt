@@ -36,6 +36,11 @@ pub counted : (model : Model) (t : Text) (known : List WholeArgType) (n : ℕ) �
     → (others : List WholeArgType) × HasArguments model t others × (n ≡ length others) → n ≡ length known
 counted model t known n h g = g.2 ∙ ap length (one_list model t g.0 known g.1 h)
 
+-- no bytes, no items
+pub no_items : (t : Text) (items : List Item) → Reads t items → length t ≡ 0 → items ≡ []
+no_items t [] h e = refl
+no_items t (x ∷ items) h e = absurd (omega (arith, items_few t (x ∷ items) h, e))
+
 types_few : (model : Model) (items : List Item) → length (types model items) ≤ length items
 types_few model [] = omega arith
 types_few model (Byte byte ∷ items) = omega (arith, types_few model items)
@@ -92,10 +97,6 @@ none_more start before after count left h g few some =
     let n : (count - left) + 1 ≡ count - (left - 1) = omega (arith, few, some) in
     g ∙ ap (λ l. l ++ None ∷ []) h ∙ append_assoc start (replicate (count - left) None) (None ∷ [])
     ∙ ap (λ l. start ++ l) (replicate-append-replicate (count - left) 1 None ∙ ap (λ k. replicate k None) n)
-
-pub no_items : {X : Type 0} (xs : List X) → length xs ≡ 0 → xs ≡ []
-no_items [] e = refl
-no_items (x ∷ xs) e = absurd (omega (arith, e))
 
 -- the elements at the front of a slice that has room for them
 taken_front : {X : Type 0} (old more : List X) → length more ≤ length old → take (length more) (filled old more) ≡ more

@@ -29,7 +29,7 @@ pub record IsComparedUpTo (model : Model) (a b left more : Stretches) (shown : L
 pub compared_from : (model : Model) (a b : Stretches) → IsComparedUpTo model a b a b [] false
 compared_from model a b = record { neutral = λ h. h; goes_on = (λ back h. h, λ h. h) }
 
-join : {X : Type 0} (shown first own back : List X) → shown ++ (first ++ (own ++ back)) ≡ ((shown ++ first) ++ own) ++ back
+pub join : {X : Type 0} (shown first own back : List X) → shown ++ (first ++ (own ++ back)) ≡ ((shown ++ first) ++ own) ++ back
 join shown first own back =
     sym (append_assoc shown first (own ++ back)) ∙ sym (append_assoc (shown ++ first) own back)
 

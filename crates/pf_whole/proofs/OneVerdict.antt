@@ -40,7 +40,7 @@ use Rattle.pf_whole.specs.meaning.WholeArguments.{WholeArgument, Known, HasNarro
 use Rattle.pf_whole.proofs.CallLemmas.{differ_not, differ_once}
 use Rattle.pf_whole.proofs.SomeTrace.{some_trace}
 use Rattle.pf_whole.proofs.TwoValues.{whole_neutral, whole_neutrals, whole_neutrals_typed}
-use Rattle.pf_whole.proofs.ZipLemmas.{zip_append}
+use Rattle.pf_compare.proofs.ListLemmas.{zip_append}
 
 -- arguments that agree with those that are shown
 record CanBeGiven (model : Model) (a : Stretches) (shown : List (Option Argument)) : Type 0 where

@@ -2,7 +2,7 @@
 use Rattle.std.proofs.Common.{◌≡◌, refl}
 use Rattle.pf_values.specs.declared.models.Model.{Model}
 use Rattle.pf_values.specs.meaning.Text.{Text}
-use Rattle.pf_compare.specs.Answers.{IsComparisonOf}
+use Rattle.pf_compare.specs.Answers.{IsComparisonOf, IsVerdict}
 use Rattle.pf_compare.specs.declared.comparisons.Comparison.{Comparison}
 use Rattle.pf_compare.specs.declared.comparisons.Verdict.{Verdict}
 use Rattle.pf_compare.specs.declared.comparisons.Verdict.TheVariants as compared
@@ -10,17 +10,17 @@ use Rattle.pf_whole.specs.Answers.{IsWholeComparisonOf}
 use Rattle.pf_whole.specs.Comparisons.{ProfileCompares, whole_verdict}
 use Rattle.pf_whole.proofs.OneVerdict.{one_verdict}
 use Rattle.pf_whole.proofs.ProfileVerdicts.{profile_same, profile_shown, profile_types}
-use Rattle.pf_whole.proofs.StretchDifferences.{verdict_of_items}
 
-compares : (model : Model) (t u : Text) (comparison : Comparison) → IsComparisonOf model t u comparison → (verdict : Verdict)
-    → comparison.verdict ≡ verdict → IsWholeComparisonOf model t u (whole_verdict verdict)
-compares model t u comparison h compared.Same e = profile_same model t u comparison h e
-compares model t u comparison h (compared.Types index) e = profile_types model t u comparison index h e
-compares model t u comparison h (compared.Args args) e =
-    profile_shown model t u comparison args.items h (λ same. cc)
-    (verdict_of_items model t u comparison (compared.Args args) h.first h.second h e h.accepted_first h.accepted_second)
+compares : (model : Model) (t u : Text) (comparison : Comparison) (h : IsComparisonOf model t u comparison) (verdict : Verdict)
+    → comparison.verdict ≡ verdict → IsVerdict model t u h.first h.second verdict comparison.renderings → IsWholeComparisonOf model t u (whole_verdict verdict)
+compares model t u comparison h compared.Same e is = profile_same model t u h.first h.second h.accepted_first h.accepted_second is.0
+compares model t u comparison h (compared.Types index) e is =
+    profile_types model t u h.first h.second h.accepted_first h.accepted_second (λ alike. let same = h.same.1 alike in cc) index is.0.differ is.0.same
+compares model t u comparison h (compared.Args args) e is =
+    profile_shown model t u h.first h.second h.accepted_first h.accepted_second (λ alike. let same = h.same.1 alike in cc) args.items comparison.renderings
+    is.0 is.2
 
 pub profile_compares : (model : Model) → ProfileCompares model
 profile_compares model t u comparison h =
-    let is = compares model t u comparison h comparison.verdict refl in
+    let is = compares model t u comparison h comparison.verdict refl h.verdict in
     (is, λ other k. one_verdict model t u other (whole_verdict comparison.verdict) k is)

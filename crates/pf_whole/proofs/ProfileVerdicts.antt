@@ -1,34 +1,36 @@
 -- What a comparison of the profile answers, as a verdict on the whole texts.
-use Rattle.std.proofs.Common.{◌≡◌, ◌≢◌, ℕ, zero, suc, ◌<◌, true, false, List, [], ◌∷◌, map, refl, sym, ap, ◌∙◌, arith, subst, inl, inr}
+use Rattle.std.proofs.Common.{◌≡◌, ◌≢◌, ℕ, zero, suc, ◌<◌, List, [], ◌∷◌, map, refl, sym, ap, ◌∙◌, arith, subst, inl, inr}
 use Rattle.std.specs.Global.{Vec}
-use Rattle.std.specs.Prelude.{Some, slice_get, take, ◌⊎◌}
+use Rattle.std.specs.Prelude.{Option, Some, slice_get, take, ◌⊎◌}
 use Rattle.std.specs.List.{AllZip}
 use Rattle.pf_values.specs.declared.models.Model.{Model}
 use Rattle.pf_values.specs.declared.types.ArgType.{ArgType}
 use Rattle.pf_values.specs.meaning.Items.{HasItems, Item, IsAccepted, types}
 use Rattle.pf_values.specs.meaning.Text.{Text}
-use Rattle.pf_compare.specs.Answers.{FaultForCompare, IsComparisonOf, IsNeutralProbe, IsOtherProbe, PrintUnlike}
-use Rattle.pf_compare.specs.declared.comparisons.Comparison.{Comparison}
+use Rattle.pf_compare.specs.Answers.{FaultForCompare, IsDifferenceOf, IsNeutralProbe, IsOtherProbe, IsShown, PrintUnlike}
 use Rattle.pf_compare.specs.declared.comparisons.CompareFault.TheVariants as faults
-use Rattle.pf_compare.specs.declared.comparisons.Verdict.TheVariants as compared
+use Rattle.pf_compare.specs.declared.comparisons.Difference.{Difference}
+use Rattle.pf_compare.specs.declared.comparisons.Difference.TheVariants as differences
 use Rattle.pf_compare.specs.declared.owned_args.OwnedArg.{OwnedArg}
 use Rattle.pf_compare.specs.Owned.{argument_of_owned, type_of_owned}
+use Rattle.pf_compare.proofs.VerdictLemmas.{neutral_shown, probe_shown, probe_typed}
+use Rattle.pf_values.specs.meaning.Printing.{AreEquivalent}
 use Rattle.pf_posix.specs.Stretches.{IsUnnumberedAccepted, Stretches, Last, ReadsStretches, whole_types}
 use Rattle.pf_posix.specs.Types.{widened}
 use Rattle.pf_posix.proofs.ReadOnce.{read_once}
-use Rattle.pf_whole.specs.Answers.{HaveOneShape, IsWholeComparisonOf, IsWholeVerdict, WholeVerdict, Same, TypesDiffer, Different, ShowsNeutral}
-use Rattle.pf_whole.specs.Comparisons.{FaultForWholeCompare, GivesArguments, HasShownType, IsComparison, IsVerdictOf, ShowsArguments, ShowsDifference, shown_as}
-use Rattle.pf_whole.specs.Laws.{Correspond}
+use Rattle.pf_whole.specs.Answers.{HaveOneShape, IsWholeComparisonOf, IsWholeVerdict, WholeVerdict, Same, TypesDiffer, Different, ShowsNeutral, ShowsProbe}
+use Rattle.pf_whole.specs.Comparisons.{FaultForWholeCompare, HasShownType, IsComparison, IsVerdictOf, ShowDifference, ShowsArguments, ShowsDifference, shown_as}
+use Rattle.pf_whole.specs.Laws.{CoincidesWithProfile, Correspond}
 use Rattle.pf_whole.specs.declared.verdicts.WholeVerdict as declared
 use Rattle.pf_whole.specs.declared.verdicts.WholeVerdict.TheVariants as verdicts
 use Rattle.pf_whole.specs.meaning.Traces.{AreWholeAlike}
 use Rattle.pf_whole.proofs.AnswerLemmas.{comparison_is}
 use Rattle.pf_whole.proofs.Corresponding.{alike_is_corresponding}
 use Rattle.pf_whole.proofs.FindingLemmas.{shows_neutral, shows_probe}
-use Rattle.pf_whole.proofs.FindingLoops.{compared_from}
+use Rattle.pf_whole.proofs.FindingLoops.{compared_from, ends_with_probe}
 use Rattle.pf_whole.proofs.ProfileTexts.{profile_coincides}
-use Rattle.pf_whole.proofs.ShownLoops.{compared_end, neutral_end, typed_end, typed_from}
-use Rattle.pf_whole.proofs.StretchDifferences.{telling_probe, verdict_of_items}
+use Rattle.pf_whole.proofs.ShownLoops.{neutral_end, some_shown, typed_end, typed_from}
+use Rattle.pf_whole.proofs.StretchDifferences.{telling_probe}
 use Rattle.pf_whole.proofs.VerdictLemmas.{same_verdict}
 
 -- types that are widened differ where they do
@@ -54,79 +56,6 @@ widened_before (x ∷ xs) (y ∷ ys) (suc i) (suc k) e h = widened_before xs ys 
 accepted_whole : (t : Text) → IsAccepted t → IsUnnumberedAccepted t
 accepted_whole t h = record { stretches = Last h.0; reads = h.1.reads; limit = h.1.limit }
 
-first_accepted : (model : Model) (t u : Text) (comparison : Comparison) → IsComparisonOf model t u comparison → IsAccepted t
-first_accepted model t u comparison h = (h.first, h.accepted_first)
-
-second_accepted : (model : Model) (t u : Text) (comparison : Comparison) → IsComparisonOf model t u comparison → IsAccepted u
-second_accepted model t u comparison h = (h.second, h.accepted_second)
-
-apart : (model : Model) (t u : Text) (comparison : Comparison) → IsComparisonOf model t u comparison → comparison.verdict ≢ compared.Same
-    → ¬ AreWholeAlike model t u
-apart model t u comparison h other = λ alike.
-    let both = profile_coincides model t u (first_accepted model t u comparison h) (second_accepted model t u comparison h) in
-    other (h.same.1 (both.alike.0 alike))
-
-pub profile_same : (model : Model) (t u : Text) (comparison : Comparison) → IsComparisonOf model t u comparison → comparison.verdict ≡ compared.Same
-    → IsWholeComparisonOf model t u Same
-profile_same model t u comparison h e =
-    let first = first_accepted model t u comparison h in
-    let second = second_accepted model t u comparison h in
-    same_verdict model t u (accepted_whole t first) (accepted_whole u second) ((profile_coincides model t u first second).alike.1 (h.same.0 e))
-
-verdict_apart : (model : Model) (t u : Text) (comparison : Comparison) (verdict : WholeVerdict) → (h : IsComparisonOf model t u comparison)
-    → comparison.verdict ≢ compared.Same → verdict ≢ Same → IsWholeVerdict model (Last h.first) (Last h.second) verdict → IsWholeComparisonOf model t u verdict
-verdict_apart model t u comparison verdict h other differ is =
-    comparison_is model t u (record { stretches = Last h.first; reads = h.accepted_first.reads; limit = h.accepted_first.limit })
-    (record { stretches = Last h.second; reads = h.accepted_second.reads; limit = h.accepted_second.limit }) verdict
-    (λ e. absurd (differ e), λ alike. absurd (apart model t u comparison h other alike)) is
-
-pub profile_types : (model : Model) (t u : Text) (comparison : Comparison) (index : ℕ) → IsComparisonOf model t u comparison
-    → comparison.verdict ≡ compared.Types index → IsWholeComparisonOf model t u (TypesDiffer index)
-profile_types model t u comparison index h e =
-    let is = verdict_of_items model t u comparison (compared.Types index) h.first h.second h e h.accepted_first h.accepted_second in
-    verdict_apart model t u comparison (TypesDiffer index) h (λ same. cc) (λ same. cc) (
-      λ same. is.0.differ (narrowed_again (types model h.first) (types model h.second) index same),
-      λ k less. widened_before (types model h.first) (types model h.second) index k is.0.same less,
-    )
-
-shown_last : (model : Model) (t u : Text) (comparison : Comparison) (args : List OwnedArg) → (h : IsComparisonOf model t u comparison)
-    → comparison.verdict ≢ compared.Same → HaveOneShape model (Last h.first) (Last h.second)
-    → IsNeutralProbe model h.first h.second (map argument_of_owned args) comparison.renderings
-    ⊎ IsOtherProbe model h.first h.second (map argument_of_owned args) comparison.renderings
-    → ShowsDifference model (Last h.first) (Last h.second) (shown_as (map Some args))
-shown_last model t u comparison args h other shape (inl neutral) =
-    let reads = h.accepted_first.reads in
-    let is = neutral_end model (Last h.first) h.first [] args refl neutral.args_are in
-    let unlike = subst (PrintUnlike model h.first h.second) neutral.args_are neutral.unlike in
-    inl (subst (ShowsNeutral model (Last h.first) (Last h.second)) (sym is)
-    (shows_neutral model t u (Last h.first) (Last h.second) reads h.accepted_second.reads shape unlike))
-shown_last model t u comparison args h other shape (inr probe) =
-    let a = Last h.first in
-    let b = Last h.second in
-    let tells = telling_probe model h.first h.second (map argument_of_owned args) comparison.renderings probe in
-    let differ : ¬ Correspond model a b = λ same.
-    apart model t u comparison h other ((alike_is_corresponding model t u a b h.accepted_first.reads h.accepted_second.reads).1 same) in
-    let telling = compared_end model a b h.first h.second [] args false true (compared_from model a b) (inr (inr (refl, refl, tells))) differ in
-    inr (shows_probe model t u a b (shown_as (map Some args)) h.accepted_first.reads h.accepted_second.reads shape telling)
-
--- what a comparison of the profile says of the arguments that it gives
-abbrev pub IsShownVerdict : (model : Model) (t u : Text) → (comparison : Comparison) → IsComparisonOf model t u comparison → List OwnedArg → Type 0
-IsShownVerdict model t u comparison h args = (types model h.first ≡ types model h.second) × (map type_of_owned args ≡ types model h.first)
-    × (IsNeutralProbe model h.first h.second (map argument_of_owned args) comparison.renderings
-    ⊎ IsOtherProbe model h.first h.second (map argument_of_owned args) comparison.renderings)
-
-pub profile_shown : (model : Model) (t u : Text) (comparison : Comparison) (args : List OwnedArg) → (h : IsComparisonOf model t u comparison)
-    → comparison.verdict ≢ compared.Same → IsShownVerdict model t u comparison h args → IsWholeComparisonOf model t u (Different (shown_as (map Some args)))
-profile_shown model t u comparison args h other is =
-    verdict_apart model t u comparison (Different (shown_as (map Some args))) h other (λ same. cc)
-    (ap (map widened) is.0, refl, shown_last model t u comparison args h other is.0 is.2)
-
-pub profile_typed : (model : Model) (t u : Text) (comparison : Comparison) (args : List OwnedArg) → (h : IsComparisonOf model t u comparison)
-    → IsShownVerdict model t u comparison h args → (a : Stretches) → ReadsStretches t a → AllZip HasShownType (map Some args) (whole_types model a)
-profile_typed model t u comparison args h is a reads =
-    subst (λ z. AllZip HasShownType (map Some args) (whole_types model z)) (read_once t (Last h.first) a h.accepted_first.reads reads)
-    (typed_end model (Last h.first) h.first [] args (typed_from model (Last h.first)) is.1)
-
 last_shape : (model : Model) (t u : Text) (xs ys : List Item) (a b : Stretches) → HasItems t xs → HasItems u ys → types model xs ≡ types model ys
     → ReadsStretches t a → ReadsStretches u b → HaveOneShape model a b
 last_shape model t u xs ys a b h g same k l =
@@ -144,38 +73,110 @@ profile_memory model t u h =
           (sym h.0.first.types_are ∙ h.0.second.types_are) k l,
     )
 
-module _ (model : Model) (t u : Text) (comparison : Comparison) (h : IsComparisonOf model t u comparison) where
-  -- arguments of the profile are all shown
-  shown_of : (args : Vec OwnedArg) → comparison.verdict ≡ compared.Args args → IsShownVerdict model t u comparison h args.items
-  shown_of args e = verdict_of_items model t u comparison (compared.Args args) h.first h.second h e h.accepted_first h.accepted_second
+-- two texts of the profile, and their items
+module _ (model : Model) (t u : Text) (xs ys : List Item) (g : HasItems t xs) (h : HasItems u ys) where
+  both_coincide : CoincidesWithProfile model t u
+  both_coincide = profile_coincides model t u (xs, g) (ys, h)
 
-  pub profile_is : (verdict : declared.WholeVerdict) → IsVerdictOf comparison.verdict verdict → IsComparison model t u verdict
-  profile_is verdicts.Same e = record { is = profile_same model t u comparison h e; typed = tt }
-  profile_is (verdicts.Types index) e = record { is = profile_types model t u comparison index h e; typed = tt }
-  profile_is (verdicts.Directives index) e = absurd e
-  profile_is (verdicts.Args shown) (args, e, all) =
-      let given = shown_of args e in
+  pub profile_same : AreEquivalent model t u → IsWholeComparisonOf model t u Same
+  profile_same same = same_verdict model t u (accepted_whole t (xs, g)) (accepted_whole u (ys, h)) (both_coincide.alike.1 same)
+
+  module _ (other : ¬ AreEquivalent model t u) where
+    apart : ¬ AreWholeAlike model t u
+    apart = λ alike. other (both_coincide.alike.0 alike)
+
+    verdict_apart : (verdict : WholeVerdict) → verdict ≢ Same → IsWholeVerdict model (Last xs) (Last ys) verdict → IsWholeComparisonOf model t u verdict
+    verdict_apart verdict differ is = comparison_is model t u (record { stretches = Last xs; reads = g.reads; limit = g.limit })
+        (record { stretches = Last ys; reads = h.reads; limit = h.limit }) verdict
+        (λ e. absurd (differ e), λ alike. absurd (apart alike)) is
+
+    pub profile_types : (index : ℕ) → slice_get (types model xs) index ≢ slice_get (types model ys) index
+        → take index (types model xs) ≡ take index (types model ys) → IsWholeComparisonOf model t u (TypesDiffer index)
+    profile_types index differ same = verdict_apart (TypesDiffer index) (λ e. cc) (
+      λ e. differ (narrowed_again (types model xs) (types model ys) index e),
+      λ k less. widened_before (types model xs) (types model ys) index k same less,
+    )
+
+    -- arguments of the profile are all shown
+    shown_last : (args : List OwnedArg) (renderings : ℕ) → HaveOneShape model (Last xs) (Last ys)
+        → IsNeutralProbe model xs ys (map argument_of_owned args) renderings ⊎ IsOtherProbe model xs ys (map argument_of_owned args) renderings
+        → ShowsDifference model (Last xs) (Last ys) (shown_as (map Some args))
+    shown_last args renderings shape (inl neutral) =
+        let is = neutral_end model (Last xs) xs [] args refl neutral.args_are in
+        let unlike = subst (PrintUnlike model xs ys) neutral.args_are neutral.unlike in
+        inl (subst (ShowsNeutral model (Last xs) (Last ys)) (sym is)
+        (shows_neutral model t u (Last xs) (Last ys) g.reads h.reads shape unlike))
+    shown_last args renderings shape (inr probe) =
+        let tells = telling_probe model xs ys (map argument_of_owned args) renderings probe in
+        let differ : ¬ Correspond model (Last xs) (Last ys) = λ same.
+        apart ((alike_is_corresponding model t u (Last xs) (Last ys) g.reads h.reads).1 same) in
+        let telling = ends_with_probe model (Last xs) (Last ys) xs ys [] (map argument_of_owned args)
+        (compared_from model (Last xs) (Last ys)) tells in
+        inr (subst (ShowsProbe model (Last xs) (Last ys)) (sym (some_shown args))
+        (shows_probe model t u (Last xs) (Last ys) (map Some (map argument_of_owned args)) g.reads h.reads shape telling))
+
+    pub profile_shown : (args : List OwnedArg) (renderings : ℕ) → types model xs ≡ types model ys
+        → IsNeutralProbe model xs ys (map argument_of_owned args) renderings ⊎ IsOtherProbe model xs ys (map argument_of_owned args) renderings
+        → IsWholeComparisonOf model t u (Different (shown_as (map Some args)))
+    profile_shown args renderings same is = verdict_apart (Different (shown_as (map Some args))) (λ e. cc)
+        (ap (map widened) same, refl, shown_last args renderings same is)
+
+  profile_typed : (args : List OwnedArg) → map type_of_owned args ≡ types model xs → (a : Stretches) → ReadsStretches t a
+      → AllZip HasShownType (map Some args) (whole_types model a)
+  profile_typed args is a reads =
+      subst (λ z. AllZip HasShownType (map Some args) (whole_types model z)) (read_once t (Last xs) a g.reads reads)
+      (typed_end model (Last xs) xs [] args (typed_from model (Last xs)) is)
+
+-- in what one text of the profile differs from another one, and a verdict on that
+module _ (model : Model) (t u : Text) where
+  other_than : (difference : Difference) → IsDifferenceOf model t u difference → difference ≢ differences.Nowhere → ¬ AreEquivalent model t u
+  other_than difference h other = λ same. other (h.same.1 same)
+
+  shown_is : (difference : Difference) (h : IsDifferenceOf model t u difference) (shown : Vec (Option OwnedArg)) (args : List OwnedArg)
+      → ShowDifference model h.first difference args → shown.items ≡ map Some args → IsComparison model t u (verdicts.Args shown)
+  shown_is differences.Nowhere h shown args is all = absurd is
+  shown_is (differences.Types index) h shown args is all = absurd is
+  shown_is differences.Neutral h shown args is all = record {
+    is = subst (λ l. IsWholeComparisonOf model t u (Different (shown_as l))) (sym all)
+        (profile_shown model t u h.first h.second h.accepted_first h.accepted_second (other_than differences.Neutral h (λ e. cc)) args 1 h.is.0
+        (inl (neutral_shown model h.first h.second args h.is.1 is)));
+    typed = λ a k. subst (λ l. AllZip HasShownType l (whole_types model a)) (sym all)
+        (profile_typed model t u h.first h.second h.accepted_first h.accepted_second args is.types_are a k);
+  }
+  shown_is (differences.Probe probe) h shown args is all = record {
+    is = subst (λ l. IsWholeComparisonOf model t u (Different (shown_as l))) (sym all)
+        (profile_shown model t u h.first h.second h.accepted_first h.accepted_second (other_than (differences.Probe probe) h (λ e. cc)) args
+        probe.renderings h.is.0
+        (inr (probe_shown model h.first h.second args probe h.is.1 h.is.2 is)));
+    typed = λ a k. subst (λ l. AllZip HasShownType l (whole_types model a)) (sym all)
+        (profile_typed model t u h.first h.second h.accepted_first h.accepted_second args
+        (probe_typed model h.first h.second args probe h.is.1 h.is.2 is) a k);
+  }
+
+  pub profile_is : (difference : Difference) → IsDifferenceOf model t u difference → (verdict : declared.WholeVerdict)
+      → IsVerdictOf model t difference verdict → IsComparison model t u verdict
+  profile_is difference h verdicts.Same e = record {
+    is = profile_same model t u h.first h.second h.accepted_first h.accepted_second (h.same.0 e);
+    typed = tt;
+  }
+  profile_is difference h (verdicts.Types index) e =
+      let k : IsDifferenceOf model t u (differences.Types index) = subst (IsDifferenceOf model t u) e h in
       record {
-        is = subst (λ l. IsWholeComparisonOf model t u (Different (shown_as l))) (sym all)
-            (profile_shown model t u comparison args.items h (λ same. cc) given);
-        typed = λ a k. subst (λ l. AllZip HasShownType l (whole_types model a)) (sym all)
-            (profile_typed model t u comparison args.items h given a k);
+        is = profile_types model t u k.first k.second k.accepted_first k.accepted_second (other_than (differences.Types index) k (λ e. cc)) index k.is.differ k.is.same;
+        typed = tt;
       }
+  profile_is difference h (verdicts.Directives index) e = absurd e
+  profile_is difference h (verdicts.Args shown) e =
+      let given = e h.first h.accepted_first.reads in
+      shown_is difference h shown given.0 given.1 given.2
 
-  -- arguments need memory, in the profile and so in the whole language
-  pub arguments_need : GivesArguments comparison.verdict → FaultForCompare model t u faults.Memory
-  arguments_need (args, e) = (
-    record {
-      types = types model h.first;
-      first = record { items = h.first; accepted = h.accepted_first; types_are = refl };
-      second = record { items = h.second; accepted = h.accepted_second; types_are = (shown_of args e).0 };
-    },
-    λ alike. let same = h.same.1 alike in cc,
-  )
-
-  pub shown_need : (verdict : declared.WholeVerdict) → IsVerdictOf comparison.verdict verdict → ShowsArguments verdict
-      → FaultForCompare model t u faults.Memory
-  shown_need verdicts.Same e shows = absurd shows
-  shown_need (verdicts.Types index) e shows = absurd shows
-  shown_need (verdicts.Directives index) e shows = absurd shows
-  shown_need (verdicts.Args shown) (args, e, all) shows = arguments_need (args, e)
+  -- a verdict that shows arguments is of a difference that does
+  pub shows_shown : (difference : Difference) → IsDifferenceOf model t u difference → (verdict : declared.WholeVerdict)
+      → IsVerdictOf model t difference verdict → ShowsArguments verdict → IsShown difference
+  shows_shown difference h verdicts.Same e shows = absurd shows
+  shows_shown difference h (verdicts.Types index) e shows = absurd shows
+  shows_shown difference h (verdicts.Directives index) e shows = absurd shows
+  shows_shown differences.Nowhere h (verdicts.Args shown) e shows = (e h.first h.accepted_first.reads).1
+  shows_shown (differences.Types index) h (verdicts.Args shown) e shows = (e h.first h.accepted_first.reads).1
+  shows_shown differences.Neutral h (verdicts.Args shown) e shows = tt
+  shows_shown (differences.Probe probe) h (verdicts.Args shown) e shows = tt

@@ -5,9 +5,8 @@ use Rattle.std.proofs.Common.{
   zero,
   suc,
   drop,
-  Bool,
-  true,
-  false,
+  ◌<◌,
+  ◌≤◌,
   List,
   [],
   ◌∷◌,
@@ -22,16 +21,16 @@ use Rattle.std.proofs.Common.{
   arith,
   subst,
   inl,
-  inr,
 }
-use Rattle.std.specs.Prelude.{Option, Some, None, option_map}
+use Rattle.std.specs.Prelude.{Option, Some, None, option_map, slice_set}
 use Rattle.std.specs.List.{AllZip}
 use Rattle.std.proofs.lemmas.List.{append_assoc, map-append}
+use Rattle.std.proofs.lemmas.Option.{slice_get_within}
+use Rattle.std.proofs.lemmas.Slice.Zip.{AllZip-long}
 use Rattle.pf_values.specs.declared.models.Model.{Model}
 use Rattle.pf_values.specs.declared.types.ArgType.{ArgType}
 use Rattle.pf_values.specs.Candidates.{neutrals}
 use Rattle.pf_values.specs.meaning.Items.{Item, Reads, types}
-use Rattle.pf_values.specs.meaning.Printing.{PrintAlike}
 use Rattle.pf_values.specs.meaning.Text.{Text}
 use Rattle.pf_compare.specs.Answers.{PrintUnlike}
 use Rattle.pf_compare.specs.declared.owned_args.OwnedArg.{OwnedArg}
@@ -42,17 +41,14 @@ use Rattle.pf_posix.specs.Heads.{IsHead}
 use Rattle.pf_posix.specs.Opaque.{OpaqueItem}
 use Rattle.pf_posix.specs.Stretches.{Stretches, Last, Before, ReadsStretches, types_of_opaque, whole_types}
 use Rattle.pf_posix.specs.Types.{widened}
-use Rattle.pf_posix.proofs.ReadOnce.{read_once}
 use Rattle.pf_whole.specs.Answers.{HaveOneShape, neutral_shown}
-use Rattle.pf_whole.specs.Comparisons.{HasShownType, IsShownNext, ShowsDifference, shown_as}
-use Rattle.pf_whole.specs.Findings.{NeutralTells, ShowsTelling, shown_any, shown_neutrals}
-use Rattle.pf_whole.specs.Laws.{Correspond}
+use Rattle.pf_whole.specs.Comparisons.{HasShownType, IsTypedProbe, shown_as, shown_for}
+use Rattle.pf_whole.specs.Findings.{NeutralTells, shown_any, shown_neutrals}
 use Rattle.pf_whole.specs.meaning.NormalSpellings.{normal_spelling}
-use Rattle.pf_whole.proofs.FindingLoops.{IsComparedUpTo, ends_alike, ends_same, ends_with_probe, past_alike, past_probe, past_same}
-use Rattle.pf_whole.proofs.FindingLemmas.{alike_neutrally}
 use Rattle.pf_whole.proofs.HeadLemmas.{between, first_items}
 use Rattle.pf_whole.proofs.Slots.{neutrals_shown}
-use Rattle.pf_whole.proofs.ZipLemmas.{zip_append}
+use Rattle.pf_compare.proofs.ListLemmas.{map_set, set_same, zip_append, zip_set}
+use Rattle.pf_compare.specs.declared.witnesses.Probe.{Probe}
 
 pub some_shown : (args : List OwnedArg) → shown_as (map Some args) ≡ map Some (map argument_of_owned args)
 some_shown [] = refl
@@ -133,82 +129,21 @@ neutral_past model a rest items s shown args count h e n =
     ∙ rw (first, own) (append_assoc (shown_as shown ++ shown_neutrals model items) (shown_any model s) (neutral_shown model rest)
     ∙ append_assoc (shown_as shown) (shown_neutrals model items) (shown_any model s ++ neutral_shown model rest)) ∙ h
 
--- they are neutral while no probe is found
-pub neutral_until : (model : Model) (a rest : Stretches) (xs ys : List Item) (s : OpaqueItem) (shown : List (Option OwnedArg)) (args : List OwnedArg)
-    (count : ℕ) (found now : Bool)
-    → (found ≡ false → IsNeutralUpTo model a (Before xs s rest) shown) → IsShownNext model xs ys found (map argument_of_owned args) now
-    → count ≡ length (types_of_opaque model s) → now ≡ false → IsNeutralUpTo model a rest ((shown ++ map Some args) ++ replicate count None)
-neutral_until model a rest xs ys s shown args count found now h (inl (alike, same, e)) n unfound =
-    neutral_past model a rest xs s shown args count (h (sym e ∙ unfound)) same n
-neutral_until model a rest xs ys s shown args count found now h (inr (inl (was, is, agrees, neutral))) n unfound = cc
-neutral_until model a rest xs ys s shown args count found now h (inr (inr (was, is, tells))) n unfound = cc
-
 pub neutral_end : (model : Model) (a : Stretches) (items : List Item) (shown : List (Option OwnedArg)) (args : List OwnedArg)
     → IsNeutralUpTo model a (Last items) shown → map argument_of_owned args ≡ neutrals (types model items)
     → shown_as (shown ++ map Some args) ≡ neutral_shown model a
 neutral_end model a items shown args h e =
     map-append (option_map argument_of_owned) shown (map Some args) ∙ ap (λ l. shown_as shown ++ l) (neutral_args model items args e) ∙ h
 
--- two stretches more
-pub compared_past : (model : Model) (a b rest more : Stretches) (xs ys : List Item) (s p : OpaqueItem) (shown : List (Option OwnedArg))
-    (args : List OwnedArg)
-    (count : ℕ) (found now : Bool) → IsComparedUpTo model a b (Before xs s rest) (Before ys p more) (shown_as shown) found
-    → IsShownNext model xs ys found (map argument_of_owned args) now → normal_spelling model s ≡ normal_spelling model p
-    → count ≡ length (types_of_opaque model s)
-    → IsComparedUpTo model a b rest more (shown_as ((shown ++ map Some args) ++ replicate count None)) now
-compared_past model a b rest more xs ys s p shown args count found now h next spelling n =
-    let own = any_shown model s count n in
-    let split = shown_more shown (map Some args) (replicate count None) in
-    let neutrally : map argument_of_owned args ≡ neutrals (types model xs)
-    → shown_as ((shown ++ map Some args) ++ replicate count None) ≡ (shown_as shown ++ shown_neutrals model xs) ++ shown_any model s = λ e.
-    split ∙ ap (λ l. (shown_as shown ++ l) ++ shown_as (replicate count None)) (neutral_args model xs args e)
-    ∙ ap (λ l. (shown_as shown ++ shown_neutrals model xs) ++ l) own in
-    elim next [
-      | inl alike ↦ subst (IsComparedUpTo model a b rest more _) (sym alike.2)
-          (subst (λ l. IsComparedUpTo model a b rest more l found) (sym (neutrally alike.1))
-          (past_alike model a b rest more xs ys s p (shown_as shown) found h alike.0 spelling))
-      | inr other ↦ elim other [
-        | inl again ↦
-            let here = subst (IsComparedUpTo model a b (Before xs s rest) (Before ys p more) (shown_as shown)) again.0 h in
-            subst (IsComparedUpTo model a b rest more _) (sym again.1)
-            (subst (λ l. IsComparedUpTo model a b rest more l true) (sym (neutrally again.3))
-            (past_same model a b rest more xs ys s p (shown_as shown) here again.2))
-        | inr probe ↦
-            let here = subst (IsComparedUpTo model a b (Before xs s rest) (Before ys p more) (shown_as shown)) probe.0 h in
-            let same = split ∙ ap (λ l. (shown_as shown ++ l) ++ shown_as (replicate count None)) (some_shown args)
-            ∙ ap (λ l. (shown_as shown ++ map Some (map argument_of_owned args)) ++ l) own in
-            subst (IsComparedUpTo model a b rest more _) (sym probe.1)
-            (subst (λ l. IsComparedUpTo model a b rest more l true) (sym same)
-            (past_probe model a b rest more xs ys s p (shown_as shown) (map argument_of_owned args) here probe.2))
-      ]
-    ]
-
--- the last two stretches: unless all correspond, what is shown tells the whole apart
-pub compared_end : (model : Model) (a b : Stretches) (xs ys : List Item) (shown : List (Option OwnedArg)) (args : List OwnedArg) (found now : Bool)
-    → IsComparedUpTo model a b (Last xs) (Last ys) (shown_as shown) found → IsShownNext model xs ys found (map argument_of_owned args) now
-    → ¬ Correspond model a b → ShowsTelling model a b (shown_as (shown ++ map Some args))
-compared_end model a b xs ys shown args found now h next apart =
-    let split = map-append (option_map argument_of_owned) shown (map Some args) in
-    elim next [
-      | inl alike ↦
-          let same = split ∙ ap (λ l. shown_as shown ++ l) (neutral_args model xs args alike.1) in
-          subst (ShowsTelling model a b) (sym same) (go found h alike.0)
-      | inr other ↦ elim other [
-        | inl again ↦
-            let here = subst (IsComparedUpTo model a b (Last xs) (Last ys) (shown_as shown)) again.0 h in
-            let same = split ∙ ap (λ l. shown_as shown ++ l) (neutral_args model xs args again.3) in
-            subst (ShowsTelling model a b) (sym same) (ends_same model a b xs ys (shown_as shown) here again.2)
-        | inr probe ↦
-            let here = subst (IsComparedUpTo model a b (Last xs) (Last ys) (shown_as shown)) probe.0 h in
-            subst (ShowsTelling model a b) (sym (split ∙ ap (λ l. shown_as shown ++ l) (some_shown args)))
-            (ends_with_probe model a b xs ys (shown_as shown) (map argument_of_owned args) here probe.2)
-      ]
-    ]
-  where
-    go : (found : Bool) → IsComparedUpTo model a b (Last xs) (Last ys) (shown_as shown) found → PrintAlike model xs ys
-        → ShowsTelling model a b (shown_as shown ++ shown_neutrals model xs)
-    go true k alike = ends_same model a b xs ys (shown_as shown) k (alike_neutrally model xs ys alike)
-    go false k alike = absurd (apart (ends_alike model a b xs ys (shown_as shown) k alike))
+-- neutral arguments are shown of a text up to an offset, each of its type
+pub record IsShownNeutrally (model : Model) (t : Text) (at : ℕ) (shown : List (Option OwnedArg)) : Type 0 where
+  pub all : Stretches
+  pub left : Stretches
+  pub reads : ReadsStretches t all
+  pub reads_left : ReadsStretches (drop at t) left
+  pub within : at ≤ length t
+  pub neutral : IsNeutralUpTo model all left shown
+  pub typed : IsTypedUpTo model all left shown
 
 -- neutral arguments are shown, each of its type
 abbrev pub AreShownNeutrally : Model → Stretches → List (Option OwnedArg) → Type 0
@@ -258,14 +193,25 @@ pub other_last : (model : Model) (more : Stretches) (xs : List Item) → HaveOne
 other_last model (Last ys) xs h = refl
 other_last model (Before ys p others) xs h = absurd h
 
--- arguments are shown for which the texts differ, each of its type
-abbrev pub HasShownDifference : Model → Stretches → Stretches → List (Option OwnedArg) → Type 0
-HasShownDifference model a b shown = ShowsDifference model a b (shown_as shown) × AllZip HasShownType shown (whole_types model a)
+-- the arguments of a probe are shown, or neutral ones, each of its type
+abbrev pub IsShownFor : Model → Stretches → Option Probe → List (Option OwnedArg) → Type 0
+IsShownFor model a found shown = (shown_as shown ≡ shown_for model a found) × AllZip HasShownType shown (whole_types model a)
 
--- what holds of one reading holds of each
-pub shown_once : (model : Model) (t u : Text) (a b x y : Stretches) (shown : List (Option OwnedArg)) → ReadsStretches t a
-    → ReadsStretches u b → ReadsStretches t x
-    → ReadsStretches u y
-    → HasShownDifference model a b shown → HasShownDifference model x y shown
-shown_once model t u a b x y shown h g k l is =
-    subst (λ z. HasShownDifference model x z shown) (read_once u b y g l) (subst (λ z. HasShownDifference model z b shown) (read_once t a x h k) is)
+-- one of the neutral arguments becomes that of a probe
+module _ (model : Model) (a : Stretches) (shown : List (Option OwnedArg)) (probe : Probe) (h : AreShownNeutrally model a shown)
+    (typed : IsTypedProbe model a (Some probe)) where
+  pub probe_inside : probe.index < length shown
+  probe_inside = omega (
+    arith,
+    AllZip-long HasShownType shown (whole_types model a) h.1,
+    slice_get_within (whole_types model a) probe.index (widened (type_of_owned probe.argument)) typed,
+  )
+
+  pub probe_set : IsShownFor model a (Some probe) (slice_set shown probe.index (Some probe.argument))
+  probe_set = (
+    map_set (option_map argument_of_owned) shown probe.index (Some probe.argument)
+        ∙ ap (λ l. slice_set l probe.index (Some (argument_of_owned probe.argument))) h.0,
+    subst (AllZip HasShownType (slice_set shown probe.index (Some probe.argument)))
+        (set_same (whole_types model a) probe.index (widened (type_of_owned probe.argument)) typed)
+        (zip_set HasShownType shown (whole_types model a) probe.index (Some probe.argument) (widened (type_of_owned probe.argument)) h.1 refl),
+  )

@@ -2,12 +2,6 @@
 use Rattle.std.proofs.Common.{◌≡◌, List, [], ◌∷◌, ◌++◌, length, arith}
 use Rattle.std.specs.List.{AllZip}
 
-pub zip_append : {A B : Type 0} (R : A → B → Type 0) (xs ys : List A) (a b : List B) → AllZip R xs a → AllZip R ys b → AllZip R (xs ++ ys) (a ++ b)
-zip_append R [] ys [] b h g = g
-zip_append R [] ys (y ∷ a) b h g = absurd h
-zip_append R (x ∷ xs) ys [] b h g = absurd h
-zip_append R (x ∷ xs) ys (y ∷ a) b h g = (h.0, zip_append R xs ys a b h.1 g)
-
 pub zip_parts : {A B : Type 0} (R : A → B → Type 0) (xs ys : List A) (a b : List B) → length xs ≡ length a → AllZip R (xs ++ ys) (a ++ b)
     → AllZip R xs a × AllZip R ys b
 zip_parts R [] ys [] b e h = (tt, h)

@@ -1,6 +1,7 @@
 //! The calls that formats make, and where those of two formats differ first.
 ghost use Rattle.std.specs.Prelude.{◌≤◌, ◌≡◌, List, drop, length};
 ghost use Rattle.pf_posix.specs.declared.types.WholeArgType.{WholeArgType};
+ghost use Rattle.pf_posix.specs.Heads.{IsHead, IsPlaced};
 ghost use Rattle.pf_posix.specs.Items.{HasArguments};
 ghost use Rattle.pf_values.specs.declared.models.Model.{Model as ModelOf};
 ghost use Rattle.pf_posix.specs.OpaqueParts.{amount_of, item_of_opaque};
@@ -9,7 +10,7 @@ ghost use Rattle.pf_posix.specs.Types.{star_fetches};
 ghost use Rattle.pf_whole.specs.Calls.{CallsDiffer, IsNextCall};
 
 use crate::comparison::make_one_call;
-use pf_posix::{Opaque, OpaqueAmount, arguments, next_stretch};
+use pf_posix::{Opaque, OpaqueAmount, Stretch, arguments, next_stretch};
 use pf_values::Model;
 
 /// What the profile lacks, and the place of its call: the index of the first argument.
@@ -54,6 +55,7 @@ pub(crate) fn first_call_difference(model: Model, first: &[u8], second: &[u8]) -
 }
 
 // Returns the next call of an accepted format, and what is left after it.
+#[inline(always)]
 fn next_call(model: Model, text: &[u8], rest: Rest) -> Option<(PlacedOpaque, Rest)>
     requires few { rest.index ≤ rest.at }
     requires within { rest.at ≤ length text.now }
@@ -65,6 +67,25 @@ fn next_call(model: Model, text: &[u8], rest: Rest) -> Option<(PlacedOpaque, Res
     let Some(stretch) = next_stretch(text, rest.at) else {
         unreachable!();
     };
+    call_after(model, text, rest, stretch)
+}
+
+/// Returns the call after the first stretch of what is left of an accepted format, and what is left after it.
+#[inline(always)]
+pub(crate) fn call_after(
+    model: Model,
+    text: &[u8],
+    rest: Rest,
+    stretch: Stretch,
+) -> Option<(PlacedOpaque, Rest)>
+    requires few { rest.index ≤ rest.at }
+    requires within { rest.at ≤ length text.now }
+    requires accepted { IsUnnumberedAccepted text.now }
+    requires placed { IsPlaced text.now rest.at stretch }
+    requires head { (left : Stretches) × IsHead text.now rest.at left stretch }
+    ensures { (left : Stretches) → IsHead text.now rest.at left stretch
+        → IsNextCall model text.now left rest result }
+{
     let Some(opaque) = stretch.opaque else {
         return None;
     };

@@ -23,6 +23,7 @@ pub fn same_text(model: Model, first: &[u8], second: &[u8]) -> Result<bool, (Sid
 }
 
 /// Returns whether two calls have the same normal spelling.
+#[inline(always)]
 pub(crate) fn make_one_call(model: Model, first: Opaque, second: Opaque) -> bool
     ensures { IsTrue result ↔ (normal_spelling model (item_of_opaque first)
         ≡ normal_spelling model (item_of_opaque second)) }
@@ -33,6 +34,7 @@ pub(crate) fn make_one_call(model: Model, first: Opaque, second: Opaque) -> bool
     normal_spelling(model, first).as_slice() == normal_spelling(model, second).as_slice()
 }
 
+#[inline(always)]
 fn are_equal(first: Opaque, second: Opaque) -> bool
     ensures { IsTrue result → first ≡ second }
 {

@@ -1,16 +1,22 @@
 //! How two formats of the whole language compare.
-ghost use Rattle.std.specs.Prelude.{◌≡◌, ◌++◌, [], IfOk, IsTrue, List, MatchResult, None, Some, map, replicate};
+ghost use Rattle.std.specs.Prelude.{◌≡◌, ◌<◌, ◌+◌, ◌^◌, ◌++◌, [], IfOk, IsTrue, List, MatchResult, None, Some, length, map, replicate};
 ghost use Rattle.std.specs.List.{AllZip};
-ghost use Rattle.pf_values.specs.meaning.Items.{HasItems, Item, types};
-ghost use Rattle.pf_compare.specs.Answers.{IsComparisonOf};
+ghost use Rattle.pf_values.specs.meaning.Items.{HasItems, IsAccepted, Item, Reads, types};
+ghost use Rattle.pf_values.specs.meaning.Text.{Text};
+ghost use Rattle.pf_compare.specs.Answers.{IsDifferenceOf, IsShown};
+ghost use Rattle.pf_compare.specs.Witnesses.{AreNeutral};
+ghost use Rattle.pf_compare.specs.declared.owned_args.OwnedArg.{OwnedArg};
 ghost use Rattle.pf_posix.specs.Stretches.{IsUnnumberedAccepted, ReadsStretches, Stretches, whole_types};
 ghost use Rattle.pf_whole.specs.Answers.{HaveOneShape, neutral_shown};
-ghost use Rattle.pf_whole.specs.Comparisons.{AreShownNext, FaultForWholeCompare, GivesArguments, HasShownType, IsComparison, IsDifference, IsShownNeutrally, IsVerdictOf, ShowsDifference, shown_as};
+ghost use Rattle.pf_whole.specs.Comparisons.{FaultForWholeCompare, HasShownType, IsComparison, IsFoundDifference, IsFoundNext, IsStretchDifference, IsTypedProbe, IsVerdictOf, shown_as, shown_for};
 ghost use Rattle.pf_whole.specs.meaning.Traces.{AreWholeAlike};
 
-use crate::calls::{call_argument_count, first_call_difference};
+use crate::calls::{Rest, call_after, call_argument_count, first_call_difference};
 use crate::comparison::same_text;
-use pf_compare::{CompareFault, Comparison, OwnedArg, Verdict, neutrals_of};
+use pf_compare::{
+    CompareFault, Difference, OwnedArg, Probe, arguments_of, first_difference, neutrals_of,
+    push_neutrals,
+};
 use pf_posix::{arguments, fits, next_stretch};
 use pf_values::Model;
 use std::alloc::{AllocError, Global};
@@ -32,15 +38,24 @@ pub enum WholeVerdict {
 }
 
 impl WholeVerdict {
-    /// Returns a verdict of the profile as one of the whole language. `Err` if memory is refused, which
-    /// only arguments need.
-    pub fn of_profile(alloc: Global, verdict: Verdict) -> Result<WholeVerdict, AllocError>
-        ensures { MatchResult result (IsVerdictOf verdict) (λ _. GivesArguments verdict) }
+    /// Returns in what a format of the profile differs from another one, as a verdict of the whole language.
+    /// `Err` if memory is refused, which only arguments need.
+    pub fn of_profile(
+        alloc: Global,
+        model: Model,
+        text: &[u8],
+        difference: Difference,
+    ) -> Result<WholeVerdict, AllocError>
+        requires { (u : Text) × IsDifferenceOf model text.now u difference }
+        ensures { MatchResult result (IsVerdictOf model text.now difference) (λ _. IsShown difference) }
     {
-        match verdict {
-            Verdict::Same => Ok(WholeVerdict::Same),
-            Verdict::Types(index) => Ok(WholeVerdict::Types(index)),
-            Verdict::Args(args) => Ok(WholeVerdict::Args(all_shown(alloc, args)?)),
+        match difference {
+            Difference::Nowhere => Ok(WholeVerdict::Same),
+            Difference::Types(index) => Ok(WholeVerdict::Types(index)),
+            Difference::Neutral => Ok(WholeVerdict::Args(neutrals_of(alloc, model, text)?)),
+            Difference::Probe(probe) => {
+                Ok(WholeVerdict::Args(arguments_of(alloc, model, text, probe)?))
+            }
         }
     }
 }
@@ -57,22 +72,13 @@ pub fn compare(
     ensures { MatchResult result (IsComparison model first.now second.now)
         (FaultForWholeCompare model first.now second.now) }
 {
-    match pf_compare::compare(alloc, model, first, second) {
-        Ok(comparison) => Ok(WholeVerdict::of_profile(alloc, comparison.verdict)?),
+    match first_difference(alloc, model, first, second) {
+        Ok(difference) => Ok(WholeVerdict::of_profile(alloc, model, first, difference)?),
         Err(fault) => match fault {
             CompareFault::Memory => Err(CompareFault::Memory),
             CompareFault::Refused(_, _) => compare_by_stretches(alloc, model, first, second),
         },
     }
-}
-
-// Returns arguments that are all shown.
-fn all_shown(alloc: Global, args: Vec<OwnedArg>) -> Result<Vec<Option<OwnedArg>>, AllocError>
-    ensures { IfOk result (λ shown. shown.items ≡ map Some args.items) }
-{
-    let mut shown = Vec::with_capacity(alloc, args.len())?;
-    push_all(args, &mut shown)?;
-    Ok(shown)
 }
 
 // Compares two formats that the profile may reject.
@@ -113,61 +119,139 @@ fn compare_apart(
     if let Some(index) = first_call_difference(model, first, second) {
         return Ok(WholeVerdict::Directives(index));
     }
-    Ok(WholeVerdict::Args(first_difference(alloc, model, first, second)?))
+    let probe = first_probe(alloc, model, first, second)?;
+    Ok(WholeVerdict::Args(shown_arguments(alloc, model, first, probe)?))
 }
 
-// Returns arguments for which two accepted formats print different bytes, whose types and calls are
-// equal, and which aren't alike.
-fn first_difference(
+// Returns the first probe for which two accepted formats print different bytes, whose types and calls are
+// equal, and which aren't alike. `None` if they do for neutral arguments.
+fn first_probe(
     alloc: Global,
     model: Model,
     first: &[u8],
     second: &[u8],
-) -> Result<Vec<Option<OwnedArg>>, AllocError>
+) -> Result<Option<Probe>, AllocError>
     requires accepted_first { IsUnnumberedAccepted first.now }
     requires accepted_second { IsUnnumberedAccepted second.now }
     requires shape { (a b : Stretches) → ReadsStretches first.now a → ReadsStretches second.now b
         → HaveOneShape model a b }
     requires apart { ¬ AreWholeAlike model first.now second.now }
-    ensures { IfOk result (λ shown. (a b : Stretches) → ReadsStretches first.now a
-        → ReadsStretches second.now b → ShowsDifference model a b (shown_as shown.items)
-        × AllZip HasShownType shown.items (whole_types model a)) }
+    ensures { IfOk result (λ found. (a b : Stretches) → ReadsStretches first.now a
+        → ReadsStretches second.now b → IsFoundDifference model a b found) }
 {
-    let mut shown = room_for_arguments(alloc, model, first)?;
-    let mut is_found = false;
-    let mut at = 0;
+    let mut found = None;
+    let mut rest = Rest { at: 0, index: 0 };
     let mut from = 0;
-    while let Some(stretch) = next_stretch(first, at) {
+    while let Some(stretch) = next_stretch(first, rest.at) {
         let Some(other) = next_stretch(second, from) else {
             unreachable!();
         };
-        match stretch_arguments(
+        match probe_stretches(
             alloc,
             model,
-            &first[at..stretch.end],
+            &first[rest.at..stretch.end],
             &second[from..other.end],
-            is_found,
+            rest.index,
+            found,
         )? {
-            StretchArguments::Neutral => {
-                if is_found {
-                    let none = room_for_arguments(alloc, model, first)?;
-                    return neutral_arguments(alloc, model, first, 0, none);
-                }
-                return neutral_arguments(alloc, model, first, at, shown);
-            }
-            StretchArguments::Shown(args, found) => {
-                push_all(args, &mut shown)?;
-                is_found = found;
-            }
+            Finding::Neutral => return Ok(None),
+            Finding::Probe(now) => found = now,
         }
-        let Some(opaque) = stretch.opaque else {
-            return Ok(shown);
+        let Some((_, after)) = call_after(model, first, rest, stretch) else {
+            return Ok(found);
         };
-        push_any(call_argument_count(opaque), &mut shown)?;
-        at = stretch.after;
+        rest = after;
         from = other.after;
     }
     unreachable!()
+}
+
+// What is found where stretches are compared, one after another.
+#[derive(Clone, Copy)]
+enum Finding {
+    // Neutral arguments tell two stretches apart.
+    Neutral,
+    // They don't, and this is the first probe that does, if there is one by now.
+    Probe(Option<Probe>),
+}
+
+// Compares two stretches of equal types. The first argument of the first one has this index, and this probe
+// tells stretches before them apart.
+fn probe_stretches(
+    alloc: Global,
+    model: Model,
+    first: &[u8],
+    second: &[u8],
+    index: u64,
+    found: Option<Probe>,
+) -> Result<Finding, AllocError>
+    requires types { (xs ys : List Item) × HasItems first.now xs × HasItems second.now ys
+        × (types model xs ≡ types model ys) }
+    requires few { index + length first.now < 2 ^ 64 }
+    ensures { IfOk result (IsFoundNext model first.now second.now index found) }
+{
+    match compare_stretches(alloc, model, first, second)? {
+        Difference::Nowhere => Ok(Finding::Probe(found)),
+        Difference::Types(_) => unreachable!(),
+        Difference::Neutral => Ok(Finding::Neutral),
+        Difference::Probe(probe) => match found {
+            Some(_) => Ok(Finding::Probe(found)),
+            None => Ok(Finding::Probe(Some(Probe {
+                index: index as usize + probe.index,
+                argument: probe.argument,
+                renderings: probe.renderings,
+            }))),
+        },
+    }
+}
+
+// Compares two stretches of equal types. Equal ones need no comparison.
+fn compare_stretches(
+    alloc: Global,
+    model: Model,
+    first: &[u8],
+    second: &[u8],
+) -> Result<Difference, AllocError>
+    requires { (xs ys : List Item) × HasItems first.now xs × HasItems second.now ys
+        × (types model xs ≡ types model ys) }
+    ensures { IfOk result (IsStretchDifference model first.now second.now) }
+{
+    if are_equal(first, second) {
+        return Ok(Difference::Nowhere);
+    }
+    match first_difference(alloc, model, first, second) {
+        Ok(difference) => Ok(difference),
+        Err(_) => Err(AllocError),
+    }
+}
+
+fn are_equal(first: &[u8], second: &[u8]) -> bool
+    ensures { IsTrue result → first.now ≡ second.now }
+{
+    first == second
+}
+
+// Returns the arguments of a probe for an accepted format, or neutral ones.
+fn shown_arguments(
+    alloc: Global,
+    model: Model,
+    text: &[u8],
+    probe: Option<Probe>,
+) -> Result<Vec<Option<OwnedArg>>, AllocError>
+    requires accepted { IsUnnumberedAccepted text.now }
+    requires typed { (a : Stretches) → ReadsStretches text.now a → IsTypedProbe model a probe }
+    ensures { IfOk result (λ shown. (a : Stretches) → ReadsStretches text.now a
+        → (shown_as shown.items ≡ shown_for model a probe)
+        × AllZip HasShownType shown.items (whole_types model a)) }
+{
+    let mut shown = neutral_arguments(alloc, model, text)?;
+    match probe {
+        None => Ok(shown),
+        Some(probe) => {
+            shown[probe.index] = Some(probe.argument);
+            Ok(shown)
+        }
+    }
 }
 
 // Returns room for the arguments of a format.
@@ -184,121 +268,21 @@ fn room_for_arguments(
     }
 }
 
-// The arguments of a stretch that are shown.
-#[derive(Drop)]
-enum StretchArguments {
-    // Neutral arguments tell the stretches apart, so all that is shown is neutral.
-    Neutral,
-    // These arguments, and whether a probe was found by now.
-    Shown(Vec<OwnedArg>, bool),
-}
-
-// Returns the arguments that are shown of the first of two stretches of equal types: those of the first
-// probe that tells them apart, unless one was found before, and otherwise neutral ones.
-fn stretch_arguments(
-    alloc: Global,
-    model: Model,
-    first: &[u8],
-    second: &[u8],
-    is_found: bool,
-) -> Result<StretchArguments, AllocError>
-    requires { (xs ys : List Item) × HasItems first.now xs × HasItems second.now ys
-        × (types model xs ≡ types model ys) }
-    ensures { IfOk result (AreShownNext model first.now second.now is_found) }
-{
-    match compare_stretches(alloc, model, first, second)? {
-        Difference::None => Ok(StretchArguments::Shown(
-            neutrals_of(alloc, model, first)?,
-            is_found,
-        )),
-        Difference::Neutral => Ok(StretchArguments::Neutral),
-        Difference::Probe(args) => {
-            if is_found {
-                return Ok(StretchArguments::Shown(neutrals_of(alloc, model, first)?, is_found));
-            }
-            Ok(StretchArguments::Shown(args, true))
-        }
-    }
-}
-
-// What tells two stretches of equal types apart.
-#[derive(Drop)]
-enum Difference {
-    None,
-    Neutral,
-    Probe(Vec<OwnedArg>),
-}
-
-// Equal ones need no comparison.
-fn compare_stretches(
-    alloc: Global,
-    model: Model,
-    first: &[u8],
-    second: &[u8],
-) -> Result<Difference, AllocError>
-    requires { (xs ys : List Item) × HasItems first.now xs × HasItems second.now ys
-        × (types model xs ≡ types model ys) }
-    ensures { IfOk result (IsDifference model first.now second.now) }
-{
-    if are_equal(first, second) {
-        return Ok(Difference::None);
-    }
-    match pf_compare::compare(alloc, model, first, second) {
-        Ok(comparison) => Ok(difference_of(model, first, second, comparison)),
-        Err(_) => Err(AllocError),
-    }
-}
-
-fn are_equal(first: &[u8], second: &[u8]) -> bool
-    ensures { IsTrue result → first.now ≡ second.now }
-{
-    first == second
-}
-
-fn difference_of(model: Model, first: &[u8], second: &[u8], comparison: Comparison) -> Difference
-    requires compared { IsComparisonOf model first.now second.now comparison }
-    requires types { (xs ys : List Item) × HasItems first.now xs × HasItems second.now ys
-        × (types model xs ≡ types model ys) }
-    ensures { IsDifference model first.now second.now result }
-{
-    let Comparison {
-        verdict,
-        renderings,
-    } = comparison;
-    match verdict {
-        Verdict::Same => Difference::None,
-        Verdict::Types(_) => unreachable!(),
-        Verdict::Args(args) => {
-            if renderings == 1 {
-                Difference::Neutral
-            } else {
-                Difference::Probe(args)
-            }
-        }
-    }
-}
-
-// Returns neutral arguments for an accepted format. Those up to an offset are there.
+// Returns neutral arguments for an accepted format.
 fn neutral_arguments(
     alloc: Global,
     model: Model,
     text: &[u8],
-    from: usize,
-    before: Vec<Option<OwnedArg>>,
 ) -> Result<Vec<Option<OwnedArg>>, AllocError>
-    requires accepted { IsUnnumberedAccepted text.now }
-    requires shown { IsShownNeutrally model text.now from before.items }
+    requires { IsUnnumberedAccepted text.now }
     ensures { IfOk result (λ shown. (a : Stretches) → ReadsStretches text.now a
         → (shown_as shown.items ≡ neutral_shown model a)
         × AllZip HasShownType shown.items (whole_types model a)) }
 {
-    let mut shown = before;
-    let mut at = from;
+    let mut shown = room_for_arguments(alloc, model, text)?;
+    let mut at = 0;
     while let Some(stretch) = next_stretch(text, at) {
-        push_all(
-            neutrals_of(alloc, model, &text[at..stretch.end])?,
-            &mut shown,
-        )?;
+        push_stretch(model, &text[at..stretch.end], &mut shown)?;
         let Some(opaque) = stretch.opaque else {
             return Ok(shown);
         };
@@ -308,13 +292,22 @@ fn neutral_arguments(
     unreachable!()
 }
 
-fn push_all(args: Vec<OwnedArg>, shown: &mut Vec<Option<OwnedArg>>) -> Result<(), AllocError>
-    ensures { IfOk result (λ _. shown.new.items ≡ shown.old.items ++ map Some args.items) }
+// Adds the neutral arguments of a stretch. Most have none.
+#[inline(always)]
+fn push_stretch(
+    model: Model,
+    text: &[u8],
+    shown: &mut Vec<Option<OwnedArg>>,
+) -> Result<(), AllocError>
+    requires { IsAccepted text.now }
+    ensures { IfOk result (λ _. (items : List Item) → Reads text.now items
+        → (args : List OwnedArg) × AreNeutral (types model items) args
+        × (shown.new.items ≡ shown.old.items ++ map Some args)) }
 {
-    for argument in args {
-        shown.push(Some(argument))?;
+    if text.is_empty() {
+        return Ok(());
     }
-    Ok(())
+    push_neutrals(model, text, shown)
 }
 
 // Adds `count` arguments that may be any.

@@ -1,6 +1,7 @@
-use Rattle.std.proofs.Common.{subst}
+use Rattle.std.proofs.Common.{subst, sym}
 use Rattle.std.proofs.lemmas.Result.{err_from_is_err_and}
 use Rattle.pf_posix.specs.Laws.{ComparesArgumentTypes}
+use Rattle.pf_whole.specs.Comparisons.{ShowsDifference}
 use Rattle.pf_whole.proofs.VerdictLemmas.{calls_verdict, fit_anyway, shape_of, shown_verdict, types_verdict}
 use Rattle.pf_whole.proofs.verdicts.compare_apart.Goals as goal
 
@@ -26,15 +27,32 @@ returns-in-Some c =
       typed = tt;
     }
 
-pub first_difference-requires-clause-shape : goal.first_difference-requires-clause-shape
-first_difference-requires-clause-shape c = λ a b k l.
+pub first_probe-requires-clause-shape : goal.first_probe-requires-clause-shape
+first_probe-requires-clause-shape c = λ a b k l.
     let types = subst (ComparesArgumentTypes c.args.model c.args.first.now c.args.second.now) c.in-Ok-None.field-0-is c.in-Ok-None.ensures in
     shape_of c.args.model c.args.first.now c.args.second.now a b c.requires.accepted_first c.requires.accepted_second types c.in_default.ensures k l
 
-pub returns-in_err-first_difference : goal.returns-in_err-first_difference
-returns-in_err-first_difference c =
+pub returns-in_err-probe : goal.returns-in_err-probe
+returns-in_err-probe c =
     let types = subst (ComparesArgumentTypes c.args.model c.args.first.now c.args.second.now) c.in-Ok-None.field-0-is c.in-Ok-None.ensures in
     let p = err_from_is_err_and c.from_residual.result c.from_residual.ensures.1 in
+    rw (p.1, p.2) (
+      c.requires.accepted_first,
+      c.requires.accepted_second,
+      c.requires.apart,
+      λ a b k l. shape_of c.args.model c.args.first.now c.args.second.now a b c.requires.accepted_first c.requires.accepted_second types c.in_default.ensures k
+          l,
+    )
+
+pub shown_arguments-requires-clause-typed : goal.shown_arguments-requires-clause-typed
+shown_arguments-requires-clause-typed c = λ a k.
+    let b = c.requires.accepted_second in
+    (c.in_ok-probe.ensures a b.stretches k b.reads).1
+
+pub returns-in_err-shown_arguments : goal.returns-in_err-shown_arguments
+returns-in_err-shown_arguments c =
+    let types = subst (ComparesArgumentTypes c.args.model c.args.first.now c.args.second.now) c.in-Ok-None.field-0-is c.in-Ok-None.ensures in
+    let p = err_from_is_err_and c.from_residual-in_err-shown_arguments.result c.from_residual-in_err-shown_arguments.ensures.1 in
     rw (p.1, p.2) (
       c.requires.accepted_first,
       c.requires.accepted_second,
@@ -46,9 +64,9 @@ returns-in_err-first_difference c =
 pub returns : goal.returns
 returns c =
     let types = subst (ComparesArgumentTypes c.args.model c.args.first.now c.args.second.now) c.in-Ok-None.field-0-is c.in-Ok-None.ensures in
-    let b = c.requires.accepted_second in
     record {
-      is = shown_verdict c.args.model c.args.first.now c.args.second.now _ c.requires.accepted_first b c.requires.apart types c.in_default.ensures
-          (λ x y k l. (c.in_ok-first_difference.ensures x y k l).0);
-      typed = λ a k. (c.in_ok-first_difference.ensures a b.stretches k b.reads).1;
+      is = shown_verdict c.args.model c.args.first.now c.args.second.now _ c.requires.accepted_first c.requires.accepted_second c.requires.apart types
+          c.in_default.ensures
+          (λ x y k l. subst (ShowsDifference c.args.model x y) (sym (c.in_ok-shown_arguments.ensures x k).0) (c.in_ok-probe.ensures x y k l).0);
+      typed = λ a k. (c.in_ok-shown_arguments.ensures a k).1;
     }

@@ -1,23 +1,33 @@
-use Rattle.std.proofs.Common.{◌++◌, None, replicate, sym, ap, ◌∙◌, subst}
+use Rattle.std.proofs.Common.{◌++◌, None, replicate, arith, refl, sym, ap, ◌∙◌, subst}
 use Rattle.pf_posix.specs.OpaqueParts.{item_of_opaque}
 use Rattle.pf_posix.proofs.ReadOnce.{read_once}
 use Rattle.pf_whole.proofs.CountLemmas.{opaque_args}
 use Rattle.pf_whole.proofs.HeadLemmas.{at_last, before_opaque, between, between_few, first_items, less_left, stretch_has}
-use Rattle.pf_whole.proofs.ShownLoops.{AreShownNeutrally, IsNeutralUpTo, IsTypedUpTo, neutral_end, neutral_past, typed_end, typed_past}
+use Rattle.pf_whole.proofs.ShownLoops.{AreShownNeutrally, IsNeutralUpTo, IsTypedUpTo, neutral_end, neutral_past, typed_end, typed_from, typed_past}
 use Rattle.pf_whole.proofs.verdicts.neutral_arguments.Goals as goal
 
 pub loop-stretch-init : goal.loop-stretch-init
-loop-stretch-init c = c.requires.shown
+loop-stretch-init c =
+    let a = c.requires in
+    let none = sym c.in_ok-shown.ensures in record {
+      all = a.stretches;
+      left = a.stretches;
+      reads = a.reads;
+      reads_left = a.reads;
+      within = omega arith;
+      neutral = subst (IsNeutralUpTo c.args.model a.stretches a.stretches) none refl;
+      typed = subst (IsTypedUpTo c.args.model a.stretches a.stretches) none (typed_from c.args.model a.stretches);
+    }
 
 pub next_stretch-requires : goal.next_stretch-requires
 next_stretch-requires c = c.loop-stretch.invariant.within
 
-pub neutrals_of-requires : goal.neutrals_of-requires
-neutrals_of-requires c =
+pub push_stretch-requires : goal.push_stretch-requires
+push_stretch-requires c =
     let i = c.loop-stretch.invariant in (
       first_items i.left,
       stretch_has c.args.text.now c.loop-stretch.at i.left c.in-Some.stretch
-          (c.in-Some.ensures.head i.left i.reads_left) c.requires.accepted.limit,
+          (c.in-Some.ensures.head i.left i.reads_left) c.requires.limit,
     )
 
 pub returns-in_default-opaque : goal.returns-in_default-opaque
@@ -26,16 +36,17 @@ returns-in_default-opaque c = λ a reads.
     let t = c.args.text.now in
     let model = c.args.model in
     let head = c.in-Some.ensures.head i.left i.reads_left in
-    let has = stretch_has t c.loop-stretch.at i.left c.in-Some.stretch head c.requires.accepted.limit in
+    let has = stretch_has t c.loop-stretch.at i.left c.in-Some.stretch head c.requires.limit in
     let last = at_last t c.loop-stretch.at i.left c.in-Some.stretch head c.in_default-opaque.is in
     let items = first_items i.left in
-    let neutral = c.in_ok-neutrals_of.ensures items has.reads in
     let shown = c.loop-stretch.shown.items in
-    let args = c.in_ok-neutrals_of.field-0.items in
-    let given = sym c.in_ok-push_all.ensures in
+    let added = c.in_ok-push_stretch.ensures items has.reads in
+    let args = added.0 in
+    let neutral = added.1 in
+    let given = sym added.2 in
     let all = neutral_end model i.all items shown args (subst (λ l. IsNeutralUpTo model i.all l shown) last.0 i.neutral) neutral.args_are in
     let typed = typed_end model i.all items shown args (subst (λ l. IsTypedUpTo model i.all l shown) last.0 i.typed) neutral.types_are in
-    subst (λ b. AreShownNeutrally model b c.push_all.new.shown.items) (read_once t i.all a i.reads reads)
+    subst (λ b. AreShownNeutrally model b c.push_stretch.new.shown.items) (read_once t i.all a i.reads reads)
     (subst (AreShownNeutrally model i.all) given (all, typed))
 
 pub loop-stretch-smaller : goal.loop-stretch-smaller
@@ -49,12 +60,13 @@ loop-stretch-preserved c =
     let stretch = c.in-Some.stretch in
     let before = before_opaque t c.loop-stretch.at i.left stretch c.in-Some-opaque.opaque (c.in-Some.ensures.head i.left i.reads_left) c.in-Some-opaque.is in
     let s = item_of_opaque c.in-Some-opaque.opaque in
-    let own = opaque_args model (between t stretch.end stretch.after) s before.spells (between_few t stretch.end stretch.after _ c.requires.accepted.limit) in
+    let own = opaque_args model (between t stretch.end stretch.after) s before.spells (between_few t stretch.end stretch.after _ c.requires.limit) in
     let count = c.call_argument_count.ensures model in
-    let neutral = c.in_ok-neutrals_of.ensures before.items before.reads in
     let shown = c.loop-stretch.shown.items in
-    let args = c.in_ok-neutrals_of.field-0.items in
-    let given = sym (c.in_ok-push_any.ensures ∙ ap (λ l. l ++ replicate c.call_argument_count.result None) c.in_ok-push_all.ensures) in record {
+    let added = c.in_ok-push_stretch.ensures before.items before.reads in
+    let args = added.0 in
+    let neutral = added.1 in
+    let given = sym (c.in_ok-push_any.ensures ∙ ap (λ l. l ++ replicate c.call_argument_count.result None) added.2) in record {
       all = i.all;
       left = before.rest;
       reads = i.reads;

@@ -1,5 +1,5 @@
 use Rattle.std.proofs.Common.{◌-◌, length}
-use Rattle.pf_whole.specs.Comparisons.{IsShownNeutrally}
+use Rattle.pf_whole.proofs.ShownLoops.{IsShownNeutrally}
 use Rattle.pf_whole.proofs.verdicts.neutral_arguments.Given as goal
 
 abbrev pub invariant-loop-stretch : goal.invariant-loop-stretch

@@ -1,5 +1,4 @@
-use Rattle.std.proofs.Common.{arith, ap, length, refl, subst}
-use Rattle.std.proofs.lemmas.List.{length-append}
+use Rattle.std.proofs.Common.{arith, ap, refl, subst}
 use Rattle.pf_text.specs.PieceHistory.{items_of}
 use Rattle.pf_compare.specs.Spans.{HaveGivenSpans}
 use Rattle.pf_compare.proofs.SpanLemmas.{none_taken, piece_passed, span_given, span_refused, spans_over}
@@ -7,34 +6,18 @@ use Rattle.pf_compare.proofs.neutral_texts.Spans.next.Goals as goal
 
 pub returns-in-Directive : goal.returns-in-Directive
 returns-in-Directive c = λ t count accepted h.
-    let made = c.in_ok-printed.ensures in
+    let made = c.in_ok-neutral_len.ensures in
     span_given c.args.model c.loop-piece.self (record { pieces = c.next.new.self; end = c.saturating_add-self.result }) t count
     (c.loop-piece.invariant t count accepted h) c.in-Some.piece c.in-Some.ensures.steps c.in-Ok.piece made.0 c.in-Ok.is made.1
-    (omega (
-      arith,
-      c.saturating_add-self.ensures,
-      c.len.ensures,
-      c.in_ok-printed.printed.ok.0,
-      ap length made.2,
-      ap length c.new.ensures.items,
-      length-append c.new.result.items made.0,
-    )) c.in-Directive.directive _ (ap items_of c.in-Directive.is) refl
+    (omega (arith, c.saturating_add-self.ensures, made.2)) c.in-Directive.directive _ (ap items_of c.in-Directive.is) refl
 
-pub loop-piece-preserved-in-Ok : goal.loop-piece-preserved-in-Ok
-loop-piece-preserved-in-Ok c = λ t count accepted h.
-    let made = c.in_ok-printed.ensures in
+pub loop-piece-preserved-in_default-piece-2 : goal.loop-piece-preserved-in_default-piece-2
+loop-piece-preserved-in_default-piece-2 c = λ t count accepted h.
+    let made = c.in_ok-neutral_len.ensures in
     subst (HaveGivenSpans c.args.model (record { pieces = c.next.new.self; end = c.saturating_add-self.result }) t) (omega arith)
     (piece_passed c.args.model c.loop-piece.self (record { pieces = c.next.new.self; end = c.saturating_add-self.result }) t count
     (c.loop-piece.invariant t count accepted h) c.in-Some.piece c.in-Some.ensures.steps c.in-Ok.piece made.0 c.in-Ok.is made.1
-    (omega (
-      arith,
-      c.saturating_add-self.ensures,
-      c.len.ensures,
-      c.in_ok-printed.printed.ok.0,
-      ap length made.2,
-      ap length c.new.ensures.items,
-      length-append c.new.result.items made.0,
-    )) 0 (none_taken c.args.model c.in-Ok.piece c.in_default-piece-2.not-Directive))
+    (omega (arith, c.saturating_add-self.ensures, made.2)) 0 (none_taken c.args.model c.in-Ok.piece c.in_default-piece-2.not-Directive))
 
 pub loop-piece-preserved : goal.loop-piece-preserved
 loop-piece-preserved c = λ t count accepted h.
