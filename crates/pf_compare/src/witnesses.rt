@@ -52,7 +52,7 @@ fn probe_of(model: Model, index: usize, wanted: ArgType, candidate_index: usize)
     }
 }
 
-/// What two formats of equal types print for neutral arguments, if it is the same.
+/// Returns what two formats of equal types print for neutral arguments, if it is the same.
 pub(crate) fn common_text(
     alloc: Global,
     model: Model,

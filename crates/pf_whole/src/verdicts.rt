@@ -166,7 +166,7 @@ fn first_probe(
     unreachable!()
 }
 
-// What is found where stretches are compared, one after another.
+// A finding about the stretches of two formats, which are compared one after another.
 #[derive(Clone, Copy)]
 enum Finding {
     // Neutral arguments tell two stretches apart.
