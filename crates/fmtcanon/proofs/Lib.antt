@@ -19,3 +19,4 @@ mod RecordSteps
 mod RecordTexts
 mod RecordLemmas
 mod PairLemmas
+mod AnswersOnce

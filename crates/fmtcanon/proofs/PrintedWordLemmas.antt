@@ -9,7 +9,8 @@ use Rattle.std.proofs.lemmas.List.{length-map}
 use Rattle.pf_values.specs.declared.models.Model.{Model}
 use Rattle.pf_values.specs.declared.types.ArgType.TheVariants.{Int, UInt, Long, ULong, LongLong, ULongLong, Str}
 use Rattle.pf_values.specs.meaning.Arguments.{Number, String}
-use Rattle.pf_values.specs.meaning.DataModel.{Bits, FitsIn, bit_count, type_bits}
+use Rattle.pf_values.specs.meaning.DataModel.{Bits, FitsIn, bit_count}
+use Rattle.pf_values.specs.TypeBits.{type_bits}
 use Rattle.pf_values.proofs.Numerals.{place_sum-digits_of}
 use Rattle.pf_render.proofs.DigitLemmas.{decimal_glyphs}
 use Rattle.fmtcanon.specs.ArgumentWords.{SpellsArgument, SpellsMagnitude}

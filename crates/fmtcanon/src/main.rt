@@ -28,6 +28,8 @@ mod run;
 mod show_lines;
 mod subcommands;
 mod task;
+#[cfg(test)]
+mod tests;
 mod type_lines;
 
 use outcome::{Outcome, report};

@@ -22,7 +22,7 @@ use std::io::{Read, Write};
 /// comes from `input`, and what it writes goes to `writer`. Its last call is a flush before `Done`,
 /// `Same` and `Different`, by `stream` also before `Refused` and `Read`, and over records before all
 /// outcomes except `Write`. What else is rejected or invalid comes before the first call of the
-/// writer.
+/// writer. `Memory` may come for any words: they are read by calls that allocate.
 ///
 /// It may read only as `MayRead` says: it knows the input to be ready then, and at no other time.
 pub fn run<R: Read, W: Write, I: Input<R, W>>(

@@ -8,3 +8,4 @@ mod PassedLemmas
 mod AnswerLemmas
 mod ModelAnswers
 mod LanguageAnswers
+mod CallsOnce

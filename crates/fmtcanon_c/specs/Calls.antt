@@ -124,6 +124,11 @@ AnswersLength IsCanonical Refuses error code error_now =
     ((c : Text) × IsCanonical c × IsLengthCode (length c) code × (error_now ≡ error))
     ⊎ IsRefusedAs Refuses First code error_now
 
+-- two answers, with what they leave in a buffer and as the error, are equal, or memory was out for one of them
+abbrev pub AreOneAnswer : {Y : Type 0} → ℤ → List Y → CError → ℤ → List Y → CError → Type 0
+AreOneAnswer code out error code_too out_too error_too =
+    ((code ≡ code_too) × (out ≡ out_too) × (error ≡ error_too)) ⊎ ((code ≡ NO_MEMORY) ⊎ (code_too ≡ NO_MEMORY))
+
 -- the name of a kind and a zero are put, where the buffer has room for them, and its length is
 -- answered
 abbrev pub PutsName : ℕ → Text → ℕ → Text → Type 0

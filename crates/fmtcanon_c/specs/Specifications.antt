@@ -1,22 +1,14 @@
 -- Conversion specifications with their parts as records. This project's own.
-use Rattle.std.specs.Prelude.{◌≡◌, ◌⊎◌, ◌++◌, ◌+◌, ℕ, ℤ, pos, List, MatchBool, MatchOption, Option, Some, None, drop, leb, length, if◌then◌else◌}
+use Rattle.std.specs.Prelude.{◌≡◌, ◌⊎◌, ◌++◌, ◌+◌, ℕ, ℤ, pos, List, MatchBool, Option, Some, None, drop, leb, length, if◌then◌else◌}
 use Rattle.std.specs.List.{AllZip}
 use Rattle.pf_values.specs.declared.flags.Flag.TheVariants.{Minus, Plus, Space, Alt, Zero, Group}
 use Rattle.pf_values.specs.declared.models.Model.{Model}
-use Rattle.pf_values.specs.declared.refusals.RefusalKind.{RefusalKind}
-use Rattle.pf_values.specs.declared.refusals.RefusalKind.TheVariants.{MissingArgument}
 use Rattle.pf_values.specs.meaning.Text.{Text}
 use Rattle.pf_text.specs.declared.refusals.Refusal.{Refusal}
 use Rattle.pf_text.specs.declared.refusals.Side.TheVariants.{First}
-use Rattle.pf_posix.specs.declared.missing_arguments.MissingArgument.{MissingArgument as Missing}
-use Rattle.pf_posix.specs.declared.refused_specifications.RefusedSpecification.{RefusedSpecification}
-use Rattle.pf_posix.specs.declared.refused_specifications.ReadSpecification.{ReadSpecification}
-use Rattle.pf_posix.specs.declared.specification_spans.PartOffsets.{PartOffsets}
 use Rattle.pf_posix.specs.declared.specification_spans.SpecificationSpan.{SpecificationSpan}
-use Rattle.pf_posix.specs.MissingArguments.{IsMissingArgument}
 use Rattle.pf_posix.specs.OpaqueParts.{amount_of, parts_of_opaque}
 use Rattle.pf_posix.specs.Refusals.{IsWholeRefusedAt}
-use Rattle.pf_posix.specs.RefusedSpecifications.{HasItemsTo, IsRefusedWithin}
 use Rattle.pf_posix.specs.SpecificationSpans.{HasSpecifications}
 use Rattle.pf_posix.specs.Specifications.{Amount, Given, Fetched}
 use Rattle.pf_posix.specs.TypeNumbers.{number_of_type}
@@ -26,7 +18,6 @@ use Rattle.pf_whole.specs.declared.parts.Part.TheVariants.{Flag, Width, Precisio
 use Rattle.pf_whole.specs.declared.parts.PartSet.{PartSet}
 use Rattle.pf_whole.specs.Needless.{AreNeedless}
 use Rattle.pf_whole.specs.Parts.{has_part}
-use Rattle.fmtcanon_c.specs.declared.directives.TheConstants.{NO_ARGUMENT}
 use Rattle.fmtcanon_c.specs.declared.interface.CError.{CError}
 use Rattle.fmtcanon_c.specs.declared.specifications.CSpecification.{CSpecification}
 use Rattle.fmtcanon_c.specs.declared.specifications.TheConstants.{NONE}
@@ -86,59 +77,13 @@ abbrev pub HasPut : Model → Text → List CSpecification → ℤ → List CSpe
 HasPut model t out code out_now = (listed : List SpecificationSpan) × HasSpecifications model t listed × (code ≡ pos (length listed))
     × ArePut model listed out out_now
 
--- a record with these numbers alone
-abbrev pub known_record : ℕ → ℕ → PartOffsets → ℕ → CSpecification
-known_record begin end offsets argument = record {
-  begin = begin;
-  flags_at = offsets.flags;
-  width_at = offsets.width;
-  precision_at = offsets.precision;
-  modifier_at = offsets.modifier;
-  end = end;
-  argument = argument;
-  width_argument = NO_ARGUMENT;
-  precision_argument = NO_ARGUMENT;
-  width = NONE;
-  precision = NONE;
-  kind = 0;
-  parts = 0;
-  needless = 0;
-  together = 0;
-}
-
--- the record of an argument that is left out
-abbrev pub missing_record : Missing → CSpecification
-missing_record missing = known_record missing.specification.directive.begin missing.specification.directive.end
-    missing.specification.offsets missing.argument
-
-abbrev pub offsets_at : ℕ → PartOffsets
-offsets_at at = record { flags = at; width = at; precision = at; modifier = at }
-
--- the end and the parts of a specification, or where the text is rejected
-abbrev pub begun_record : ℕ → ℕ → Option ReadSpecification → CSpecification
-begun_record begin at None = known_record begin at (offsets_at at) NO_ARGUMENT
-begun_record begin at (Some whole) = known_record begin whole.end whole.offsets NO_ARGUMENT
-
--- the record of a specification in which a text is rejected, if it is in one
-abbrev pub rejected_record : ℕ → Option RefusedSpecification → CSpecification
-rejected_record at None = known_record NONE at (offsets_at at) NO_ARGUMENT
-rejected_record at (Some found) = begun_record found.begin at found.whole
-
--- the record is of the specification in which the text is rejected, or of the argument that it leaves out
-abbrev pub IsRejection : Model → Text → RefusalKind → ℕ → CSpecification → Type 0
-IsRejection model t MissingArgument at rejected =
-    (missing : Missing) × IsMissingArgument model t missing × (rejected ≡ missing_record missing)
-IsRejection model t kind at rejected = (found : Option RefusedSpecification)
-    × MatchOption found (HasItemsTo t at) (IsRefusedWithin t at) × (rejected ≡ rejected_record at found)
-
--- the text is rejected, and the error and the record say why and where
-abbrev pub IsRejectedAs : Model → Text → ℤ → CSpecification → CError → Type 0
-IsRejectedAs model t code rejected error = (refusal : Refusal) × IsWholeRefusedAt model t refusal.kind refusal.at
-    × IsRefusalCode First refusal code error × IsRejection model t refusal.kind refusal.at rejected
+-- the text is rejected, and the error says why and where
+abbrev pub IsRejectedAs : Model → Text → ℤ → CError → Type 0
+IsRejectedAs model t code error = (refusal : Refusal) × IsWholeRefusedAt model t refusal.kind refusal.at
+    × IsRefusalCode First refusal code error
 
 -- The records of the specifications are put, and their number is answered; or the text is rejected.
-abbrev pub PutsSpecifications : Model → Text → List CSpecification → CSpecification → CError → ℤ → List CSpecification
-    → CSpecification → CError → Type 0
-PutsSpecifications model t out rejected error code out_now rejected_now error_now =
-    (HasPut model t out code out_now × (rejected_now ≡ rejected) × (error_now ≡ error))
-    ⊎ ((out_now ≡ out) × IsRejectedAs model t code rejected_now error_now)
+abbrev pub PutsSpecifications : Model → Text → List CSpecification → CError → ℤ → List CSpecification → CError → Type 0
+PutsSpecifications model t out error code out_now error_now =
+    (HasPut model t out code out_now × (error_now ≡ error))
+    ⊎ ((out_now ≡ out) × IsRejectedAs model t code error_now)

@@ -3,20 +3,16 @@ ghost use Rattle.std.specs.Prelude.{◌≡◌, ◌≤◌, [], List, length};
 ghost use Rattle.pf_values.specs.meaning.Text.{Text};
 ghost use Rattle.pf_posix.specs.declared.directive_spans.DirectiveSpan.{DirectiveSpan};
 ghost use Rattle.pf_posix.specs.OpaqueParts.{amount_of};
-ghost use Rattle.pf_posix.specs.Refusals.{IsWholeRefusedAt};
 ghost use Rattle.pf_posix.specs.SpecificationSpans.{HasItsParts};
 ghost use Rattle.pf_posix.specs.SpecificationWalks.{IsAhead, IsBefore};
 ghost use Rattle.fmtcanon_c.specs.Models.{InModel};
-ghost use Rattle.fmtcanon_c.specs.Specifications.{HasPut, IsRecordOf, IsRejectedAs, PutsSpecifications, bit_of, known_record, missing_record, number_or_none, part_bits, rejected_record};
+ghost use Rattle.fmtcanon_c.specs.Specifications.{HasPut, IsRecordOf, PutsSpecifications, bit_of, number_or_none, part_bits};
 
 use crate::directives::NO_ARGUMENT;
 use crate::interface::{CError, NO_MODEL, model_of, put_refusal};
-use pf_posix::{
-    MissingArgument, OpaqueAmount, PartOffsets, RefusedSpecification, SpecificationSpan,
-    SpecificationWalk, missing_argument, refused_specification,
-};
-use pf_text::{Refusal, Side};
-use pf_values::{Flag, Model, RefusalKind};
+use pf_posix::{OpaqueAmount, SpecificationSpan, SpecificationWalk};
+use pf_text::Side;
+use pf_values::{Flag, Model};
 use pf_whole::{Part, PartSet, needless_parts};
 
 /// `FMTCANON_NONE`
@@ -58,27 +54,25 @@ pub struct CSpecification {
     pub together: u32,
 }
 
-/// Puts a record for each conversion specification of a format into `out`, if it has room for all. If the format
-/// is rejected, puts the specification in question into `rejected`, as far as it can be read. Returns the number
-/// of specifications, or the code of an error.
+/// Puts a record for each conversion specification of a format into `out`, if it has room for all. Returns the
+/// number of specifications, or the code of an error.
 #[unsafe(no_mangle)]
 pub extern "C" fn fmtcanon_specifications(
     model: i32,
     text: &[u8],
     out: &mut [CSpecification],
-    rejected: &mut CSpecification,
     error: &mut CError,
 ) -> i64
     ensures { InModel model
-        (λ m. PutsSpecifications m text.now out.old rejected.old error.old result out.new rejected.new error.new)
-        result ((out.new ≡ out.old) × (rejected.new ≡ rejected.old) × (error.new ≡ error.old)) }
+        (λ m. PutsSpecifications m text.now out.old error.old result out.new error.new)
+        result ((out.new ≡ out.old) × (error.new ≡ error.old)) }
 {
     let Some(model) = model_of(model) else {
         return NO_MODEL;
     };
     match SpecificationWalk::over(model, text) {
         Ok(walk) => put_records(model, &walk, out),
-        Err(refusal) => put_rejected(model, text, refusal, rejected, error),
+        Err(refusal) => put_refusal(error, Side::First, refusal),
     }
 }
 
@@ -170,83 +164,4 @@ fn bit_of(set: PartSet, part: Part, bit: u32) -> u32
         return bit;
     }
     0
-}
-
-// Fills the record and the error of a rejected format. Returns the code of the refusal.
-fn put_rejected(
-    model: Model,
-    text: &[u8],
-    refusal: Refusal,
-    rejected: &mut CSpecification,
-    error: &mut CError,
-) -> i64
-    requires { IsWholeRefusedAt model text.now refusal.kind refusal.at }
-    ensures { IsRejectedAs model text.now result rejected.new error.new }
-{
-    *rejected = match refusal.kind {
-        RefusalKind::MissingArgument => missing_record(&missing_argument(model, text)),
-        _ => rejected_record(refusal.at, refused_specification(text, refusal)),
-    };
-    put_refusal(error, Side::First, refusal)
-}
-
-// The record of an argument that a format leaves out.
-fn missing_record(missing: &MissingArgument) -> CSpecification
-    ensures { result ≡ missing_record missing.now }
-{
-    let directive = missing.specification.directive;
-    known_record(
-        directive.begin,
-        directive.end,
-        missing.specification.offsets,
-        missing.argument,
-    )
-}
-
-// The record of a specification in which a format is rejected at an offset, if it is in one.
-fn rejected_record(at: u64, found: Option<RefusedSpecification>) -> CSpecification
-    ensures { result ≡ rejected_record at found }
-{
-    match found {
-        None => known_record(NONE, at, offsets_at(at), NO_ARGUMENT),
-        Some(found) => match found.whole {
-            None => known_record(found.begin, at, offsets_at(at), NO_ARGUMENT),
-            Some(whole) => known_record(found.begin, whole.end, whole.offsets, NO_ARGUMENT),
-        },
-    }
-}
-
-// The offsets of unknown parts: all are the same.
-fn offsets_at(at: u64) -> PartOffsets
-    ensures { result ≡ record { flags = at; width = at; precision = at; modifier = at } }
-{
-    PartOffsets {
-        flags: at,
-        width: at,
-        precision: at,
-        modifier: at,
-    }
-}
-
-// A record whose other members are empty.
-fn known_record(begin: u64, end: u64, offsets: PartOffsets, argument: u64) -> CSpecification
-    ensures { result ≡ known_record begin end offsets argument }
-{
-    CSpecification {
-        begin,
-        flags_at: offsets.flags,
-        width_at: offsets.width,
-        precision_at: offsets.precision,
-        modifier_at: offsets.modifier,
-        end,
-        argument,
-        width_argument: NO_ARGUMENT,
-        precision_argument: NO_ARGUMENT,
-        width: NONE,
-        precision: NONE,
-        kind: 0,
-        parts: 0,
-        needless: 0,
-        together: 0,
-    }
 }

@@ -11,7 +11,7 @@ const HALF: usize = 8;
 
 /// Returns how many bytes two texts begin with in common.
 #[inline(always)]
-pub fn common_prefix_len(x: &[u8], y: &[u8]) -> usize
+pub(crate) fn common_prefix_len(x: &[u8], y: &[u8]) -> usize
     ensures common { AreCommon x.now y.now result }
     ensures ends { EndsCommon x.now y.now result }
 {

@@ -45,7 +45,7 @@ pub(crate) fn differ_after<L: Language>(
 /// a `%`, with bytes after it that may come before a conversion. This is a guess from the bytes before the
 /// offset, so the caller verifies it.
 #[inline(always)]
-pub fn item_start(text: &[u8], at: usize) -> usize
+pub(crate) fn item_start(text: &[u8], at: usize) -> usize
     requires { at ≤ length text.now }
     ensures before { result ≤ at }
     ensures percent { result < at → get_or text.now result 0 ≡ percent }

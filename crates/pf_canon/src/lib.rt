@@ -39,10 +39,8 @@ pub use canonical_texts::{
     canonical, canonical_in, canonical_len, canonical_len_in, canonical_of_len, is_canonical,
     is_canonical_in,
 };
-pub use common_prefix::common_prefix_len;
 pub use comparison::{same_stream, same_text, same_text_in};
 pub use copy::{canonical_stream, copy_canonical};
-pub use early_difference::item_start;
 pub use faults::{CopyFault, SideFault, StreamFault};
 pub use languages::{Language, OtherItem, Profile, check_in};
 pub use pf_text::{Side, TextFault as CanonFault};

@@ -1,5 +1,5 @@
 //! A fast way to see whether a text is canonical. It decides only the cases that it is sure of: other
-//! texts are left to the transducer, which also finds out why one is rejected.
+//! texts are compared with their canonical text item by item, which also finds out why one is rejected.
 ghost use Rattle.std.specs.Prelude.{◌≡◌, false, MatchOption, ⊤};
 ghost use Rattle.pf_values.specs.meaning.Items.{IsAccepted};
 ghost use Rattle.pf_canon.specs.Languages.{DecidesIn};

@@ -20,7 +20,7 @@ pub struct VerbatimFront<'a> {
 }
 
 impl<'a> VerbatimFront<'a> {
-    /// Returns the verbatim bytes at the front of a format, in a language.
+    /// Returns verbatim bytes at the front of a format, in a language. No clause says how many: there may be none.
     #[inline(always)]
     pub fn of<L: Language>(model: Model, text: &'a [u8]) -> VerbatimFront<'a>
         ensures model { front_model result ≡ model }

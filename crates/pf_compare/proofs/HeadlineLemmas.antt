@@ -1,4 +1,5 @@
 -- One meaning, one canonical text.
+use Rattle.std.specs.Prelude.{◌≡◌, ◌↔◌}
 use Rattle.std.proofs.Common.{subst}
 use Rattle.pf_values.specs.declared.models.Model.{Model}
 use Rattle.pf_values.specs.meaning.Canonical.{IsCanonicalOf}
@@ -22,12 +23,13 @@ only_one model t c h = record {
 pub one_text : (model : Model) (t : Text) → IsAccepted t → HasOneCanonical model t
 one_text model t h = let some = some_canonical model t h.0 h.1.reads in only_one model t some.0 some.1
 
+-- two texts are equivalent where their canonical texts are one
+pub one_same : (model : Model) (t u : Text) (h : HasOneCanonical model t) (g : HasOneCanonical model u)
+    → (AreEquivalent model t u ↔ (h.canonical ≡ g.canonical))
+one_same model t u h g = (
+  λ e. equivalent_formats_one model t u h.canonical g.canonical e h.is g.is,
+  λ e. equivalent_by model t u g.canonical (subst (λ c. AreEquivalent model t c) e h.means_the_same) g.means_the_same,
+)
+
 pub one_meaning : (model : Model) (t u : Text) → HasOneCanonical model t → HasOneCanonical model u → HaveOneMeaning model t u
-one_meaning model t u h g = record {
-  first = h;
-  second = g;
-  same = (
-    λ e. equivalent_formats_one model t u h.canonical g.canonical e h.is g.is,
-    λ e. equivalent_by model t u g.canonical (subst (λ c. AreEquivalent model t c) e h.means_the_same) g.means_the_same,
-  );
-}
+one_meaning model t u h g = record { first = h; second = g; same = one_same model t u h g }

@@ -5,24 +5,20 @@ use Rattle.std.proofs.lemmas.List.{length-replicate}
 use Rattle.pf_values.specs.declared.models.Model.{Model}
 use Rattle.pf_values.specs.meaning.Arguments.{HasTypes}
 use Rattle.pf_values.specs.meaning.Canonical.{AreCanonical, BeginsWithNoByte}
-use Rattle.pf_values.specs.meaning.DataModel.{arg_type}
 use Rattle.pf_values.specs.meaning.Items.{Item, Byte, Directive, types}
 use Rattle.pf_values.specs.meaning.Printing.{PrintAlike}
 use Rattle.pf_values.specs.meaning.Specification.{Specification}
 use Rattle.pf_values.specs.meaning.Text.{Text, space, zero_digit}
 use Rattle.pf_values.specs.Candidates.{IsProbe}
-use Rattle.pf_values.proofs.Alike.{AreAlike, alike-printed, printed-alike, alike_sym, alike_trans, all_printed, all_printed-is}
+use Rattle.pf_values.proofs.Alike.{AreAlike, alike-printed, printed-alike, alike_sym, alike_trans}
 use Rattle.pf_reduce.specs.Reducing.{IsNormalCore, IsReducedTo, core_of}
 use Rattle.pf_reduce.specs.declared.results.Core.{Core}
 use Rattle.pf_reduce.specs.declared.results.Core.TheVariants.{Normal, Silent}
 use Rattle.pf_reduce.specs.declared.results.Reduced.{Reduced}
 use Rattle.pf_canon.proofs.Printing.{reduced_alike, reduced_items}
-use Rattle.pf_probes.specs.Probed.{PrintSameOnProbes}
 use Rattle.pf_probes.proofs.Probes.{AgreeOnProbes, probe_typed}
 use Rattle.pf_probes.proofs.Tails.{tail_claim}
-use Rattle.pf_compare.specs.Lone.{HaveSameParts, PrintAlikeOnCandidates}
-use Rattle.pf_compare.proofs.LoneLemmas.{none_alone}
-use Rattle.pf_compare.proofs.VerdictLemmas.{on_probes}
+use Rattle.pf_compare.specs.Reductions.{HaveSameParts}
 
 -- the one directive of a list of items divides it
 parted : (u v : Text) (s t : Specification) (p q : List Item) → map Byte u ++ Directive s ∷ p ≡ map Byte v ++ Directive t ∷ q → (u ≡ v) × (s ≡ t) × (p ≡ q)
@@ -103,30 +99,7 @@ module _ (model : Model) (s t : Specification) (r q : Reduced) (first : IsReduce
       (subst (AreAlike model (Directive s ∷ [])) (items_of_same_parts r q h) first_alike)
       (alike_sym model (Directive t ∷ []) (reduced_items q) second_alike))
 
-  module _ (same_type : arg_type model s ≡ arg_type model t) where
-    reduced_types : types model (reduced_items r) ≡ types model (reduced_items q)
-    reduced_types = sym first_alike.same_types ∙ ap (λ type. type ∷ []) same_type ∙ second_alike.same_types
-
-    agree : PrintSameOnProbes model (Directive s ∷ []) (Directive t ∷ []) → AgreeOnProbes model (reduced_items r) (reduced_items q) []
-    agree same p i =
-        let probe : IsProbe model (types model (Directive s ∷ [])) p = subst (λ ts. IsProbe model ts p) (sym first_alike.same_types) i in
-        let typed : HasTypes model p (types model (Directive s ∷ [])) = probe_typed model (types model (Directive s ∷ [])) p probe in
-        let also : HasTypes model p (types model (Directive t ∷ [])) = subst (λ type. HasTypes model p (type ∷ [])) same_type typed in
-        sym (first_alike.same_bytes p typed)
-        ∙ same p (all_printed model (Directive s ∷ []) p) (all_printed model (Directive t ∷ []) p) probe (all_printed-is model (Directive s ∷ []) p typed)
-        (all_printed-is model (Directive t ∷ []) p also)
-        ∙ second_alike.same_bytes p also
-
-    -- and those that no candidate tells apart are reduced to the same
-    pub alike_same_parts : PrintAlikeOnCandidates model s t → HaveSameParts r q
-    alike_same_parts h =
-        let none = none_alone model s t [] [] same_type h in
-        let same = on_probes model (Directive s ∷ []) (Directive t ∷ []) none.0 none.1 in
-        parts_of_items r q
-        (tail_claim model (length (reduced_items r) + length (reduced_items q)) (reduced_items r) (reduced_items q) [] (omega arith)
-        (reduced_canonical model s r first) (reduced_canonical model t q second) reduced_types (agree same) (inl refl)).1
-
-  -- those that print the same are, too
+  -- and those that print the same are reduced to the same
   pub printed_same_parts : PrintAlike model (Directive s ∷ []) (Directive t ∷ []) → HaveSameParts r q
   printed_same_parts h =
       let alike = printed-alike model (Directive s ∷ []) (Directive t ∷ []) h in

@@ -65,7 +65,7 @@ get_after [] ys = refl
 get_after (x ∷ xs) ys = get_after xs ys
 
 -- two lists begin with the same types, and then differ
-pub differ_after_front : (done xs ys us vs : List ArgType) (index : ℕ) → xs ≡ done ++ us → ys ≡ done ++ vs → index ≡ length done
+differ_after_front : (done xs ys us vs : List ArgType) (index : ℕ) → xs ≡ done ++ us → ys ≡ done ++ vs → index ≡ length done
     → slice_get us 0 ≢ slice_get vs 0 → DifferFirstAt xs ys index
 differ_after_front done xs ys us vs index e f at h =
     let here : DifferFirstAt (done ++ us) (done ++ vs) (length done)

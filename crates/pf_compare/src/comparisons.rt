@@ -1,27 +1,20 @@
 //! Comparing two formats, and confirming that two print different bytes for some arguments.
-ghost use Rattle.std.specs.Prelude.{◌≡◌, ◌≢◌, ◌↔◌, ◌⊎◌, IfErr, IfOk, IsTrue, MatchBool, MatchOption, MatchResult, false};
+ghost use Rattle.std.specs.Prelude.{◌≡◌, ◌↔◌, ◌⊎◌, IfErr, IfOk, IsTrue, MatchOption, MatchResult, false};
 ghost use Rattle.std.specs.Option.{option_map};
-ghost use Rattle.pf_values.specs.meaning.DataModel.{arg_type};
 ghost use Rattle.pf_values.specs.meaning.Text.{Text};
 ghost use Rattle.pf_canon.specs.Comparison.{AreTextsSame};
 ghost use Rattle.pf_render.specs.Rendering.{Renders};
 ghost use Rattle.pf_compare.specs.Answers.{AreUnlike, HaveSameTypes, FaultForCompare, IsComparisonOf, IsDifferenceOf, IsShown, PrintsSome, TellApart};
-ghost use Rattle.pf_compare.specs.Lone.{FormatsDifferInOne};
 ghost use Rattle.pf_compare.specs.declared.comparisons.CompareFault.TheVariants.{Memory};
 
-use crate::differences::{
-    ItemDifference, LoneDifference, are_unlike, first_type_difference, item_difference,
-};
+use crate::differences::first_type_difference;
 use crate::neutral_texts::neutrals_of;
 use crate::owned_args::OwnedArg;
-use crate::reductions::print_alike;
-use crate::witnesses::{
-    Probe, arguments_of, common_text, first_candidate_alone, first_probe, lone_probe,
-};
+use crate::witnesses::{Probe, arguments_of, common_text, first_probe};
 use pf_canon::same_text;
 use pf_render::{RenderVecFault, render_vec};
 use pf_text::{Refusal, Side};
-use pf_values::{Arg, Directive, Model};
+use pf_values::{Arg, Model};
 use std::alloc::{AllocError, Global};
 use thiserror::Error;
 
@@ -85,41 +78,6 @@ pub fn first_difference(
     ensures { MatchResult result (IsDifferenceOf model first.now second.now)
         (FaultForCompare model first.now second.now) }
 {
-    if are_unlike(first, second) {
-        return compare_unlike(alloc, model, first, second);
-    }
-    compare_any(alloc, model, first, second)
-}
-
-// Compares two formats whose bytes differ. Where their items differ in one directive alone, the two
-// directives are compared, and not their canonical texts.
-#[inline(never)]
-fn compare_unlike(
-    alloc: Global,
-    model: Model,
-    first: &[u8],
-    second: &[u8],
-) -> Result<Difference, CompareFault>
-    ensures { MatchResult result (IsDifferenceOf model first.now second.now)
-        (FaultForCompare model first.now second.now) }
-{
-    match item_difference(first, second) {
-        ItemDifference::Nowhere => Ok(Difference::Nowhere),
-        ItemDifference::Lone(difference) => compare_lone(alloc, model, &difference),
-        ItemDifference::Unknown => compare_any(alloc, model, first, second),
-    }
-}
-
-// Compares two formats that may differ anywhere, or nowhere.
-fn compare_any(
-    alloc: Global,
-    model: Model,
-    first: &[u8],
-    second: &[u8],
-) -> Result<Difference, CompareFault>
-    ensures { MatchResult result (IsDifferenceOf model first.now second.now)
-        (FaultForCompare model first.now second.now) }
-{
     match are_equivalent(model, first, second) {
         Ok(true) => Ok(Difference::Nowhere),
         Ok(false) => compare_apart(alloc, model, first, second),
@@ -153,48 +111,6 @@ fn compare_apart(
         return Ok(Difference::Types(index));
     }
     Ok(compare_bytes(alloc, model, first, second)?)
-}
-
-// Compares two formats that differ in one directive alone.
-fn compare_lone(
-    alloc: Global,
-    model: Model,
-    difference: &LoneDifference,
-) -> Result<Difference, CompareFault>
-    ensures { (t u : Text) → FormatsDifferInOne t u difference.now
-        → MatchResult result (IsDifferenceOf model t u) (FaultForCompare model t u) }
-{
-    if have_different_types(model, &difference.first, &difference.second) {
-        return Ok(Difference::Types(difference.index as u64));
-    }
-    compare_directives(alloc, model, difference)
-}
-
-fn have_different_types(model: Model, first: &Directive, second: &Directive) -> bool
-    ensures { MatchBool result (arg_type model first.now ≢ arg_type model second.now)
-        (arg_type model first.now ≡ arg_type model second.now) }
-{
-    first.arg_type(model) != second.arg_type(model)
-}
-
-// Compares two formats that differ in one directive of equal types: they are equivalent if the two
-// directives print the same.
-fn compare_directives(
-    alloc: Global,
-    model: Model,
-    difference: &LoneDifference,
-) -> Result<Difference, CompareFault>
-    requires types { arg_type model difference.now.first ≡ arg_type model difference.now.second }
-    ensures { (t u : Text) → FormatsDifferInOne t u difference.now
-        → MatchResult result (IsDifferenceOf model t u) (FaultForCompare model t u) }
-{
-    if print_alike(model, &difference.first, &difference.second) {
-        return Ok(Difference::Nowhere);
-    }
-    match first_candidate_alone(alloc, model, &difference.first, &difference.second)? {
-        Some(candidate_index) => Ok(lone_probe(model, difference, candidate_index)),
-        None => unreachable!(),
-    }
 }
 
 // Compares two formats with the same types, which differ in what they print.

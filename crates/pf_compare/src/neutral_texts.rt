@@ -9,7 +9,7 @@ ghost use Rattle.pf_values.specs.meaning.Printing.{Prints};
 ghost use Rattle.pf_values.specs.meaning.Text.{Text};
 ghost use Rattle.pf_text.specs.PieceHistory.{items_of};
 ghost use Rattle.pf_compare.specs.Spans.{HaveGivenSpans, IsNextSpan, PrintsNeutral};
-ghost use Rattle.pf_compare.specs.Witnesses.{AddsConverted, AreConverted, AreNeutral};
+ghost use Rattle.pf_compare.specs.Witnesses.{AddsConverted, AreConverted, AreNeutral, BeginsWith};
 
 use crate::owned_args::OwnedArg;
 use pf_render::render_one;
@@ -160,7 +160,7 @@ fn no_bytes() -> CBytes<'static>
 }
 
 /// Returns the neutral arguments of an accepted format: 0 for each number, and empty strings. `Err`
-/// if memory is refused.
+/// if memory is refused, which it may be for any format.
 pub fn neutrals_of<T: From<OwnedArg> + Drop>(
     alloc: Global,
     model: Model,
@@ -186,15 +186,17 @@ fn argument_count(text: &[u8]) -> usize {
     count
 }
 
-/// Puts the neutral arguments of an accepted format after what `args` has. `Err` if memory is refused.
+/// Puts the neutral arguments of an accepted format after what `args` has. `Err` if memory is refused: then some of
+/// them may be there.
 pub fn push_neutrals<T: From<OwnedArg> + Drop>(
     model: Model,
     text: &[u8],
     args: &mut Vec<T>,
 ) -> Result<(), AllocError>
     requires { IsAccepted text.now }
-    ensures { IfOk result (λ _. (items : List Item) → Reads text.now items
+    ensures added { IfOk result (λ _. (items : List Item) → Reads text.now items
         → AddsConverted T.from_gives (AreNeutral (types model items)) args.old.items args.new.items) }
+    ensures kept { BeginsWith args.old.items args.new.items }
 {
     for piece in Pieces::new(text) {
         match piece {
@@ -210,8 +212,9 @@ fn push_neutral<T: From<OwnedArg> + Drop>(
     piece: &Piece<'_>,
     args: &mut Vec<T>,
 ) -> Result<(), AllocError>
-    ensures { IfOk result (λ _. AddsConverted T.from_gives
+    ensures added { IfOk result (λ _. AddsConverted T.from_gives
         (AreNeutral (types model (items_of piece.now))) args.old.items args.new.items) }
+    ensures kept { BeginsWith args.old.items args.new.items }
 {
     match piece.arg_type(model) {
         Some(arg_type) => {

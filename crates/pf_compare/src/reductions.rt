@@ -1,23 +1,19 @@
 //! Whether two directives print the same, by what they are reduced to.
 ghost use Rattle.std.specs.Prelude.{◌≡◌, ◌≢◌, ◌↔◌, ◌∷◌, [], IsFalse, IsTrue};
 ghost use Rattle.pf_values.specs.declared.models.Model.{Model};
-ghost use Rattle.pf_values.specs.meaning.DataModel.{arg_type};
 ghost use Rattle.pf_values.specs.meaning.Items.{Directive as item_of};
 ghost use Rattle.pf_values.specs.meaning.Normal.{IsNormal, silent};
 ghost use Rattle.pf_values.specs.meaning.Printing.{PrintAlike};
 ghost use Rattle.pf_reduce.specs.Reducing.{core_of};
-ghost use Rattle.pf_compare.specs.Lone.{HaveSameParts, PrintAlikeOnCandidates};
+ghost use Rattle.pf_compare.specs.Reductions.{HaveSameParts};
 
 use crate::differences::are_equal;
 use pf_reduce::{Core, Reduced, reduce};
 use pf_values::{Directive, Model};
 
-/// Returns whether two directives take an argument of one type, and print the same for each such argument. If two of
-/// one type don't, some candidate of that type tells them apart.
+/// Returns whether two directives take an argument of one type, and print the same for each such argument.
 pub fn print_alike(model: Model, first: &Directive, second: &Directive) -> bool
-    ensures alike { IsTrue result ↔ PrintAlike model (item_of first.now ∷ []) (item_of second.now ∷ []) }
-    ensures unlike { arg_type model first.now ≡ arg_type model second.now
-        → IsFalse result → ¬ PrintAlikeOnCandidates model first.now second.now }
+    ensures { IsTrue result ↔ PrintAlike model (item_of first.now ∷ []) (item_of second.now ∷ []) }
 {
     let first_reduced = reduce(model, first);
     let second_reduced = reduce(model, second);

@@ -1,6 +1,6 @@
 //! Arguments for which two formats print different bytes: the first of the probes that tell them apart.
 //! One is searched only where the formats print the same for neutral arguments.
-ghost use Rattle.std.specs.Prelude.{◌≡◌, ◌≢◌, ◌<◌, ◌≤◌, ◌+◌, ◌-◌, [], ◌++◌, IfOk, IsTrue, List, MatchBool, MatchOption, Some, drop, length, slice_get, take, ℕ};
+ghost use Rattle.std.specs.Prelude.{◌≡◌, ◌≢◌, ◌<◌, ◌≤◌, ◌+◌, ◌-◌, ◌++◌, IfOk, IsTrue, List, MatchBool, MatchOption, Some, drop, length, slice_get, take, ℕ};
 ghost use Rattle.pf_values.specs.Arg.{argument_of};
 ghost use Rattle.pf_values.specs.Candidates.{candidates, neutral};
 ghost use Rattle.pf_values.specs.declared.models.Model.TheVariants.{Lp64};
@@ -11,18 +11,16 @@ ghost use Rattle.pf_values.specs.meaning.Items.{HasItems, Item, Reads, types};
 ghost use Rattle.pf_values.specs.meaning.Text.{Text};
 ghost use Rattle.pf_probes.specs.Candidate as probes;
 ghost use Rattle.pf_compare.specs.Answers.{FindsProbe, HaveSameTypes};
-ghost use Rattle.pf_compare.specs.Spans.{AreNextSpans, AreTriedBelow, HaveGivenSpans, ReplacementsEqual, ReplacementsDiffer, FindsUnlike, IsSpanIn, PrintOneText, PrintUnlikeNeutral, replace_span};
+ghost use Rattle.pf_compare.specs.Spans.{AreNextSpans, HaveGivenSpans, ReplacementsEqual, ReplacementsDiffer, FindsUnlike, IsSpanIn, PrintOneText, PrintUnlikeNeutral, replace_span};
 ghost use Rattle.pf_compare.specs.CandidateStrings.{IsCandidateString};
-ghost use Rattle.pf_compare.specs.Lone.{AreToldApartAt, DifferInOne, span_alone};
 ghost use Rattle.pf_compare.specs.Owned.{argument_of_owned, type_of_owned};
-ghost use Rattle.pf_compare.specs.Witnesses.{AreArgumentsOf, AreConverted, AreNeutral, DifferBy};
+ghost use Rattle.pf_compare.specs.Witnesses.{AreArgumentsOf, AreConverted, AreNeutral};
 
-use crate::comparisons::Difference;
-use crate::differences::{LoneDifference, are_equal, are_unlike};
+use crate::differences::{are_equal, are_unlike};
 use crate::neutral_texts::{PrintedSpan, Spans, neutral_text, neutrals_of, print};
 use crate::owned_args::OwnedArg;
 use pf_probes::{Candidate, candidate_row};
-use pf_values::{Arg, ArgType, Directive, Model};
+use pf_values::{Arg, ArgType, Model};
 use std::alloc::{AllocError, Global};
 
 /// Neutral arguments, except for one.
@@ -69,28 +67,6 @@ pub(crate) fn common_text(
         return Ok(None);
     }
     Ok(Some(whole))
-}
-
-/// The difference of two formats that differ in one directive alone, of the candidate that tells the two
-/// directives apart.
-pub(crate) fn lone_probe(
-    model: Model,
-    difference: &LoneDifference,
-    candidate_index: usize,
-) -> Difference
-    requires one_type { arg_type model difference.now.first ≡ arg_type model difference.now.second }
-    requires found { AreToldApartAt model difference.now candidate_index }
-    ensures { (xs ys : List Item) → DifferInOne xs ys difference.now → DifferBy model xs ys result }
-{
-    if candidate_index == 0 {
-        return Difference::Neutral;
-    }
-    Difference::Probe(probe_of(
-        model,
-        difference.index,
-        difference.first.arg_type(model),
-        candidate_index,
-    ))
 }
 
 /// Returns the arguments of a probe for an accepted format. `Err` if memory is refused.
@@ -188,48 +164,14 @@ fn first_candidate(
     if are_equal_spans(first, second) {
         return Ok(None);
     }
-    first_candidate_from(
+    other_candidate(
         alloc,
         model,
         whole,
         first,
         second,
         first.directive.arg_type(model),
-        1,
     )
-}
-
-/// The index of the first candidate for which two directives print different bytes: alone, each is
-/// put into one span of an empty text.
-pub(crate) fn first_candidate_alone(
-    alloc: Global,
-    model: Model,
-    first: &Directive,
-    second: &Directive,
-) -> Result<Option<usize>, AllocError>
-    requires one_type { arg_type model first.now ≡ arg_type model second.now }
-    ensures { IfOk result (FindsUnlike model [] (span_alone first.now) (span_alone second.now)
-        (arg_type model first.now)) }
-{
-    first_candidate_from(
-        alloc,
-        model,
-        b"",
-        &span_alone(first),
-        &span_alone(second),
-        first.arg_type(model),
-        0,
-    )
-}
-
-fn span_alone(directive: &Directive) -> PrintedSpan
-    ensures { result ≡ span_alone directive.now }
-{
-    PrintedSpan {
-        directive: *directive,
-        start: 0,
-        end: 0,
-    }
 }
 
 fn are_equal_spans(first: &PrintedSpan, second: &PrintedSpan) -> bool
@@ -245,26 +187,25 @@ fn have_same_offsets(first: &PrintedSpan, second: &PrintedSpan) -> bool
     first.start == second.start && first.end == second.end
 }
 
-// The index of the first candidate of their type that makes different texts, from an index on before
-// which none does. The neutral one is the first.
-fn first_candidate_from(
+// The index of the first candidate of their type that makes different texts. The neutral one, which is the
+// first of the row, makes equal ones.
+fn other_candidate(
     alloc: Global,
     model: Model,
     whole: &[u8],
     first: &PrintedSpan,
     second: &PrintedSpan,
     wanted: ArgType,
-    from: usize,
 ) -> Result<Option<usize>, AllocError>
     requires first_type { arg_type model first.now.directive ≡ wanted }
     requires second_type { arg_type model second.now.directive ≡ wanted }
-    requires tried { AreTriedBelow model whole.now first.now second.now wanted from }
+    requires neutral { ReplacementsEqual model whole.now first.now second.now (neutral wanted) }
     requires first { IsSpanIn whole.now first.now }
     requires second { IsSpanIn whole.now second.now }
     ensures { IfOk result (FindsUnlike model whole.now first.now second.now wanted) }
 {
     let row = candidate_row(model, wanted);
-    let mut index = from;
+    let mut index = 1;
     while index < row.len() {
         if candidate_differs(alloc, model, whole, first, second, wanted, row[index])? {
             return Ok(Some(index));

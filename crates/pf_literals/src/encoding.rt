@@ -8,7 +8,7 @@ use std::alloc::{AllocError, Allocator, Global};
 
 /// Returns the one string literal of some bytes. NUL is written as `\000`; `decode` rejects such a
 /// literal, since a C string would end there. It allocates once, the literal's length. `Err` if memory
-/// is refused.
+/// is refused, which it may be for any text.
 pub fn encode(alloc: Global, text: &[u8]) -> Result<Vec<u8>, AllocError>
     ensures { IfOk result (λ v. v.items ≡ encoding text.now) }
 {

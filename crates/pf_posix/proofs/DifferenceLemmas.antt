@@ -172,7 +172,7 @@ counted_too model first second found count h k =
     }
 
 -- numbered arguments are few
-pub fetched_few : (fs : List Fetch) (place : ℕ) → AllByRecursion IsWithin fs → IsFetched place fs → place < ROOM
+fetched_few : (fs : List Fetch) (place : ℕ) → AllByRecursion IsWithin fs → IsFetched place fs → place < ROOM
 fetched_few [] place h f = absurd f
 fetched_few (g ∷ fs) place h (inl e) = let few = (h.0 (place + 1) e).1 in omega (arith, few)
 fetched_few (g ∷ fs) place h (inr e) = fetched_few fs place h.1 e
@@ -353,18 +353,25 @@ both_beginnings a b (m, e) (n, f) =
     let none = nil_from_length m (omega (arith, ap length e, ap length f, length-append b m, length-append a n)) in
     e ∙ ap (λ l. b ++ l) none ∙ append-nil b
 
+-- two lists differ first at one index, and nowhere if they are equal
+pub one_difference : (a b : List WholeArgType) (index other : Option ℕ) → IsFirstDifference a b index → IsFirstDifference a b other → index ≡ other
+one_difference a b None None h k = refl
+one_difference a b None (Some j) h k = absurd (k.0 (ap (λ l. slice_get l j) h))
+one_difference a b (Some i) None h k = absurd (h.0 (ap (λ l. slice_get l i) k))
+one_difference a b (Some i) (Some j) h k = elim (cases_eq i j) [
+  | inl same ↦ ap Some same
+  | inr other ↦ elim (cases_lt i j) [
+    | inl less ↦ absurd (h.0 (k.1 i less))
+    | inr more ↦ absurd (k.0 (h.1 j (omega (arith, more, other))))
+  ]
+]
+
 -- there is one such place
 pub one_excess : (a b : List WholeArgType) (index other : Option ℕ) → IsFirstExcess a b index → IsFirstExcess a b other → index ≡ other
 one_excess a b None None h k = refl
 one_excess a b None (Some j) h k = absurd (k.1.0 (ap (λ l. slice_get l j) h.1 ∙ within_beginning b h.0 j k.0))
 one_excess a b (Some i) None h k = absurd (h.1.0 (ap (λ l. slice_get l i) k.1 ∙ within_beginning b k.0 i h.0))
-one_excess a b (Some i) (Some j) h k = elim (cases_eq i j) [
-  | inl same ↦ ap Some same
-  | inr other ↦ elim (cases_lt i j) [
-    | inl less ↦ absurd (h.1.0 (k.1.1 i less))
-    | inr more ↦ absurd (k.1.0 (h.1.1 j (omega (arith, more, other))))
-  ]
-]
+one_excess a b (Some i) (Some j) h k = one_difference a b (Some i) (Some j) h.1 k.1
 
 pub fits_is_fewer : (model : Model) (t u : Text) → ComparesArgumentTypes model t u None → ComparesBeginning model t u None
 fits_is_fewer model t u h =
@@ -394,3 +401,11 @@ fewer_once model t u index other h k =
     let second = one_list model u k.others h.others k.second_accepted h.second_accepted in
     one_excess h.types h.others index other h.excess
     (subst (λ l. IsFirstExcess l h.others other) first (subst (λ l. IsFirstExcess k.types l other) second k.excess))
+
+pub compares_once : (model : Model) (t u : Text) (index other : Option ℕ) → ComparesArgumentTypes model t u index → ComparesArgumentTypes model t u other
+    → index ≡ other
+compares_once model t u index other h k =
+    let first = one_list model t k.types h.types k.first_accepted h.first_accepted in
+    let second = one_list model u k.others h.others k.second_accepted h.second_accepted in
+    one_difference h.types h.others index other h.difference
+    (subst (λ l. IsFirstDifference l h.others other) first (subst (λ l. IsFirstDifference k.types l other) second k.difference))

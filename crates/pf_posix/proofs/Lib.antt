@@ -32,6 +32,4 @@ pub mod DirectiveLemmas
 pub mod ErrnoAside
 pub mod SpecificationSpanLemmas
 pub mod SpecificationWalkLemmas
-mod RefusedSpecificationLemmas
-mod MissingArgumentLemmas
 pub mod ListingLemmas

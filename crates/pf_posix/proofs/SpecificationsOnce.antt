@@ -88,7 +88,7 @@ specification_once t u x y a b h g e = go (cuts t x u y e) where
 pub one_specification : (t u x y : Text) (a b : WholeSpecification) → HasParts t a → HasParts u b → t ++ x ≡ u ++ y → (a ≡ b) × (x ≡ y)
 one_specification t u x y a b h g e = specification_once t u x y a b h.spelled g.spelled e
 
-abbrev pub HasSecond : Text → Type 0
+abbrev HasSecond : Text → Type 0
 HasSecond t = (second : ℕ) × (more : Text) × (sign_of second ≢ Strange) × (t ≡ 37 ∷ (second ∷ more))
 
 known_sign : {X : Type 0} (sign : Sign) (on : Sign → Option X) (x : X) → on Strange ≡ None → on sign ≡ Some x → sign ≢ Strange
@@ -98,7 +98,7 @@ second_pushed : (t : Text) (byte : ℕ) → (t ≡ 37 ∷ []) ⊎ HasSecond t �
 second_pushed t byte (inl e) n = (byte, [], n, ap (λ u. u ++ byte ∷ []) e)
 second_pushed t byte (inr h) n = (h.0, h.1 ++ byte ∷ [], h.2, ap (λ u. u ++ byte ∷ []) h.3)
 
-pub second_begun : (t : Text) (state : State) → IsStateAfter state t → (t ≡ 37 ∷ []) ⊎ HasSecond t
+second_begun : (t : Text) (state : State) → IsStateAfter state t → (t ≡ 37 ∷ []) ⊎ HasSecond t
 second_begun = from_end (λ t. (state : State) → IsStateAfter state t → (t ≡ 37 ∷ []) ⊎ HasSecond t) (λ state h. absurd (never_empty state h))
     (λ t byte same state h. elim (shrinks state t byte h) [
       | inl e ↦ inl (ap (λ u. u ++ byte ∷ []) e.0 ∙ ap (λ b. b ∷ []) e.1)

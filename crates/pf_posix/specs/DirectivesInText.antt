@@ -1,4 +1,4 @@
--- The specifications of a text as the code goes through them. No public contract names these.
+-- The specifications of a text as the code goes through them. Public contracts name only `IsListedTo`.
 use Rattle.std.specs.Prelude.{◌≡◌, ℕ, ◌+◌, ◌≤◌, List, [], ◌∷◌, ◌++◌, drop, length, Option, Some, None, ⊤}
 use Rattle.pf_values.specs.declared.models.Model.{Model}
 use Rattle.pf_values.specs.meaning.Text.{Text}

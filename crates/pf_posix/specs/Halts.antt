@@ -1,5 +1,5 @@
--- At which byte a specification is rejected, and why, as the code reads it part by part. No public contract names
--- these.
+-- At which byte a specification is rejected, and why, as the code reads it part by part. A public contract
+-- names `IsStrayAt`.
 use Rattle.std.specs.Prelude.{◌≡◌, ℕ, ◌-◌, ◌<◌, ◌≤◌, Bool, true, false, List, [], ◌∷◌, ◌++◌, drop, get_or, is_some, length, Option, Some, None, ◌⊎◌, ◌==◌, if◌then◌else◌, ⊤}
 use Rattle.pf_values.specs.declared.flags.FlagSet.{FlagSet}
 use Rattle.pf_values.specs.declared.models.Model.{Model}

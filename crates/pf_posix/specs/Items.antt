@@ -1,4 +1,5 @@
 -- The items of a text in the whole language, and the types of its arguments.
+use Prim.Native.Char.{code}
 use Rattle.std.specs.Prelude.{◌≡◌, ◌≢◌, ℕ, ◌≤◌, List, [], ◌∷◌, ◌++◌, length, MatchBool, ◌==◌}
 use Rattle.pf_values.specs.declared.limits.TheConstants.{MAX_TEXT_LEN}
 use Rattle.pf_values.specs.declared.models.Model.{Model}
@@ -12,7 +13,7 @@ use Rattle.pf_posix.specs.Types.{HaveTypes, fetches}
 
 -- the letter of `%m`
 abbrev pub errno_letter : ℕ
-errno_letter = 109
+errno_letter = code "m"
 
 -- `%m`, which prints the message of `errno` (POSIX syslog)
 abbrev pub errno : Text

@@ -24,7 +24,5 @@ pub mod Directives
 pub mod DirectivesInText
 pub mod SpecificationSpans
 pub mod SpecificationWalks
-pub mod RefusedSpecifications
-pub mod MissingArguments
 pub mod Plain
 pub mod Listings

@@ -1,5 +1,5 @@
 -- The parts of a specification from an offset of a text on, as the code reads them, and where each ends: the byte
--- there couldn't belong to it. No public contract names these.
+-- there couldn't belong to it. Of these a public contract names `ModifierEnds`.
 use Rattle.std.specs.Prelude.{◌≡◌, ℕ, ◌≢◌, ◌+◌, ◌-◌, ◌<◌, ◌≤◌, false, ◌==◌, drop, length, take, get_or, Option, Some, None, if◌then◌else◌, ⊤}
 use Rattle.pf_values.specs.declared.lengths.Length.TheVariants as lengths
 use Rattle.pf_values.specs.meaning.Text.{Text, dollar, point, star}

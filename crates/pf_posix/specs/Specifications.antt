@@ -1,4 +1,5 @@
 -- The parts of a conversion specification of the whole language, defined or not.
+use Prim.Native.Char.{code}
 use Rattle.std.specs.Prelude.{ℕ, Option, codes}
 use Rattle.pf_values.specs.declared.flags.FlagSet.{FlagSet}
 use Rattle.pf_values.specs.meaning.Conversions.{conv_letter}
@@ -29,23 +30,23 @@ pub record WholeSpecification : Type 0 where
 
 -- `f F e E g G a A` (C11 7.21.6.1 p8)
 abbrev pub floating_letter : Floating → ℕ
-floating_letter floats.F = 102
-floating_letter floats.UpperF = 70
-floating_letter floats.E = 101
-floating_letter floats.UpperE = 69
-floating_letter floats.G = 103
-floating_letter floats.UpperG = 71
-floating_letter floats.A = 97
-floating_letter floats.UpperA = 65
+floating_letter floats.F = code "f"
+floating_letter floats.UpperF = code "F"
+floating_letter floats.E = code "e"
+floating_letter floats.UpperE = code "E"
+floating_letter floats.G = code "g"
+floating_letter floats.UpperG = code "G"
+floating_letter floats.A = code "a"
+floating_letter floats.UpperA = code "A"
 
 -- those of the profile, `p` and `n` (C11 7.21.6.1 p8), `C` and `S` (POSIX fprintf)
 abbrev pub conversion_letter : WholeConv → ℕ
 conversion_letter (Profile conv) = conv_letter conv
 conversion_letter (Float floating) = floating_letter floating
-conversion_letter UpperC = 67
-conversion_letter UpperS = 83
-conversion_letter Pointer = 112
-conversion_letter Count = 110
+conversion_letter UpperC = code "C"
+conversion_letter UpperS = code "S"
+conversion_letter Pointer = code "p"
+conversion_letter Count = code "n"
 
 -- (C11 7.21.6.1 p7)
 abbrev pub modifier_letters : WholeLength → Text

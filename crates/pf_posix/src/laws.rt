@@ -86,6 +86,12 @@ pub fn fewer_once()
         → ComparesBeginning model t u index → ComparesBeginning model t u other → index ≡ other }
 {}
 
+/// Proves that the types of two texts differ first at one index, or nowhere.
+pub fn compares_once()
+    ensures { (model : Model) (t u : Text) (index other : Option ℕ)
+        → ComparesArgumentTypes model t u index → ComparesArgumentTypes model t u other → index ≡ other }
+{}
+
 /// Proves that a text is read as one list of stretches and opaque directives at most.
 pub fn read_once()
     ensures { (t : Text) → IsReadOnce t }

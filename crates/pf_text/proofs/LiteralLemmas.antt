@@ -39,7 +39,7 @@ literal_take text zero few h = tt
 literal_take [] (suc n) few h = tt
 literal_take (b ∷ text) (suc n) few h = (h 0 (omega arith), literal_take text n (omega arith) (λ k less. h (suc k) (omega arith)))
 
-read_literal : (b : ℕ) → IsLiteral b → IsReadAs (b ∷ []) (Byte b)
+pub read_literal : (b : ℕ) → IsLiteral b → IsReadAs (b ∷ []) (Byte b)
 read_literal b h = let other : (b == 37) ≡ false = grind (arith, nat_tests, h.0) in rw other (h.1, refl)
 
 pub Reads-literals : (run t : Text) (items : List Item) → Reads t items → AllByRecursion IsLiteral run → Reads (t ++ run) (items ++ map Byte run)

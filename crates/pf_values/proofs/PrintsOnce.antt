@@ -24,12 +24,13 @@ use Rattle.pf_values.specs.meaning.Printing.{
   field,
   printed_front,
   sign_or_prefix,
+  zeros,
 }
 use Rattle.pf_values.specs.Laws.{PrintsOnce, PrintsOnly}
 use Rattle.pf_values.specs.meaning.Specification.{Specification}
 use Rattle.pf_values.specs.meaning.Text.{Text}
 use Rattle.pf_values.proofs.DataModelLemmas.{each_row}
-use Rattle.pf_values.proofs.Printed.{printed_digits, printed_precision, AreDigitsOf-exist, AreDigitsOf-unique, IsPrecision-exists, IsPrecision-unique}
+use Rattle.pf_values.proofs.Printed.{printed_digits, printed_precision, plain_digits, padded_digits, AreDigitsOf-exist, AreDigitsOf-unique}
 use Rattle.pf_values.proofs.Values.{wrapped, converted_number, converted-is, IsConverted-unique}
 
 -- what is printed of a value, without padding
@@ -40,19 +41,18 @@ pub PrintsNumber-value : (model : Model) (s : Specification) (n value : ℤ) →
 PrintsNumber-value model s n value h =
     record {
       value = value;
-      precision = printed_precision s value;
-      digits = printed_digits s (printed_precision s value) (nat_abs value);
+      digits = plain_digits s (nat_abs value);
       value_is = h;
-      precision_is = IsPrecision-exists s value;
-      digits_are = AreDigitsOf-exist s _ _;
-      whole = refl;
+      digits_are = AreDigitsOf-exist s _;
+      whole = sym (padded_digits s value);
     }
 
 pub PrintsNumber-is : (model : Model) (s : Specification) (n : ℤ) (body : Text) (h : PrintsNumber model s n body) → body ≡ value_text s h.value
 PrintsNumber-is model s n body h =
     h.whole
-    ∙ ap (λ t. sign_or_prefix s h.value ++ t) (AreDigitsOf-unique s h.precision (nat_abs h.value) h.digits h.digits_are
-    ∙ ap (λ p. printed_digits s p (nat_abs h.value)) (IsPrecision-unique s h.value h.precision h.precision_is))
+    ∙ ap (λ t. sign_or_prefix s h.value ++ zeros s (sign_or_prefix s h.value ++ t) ++ t)
+    (AreDigitsOf-unique s (nat_abs h.value) h.digits h.digits_are)
+    ∙ padded_digits s h.value
 
 -- the value that a directive makes of a number
 abbrev pub value_of : Model → Specification → ℤ → ℤ

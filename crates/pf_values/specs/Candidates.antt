@@ -5,7 +5,8 @@ use Rattle.pf_values.specs.declared.models.Model.{Model}
 use Rattle.pf_values.specs.declared.types.ArgType.{ArgType}
 use Rattle.pf_values.specs.declared.types.ArgType.TheVariants.{Int, UInt, Long, ULong, LongLong, ULongLong, Str}
 use Rattle.pf_values.specs.meaning.Arguments.{Argument, Number, String}
-use Rattle.pf_values.specs.meaning.DataModel.{Bits, bit_count, type_bits}
+use Rattle.pf_values.specs.meaning.DataModel.{Bits, bit_count}
+use Rattle.pf_values.specs.TypeBits.{type_bits}
 
 -- the largest number of `bits` bits, and 3, which tells base two from the others
 abbrev pub unsigned_candidates : Bits → List Argument

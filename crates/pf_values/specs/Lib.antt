@@ -9,4 +9,5 @@ pub mod Feeds
 pub mod Laws
 pub mod RefusalKinds
 pub mod Settled
+pub mod TypeBits
 pub mod TypeNumbers

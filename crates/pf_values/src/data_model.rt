@@ -7,9 +7,9 @@ ghost use Rattle.pf_values.specs.meaning.DataModel.{
   kept_length,
   row_of_rank,
   signed_type,
-  type_bits,
   unsigned_type,
 };
+ghost use Rattle.pf_values.specs.TypeBits.{type_bits};
 
 use crate::lengths::Length;
 use crate::models::{Model, Rank};

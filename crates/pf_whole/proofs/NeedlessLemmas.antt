@@ -32,8 +32,9 @@ use Rattle.pf_whole.specs.declared.needless.Question.{Question}
 use Rattle.pf_whole.specs.declared.parts.Part.{Part}
 use Rattle.pf_whole.specs.declared.parts.Part.TheVariants.{Flag, Width, Precision, Modifier}
 use Rattle.pf_whole.specs.declared.parts.PartSet.{PartSet}
-use Rattle.pf_whole.specs.Needless.{AreFound, AreNeedless, AreTogether, HaveNoEffect, IsPartQuestion}
-use Rattle.pf_whole.specs.Parts.{given_parts, has_part, left_out, no_parts, only, with_part, without, without_flags}
+use Rattle.pf_whole.specs.declared.needless.NeedlessParts.{NeedlessParts}
+use Rattle.pf_whole.specs.Needless.{AreFound, AreGathered, AreNeedless, GathersPart, HaveNoEffect}
+use Rattle.pf_whole.specs.Parts.{all_parts, given_parts, has_part, left_out, no_parts, only, with_part, without, without_flags}
 use Rattle.pf_whole.specs.meaning.NormalSpellings.{directive_spelling, whole_spelling_of}
 use Rattle.pf_whole.specs.meaning.Traces.{AreWholeAlike}
 use Rattle.pf_whole.specs.Laws.{Correspond}
@@ -264,28 +265,6 @@ no_part part e = grind arith
 pub found_none : (question : Question) → AreFound question no_parts no_parts
 found_none question part = (λ has. absurd (no_part part has), λ all. absurd (no_part part all.0))
 
--- one part more of those that have no effect
-pub together_more : (question : Question) (each some : PartSet) (part : Part) → AreTogether question each some → IsTrue (has_part each part)
-    → HaveNoEffect question.model (parts_of_opaque question.directive) (with_part some part) → AreTogether question each (with_part some part)
-together_more question each some part h has none = record {
-  among = λ other is. elim (with_either some part other is) [
-    | inl e ↦ subst (λ p. IsTrue (has_part each p)) (sym e) has
-    | inr was ↦ h.among other was
-  ];
-  none = none;
-}
-
--- all but the precision
-pub together_less : (question : Question) (each : PartSet)
-    → HaveNoEffect question.model (parts_of_opaque question.directive) (record each { precision = false })
-    → AreTogether question each (record each { precision = false })
-together_less question each none = record { among = λ part. kept_of each part; none = none } where
-  kept_of : (each : PartSet) (part : Part) → has_part (record each { precision = false }) part ≡ true → has_part each part ≡ true
-  kept_of each (Flag flag) e = e
-  kept_of each Width e = e
-  kept_of each Precision e = cc
-  kept_of each Modifier e = e
-
 -- no parts have no effect
 pub nothing_left : (model : Model) (s : WholeSpecification) (text : Text) → s.position ≡ None → IsWholeReadAs text (Specification s)
     → HaveNoEffect model s no_parts
@@ -304,10 +283,64 @@ nothing_left model s text unnumbered h t u x y = alike_self t u x (subst (Spells
         alike = record { same_types = refl; same_calls = refl; same_traces = λ args trace typed. (λ g. g, λ g. g) };
       }
 
-pub none_together : (question : Question) (each : PartSet) → IsPartQuestion question → AreTogether question each no_parts
-none_together question each q = record {
-  among = λ part has. absurd (no_part part has);
-  none = nothing_left question.model (parts_of_opaque question.directive) q.text refl q.spelled;
+-- of nothing, nothing is gathered
+pub none_gathered : (model : Model) (s : WholeSpecification) (parts : List Part) → AreGathered model s no_parts no_parts parts no_parts
+none_gathered model s [] = refl
+none_gathered model s (part ∷ parts) = (no_parts, inr (λ h. absurd (no_part part h.0), refl), none_gathered model s parts)
+
+-- what is gathered is among the parts, and has no effect
+module _ (model : Model) (s : WholeSpecification) (each : PartSet) where
+  among_next : (some more : PartSet) (part other : Part) → ((p : Part) → IsTrue (has_part some p) → IsTrue (has_part each p))
+      → GathersPart model s each some part more → IsTrue (has_part more other) → IsTrue (has_part each other)
+  among_next some more part other among (inl g) has =
+      elim (with_either some part other (subst (λ set. IsTrue (has_part set other)) g.2 has)) [
+        | inl e ↦ subst (λ p. IsTrue (has_part each p)) (sym e) g.0
+        | inr was ↦ among other was
+      ]
+  among_next some more part other among (inr g) has = among other (subst (λ set. IsTrue (has_part set other)) g.1 has)
+
+  pub gathered_among : (parts : List Part) (some found : PartSet) → ((p : Part) → IsTrue (has_part some p) → IsTrue (has_part each p))
+      → AreGathered model s each some parts found → (part : Part) → IsTrue (has_part found part) → IsTrue (has_part each part)
+  gathered_among [] some found among g part has = among part (subst (λ set. IsTrue (has_part set part)) g has)
+  gathered_among (next ∷ parts) some found among g part has =
+      gathered_among parts g.0 found (λ p. among_next some g.0 next p among g.1) g.2 part has
+
+  none_next : (some more : PartSet) (part : Part) → HaveNoEffect model s some → GathersPart model s each some part more → HaveNoEffect model s more
+  none_next some more part none (inl g) = subst (HaveNoEffect model s) (sym g.2) g.1
+  none_next some more part none (inr g) = subst (HaveNoEffect model s) (sym g.1) none
+
+  pub gathered_none : (parts : List Part) (some found : PartSet) → HaveNoEffect model s some → AreGathered model s each some parts found
+      → HaveNoEffect model s found
+  gathered_none [] some found none g = subst (HaveNoEffect model s) (sym g) none
+  gathered_none (next ∷ parts) some found none g = gathered_none parts g.0 found (none_next some g.0 next none g.1) g.2
+
+-- one set is gathered, and no other
+module _ (model : Model) (s : WholeSpecification) (each : PartSet) where
+  gathers_once : (some more other : PartSet) (part : Part) → GathersPart model s each some part more → GathersPart model s each some part other
+      → more ≡ other
+  gathers_once some more other part (inl g) (inl h) = g.2 ∙ sym h.2
+  gathers_once some more other part (inl g) (inr h) = absurd (h.0 (g.0, g.1))
+  gathers_once some more other part (inr g) (inl h) = absurd (g.0 (h.0, h.1))
+  gathers_once some more other part (inr g) (inr h) = g.1 ∙ sym h.1
+
+  pub gathered_once : (parts : List Part) (some found other : PartSet) → AreGathered model s each some parts found
+      → AreGathered model s each some parts other → found ≡ other
+  gathered_once [] some found other g h = g ∙ sym h
+  gathered_once (part ∷ parts) some found other g h =
+      let same = gathers_once some h.0 g.0 part h.1 g.1 in
+      gathered_once parts g.0 found other g.2 (subst (λ more. AreGathered model s each more parts other) same h.2)
+
+-- what is found of a specification that some text is
+pub needless_some : (model : Model) (s : WholeSpecification) (text : Text) → s.position ≡ None → IsWholeReadAs text (Specification s) → (found : NeedlessParts)
+    → found.given ≡ given_parts s
+    → ((part : Part) → IsTrue (has_part found.each part) ↔ (IsTrue (has_part (given_parts s) part) × HaveNoEffect model s (only part)))
+    → AreGathered model s found.each no_parts all_parts found.together → AreNeedless model s found
+needless_some model s text unnumbered h found given each gathered = record {
+  given = given;
+  each = each;
+  among = gathered_among model s found.each all_parts no_parts found.together (λ p has. absurd (no_part p has)) gathered;
+  together = gathered_none model s found.each all_parts no_parts found.together (nothing_left model s text unnumbered h) gathered;
+  gathered = gathered;
 }
 
 -- of a specification that has no parts
@@ -323,6 +356,7 @@ needless_none model s text unnumbered h given is none =
       );
       among = λ part has. has;
       together = subst (HaveNoEffect model s) (sym none) (nothing_left model s text unnumbered h);
+      gathered = subst (λ set. AreGathered model s set no_parts all_parts set) (sym none) (none_gathered model s all_parts);
     }
 
 -- after all nine
@@ -357,3 +391,30 @@ module _ (t : Text) (span : SpecificationSpan) (h : HasItsParts t span) where
       let few = own_few h.places.precision.0 h.s.position h.s.precision h.places.precision.1 in
       let own = whole_spelling_of (alone h.s) in
       (own, subst (λ s. IsWholeReadAs own (Specification s)) (sym h.parts_are) (spelled_parts (alone h.s) refl width few, defined_alone))
+
+-- sets with the same parts are one
+same_bools : (a b : Bool) → (IsTrue a ↔ IsTrue b) → a ≡ b
+same_bools true true h = refl
+same_bools true false h = sym (h.0 refl)
+same_bools false true h = h.1 refl
+same_bools false false h = refl
+
+same_flags : (a b : FlagSet) → a.minus ≡ b.minus → a.plus ≡ b.plus → a.space ≡ b.space → a.alt ≡ b.alt → a.zero ≡ b.zero → a.group ≡ b.group → a ≡ b
+same_flags a b e f g h k l i =
+    record { minus = e i; plus = f i; space = g i; alt = h i; zero = k i; group = l i }
+
+same_sets : (a b : PartSet) → ((part : Part) → IsTrue (has_part a part) ↔ IsTrue (has_part b part)) → a ≡ b
+same_sets a b h =
+    let at : (part : Part) → has_part a part ≡ has_part b part = λ part. same_bools (has_part a part) (has_part b part) (h part) in
+    let flags = same_flags a.flags b.flags (at (Flag Minus)) (at (Flag Plus)) (at (Flag Space)) (at (Flag Alt)) (at (Flag Zero)) (at (Flag Group)) in
+    λ i. record { flags = flags i; width = at Width i; precision = at Precision i; modifier = at Modifier i }
+
+-- a specification has one answer
+pub needless_once : (model : Model) (s : WholeSpecification) (found other : NeedlessParts) → AreNeedless model s found → AreNeedless model s other
+    → found ≡ other
+needless_once model s found other g h =
+    let given = g.given ∙ sym h.given in
+    let each = same_sets found.each other.each (λ part. (λ has. (h.each part).1 ((g.each part).0 has), λ has. (g.each part).1 ((h.each part).0 has))) in
+    let together = gathered_once model s found.each all_parts no_parts found.together other.together g.gathered
+    (subst (λ set. AreGathered model s set no_parts all_parts other.together) (sym each) h.gathered) in
+    λ i. record { given = given i; each = each i; together = together i }

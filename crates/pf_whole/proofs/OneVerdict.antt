@@ -1,8 +1,7 @@
 -- A pair of texts has one verdict at most.
-use Rattle.std.proofs.Common.{◌≡◌, ℕ, zero, suc, ◌<◌, List, [], ◌∷◌, ◌++◌, map, refl, sym, ap, ◌∙◌, subst, inl, inr}
+use Rattle.std.proofs.Common.{◌≡◌, ℕ, zero, suc, List, [], ◌∷◌, ◌++◌, map, refl, sym, ap, ◌∙◌, subst, inl, inr}
 use Rattle.std.specs.Prelude.{Option, Some, None, ◌↔◌, ◌⊎◌, slice_get, slice_set}
 use Rattle.std.specs.List.{AllZip}
-use Rattle.std.proofs.lemmas.Bool.{cases_order}
 use Rattle.std.proofs.lemmas.List.{map-append}
 use Rattle.pf_values.specs.declared.models.Model.{Model}
 use Rattle.pf_values.specs.declared.types.ArgType.{ArgType}
@@ -13,10 +12,11 @@ use Rattle.pf_values.specs.meaning.Items.{types}
 use Rattle.pf_values.specs.meaning.Text.{Text}
 use Rattle.pf_compare.specs.Answers.{IsEarlier}
 use Rattle.pf_compare.proofs.CandidateLemmas.{candidate_has_type}
+use Rattle.pf_compare.proofs.OnceLemmas.{which_first}
 use Rattle.pf_posix.specs.declared.types.WholeArgType.{WholeArgType}
-use Rattle.pf_posix.specs.Laws.{IsFirstDifference}
 use Rattle.pf_posix.specs.Types.{widened}
 use Rattle.pf_posix.specs.Stretches.{Stretches, Last, Before, types_of_opaque, whole_types}
+use Rattle.pf_posix.proofs.DifferenceLemmas.{one_difference}
 use Rattle.pf_posix.proofs.ReadOnce.{read_once}
 use Rattle.pf_whole.specs.Answers.{
   Agrees,
@@ -129,20 +129,6 @@ one_probe model a i k x y h g =
     let same : h.argument ≡ g.argument = cc in
     h.shown_is ∙ ap (λ z. slice_set (neutral_shown model a) i (Some z)) same ∙ sym g.shown_is
 
--- one of two probes is earlier, or their indexes and their candidates' indexes are equal
-which_first : (i k j l : ℕ) → IsEarlier i k j l ⊎ (IsEarlier j l i k ⊎ ((i ≡ j) × (k ≡ l)))
-which_first i k j l = by_index (cases_order i j)
-  where
-    by_candidate : i ≡ j → (k ≡ l) ⊎ ((k < l) ⊎ (l < k)) → IsEarlier i k j l ⊎ (IsEarlier j l i k ⊎ ((i ≡ j) × (k ≡ l)))
-    by_candidate e (inl same) = inr (inr (e, same))
-    by_candidate e (inr (inl less)) = inl (inr (e, less))
-    by_candidate e (inr (inr more)) = inr (inl (inr (sym e, more)))
-
-    by_index : (i ≡ j) ⊎ ((i < j) ⊎ (j < i)) → IsEarlier i k j l ⊎ (IsEarlier j l i k ⊎ ((i ≡ j) × (k ≡ l)))
-    by_index (inl same) = by_candidate same (cases_order k l)
-    by_index (inr (inl less)) = inl (inl less)
-    by_index (inr (inr more)) = inr (inl (inl more))
-
 shown_once : (model : Model) (a b : Stretches) (x y : List (Option Argument)) → ShowsNeutral model a b x ⊎ ShowsProbe model a b x
     → ShowsNeutral model a b y ⊎ ShowsProbe model a b y → x ≡ y
 shown_once model a b x y (inl h) (inl g) = h.shown_is ∙ sym g.shown_is
@@ -162,17 +148,6 @@ shown_once model a b x y (inr h) (inr g) = by (which_first h.index h.candidate_i
         let moved : IsWholeProbe model a g.index h.candidate_index x = subst (λ i. IsWholeProbe model a i h.candidate_index x) same.0 h.probe in
         one_probe model a g.index g.candidate_index x y (subst (λ k. IsWholeProbe model a g.index k x) same.1 moved) g.probe
 
-one_difference : (l m : List WholeArgType) (i j : ℕ) → IsFirstDifference l m (Some i) → IsFirstDifference l m (Some j) → i ≡ j
-one_difference l m i j h g = by (cases_order i j)
-  where
-    by : (i ≡ j) ⊎ ((i < j) ⊎ (j < i)) → i ≡ j
-    by (inl same) = same
-    by (inr (inl less)) = absurd (h.0 (g.1 i less))
-    by (inr (inr more)) = absurd (g.0 (h.1 j more))
-
-no_difference : (l m : List WholeArgType) (i : ℕ) → IsFirstDifference l m (Some i) → l ≡ m → ⊥
-no_difference l m i h same = h.0 (ap (λ ts. slice_get ts i) same)
-
 no_call : (calls others : List PlacedCall) (i : ℕ) → CallsDifferAt calls others i → calls ≡ others → ⊥
 no_call calls others i h same = differ_not calls i (subst (λ l. CallsDifferAt calls l i) (sym same) h)
 
@@ -180,17 +155,20 @@ settled : (model : Model) (a b : Stretches) (v w : WholeVerdict) → {Alike : Ty
     → IsWholeVerdict model a b v → IsWholeVerdict model a b w → v ≡ w
 settled model a b Same w h g x y = sym (g.1 (h.0 refl))
 settled model a b (TypesDiffer i) Same h g x y = h.1 (g.0 refl)
-settled model a b (TypesDiffer i) (TypesDiffer j) h g x y = ap TypesDiffer (one_difference (whole_types model a) (whole_types model b) i j x y)
-settled model a b (TypesDiffer i) (DirectivesDiffer j) h g x y = absurd (no_difference (whole_types model a) (whole_types model b) i x y.0)
-settled model a b (TypesDiffer i) (Different shown) h g x y = absurd (no_difference (whole_types model a) (whole_types model b) i x y.0)
+settled model a b (TypesDiffer i) (TypesDiffer j) h g x y =
+    let same = one_difference (whole_types model a) (whole_types model b) (Some i) (Some j) x y in
+    let index : i ≡ j = cc in
+    ap TypesDiffer index
+settled model a b (TypesDiffer i) (DirectivesDiffer j) h g x y = let no = one_difference (whole_types model a) (whole_types model b) (Some i) None x y.0 in cc
+settled model a b (TypesDiffer i) (Different shown) h g x y = let no = one_difference (whole_types model a) (whole_types model b) (Some i) None x y.0 in cc
 settled model a b (DirectivesDiffer i) Same h g x y = h.1 (g.0 refl)
-settled model a b (DirectivesDiffer i) (TypesDiffer j) h g x y = absurd (no_difference (whole_types model a) (whole_types model b) j y x.0)
+settled model a b (DirectivesDiffer i) (TypesDiffer j) h g x y = let no = one_difference (whole_types model a) (whole_types model b) None (Some j) x.0 y in cc
 settled model a b (DirectivesDiffer i) (DirectivesDiffer j) h g x y =
     ap DirectivesDiffer (differ_once (placed_calls model 0 a) (placed_calls model 0 b) i j x.1 y.1)
 settled model a b (DirectivesDiffer i) (Different shown) h g x y =
     absurd (no_call (placed_calls model 0 a) (placed_calls model 0 b) i x.1 y.1)
 settled model a b (Different shown) Same h g x y = h.1 (g.0 refl)
-settled model a b (Different shown) (TypesDiffer j) h g x y = absurd (no_difference (whole_types model a) (whole_types model b) j y x.0)
+settled model a b (Different shown) (TypesDiffer j) h g x y = let no = one_difference (whole_types model a) (whole_types model b) None (Some j) x.0 y in cc
 settled model a b (Different shown) (DirectivesDiffer j) h g x y =
     absurd (no_call (placed_calls model 0 a) (placed_calls model 0 b) j y.1 x.1)
 settled model a b (Different shown) (Different other) h g x y = ap Different (shown_once model a b shown other x.2 y.2)

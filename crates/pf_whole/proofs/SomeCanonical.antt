@@ -1,10 +1,11 @@
 -- Each text of the whole language has a canonical text.
-use Rattle.std.proofs.Common.{List, ◌++◌, refl, subst}
+use Rattle.std.proofs.Common.{◌≡◌, List, ◌++◌, refl, subst}
 use Rattle.pf_values.specs.declared.models.Model.{Model}
 use Rattle.pf_values.specs.meaning.Items.{Item, Reads}
 use Rattle.pf_values.specs.meaning.Text.{Text}
 use Rattle.pf_canon.proofs.SomeCanonical.{some_canonical}
 use Rattle.pf_posix.specs.Stretches.{Stretches, Last, Before, ReadsStretches, IsUnnumberedAccepted}
+use Rattle.pf_whole.specs.Answers.{IsWholeCanonicalFor}
 use Rattle.pf_whole.specs.meaning.WholeHeadline.{HasOneWholeCanonical, WholeHeadline}
 use Rattle.pf_whole.specs.meaning.NormalSpellings.{normal_spelling}
 use Rattle.pf_whole.specs.meaning.Traces.{AreWholeAlike}
@@ -49,3 +50,7 @@ headline model t u h g =
         λ e. one_canonical_is_alike model t u second.canonical (subst (IsWholeCanonicalOf model t) e first.is) second.is,
       );
     }
+
+pub one_whole_canonical : (model : Model) (t c d : Text) → IsWholeCanonicalFor model t c → IsWholeCanonicalFor model t d → c ≡ d
+one_whole_canonical model t c d h g =
+    alike_have_one_canonical model t t c d (one_canonical_is_alike model t t c h.canonical_is h.canonical_is) h.canonical_is g.canonical_is

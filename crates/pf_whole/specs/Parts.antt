@@ -1,5 +1,6 @@
 -- The parts that a conversion specification can be without.
-use Rattle.std.specs.Prelude.{◌&&◌, Bool, true, false, is_some, not, Option, None, if◌then◌else◌}
+use Rattle.std.specs.Prelude.{◌&&◌, Bool, true, false, is_some, not, Option, None, if◌then◌else◌, List, [], ◌∷◌}
+use Rattle.pf_values.specs.declared.flags.Flag.TheVariants.{Minus, Plus, Space, Alt, Zero, Group}
 use Rattle.pf_values.specs.declared.flags.FlagSet.{FlagSet}
 use Rattle.pf_values.specs.declared.lengths.Length.TheVariants as lengths
 use Rattle.pf_values.specs.meaning.Flags.{has, no_flags, with_flag}
@@ -31,6 +32,12 @@ with_part set TheModifier = record set { modifier = true }
 -- one part alone
 abbrev pub only : Part → PartSet
 only part = with_part no_parts part
+
+-- each part once, in the order in which they are asked
+abbrev pub all_parts : List Part
+all_parts =
+    Flag Minus ∷ Flag Plus ∷ Flag Space ∷ Flag Alt ∷ Flag Zero ∷ Flag Group ∷ Width ∷ Precision
+    ∷ TheModifier ∷ []
 
 abbrev pub is_modifier : WholeLength → Bool
 is_modifier (Integer lengths.None) = false

@@ -1,7 +1,12 @@
 //! Laws over the definitions: each is the contract of a function that does nothing.
+ghost use Rattle.std.specs.Prelude.{◌≡◌};
 ghost use Rattle.pf_values.specs.declared.models.Model.{Model};
-ghost use Rattle.pf_whole.specs.Answers.{AgreeingIsTogether, CallsGiveShape, OneVerdict, TellingIsApart};
+ghost use Rattle.pf_posix.specs.Specifications.{WholeSpecification};
+ghost use Rattle.pf_values.specs.meaning.Text.{Text};
+ghost use Rattle.pf_whole.specs.Answers.{AgreeingIsTogether, CallsGiveShape, IsWholeCanonicalFor, OneVerdict, TellingIsApart};
 ghost use Rattle.pf_whole.specs.Comparisons.{ProfileCompares};
+ghost use Rattle.pf_whole.specs.Needless.{AreNeedless};
+ghost use Rattle.pf_whole.specs.declared.needless.NeedlessParts.{NeedlessParts};
 ghost use Rattle.pf_whole.specs.meaning.WholeHeadline.{WholeHeadline};
 ghost use Rattle.pf_whole.specs.Laws.{AlikeCallTheSame, AlikeIsCorresponding, CanonicalIsAlike, AlikeHaveOneCanonical, OneCanonicalIsAlike, ProfileCoincides, AlikePrintAlike, AlikeShareErrno, ServeFewer, TracesOnce, TracesSuffice};
 
@@ -43,6 +48,11 @@ pub fn canonical_is_alike()
 /// canonical texts are equal byte for byte.
 pub fn headline()
     ensures { (model : Model) → WholeHeadline model }
+{}
+
+/// Proves that a text has one canonical text that `canonical` may answer.
+pub fn one_whole_canonical()
+    ensures { (model : Model) (t c d : Text) → IsWholeCanonicalFor model t c → IsWholeCanonicalFor model t d → c ≡ d }
 {}
 
 /// Proves that two texts are alike if and only if, side by side, their stretches print alike, and
@@ -102,4 +112,10 @@ pub fn telling_is_apart()
 /// same, whatever the arguments of opaque directives are.
 pub fn agreeing_is_together()
     ensures { (model : Model) → AgreeingIsTogether model }
+{}
+
+/// Proves that a specification has one answer that `AreNeedless` allows.
+pub fn needless_once()
+    ensures { (model : Model) (s : WholeSpecification) (found other : NeedlessParts) → AreNeedless model s found
+        → AreNeedless model s other → found ≡ other }
 {}

@@ -6,8 +6,8 @@ ghost use Rattle.pf_posix.specs.Opaque.{is_opaque};
 ghost use Rattle.pf_posix.specs.OpaqueParts.{amount_back, amount_of, conv_back, narrow, parts_of_opaque};
 ghost use Rattle.pf_whole.specs.declared.parts.Part.{Part as PartOf};
 ghost use Rattle.pf_whole.specs.declared.parts.PartSet.{PartSet as PartSetOf};
-ghost use Rattle.pf_whole.specs.Needless.{AreFound, AreNeedless, AreTogether, HaveNoEffect, IsPartQuestion};
-ghost use Rattle.pf_whole.specs.Parts.{has_part, only, with_part, without};
+ghost use Rattle.pf_whole.specs.Needless.{AreFound, AreGathered, AreNeedless, GathersPart, HaveNoEffect, IsPartQuestion};
+ghost use Rattle.pf_whole.specs.Parts.{all_parts, has_part, no_parts, only, with_part, without};
 
 use crate::comparison::make_one_call;
 use crate::parts::{Part, PartSet, given_parts, without};
@@ -22,7 +22,8 @@ pub struct NeedlessParts {
     pub given: PartSet,
     /// The parts that have no effect, each by itself.
     pub each: PartSet,
-    /// Some needless parts that have no effect together, either.
+    /// Those that have no effect together, either: one after another, each that has none together with those before
+    /// it.
     pub together: PartSet,
 }
 
@@ -35,8 +36,9 @@ struct Question {
 }
 
 /// Returns the parts of a directive that have no effect in a data model: without any one of them, the directive is
-/// alike. Also returns some of them that can be left out together. In `%02.2u`, neither the width
-/// nor the precision has an effect, but without both the directive prints less.
+/// alike. Also returns those that can be left out together: the flags `- + space # 0 '`, the width, the precision and
+/// the modifier, each if it has no effect together with those before it. In `%02.2u`, neither the width nor the
+/// precision has an effect, but without both the directive prints less, so the precision isn't among them.
 pub fn needless_parts(model: Model, directive: OpaqueDirective) -> NeedlessParts
     requires { (t : Text) × IsWholeReadAs t (Specification (parts_of_opaque directive)) }
     ensures { AreNeedless model (parts_of_opaque directive) result }
@@ -95,20 +97,13 @@ impl Question {
         each.with(part)
     }
 
-    // Some of these parts that have no effect together: all if possible, otherwise all except the precision if possible.
+    // Those of these parts that have no effect together: one after another, each that has none with those before it.
     fn together(&self, each: PartSet) -> PartSet
         requires { IsPartQuestion self.now }
-        ensures { AreTogether self.now each result }
+        ensures { AreGathered self.now.model (parts_of_opaque self.now.directive) each no_parts all_parts result }
     {
         if each.is_empty() {
             return each;
-        }
-        if self.have_no_effect(each) {
-            return each;
-        }
-        let less = without_precision(each);
-        if self.have_no_effect(less) {
-            return less;
         }
         let some = self.gather(PartSet::empty(), each, Part::Flag(Flag::Minus));
         let some = self.gather(some, each, Part::Flag(Flag::Plus));
@@ -123,9 +118,8 @@ impl Question {
 
     // These parts and one more, if it is one of the others and has no effect with them.
     fn gather(&self, some: PartSet, each: PartSet, part: Part) -> PartSet
-        requires question { IsPartQuestion self.now }
-        requires some { AreTogether self.now each some }
-        ensures { AreTogether self.now each result }
+        requires { IsPartQuestion self.now }
+        ensures { GathersPart self.now.model (parts_of_opaque self.now.directive) each some part result }
     {
         if !each.has(part) {
             return some;
@@ -198,16 +192,5 @@ fn conv_of(conversion: WholeConv) -> Conv
     match conversion {
         WholeConv::Profile(conv) => conv,
         _ => Conv::D,
-    }
-}
-
-fn without_precision(set: PartSet) -> PartSet
-    ensures { result ≡ record set { precision = false } }
-{
-    PartSet {
-        flags: set.flags,
-        width: set.width,
-        precision: false,
-        modifier: set.modifier,
     }
 }

@@ -9,7 +9,7 @@ ghost use Rattle.pf_compare.specs.Answers.{TellApart};
 use pf_canon::laws::one_canonical_text_means_the_same;
 use pf_canon::{canonical, same_text};
 use pf_compare::confirms;
-use pf_compare::laws::headline;
+use pf_compare::laws::{headline, sameness};
 use pf_text::check;
 use pf_values::{Arg, Model};
 use std::alloc::Global;
@@ -23,6 +23,26 @@ pub fn are_equivalent(model: Model, first: &[u8], second: &[u8]) -> Option<bool>
         Ok(same) => Some(same),
         Err(_) => None,
     }
+}
+
+/// Returns whether the first of three formats is equivalent to the third, where it is to the second and that to the
+/// third. False also if it isn't found so. `None` if one of them is rejected.
+pub fn are_equivalent_by_second(
+    model: Model,
+    first: &[u8],
+    second: &[u8],
+    third: &[u8],
+) -> Option<bool>
+    ensures { IfSome result (λ both. IsTrue both → AreEquivalent model first.now third.now) }
+{
+    sameness();
+    let Ok(one) = same_text(model, first, second) else {
+        return None;
+    };
+    let Ok(two) = same_text(model, second, third) else {
+        return None;
+    };
+    Some(one && two)
 }
 
 /// Returns whether `new` may replace `old`, by their canonical texts. True only if both take the

@@ -1,14 +1,18 @@
 //! Formats of the whole language, compared.
-ghost use Rattle.std.specs.Prelude.{◌↔◌, IfSome, IsTrue};
+ghost use Rattle.std.specs.Prelude.{◌≡◌, ◌↔◌, IfSome, IsTrue};
 ghost use Rattle.pf_values.specs.meaning.Canonical.{IsCanonicalOf};
 ghost use Rattle.pf_values.specs.meaning.Text.{Text};
+ghost use Rattle.pf_compare.specs.Answers.{IsComparisonOf};
+ghost use Rattle.pf_compare.specs.declared.comparisons.Comparison.{Comparison};
+ghost use Rattle.pf_compare.specs.declared.comparisons.Verdict.TheVariants.{Types};
 ghost use Rattle.pf_whole.specs.Laws.{PrintAlikeBy};
 ghost use Rattle.pf_whole.specs.meaning.Traces.{AreWholeAlike, Call};
 ghost use Rattle.pf_whole.specs.meaning.WholeCanonical.{IsWholeCanonicalOf};
 
+use pf_compare::Verdict;
 use pf_values::Model;
-use pf_whole::laws::{alike_print_alike, headline, profile_coincides};
-use pf_whole::{canonical, check, same_text};
+use pf_whole::laws::{alike_print_alike, headline, profile_coincides, profile_compares};
+use pf_whole::{WholeVerdict, canonical, check, compare, same_text};
 use std::alloc::Global;
 
 /// Returns whether two formats of the whole language are known to be alike. Allocates nothing.
@@ -100,5 +104,39 @@ pub fn profile_text_by_whole(alloc: Global, model: Model, format: &[u8]) -> Opti
     match canonical(alloc, model, format) {
         Ok(text) => Some(text),
         Err(_) => None,
+    }
+}
+
+/// Returns whether two formats of the profile are alike in the whole language, by how the profile compares them.
+/// `None` if it rejects one of them, or out of memory.
+pub fn are_alike_by_comparison(
+    alloc: Global,
+    model: Model,
+    first: &[u8],
+    second: &[u8],
+) -> Option<bool>
+    ensures { IfSome result (λ same. IsTrue same ↔ AreWholeAlike model first.now second.now) }
+{
+    profile_compares();
+    let Ok(comparison) = pf_compare::compare(alloc, model, first, second) else {
+        return None;
+    };
+    match comparison.verdict {
+        Verdict::Same => Some(true),
+        Verdict::Types(_) => Some(false),
+        Verdict::Args(_) => Some(false),
+    }
+}
+
+/// Returns the index at which the types of two formats differ first, as the whole language compares them: the profile
+/// compares them in no other way. `None` if they don't differ so, if one is rejected, or out of memory.
+pub fn other_types_at(alloc: Global, model: Model, first: &[u8], second: &[u8]) -> Option<u64>
+    ensures { IfSome result (λ index. (comparison : Comparison) → IsComparisonOf model first.now second.now comparison
+        → comparison.verdict ≡ Types index) }
+{
+    profile_compares();
+    match compare(alloc, model, first, second) {
+        Ok(WholeVerdict::Types(index)) => Some(index),
+        _ => None,
     }
 }

@@ -1,5 +1,6 @@
 -- Conversions. One row per conversion gives its letter, and one its kind. Everything else is
 -- derived from the kind.
+use Prim.Native.Char.{code}
 use Rattle.std.specs.Prelude.{ℕ, Bool, true, false}
 use Rattle.pf_values.specs.declared.bases.Alternative.{Alternative}
 use Rattle.pf_values.specs.declared.bases.Alternative.TheVariants.{Undefined}
@@ -20,15 +21,15 @@ use Rattle.pf_values.specs.meaning.Bases.{
 -- The letters: `d`, `i`, `u`, `o`, `x`, `X`, `c` and `s` (C11 7.21.6.1 p8), and `b` (C23 7.23.6.1
 -- p8).
 abbrev pub conv_letter : Conv → ℕ
-conv_letter D = 100
-conv_letter I = 105
-conv_letter U = 117
-conv_letter O = 111
-conv_letter X = 120
-conv_letter UpperX = 88
-conv_letter B = 98
-conv_letter C = 99
-conv_letter S = 115
+conv_letter D = code "d"
+conv_letter I = code "i"
+conv_letter U = code "u"
+conv_letter O = code "o"
+conv_letter X = code "x"
+conv_letter UpperX = code "X"
+conv_letter B = code "b"
+conv_letter C = code "c"
+conv_letter S = code "s"
 
 -- What a conversion prints (C11 7.21.6.1 p8; C23 7.23.6.1 p8 on `b`).
 abbrev pub kind_of : Conv → Kind
@@ -57,58 +58,44 @@ kept_conv S = S
 
 -- Whether it prints a byte or a string (C11 7.21.6.1 p8 on `c s`).
 abbrev pub prints_text : Kind → Bool
-prints_text kinds.Signed = false
-prints_text (kinds.Unsigned base capitals) = false
 prints_text kinds.Char = true
 prints_text kinds.String = true
+prints_text _ = false
 
 abbrev pub prints_char : Kind → Bool
-prints_char kinds.Signed = false
-prints_char (kinds.Unsigned base capitals) = false
 prints_char kinds.Char = true
-prints_char kinds.String = false
+prints_char _ = false
 
 abbrev pub prints_string : Kind → Bool
-prints_string kinds.Signed = false
-prints_string (kinds.Unsigned base capitals) = false
-prints_string kinds.Char = false
 prints_string kinds.String = true
+prints_string _ = false
 
 -- Whether it prints a number that may be below 0 (C11 7.21.6.1 p8 on `d i`).
 abbrev pub prints_signed : Kind → Bool
 prints_signed kinds.Signed = true
-prints_signed (kinds.Unsigned base capitals) = false
-prints_signed kinds.Char = false
-prints_signed kinds.String = false
+prints_signed _ = false
 
 -- Whether it prints a number in base ten, whose digits `'` groups (POSIX fprintf).
 abbrev pub prints_grouped : Kind → Bool
 prints_grouped kinds.Signed = true
 prints_grouped (kinds.Unsigned base capitals) = is_grouped base
-prints_grouped kinds.Char = false
-prints_grouped kinds.String = false
+prints_grouped _ = false
 
 -- What `#` does. The standard defines nothing for a number with a sign, a byte or a string (C11
 -- 7.21.6.1 p6).
 abbrev pub alternative_under : Kind → Alternative
-alternative_under kinds.Signed = Undefined
 alternative_under (kinds.Unsigned base capitals) = alternative_of base
-alternative_under kinds.Char = Undefined
-alternative_under kinds.String = Undefined
+alternative_under _ = Undefined
 
 -- The base of the digits. It is ten for numbers with a sign (C11 7.21.6.1 p8).
 abbrev pub base_under : Kind → Base
-base_under kinds.Signed = Decimal
 base_under (kinds.Unsigned base capitals) = base
-base_under kinds.Char = Decimal
-base_under kinds.String = Decimal
+base_under _ = Decimal
 
 -- Whether the digits from ten on are `ABCDEF` rather than `abcdef` (C11 7.21.6.1 p8 on `x X`).
 abbrev pub has_capitals : Kind → Bool
-has_capitals kinds.Signed = false
 has_capitals (kinds.Unsigned base capitals) = capitals
-has_capitals kinds.Char = false
-has_capitals kinds.String = false
+has_capitals _ = false
 
 -- Classes of conversions, by what they print.
 abbrev pub is_text : Conv → Bool

@@ -75,16 +75,6 @@ length_row model lengths.J = row_of_rank model (greatest_rank model)
 length_row model lengths.Z = row_of_rank model (size_rank model)
 length_row model lengths.T = row_of_rank model (size_rank model)
 
--- The bits of an integer type (C11 6.2.5). A string has none: its row is never used.
-abbrev pub type_bits : Model → ArgType → Bits
-type_bits model Int = B32
-type_bits model UInt = B32
-type_bits model Long = long_bits model
-type_bits model ULong = long_bits model
-type_bits model LongLong = B64
-type_bits model ULongLong = B64
-type_bits model Str = B64
-
 abbrev pub kept_length : Model → Length → Length
 kept_length model length = (length_row model length).kept
 
@@ -117,22 +107,21 @@ abbrev pub FitsIn : Bool → ℕ → ℤ → Type 0
 FitsIn true bits n = (neg_ℤ (pos (2 ^ (bits - 1))) ≤ℤ n) × (n <ℤ pos (2 ^ (bits - 1)))
 FitsIn false bits n = (pos 0 ≤ℤ n) × (n <ℤ pos (2 ^ bits))
 
--- The number is in the range of the type. No number is in the range of a string.
+-- The number is in the range of the type (C11 6.2.5). No number is in the range of a string.
 abbrev pub IsInRange : Model → ArgType → ℤ → Type 0
-IsInRange model Int n = FitsIn true (bit_count (type_bits model Int)) n
-IsInRange model UInt n = FitsIn false (bit_count (type_bits model UInt)) n
-IsInRange model Long n = FitsIn true (bit_count (type_bits model Long)) n
-IsInRange model ULong n = FitsIn false (bit_count (type_bits model ULong)) n
-IsInRange model LongLong n = FitsIn true (bit_count (type_bits model LongLong)) n
-IsInRange model ULongLong n = FitsIn false (bit_count (type_bits model ULongLong)) n
+IsInRange model Int n = FitsIn true 32 n
+IsInRange model UInt n = FitsIn false 32 n
+IsInRange model Long n = FitsIn true (bit_count (long_bits model)) n
+IsInRange model ULong n = FitsIn false (bit_count (long_bits model)) n
+IsInRange model LongLong n = FitsIn true 64 n
+IsInRange model ULongLong n = FitsIn false 64 n
 IsInRange model Str n = ⊥
 
 -- The most digits of a value with this many bits. Its sign isn't counted.
 abbrev pub most_digits_of : Kind → Bits → ℕ
 most_digits_of kinds.Signed bits = by_bits bits 3 5 10 19
 most_digits_of (kinds.Unsigned base capitals) bits = most_digits_in base bits
-most_digits_of kinds.Char bits = 0
-most_digits_of kinds.String bits = 0
+most_digits_of _ bits = 0
 
 abbrev pub most_digits : Conv → Bits → ℕ
 most_digits conv bits = most_digits_of (kind_of conv) bits

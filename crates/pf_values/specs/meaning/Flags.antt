@@ -1,4 +1,5 @@
 -- Sets of flags, and the byte of each flag.
+use Prim.Native.Char.{code}
 use Rattle.std.specs.Prelude.{ℕ, Bool, true, false, List, [], ◌∷◌, fold}
 use Rattle.pf_values.specs.declared.flags.Flag.{Flag}
 use Rattle.pf_values.specs.declared.flags.Flag.TheVariants.{Minus, Plus, Space, Alt, Zero, Group}
@@ -33,12 +34,12 @@ flag_set flags = fold with_flag no_flags flags
 
 -- The bytes of the flags: `-`, `+`, space, `#` and `0` (C11 7.21.6.1 p6), and `'` (POSIX fprintf).
 abbrev pub flag_byte : Flag → ℕ
-flag_byte Minus = 45
-flag_byte Plus = 43
-flag_byte Space = 32
-flag_byte Alt = 35
-flag_byte Zero = 48
-flag_byte Group = 39
+flag_byte Minus = code "-"
+flag_byte Plus = code "+"
+flag_byte Space = code " "
+flag_byte Alt = code "#"
+flag_byte Zero = code "0"
+flag_byte Group = code "'"
 
 -- The order in which `flags_spelled` writes flags. It is this project's choice.
 abbrev pub all_flags : List Flag

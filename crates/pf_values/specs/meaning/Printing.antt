@@ -1,38 +1,32 @@
 -- The bytes that a directive prints, and those of a text.
-use Rattle.std.specs.Prelude.{◌≡◌, ℕ, zero, suc, ◌-◌, ◌≤◌, ℤ, pos, negsuc, nat_abs, Bool, true, false, not, ◌&&◌, List, [], ◌∷◌, ◌++◌, length, take, replicate, slice_index, codes, Option, Some, None, unwrap_or, is_none, if◌then◌else◌, MatchBool, ◌↔◌}
+use Rattle.std.specs.Prelude.{◌≡◌, ◌==◌, ℕ, zero, suc, ◌-◌, ℤ, pos, negsuc, nat_abs, Bool, true, false, not, ◌&&◌, List, [], ◌∷◌, ◌++◌, length, take, replicate, slice_index, codes, Option, Some, None, unwrap_or, is_none, if◌then◌else◌, ◌↔◌}
 use Rattle.pf_values.specs.declared.bases.Alternative.{Alternative}
-use Rattle.pf_values.specs.declared.bases.Alternative.TheVariants.{Undefined, Raised, Prefixed}
+use Rattle.pf_values.specs.declared.bases.Alternative.TheVariants.{Prefixed}
 use Rattle.pf_values.specs.declared.bases.Base.{Base}
-use Rattle.pf_values.specs.declared.bases.Base.TheVariants.{Octal}
-use Rattle.pf_values.specs.declared.conversions.Conv.{Conv}
 use Rattle.pf_values.specs.declared.conversions.Kind.{Kind}
 use Rattle.pf_values.specs.declared.conversions.Kind.TheVariants as kinds
 use Rattle.pf_values.specs.declared.flags.Flag.TheVariants.{Minus, Plus, Space, Alt, Zero}
 use Rattle.pf_values.specs.declared.models.Model.{Model}
 use Rattle.pf_values.specs.meaning.Arguments.{Argument, Number, String, HasTypes, IsConverted, IsValue}
-use Rattle.pf_values.specs.meaning.Bases.{alternative_of, number_of, prefix_of}
+use Rattle.pf_values.specs.meaning.Bases.{alternative_of, prefix_of}
 use Rattle.pf_values.specs.meaning.Conversions.{base_of, is_octal, is_upper, kind_of}
 use Rattle.pf_values.specs.meaning.DataModel.{B8, bit_count}
-use Rattle.pf_values.specs.meaning.Digits.{IsNumeral, IsLeastFrom}
+use Rattle.pf_values.specs.meaning.Digits.{IsNumeral}
 use Rattle.pf_values.specs.meaning.Flags.{has}
 use Rattle.pf_values.specs.meaning.Items.{Item, Byte, Directive, Reads, types}
 use Rattle.pf_values.specs.meaning.Specification.{Specification, width_of}
 use Rattle.pf_values.specs.meaning.Text.{Text, space, zero_digit}
 
-abbrev pub BeginsWithZero : Text → Type 0
-BeginsWithZero t = slice_index t 0 ≡ zero_digit
+-- A `0` before the digits, unless they begin with one.
+abbrev pub from_zero : Text → Text
+from_zero digits = if slice_index digits 0 == zero_digit then digits else zero_digit ∷ digits
 
--- An octal numeral whose first digit is 0.
-abbrev pub IsOctalFromZero : ℕ → ℕ → Text → Type 0
-IsOctalFromZero precision n t = IsNumeral (number_of Octal) false precision n t × BeginsWithZero t
-
--- The digits of a number, at least as many as the precision. For `o` the flag `#` raises the
--- precision until the first digit is 0, and no further.
-abbrev pub AreDigitsOf : Specification → ℕ → ℕ → Text → Type 0
-AreDigitsOf s precision n t = MatchBool (is_octal s.conv && has s.flags Alt)
-    ((raised : ℕ) × IsLeastFrom precision (λ p. (u : Text) × IsOctalFromZero p n u) raised
-    × IsOctalFromZero raised n t)
-    (IsNumeral (base_of s.conv) (is_upper s.conv) precision n t)
+-- The digits of a number, at least as many as the precision, which is 1 if none is given (C11
+-- 7.21.6.1 p8). For `o` the flag `#` makes the first one a `0` (p6).
+abbrev pub AreDigitsOf : Specification → ℕ → Text → Type 0
+AreDigitsOf s n t = (numeral : Text)
+    × IsNumeral (base_of s.conv) (is_upper s.conv) (unwrap_or s.precision 1) n numeral
+    × (t ≡ (if is_octal s.conv && has s.flags Alt then from_zero numeral else numeral))
 
 abbrev pub is_negative : ℤ → Bool
 is_negative (pos n) = false
@@ -54,50 +48,36 @@ base_prefix letters s value =
     if has s.flags Alt && not (is_zero (nat_abs value)) then letters else []
 
 abbrev pub prefix_under : Alternative → Base → Bool → Specification → ℤ → Text
-prefix_under Undefined base capitals s value = []
-prefix_under Raised base capitals s value = []
 prefix_under Prefixed base capitals s value = base_prefix (prefix_of base capitals) s value
+prefix_under _ base capitals s value = []
 
 abbrev pub front_under : Kind → Specification → ℤ → Text
 front_under kinds.Signed s value = sign s value
 front_under (kinds.Unsigned base capitals) s value =
     prefix_under (alternative_of base) base capitals s value
-front_under kinds.Char s value = []
-front_under kinds.String s value = []
-
-abbrev pub sign_or_prefix_under : Conv → Specification → ℤ → Text
-sign_or_prefix_under conv s value = front_under (kind_of conv) s value
+front_under _ s value = []
 
 -- The bytes before the digits.
 abbrev pub sign_or_prefix : Specification → ℤ → Text
-sign_or_prefix s value = sign_or_prefix_under s.conv s value
+sign_or_prefix s value = front_under (kind_of s.conv) s value
 
 -- The flag `0` counts if neither `-` nor a precision is given.
 abbrev pub is_zero_filled : Specification → Bool
 is_zero_filled s = has s.flags Zero && not (has s.flags Minus) && is_none s.precision
 
--- With this precision the sign or prefix and the digits reach the width.
-abbrev pub ReachesWidth : Specification → ℤ → ℕ → Type 0
-ReachesWidth s value precision = (t : Text) × AreDigitsOf s precision (nat_abs value) t
-    × (width_of s ≤ length (sign_or_prefix s value ++ t))
+-- The zeros that pad these bytes to the width (C11 7.21.6.1 p6).
+abbrev pub zeros : Specification → Text → Text
+zeros s bytes = if is_zero_filled s then replicate (width_of s - length bytes) zero_digit else []
 
--- The precision with which a number is printed: the given one, or 1. If the flag `0` counts, it is
--- the smallest from 1 on with which the width is reached.
-abbrev pub IsPrecision : Specification → ℤ → ℕ → Type 0
-IsPrecision s value precision = MatchBool (is_zero_filled s)
-    (IsLeastFrom 1 (ReachesWidth s value) precision)
-    (precision ≡ unwrap_or s.precision 1)
-
--- The bytes of a number without padding.
+-- The bytes of a number without the spaces that pad it. Zeros follow the sign or prefix (C11
+-- 7.21.6.1 p6).
 pub record PrintsNumber (model : Model) (s : Specification) (argument : ℤ)
     (body : Text) : Type 0 where
   pub value : ℤ
-  pub precision : ℕ
   pub digits : Text
   pub value_is : IsValue model s argument value
-  pub precision_is : IsPrecision s value precision
-  pub digits_are : AreDigitsOf s precision (nat_abs value) digits
-  pub whole : body ≡ sign_or_prefix s value ++ digits
+  pub digits_are : AreDigitsOf s (nat_abs value) digits
+  pub whole : body ≡ sign_or_prefix s value ++ zeros s (sign_or_prefix s value ++ digits) ++ digits
 
 -- The byte of `%c`: the number modulo 256.
 abbrev pub PrintsChar : ℤ → Text → Type 0
@@ -111,16 +91,10 @@ printed_front (Some most) bytes = take most bytes
 
 abbrev pub PrintsKind : Model → Kind → Specification → Argument → Text → Type 0
 PrintsKind model kinds.Signed s (Number n) body = PrintsNumber model s n body
-PrintsKind model kinds.Signed s (String bytes) body = ⊥
 PrintsKind model (kinds.Unsigned base capitals) s (Number n) body = PrintsNumber model s n body
-PrintsKind model (kinds.Unsigned base capitals) s (String bytes) body = ⊥
 PrintsKind model kinds.Char s (Number n) body = PrintsChar n body
-PrintsKind model kinds.Char s (String bytes) body = ⊥
-PrintsKind model kinds.String s (Number n) body = ⊥
 PrintsKind model kinds.String s (String bytes) body = body ≡ printed_front s.precision bytes
-
-abbrev pub PrintsUnder : Model → Conv → Specification → Argument → Text → Type 0
-PrintsUnder model conv s argument body = PrintsKind model (kind_of conv) s argument body
+PrintsKind model _ s _ body = ⊥
 
 -- The spaces that are missing from the width.
 abbrev pub padding : ℕ → Text → Text
@@ -136,7 +110,7 @@ field s body = field_of (has s.flags Minus) (width_of s) body
 -- A directive prints these bytes for this argument: its body, padded to the width.
 abbrev pub Prints : Model → Specification → Argument → Text → Type 0
 Prints model s argument out =
-    (body : Text) × PrintsUnder model s.conv s argument body × (out ≡ field s body)
+    (body : Text) × PrintsKind model (kind_of s.conv) s argument body × (out ≡ field s body)
 
 -- Items print these bytes for these arguments. A byte prints itself, and each directive takes the
 -- next argument. None may be missing or left over.

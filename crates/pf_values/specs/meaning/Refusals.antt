@@ -1,5 +1,6 @@
 -- Where and why a text is rejected. This is the project's own, except for the parts of a
 -- specification: the standard leaves invalid ones undefined (C11 7.21.6.1 p9).
+use Prim.Native.Char.{code}
 use Rattle.std.specs.Prelude.{◌≡◌, ◌≢◌, ℕ, ◌<◌, ◌≤◌, false, List, [], ◌∷◌, ◌++◌, length, map, codes, Option, Some, Contains, ◌⊎◌, MatchBool, ◌==◌, ⊤}
 use Rattle.pf_values.specs.declared.flags.Flag.{Flag}
 use Rattle.pf_values.specs.declared.limits.TheConstants.{MAX_NUMBER, MAX_TEXT_LEN}
@@ -72,7 +73,7 @@ letters_of _ = []
 
 -- `L`, which modifies only floating conversions (C11 7.21.6.1 p7).
 abbrev pub long_double_letter : ℕ
-long_double_letter = 76
+long_double_letter = code "L"
 
 -- A length modifier may begin after the part (C11 7.21.6.1 p4).
 abbrev pub TakesModifier : Text → Type 0

@@ -1,4 +1,5 @@
 -- Texts.
+use Prim.Native.Char.{code}
 use Rattle.std.specs.Prelude.{ℕ, List}
 
 -- A finite list of bytes, each a natural number. In the POSIX locale each byte of a format is a
@@ -8,24 +9,24 @@ Text = List ℕ
 
 -- `%`, which begins a specification (C11 7.21.6.1 p4).
 abbrev pub percent : ℕ
-percent = 37
+percent = code "%"
 
 -- `.`, which begins a precision (C11 7.21.6.1 p4).
 abbrev pub point : ℕ
-point = 46
+point = code "."
 
 -- `*`, a width or a precision that is an argument (C11 7.21.6.1 p5).
 abbrev pub star : ℕ
-star = 42
+star = code "*"
 
 -- `$`, which follows the number of an argument (POSIX fprintf).
 abbrev pub dollar : ℕ
-dollar = 36
+dollar = code "$"
 
 -- The space that pads a field (C11 7.21.6.1 p4).
 abbrev pub space : ℕ
-space = 32
+space = code " "
 
 -- The digit 0, with which the flag `0` fills a field (C11 7.21.6.1 p6).
 abbrev pub zero_digit : ℕ
-zero_digit = 48
+zero_digit = code "0"

@@ -19,13 +19,13 @@ loop-piece-preserved g c = record {
   can = tt;
   finite = tt;
   neutrals = neutrals_more g.T.From.from_gives c.args.model c.loop-piece.piece-iterator c.next.new.self c.args.text.now _ _ c.loop-piece.invariant.neutrals
-      c.in-Some.piece c.in-Some.ensures.steps c.in-Ok.piece _ c.in-Ok.is c.in_ok-push_neutral-in-Ok.ensures;
+      c.in-Some.piece c.in-Some.ensures.steps c.in-Ok.piece _ c.in-Ok.is c.in_ok-push_neutral-in-Ok.ensures.added;
 }
 
 pub unreachable-requires : goal.unreachable-requires
 unreachable-requires g c = (neutrals_refused g.T.From.from_gives c.args.model c.loop-piece.piece-iterator c.next.new.self c.args.text.now _ _
     c.loop-piece.invariant.neutrals c.in-Some.piece c.in-Some.ensures.steps c.in-Err.field-0 c.in-Err.is).not_accepted c.requires
 
-pub returns : goal.returns
-returns g c = all_neutrals g.T.From.from_gives c.args.model c.loop-piece.piece-iterator c.next.new.self c.args.text.now _ _ c.loop-piece.invariant.neutrals
+pub returns-clause-added : goal.returns-clause-added
+returns-clause-added g c = all_neutrals g.T.From.from_gives c.args.model c.loop-piece.piece-iterator c.next.new.self c.args.text.now _ _ c.loop-piece.invariant.neutrals
     c.in-None.ensures.steps

@@ -16,4 +16,4 @@ returns-then-is_empty c = λ items reads. (
 pub returns : goal.returns
 returns c = IfOk-weaker c.push_neutrals.result _ _
     (λ _ h items reads. added_some (AreNeutral (types c.args.model items)) c.args.shown.now.items c.push_neutrals.new.args.items (h items reads))
-    c.push_neutrals.ensures
+    c.push_neutrals.ensures.added

@@ -25,5 +25,5 @@ returns c =
     let profile = sym c.is_opaque.ensures ∙ c.if-is_opaque.false in
     let both = printed c.args.self.now.model _ refl q.text q.spelled c.args.set profile in
     let second = c.narrow-2.ensures ∙ ap narrow c.without-shorter.ensures in
-    let told = rw (c.narrow.ensures, second) at c.print_alike.ensures.alike in
+    let told = rw (c.narrow.ensures, second) at c.print_alike.ensures in
     (λ yes. both.0 (told.0 yes), λ none. told.1 (both.1 none))

@@ -1,18 +1,41 @@
-use Rattle.std.proofs.Common.{subst, sym}
-use Rattle.pf_whole.specs.Needless.{AreTogether}
-use Rattle.pf_whole.proofs.NeedlessLemmas.{none_together, together_less}
+use Rattle.std.proofs.Common.{refl, subst, sym}
+use Rattle.pf_posix.specs.OpaqueParts.{parts_of_opaque}
+use Rattle.pf_values.specs.declared.flags.Flag.TheVariants.{Minus}
+use Rattle.pf_whole.specs.declared.parts.Part.TheVariants.{Flag}
+use Rattle.pf_whole.specs.Needless.{AreGathered, GathersPart}
+use Rattle.pf_whole.specs.Parts.{all_parts, no_parts}
+use Rattle.pf_whole.proofs.NeedlessLemmas.{none_gathered}
 use Rattle.pf_whole.proofs.needless.Question.together.Goals as goal
 
 pub returns-then-is_empty : goal.returns-then-is_empty
 returns-then-is_empty c =
-    let none = c.is_empty.ensures c.if-is_empty.true in
-    subst (AreTogether c.args.self.now c.args.each) (sym none) (none_together c.args.self.now c.args.each c.requires)
+    let q = c.args.self.now in
+    let s = parts_of_opaque q.directive in
+    subst (λ set. AreGathered q.model s set no_parts all_parts set) (sym (c.is_empty.ensures c.if-is_empty.true))
+    (none_gathered q.model s all_parts)
 
-pub gather-some-requires-clause-some : goal.gather-some-requires-clause-some
-gather-some-requires-clause-some c =
-    subst (AreTogether c.args.self.now c.args.each) (sym c.empty.ensures) (none_together c.args.self.now c.args.each c.requires)
-
-pub returns-then-have_no_effect-2 : goal.returns-then-have_no_effect-2
-returns-then-have_no_effect-2 c =
-    let less = c.without_precision-less.ensures in
-    rw less (together_less c.args.self.now c.args.each (rw less at c.have_no_effect-2.ensures.0 c.if-have_no_effect-2.true))
+pub returns : goal.returns
+returns c =
+    let q = c.args.self.now in
+    let first = subst (λ some. GathersPart q.model (parts_of_opaque q.directive) c.args.each some (Flag Minus) c.gather-some.result)
+    c.empty.ensures c.gather-some.ensures in (
+      _,
+      first,
+      (
+        _,
+        c.gather-some-2.ensures,
+        (
+          _,
+          c.gather-some-3.ensures,
+          (
+            _,
+            c.gather-some-4.ensures,
+            (
+              _,
+              c.gather-some-5.ensures,
+              (_, c.gather-some-6.ensures, (_, c.gather-some-7.ensures, (_, c.gather-some-8.ensures, (_, c.gather.ensures, refl)))),
+            ),
+          ),
+        ),
+      ),
+    )
