@@ -13,9 +13,9 @@ TOP = Path(__file__).resolve().parent.parent
 RESULTS = TOP / "bench/RESULTS.md"
 RATIOS, GROWTH = TOP / "docs/ratios.svg", TOP / "docs/growth.svg"
 COLOURS = ["#1b6ca8", "#c8553d", "#2e8b57", "#7b4fa3", "#b8860b", "#444444", "#d1498b", "#5f9ea0"]
-# The height of a bar with the gap below it, the room for names on the left, the width of the ratio 1, and the room for
-# a number on the right.
-BAR, LABELS, SCALE, END = 20, 250, 200, 60
+# The height of a bar with the gap below it, the room for names on the left, the width of the ratio 1, and the room to the
+# right of it and of the longest bar: the line at 1 has a name, whose half is there.
+BAR, LABELS, SCALE, END = 20, 250, 200, 90
 # The sides of the plot of growth, and the room for its numbers and names.
 WIDTH, HEIGHT = 640, 360
 LEFT, RIGHT, UPPER, LOWER = 60, WIDTH - 190, 20, HEIGHT - 45
@@ -29,8 +29,9 @@ def rows_below(path, heading):
     return rows[0], rows[2:]
 
 
-def text(x, y, words, anchor="start", size=12):
-    return f'<text x="{x:.0f}" y="{y:.0f}" font-size="{size}" text-anchor="{anchor}">{escape(words)}</text>'
+def text(x, y, words, anchor="start", size=12, colour=""):
+    fill = f' fill="{colour}"' if colour else ""
+    return f'<text x="{x:.0f}" y="{y:.0f}" font-size="{size}" text-anchor="{anchor}"{fill}>{escape(words)}</text>'
 
 
 def line(x, y, to_x, to_y, colour="#999999"):
@@ -53,10 +54,11 @@ def bars():
         y = BAR * number + 30
         parts.append(text(LABELS - 8, y + 11, call, "end"))
         parts.append(f'<rect x="{LABELS}" y="{y}" width="{ratio * SCALE:.0f}" height="{BAR - 6}" fill="{COLOURS[0]}"/>')
-        parts.append(text(LABELS + ratio * SCALE + 5, y + 11, f"{ratio:.2f}", size=11))
+        # The number is inside of the bar, so that the line at 1 isn't in front of it.
+        parts.append(text(LABELS + ratio * SCALE - 5, y + 11, f"{ratio:.2f}", "end", 11, "white"))
     one = LABELS + SCALE
     parts += [line(one, 22, one, height - 18, COLOURS[1]), text(one, 16, "1: parse_printf_format", "middle")]
-    longest = max(ratio for _, ratio in calls)
+    longest = max(1, *(ratio for _, ratio in calls))
     return drawing(round(LABELS + longest * SCALE) + END, height, parts)
 
 

@@ -100,7 +100,7 @@ static int64_t bounds(const char *text, size_t len)
 
 static int64_t specifications(const char *text, size_t len)
 {
-    return fmtcanon_specifications(FMTCANON_LP64, text, len, parts, sizeof parts / sizeof *parts, NULL, &error);
+    return fmtcanon_specifications(FMTCANON_LP64, text, len, parts, sizeof parts / sizeof *parts, &error);
 }
 
 static int64_t directives(const char *text, size_t len)

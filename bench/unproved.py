@@ -13,7 +13,8 @@ BENCH = Path(__file__).resolve().parent
 ROOT = BENCH.parent
 sys.path.append(str(ROOT))
 
-from tests.mutants.rattle_functions import blanked, group_end  # noqa: E402
+from cargo.strip import replaced, stripped  # noqa: E402
+from tests.mutants.rattle_functions import blanked  # noqa: E402
 
 # The libraries, and the names of the kit's libraries that they use. All become modules of one crate, since the kit, too,
 # gives LLVM the whole program as one module.
@@ -22,17 +23,12 @@ CRATES = """
 """.split()
 OF_KIT = "arrayvec itoa memchr smallvec".split()
 PATHS = re.compile(rf"(?<![\w:])(?:{'|'.join(CRATES)})(?=::)")
-# What begins so is left out, up to the end of its braces.
-GHOST = re.compile(r"^[ \t]*ghost (?:use [^;]*;\n|\w+ ?[:=] ?(?=\{))", re.MULTILINE)
-CLAUSE = re.compile(r"^[ \t]*(?:requires|ensures)\b[ \w]*(?=\{)", re.MULTILINE)
-OF_MODEL = re.compile(r"^impl (?:\w+::)?Model for \w+ (?=\{)", re.MULTILINE)
-# What rustc doesn't know, and what is written instead. No call that is counted needs the modules of the last line.
+# What of thiserror and of the devices is left out. No call that is counted needs them.
 WORDS = [
-    (r"#!?\[tactic[^\]]*\]\n|#\[rattlefmt::skip\]|#\[error\(.*\)\]\n|^use (?:std::marker::Model|thiserror::Error);\n", ""),
-    (r"(?<=[(, ])(?:Drop|Error)(?=[,)].*\]$)", ""),
-    (r"(?<=\()(?:, )+|(?:, )+(?=\)\]$)|(?<=, ), ", ""),
-    (r" \+ Drop\b|: Drop\b", ""),
-    (r"^(?:pub )?(?:mod|use) (?:devices|laws)\b[^;]*;\n", ""),
+    (r"^[ \t]*#\[error\(.*\)\]\n|^use thiserror::Error;\n", ""),
+    (r"(?<=[(, ])Error(?=[,)].*\]$)", ""),
+    (r"(?:, )+(?=\)\]$)", ""),
+    (r"^(?:pub )?(?:mod|use) devices\b[^;]*;\n", ""),
 ]
 # The processors are those for which `rt lib` compiles.
 FLAGS = "--edition 2024 -A warnings -C opt-level=3 -C codegen-units=1 -C panic=abort -C target-cpu=x86-64-v2"
@@ -40,26 +36,9 @@ FEATURES = "portable_simd, allocator_api"
 GCC = ["gcc", "-std=gnu11", "-Wall", "-Wextra", "-O2", f"-I{ROOT / 'include'}"]
 
 
-def without(text, pattern, ends=""):
-    """The text without what begins like the pattern, the braces after that, and one of these letters after them."""
-    code, parts, at = blanked(text), [], 0
-    for found in pattern.finditer(code):
-        if found.start() < at:
-            continue
-        stop = found.end()
-        if code[stop : stop + 1] == "{":
-            stop = group_end(code, stop)
-            stop += code[stop : stop + 1] in list(ends)
-        parts.append(text[at : found.start()])
-        at = stop
-    return "".join([*parts, text[at:]])
-
-
 def as_rust(text, name):
     """A source file of a crate as Rust."""
-    text = without(without(without(text, GHOST, ";,"), CLAUSE), OF_MODEL)
-    for pattern, new in WORDS:
-        text = re.sub(pattern, new, text, flags=re.MULTILINE)
+    text = replaced(stripped(text), WORDS)
     text = PATHS.sub(r"crate::\g<0>", re.sub(r"\bcrate::", f"crate::{name}::", text))
     text = re.sub(rf"^use (?={'|'.join(OF_KIT)})\w+::", "use crate::kit::", text, flags=re.MULTILINE)
     # The vector of the kit returns that memory is refused, and Rust's isn't able to.

@@ -2,14 +2,15 @@
  *
  * A format is `len` bytes at `text`. No byte after them is read, so it needs no NUL at its end, and a
  * NUL inside it is rejected. What a call returns and writes, as its comment says, is proved, but not that
- * memory suffices. When a call allocates, and the C code of this header, which is FMTCANON_NATIVE and
- * fmtcanon_fmtcheck(), are tested. docs/C.md explains that, and has examples.
+ * memory suffices. When a call allocates, which lengths it may return "at most", and the C code of this
+ * header, which is FMTCANON_NATIVE and fmtcanon_fmtcheck(), are tested. docs/C.md explains that, and has
+ * examples.
  *
- * The profile and the whole language. fmtcanon_arguments(), fmtcanon_directives(), and the calls whose
- * names begin with fmtcanon_fits or fmtcanon_whole accept the whole language of POSIX `fprintf`: numbered
- * arguments, `*`, floating and wide conversions, `%p` and `%n`; and the `%m` of `syslog`, which takes no
- * argument. The others accept the profile: the conversions `d i u o x X b c s`. In both, widths and
- * precisions are at most 4095.
+ * The profile and the whole language. fmtcanon_arguments(), fmtcanon_directives(),
+ * fmtcanon_specifications(), and the calls whose names begin with fmtcanon_fits or fmtcanon_whole accept
+ * the whole language of POSIX `fprintf`: numbered arguments, `*`, floating and wide conversions, `%p` and
+ * `%n`; and the `%m` of `syslog`, which takes no argument. The others accept the profile: the conversions
+ * `d i u o x X b c s`. In both, widths and precisions are at most 4095.
  *
  * The data model. The meaning of a format depends on it: `%zu` is `%lu` in LP64, `%u` in ILP32 and
  * `%llu` in LLP64. `model` is an enum fmtcanon_model, for the machine on which the format is used,
@@ -210,9 +211,10 @@ typedef struct fmtcanon_specification {
     uint32_t parts;              /* the parts that it has, a set of enum fmtcanon_part */
     uint32_t needless;           /* those that have no effect, and no others: fmtcanon_whole_same() is 1 for
                                     the specification alone, and it without this one part */
-    uint32_t together;           /* some of these: it is 1 without all of them, too. Of `%02.2u`, neither the
-                                    width nor the precision has an effect, but without both fewer digits are
-                                    printed, so of the two only the width is in this set */
+    uint32_t together;           /* those of these without which it is 1 together, too: in the order of enum
+                                    fmtcanon_part, each that has no effect together with those before it. Of
+                                    `%02.2u`, neither the width nor the precision has an effect, but without
+                                    both fewer digits are printed, so of the two only the width is in this set */
 } fmtcanon_specification;
 
 /* In place of the largest number of bytes that a format prints, if there is no largest. */
@@ -291,7 +293,7 @@ int64_t fmtcanon_bounds(int model, const char *text, size_t len, struct fmtcanon
 
 /* Returns the number of bytes that the format prints for the arguments, and writes them into `out` with a
  * NUL after them. They fit if the number is below `cap`. The bytes are those of `snprintf` in the data
- * model `model`, and those that docs/internals/DECISIONS.md chooses where the C standard leaves room. But no
+ * model `model`, and those that docs/DECISIONS.md chooses where the C standard leaves room. But no
  * argument is read that isn't there: FMTCANON_ERROR_COUNT if there are more or fewer arguments than the
  * format takes, and FMTCANON_ERROR_TYPE if one has a different type, is a number out of the range of
  * its type, or a string with a NUL. FMTCANON_ERROR_NOMEMORY if the number is 2^63 or more. Allocates
@@ -336,7 +338,8 @@ int64_t fmtcanon_fits_models(const char *first, size_t first_len, const char *se
 
 /* Returns 1 if the types of the second of two formats of the whole language are those of the first, or a
  * prefix of them, 0 otherwise. Then the second may be used with the arguments of the first: `printf` ignores
- * arguments that are left over (C11 7.21.6.1p2). For untrusted formats. Allocates nothing. */
+ * arguments that are left over (C11 7.21.6.1p2). But `%m`, which takes none, is undefined in C libraries that
+ * don't have it. For untrusted formats. Allocates nothing. */
 int64_t fmtcanon_fits_fewer(int model, const char *first, size_t first_len, const char *second,
                             size_t second_len, fmtcanon_error *error);
 
@@ -388,17 +391,9 @@ int64_t fmtcanon_directives(int model, const char *text, size_t len, fmtcanon_di
                             size_t cap, fmtcanon_error *error);
 
 /* Returns the number of conversion specifications of a format of the whole language, and writes a record of
- * each with its parts, as fmtcanon_directives() does without them.
- *
- * If the format is rejected, `*rejected` is what is known of the specification in which it is: `begin` is the
- * offset of its `%`, or FMTCANON_NONE if it is rejected outside of one. If it can be read up to its end, as
- * for the kinds 13 to 17 and 19, the other offsets are those of its end and its parts; if not, they are
- * `error->at`. For FMTCANON_MISSING_ARGUMENT, `argument` is the first argument that no specification takes, and
- * the record is of the first specification that takes a later one. All other numbers are FMTCANON_NONE, and
- * `kind` and the sets 0. If the format is accepted, `*rejected` stays as it was. `rejected` may be NULL.
- * Allocates nothing. */
+ * each with its parts, as fmtcanon_directives() does without them. Allocates nothing. */
 int64_t fmtcanon_specifications(int model, const char *text, size_t len, fmtcanon_specification *out,
-                                size_t cap, fmtcanon_specification *rejected, fmtcanon_error *error);
+                                size_t cap, fmtcanon_error *error);
 
 /* Returns the number of bytes of a source, and writes them into `out` with a NUL after them. A source is
  * one or more string literals of C with white space around them or none, as `"Total:\t%i" "\n"`, with
@@ -420,7 +415,7 @@ int64_t fmtcanon_encode_literal(const char *text, size_t len, char *out, size_t 
 int64_t fmtcanon_source_offset(const char *source, size_t len, uint64_t index);
 
 /* Returns the length of the name of a kind, as `Star`, and writes it into `out` with a NUL after it.
- * Returns 0 if no kind has this number. No name is longer than 18 bytes. Allocates nothing. */
+ * Returns 0 if no kind has this number. It is at most 18. Allocates nothing. */
 uint64_t fmtcanon_kind_name(uint32_t kind, char *out, size_t cap);
 
 /* Returns the version of the library: 65536 times the major one, 256 times the minor one, plus the

@@ -87,12 +87,10 @@ WITH_OPTIONAL_ERROR(fmtcanon_directives,
                      fmtcanon_error *error),
                     (model, text, len, out, cap, error))
 
-/* So may `rejected`. */
 WITH_OPTIONAL_ERROR(fmtcanon_specifications,
                     (int model, const char *text, size_t len, fmtcanon_specification *out,
-                     size_t cap, fmtcanon_specification *rejected, fmtcanon_error *error),
-                    (model, text, len, out, cap,
-                     rejected == NULL ? &(fmtcanon_specification){0} : rejected, error))
+                     size_t cap, fmtcanon_error *error),
+                    (model, text, len, out, cap, error))
 
 WITH_OPTIONAL_ERROR(fmtcanon_decode_literal,
                     (const char *source, size_t len, char *out, size_t cap, fmtcanon_error *error),
