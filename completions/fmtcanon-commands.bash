@@ -16,7 +16,7 @@ _fmtcanon_commands() {
     local word=${COMP_WORDS[COMP_CWORD]} before=${COMP_WORDS[COMP_CWORD - 1]} options='-h --help --version --model --output --color' at
     COMPREPLY=()
     case ${1##*/} in
-        fmtcanon-check) options+=' -p --flag --function --exclude --type --rank --sign --composed --git --cached --shard --baseline --update-baseline --no-cache --fail-on --attribute --fix --dry-run --diff -j --jobs' ;;
+        fmtcanon-check) options+=' -p --flag --function --exclude --type --rank --sign --composed --unread --wrong --git --cached --shard --baseline --update-baseline --no-cache --fail-on --attribute --fix --dry-run --diff -j --jobs' ;;
         fmtcanon-diff) options+=' -p --flag --function --git --cached --exclude --not-printf --verbose --fail-on -j --jobs' ;;
         fmtcanon-explain) options+=' --literal --kind --at' ;;
         fmtcanon-lsp) options='-h --help --version --stdio' ;;

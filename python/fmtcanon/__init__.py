@@ -24,7 +24,8 @@ the bytes that `os.fsencode` returns instead.
 
 The library is loaded by the first call that needs it, which raises `ImportError` if it isn't there. It is the
 one that the environment variable FMTCANON_LIBRARY names, otherwise the one next to this module, where an
-installation puts it, otherwise `libfmtcanon.so.1`, where the system looks for libraries.
+installation puts it, otherwise `libfmtcanon.so.1`, where the system looks for libraries; on macOS that is
+`libfmtcanon.dylib`, and on Windows `fmtcanon.dll`.
 
     >>> import fmtcanon
     >>> fmtcanon.canonical("Total: %i of %u%%")
@@ -72,6 +73,7 @@ import ctypes
 import functools
 import operator
 import os
+import sys
 from pathlib import Path
 from typing import Any, Callable, List, NamedTuple, Optional, Sequence, Tuple, TypeVar, Union
 
@@ -80,6 +82,7 @@ from .models import DataModel, Model, model_of
 from .passing import passed
 from .pieces import Directive, Percent, Shown, Text, directive_of, words_of
 from .prototypes import CALLS, CBounds, CComparison, CDirective, CError, CSpecification
+from .rejected import specification_in as _specification_in
 from .sessions import Reply, Session
 from .specification import Specification, SpelledSpecification
 
@@ -134,7 +137,8 @@ _Text = TypeVar("_Text", str, bytes)
 
 # The library must have the same major and minor version; only the patch may be another.
 _VERSION = tuple(map(int, __version__.split(".")))[:2]
-_SONAME = f"libfmtcanon.so.{_VERSION[0]}"
+# The library's file, on systems where it isn't `libfmtcanon.so.1`.
+_NAMES = {"darwin": "libfmtcanon.dylib", "win32": "fmtcanon.dll"}
 _NO_MEMORY = -100
 _NO_PLACE = -102
 _WRONG_TYPE = -104
@@ -226,7 +230,7 @@ class DirectiveSpan(NamedTuple):
 
 
 def _library_name() -> str:
-    beside = Path(__file__).parent / _SONAME
+    beside = Path(__file__).parent / _NAMES.get(sys.platform, f"libfmtcanon.so.{_VERSION[0]}")
     return os.environ.get("FMTCANON_LIBRARY") or (str(beside) if beside.exists() else beside.name)
 
 
@@ -405,29 +409,15 @@ def specifications(format: Format, *, model: DataModel = Model.LP64) -> List[Spe
     """Returns the conversion specifications of a format of the whole language with their parts, in the order of the
     text, without `%%`.
     """
-    text, error, rejected = _bytes(format), CError(), CSpecification()
+    text, error = _bytes(format), CError()
     room = text.count(b"%")
     records = (CSpecification * room)()
-    result = _library().fmtcanon_specifications(model_of(model), text, len(text), records, room, rejected, error)
+    result = _library().fmtcanon_specifications(model_of(model), text, len(text), records, room, error)
     try:
         return [_specification(record) for record in records[: _answer(result, error)]]
     except Refused as refusal:
-        refusal.specification = None if rejected.begin == _NONE else _specification(rejected)
+        refusal.specification = _specification_in(text, refusal)
         raise
-
-
-def _refused_specification(text: bytes) -> Optional[Specification]:
-    """Returns what is known of the specification in which a format is rejected; None if it isn't, or outside of one.
-
-    The others aren't listed, which may be many.
-    """
-    error, rejected = CError(), CSpecification()
-    result = _library().fmtcanon_specifications(Model.LP64, text, len(text), None, 0, rejected, error)
-    try:
-        _answer(result, error)
-    except Refused:
-        return None if rejected.begin == _NONE else _specification(rejected)
-    return None
 
 
 def _specification(record: CSpecification) -> Specification:

@@ -98,14 +98,7 @@ CALLS = {
         ctypes.c_int64,
     ),
     "specifications": (
-        (
-            *_MODEL,
-            *_TEXT,
-            ctypes.POINTER(CSpecification),
-            ctypes.c_size_t,
-            ctypes.POINTER(CSpecification),
-            *_ERROR,
-        ),
+        (*_MODEL, *_TEXT, ctypes.POINTER(CSpecification), ctypes.c_size_t, *_ERROR),
         ctypes.c_int64,
     ),
     "decode_literal": ((*_TEXT, *_TEXT, *_ERROR), ctypes.c_int64),

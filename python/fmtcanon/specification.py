@@ -22,8 +22,8 @@ class Specification(NamedTuple):
     is none or a `*`. The arguments and the type are those of a `DirectiveSpan`.
 
     `parts` are the parts that it has. Of these, `needless` are those that have no effect: `same` with `whole` is
-    True for the specification alone, and it without this one part. `together` are some of these: it is True
-    without all of them, too.
+    True for the specification alone, and it without this one part. `together` are those of these without which
+    it is True together, too: in the order of `Part`, each that has no effect together with those before it.
 
     Of one in which a format is rejected, the offsets are known, as far as it can be read to its end; otherwise they
     are where it is rejected. `argument` is the one that the format leaves out, if it does. The rest is None or 0.

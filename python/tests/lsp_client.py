@@ -12,7 +12,7 @@ from fmtcanon.lsp.framing import Framing, framed
 TOP = Path(__file__).resolve().parents[2]
 URI = "file:///nowhere/a.c"
 # Seconds after which an answer is missing.
-PATIENCE = 60
+PATIENCE = 600
 
 
 class Client:

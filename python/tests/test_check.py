@@ -308,6 +308,8 @@ class Judging(unittest.TestCase):
             ("%d: %m", "vsyslog", []),
         ]:
             calls = [it._replace(function=function) for it in calls_of(format, "int")]
+            own = judged([{(1, function, 0): it._replace(is_library=False)} for it in calls])
+            self.assertEqual(own.errnos, [])
             found = judged([{(1, function, 0): it} for it in calls])
             self.assertEqual(([it.at for it in found.errnos], found.faults, found.refused), (at, [], []), format)
             for one in found.errnos:

@@ -1,44 +1,44 @@
 """Tests of what fmtcanon-check keeps of earlier runs, without libclang: python3 -m unittest, in the folder above."""
 
+import gc
 import multiprocessing
 import os
 import random
 import tempfile
 import time
 import unittest
+import weakref
+import zlib
 from collections import Counter
 from pathlib import Path
 from unittest import mock
 
 from fmtcanon import Model
 from fmtcanon.checker import cache as of_cache
-from fmtcanon.checker.cache import Cache, cache_folder
-from fmtcanon.checker.states import digest
+from fmtcanon.checker.cache import Cache, cache_folder, digest
 from fmtcanon.compiling.compile_commands import CompileCommand
-from fmtcanon.compiling.dependencies import Dependencies, dependencies_of
+from fmtcanon.compiling.functions import Wrapper
 from fmtcanon.fitting.checking import Answer, CallLines, Found, Job, Question
 from fmtcanon.fitting.unit import Settings
 from fmtcanon.frame.excerpts import Excerpt
 from fmtcanon.frame.findings import Finding
 from fmtcanon.source.known import Shape
 
-# The nanoseconds after which files are older than what is read.
-LATER = 10**9
-# What changes, and whether the answer is still right: files with their texts, or None for one that goes.
+# Files with other texts, or None for one that goes; and whether the answer is still right.
 CHANGES = [
     ({}, True),
-    ({"src/a.c": "another\n"}, False),
-    ({"src/a.h": "another\n"}, False),
-    ({"inc/sys/types.h": None}, False),
-    ({"first/b.h": "earlier\n"}, False),
+    ({"src/a.c": "int another;\n"}, False),
+    ({"src/a.h": "int another;\n"}, False),
+    ({"src/a.h": "int a; // a comment\n"}, False),
+    ({"first/b.h": "int earlier;\n"}, False),
     ({"first/c.h": "of no interest\n"}, True),
-    ({"first/sys/types.h": "earlier, in a new folder\n"}, False),
-    ({"first/other/types.h": "of no interest\n"}, True),
-    ({"missing/b.h": "in a folder that wasn't there\n"}, False),
-    ({"inc/a.h": "later than that of the source's folder, but perhaps earlier for another\n"}, False),
-    ({"src/b.h": "in the folder of the source\n"}, False),
+    ({"first/sys/x.h": "int earlier;\n"}, False),
+    ({"missing/b.h": "int in_a_folder_that_was_not_there;\n"}, False),
+    ({"src/b.h": "int in_the_folder_of_the_source;\n"}, True),
     ({"first/asked.h": "that __has_include asks for\n"}, False),
-    ({"bin/cc": "another compiler\n"}, False),
+    ({"inc/only.h": "#define VALUE 2\n"}, False),
+    ({"src/g.y": "int a; // fmtcanon: ok\n"}, False),
+    ({"bin/cc": '#!/bin/sh\nexec gcc -DMORE "$@"\n'}, False),
 ]
 
 
@@ -64,12 +64,20 @@ class InFolder(unittest.TestCase):
         self.work = Path(os.path.realpath(folder.name))
         self.addCleanup(os.chdir, os.getcwd())
         os.chdir(self.work)
-        for name in ("src/a.c", "src/a.h", "inc/b.h", "inc/sys/types.h", "bin/cc"):
-            self.put(name, f"{name}\n#if __has_include(<asked.h>)\n")
+        asked = "#if __has_include(<asked.h>)\nint asked;\n#endif\n"
+        self.put(
+            "src/a.c",
+            f'#include "a.h"\n#include <b.h>\n#include <sys/x.h>\n#include <only.h>\n{asked}#line 1 "g.y"\nint g;\n',
+        )
+        for name in ("src/a.h", "src/g.y", "inc/b.h", "inc/sys/x.h"):
+            self.put(name, "int x;\n")
+        self.put("inc/only.h", "#define VALUE 1\n")
         self.put("first/unused.h", "unused\n")
+        self.put("bin/cc", '#!/bin/sh\nexec gcc "$@"\n')
         os.chmod("bin/cc", 0o755)
-        self.put("kept/.x", "")
-        os.unlink("kept/.x")
+        os.mkdir("kept")
+        # How often a file was judged.
+        self.judged = 0
 
     def put(self, name, text):
         file = self.work / name
@@ -78,135 +86,185 @@ class InFolder(unittest.TestCase):
         return str(file)
 
     def job(self, **more):
-        settings = Settings(("-I/tmp/x",), more.pop("functions", {}), more.pop("types", {}), "/tmp/x")
+        given = more.pop("functions", {}), more.pop("types", {})
+        settings = Settings((), *given, "/tmp/x", found=more.pop("found", {}))
         question = Question(more.pop("models", list(Model)), more.pop("added", []), settings)
-        words = (f"{self.work}/bin/cc", *more.pop("words", ()), "-c", "a.c")
+        folders = [f"-I{self.work}/{it}" for it in ("first", "missing", "inc")]
+        words = (f"{self.work}/bin/cc", *folders, *more.pop("words", ()), "-c", "a.c")
         command = CompileCommand(f"{self.work}/src", f"{self.work}/src/a.c", words)
         return Job(f"{self.work}/src/a.c", [command], question, **more)
 
-    def answer(self):
-        paths = {f"{self.work}/{it}" for it in ("src/a.c", "src/a.h", "inc/b.h", "inc/sys/types.h")}
-        folders = {f"{self.work}/{it}" for it in ("first", "missing", "inc")}
-        return answer_for(f"{self.work}/src/a.c")._replace(read=Dependencies(frozenset(paths), frozenset(folders)))
+    def answer(self, **more):
+        """What a run says, and whether it was kept."""
 
-    def put_answer(self, **more):
-        Cache("kept").put(self.job(), self.answer()._replace(**more), time.time_ns() + LATER)
-        return os.listdir("kept")
+        def judge(job):
+            self.judged += 1
+            return answer_for(job.file)._replace(is_whole=True)
+
+        before = self.judged
+        # What has just been written may still change at the same time.
+        time.sleep(2 * of_cache.SETTLED / 1e9)
+        with mock.patch.object(of_cache, "answer", judge):
+            found = Cache("kept").answer(self.job(**more))
+        return found._replace(is_whole=False), self.judged == before
+
+
+def handing_on(line):
+    """What a job has if a function of another file hands its format on in a line of that."""
+    return {"found": {"c:@F@log": (Wrapper(2, Shape(0, 1), "printf", "src/log.c", line),)}}
 
 
 class Kept(InFolder):
     def test_all_of_it(self):
         """What is kept comes back as it was."""
-        [name] = self.put_answer()
-        found = Cache("kept").get(self.job())
-        self.assertEqual(found, answer_for(found.file))
-        first, wanted = found.found["first"].finding, answer_for("").found["first"].finding
-        self.assertEqual((first.excerpts, first.help), (wanted.excerpts, wanted.help))
+        self.assertFalse(self.answer()[1])
+        found, is_kept = self.answer()
+        self.assertEqual((found, is_kept), (answer_for(found.file), True))
+        [name] = os.listdir("kept")
         self.assertEqual(os.stat(f"kept/{name}").st_mode & 0o777, 0o600)
 
     def test_changes(self):
-        """An answer is only taken if all that it depends on is as it was, and the same headers would be found."""
+        """An answer is only taken if all that it is made from is as it was."""
         for files, is_right in CHANGES:
             self.setUp()
-            self.put_answer()
+            self.answer()
             for name, text in files.items():
                 os.unlink(name) if text is None else self.put(name, text)
-            self.assertEqual(Cache("kept").get(self.job()) is not None, is_right, files)
+            self.assertEqual(self.answer()[1], is_right, files)
 
     def test_times(self):
         """Other times don't matter, and the same times don't hide other bytes."""
-        self.put_answer()
-        before = os.stat("src/a.h")
+        self.answer()
         os.utime("src/a.h", (1, 1))
-        os.rename("src/a.h", "src/x.h")
-        self.put("src/a.h", Path("src/x.h").read_text())
-        os.unlink("src/x.h")
-        self.assertIsNotNone(Cache("kept").get(self.job()))
-        self.put("src/a.h", Path("src/a.h").read_text().swapcase())
-        os.utime("src/a.h", ns=(before.st_atime_ns, before.st_mtime_ns))
-        self.assertEqual(os.stat("src/a.h").st_size, before.st_size)
-        self.assertIsNone(Cache("kept").get(self.job()))
+        self.assertTrue(self.answer()[1])
+        self.put("src/a.h", "int y;\n")
+        os.utime("src/a.h", (1, 1))
+        self.assertFalse(self.answer()[1])
 
     def test_questions(self):
         """Each question has an entry of its own."""
-        self.put_answer()
+        self.answer()
         for more in [
             {"models": [Model.LP64]},
             {"added": ["rank"]},
             {"functions": {"log": Shape(0, 1)}},
             {"types": {"mine": "int"}},
             {"words": ("-DX",)},
+            {"source": b"int x;\n"},
+            handing_on(3),
         ]:
-            self.assertIsNone(Cache("kept").get(self.job(**more)), more)
-        for name in ("CPATH", "C_INCLUDE_PATH", "LC_ALL", "GCC_EXEC_PREFIX"):
-            with mock.patch.dict(os.environ, {name: "/other"}):
-                self.assertIsNone(Cache("kept").get(self.job()), name)
+            self.assertFalse(self.answer(**more)[1], more)
+        # That a function hands its format on in another line changes no answer.
+        self.assertTrue(self.answer(**handing_on(4))[1])
         with mock.patch.object(of_cache, "__version__", "another"):
-            self.assertIsNone(Cache("kept").get(self.job()))
+            self.assertFalse(self.answer()[1])
         with mock.patch.dict(os.environ, {"HOME": "/other"}):
-            self.assertIsNotNone(Cache("kept").get(self.job()))
-        os.chdir("src")
-        self.assertIsNone(Cache("../kept").get(self.job()))
+            self.assertTrue(self.answer()[1])
 
     def test_includes(self):
         """A file that includes none of some others isn't judged."""
-        self.put_answer()
         for name, is_judged in [("inc/b.h", True), ("first/unused.h", False)]:
-            found = Cache("kept").get(self.job(among=frozenset([f"{self.work}/{name}"])))
+            found, _ = self.answer(among=frozenset([f"{self.work}/{name}"]))
             self.assertEqual((bool(found.found), bool(found.counts)), (is_judged, is_judged))
 
 
 class NotKept(InFolder):
-    def test_what_is_not_kept(self):
-        for more in [{"read": None}, {"read": self.answer().read._replace(folders=frozenset())}]:
-            self.assertEqual(self.put_answer(**more), [])
-        Cache("kept").put(self.job(source=b"int x;"), self.answer(), time.time_ns() + LATER)
-        self.assertEqual(os.listdir("kept"), [])
-        # What changed since it was read, and names that aren't known.
-        Cache("kept").put(self.job(), self.answer(), time.time_ns() - LATER)
-        self.assertEqual(os.listdir("kept"), [])
-        self.put("src/a.h", "#if __has_include(HEADER)\n")
-        self.assertEqual(self.put_answer(), [])
-        os.unlink("src/a.h")
-        self.assertEqual(self.put_answer(), [])
-        os.mkfifo("src/a.h")
-        self.assertEqual(self.put_answer(), [])
+    def test_what_changes_meanwhile(self):
+        """An answer isn't kept if a file changes while it is found."""
 
-    def test_another_kind_of_file(self):
-        """Nothing waits for what takes the place of a file."""
-        self.put_answer()
-        os.unlink("src/a.h")
-        os.mkfifo("src/a.h")
-        self.assertIsNone(Cache("kept").get(self.job()))
+        def judge(job):
+            self.put("src/a.h", "int meanwhile;\n")
+            return answer_for(job.file)._replace(is_whole=True)
+
+        with mock.patch.object(of_cache, "answer", judge):
+            Cache("kept").answer(self.job())
+        self.assertEqual(os.listdir("kept"), [])
+
+    def test_what_changes_and_changes_back(self):
+        """Neither if it is as it was afterwards, as after a checkout and another one; nor if a header of the system is."""
+        for name, words in (
+            ("src/a.h", ()),
+            ("src/g.y", ()),
+            ("sys/s.h", ("-isystem", f"{self.work}/sys", "-include", "s.h")),
+        ):
+            text = Path(self.put("sys/s.h", "int s;\n") if name == "sys/s.h" else name).read_text()
+
+            def judge(job):
+                self.put(name, "int meanwhile;\n")
+                self.put(name, text)
+                return answer_for(job.file)._replace(is_whole=True)
+
+            time.sleep(2 * of_cache.SETTLED / 1e9)
+            with mock.patch.object(of_cache, "answer", judge):
+                Cache("kept").answer(self.job(words=words))
+            self.assertEqual(os.listdir("kept"), [], name)
+
+    def test_what_may_still_change(self):
+        """A time of whole seconds may be that of two versions for some seconds, another one for a moment."""
+        now = 5_000_000_000_000_000_000
+        for before, wanted in [(10_000_000, False), (60_000_001, True), (1_000_000_000, False), (4_000_000_000, True)]:
+            self.assertEqual(of_cache.is_settled((now - before,), now), wanted, before)
+
+    def test_what_is_left(self):
+        """Nothing is kept of a file that isn't read as a whole, or can't be."""
+        with mock.patch.object(of_cache, "answer", lambda job: answer_for(job.file)):
+            Cache("kept").answer(self.job())
+            self.put("src/a.c", "#include <nothing.h>\n")
+            Cache("kept").answer(self.job())
+        self.assertEqual(os.listdir("kept"), [])
+
+    def test_memory(self):
+        """What refers to itself, as units do, is gone before the next file is read."""
+
+        class Unit:
+            pass
+
+        made = []
+
+        def read(job):
+            one = Unit()
+            one.itself = one
+            made.append(weakref.ref(one))
+            return answer_for(job.file)
+
+        gc.disable()
+        self.addCleanup(gc.enable)
+        with mock.patch.object(of_cache, "answer", read):
+            of_cache.answer_and_keep(None, self.job())
+        self.assertIsNone(made[0]())
 
     def test_damage(self):
         """An entry that is damaged anywhere counts as none, and is written again."""
-        [name] = self.put_answer()
-        file = Path("kept", name)
+        self.answer()
+        [name] = os.listdir("kept")
+        file, cache = Path("kept", name), Cache("kept")
         data = file.read_bytes()
         chosen = random.Random(4)
         for at in [*range(40), *chosen.sample(range(len(data)), 200)]:
             for damaged in (data[:at], data[:at] + bytes([data[at] ^ 1 << chosen.randrange(8)]) + data[at + 1 :]):
                 file.write_bytes(damaged)
-                self.assertIsNone(Cache("kept").get(self.job()), at)
-        for other in ({}, {"files": [1]}, {"files": [], "folders": [], "names": [], "found": 1}, []):
+                self.assertIsNone(cache.get(str(file)), at)
+        for other in ({}, {"libraries": [1]}, {"libraries": [], "answer": 1}, {"libraries": [], "answer": {}}, []):
             file.write_bytes(of_cache.encoded(other))
-            self.assertIsNone(Cache("kept").get(self.job()), other)
-        file.write_bytes(bytes.fromhex(digest(b"not packed")) + b"not packed")
-        self.assertIsNone(Cache("kept").get(self.job()))
+            self.assertFalse(self.answer()[1], other)
+        deep = zlib.compress(b"[" * 100_000)
+        for packed in (b"not packed", deep, zlib.compress(b" " * 100_000_000)):
+            file.write_bytes(bytes.fromhex(digest(packed)) + packed)
+            self.assertIsNone(cache.get(str(file)))
         file.unlink()
-        file.mkdir()
-        self.assertIsNone(Cache("kept").get(self.job()))
-        self.put_answer()
-        file.rmdir()
-        self.put_answer()
+        for make in (file.mkdir, lambda: os.mkfifo(file), lambda: file.symlink_to("/dev/zero")):
+            make()
+            self.assertIsNone(cache.get(str(file)))
+            file.rmdir() if file.is_dir() else file.unlink()
+        self.answer()
         self.assertEqual(file.read_bytes(), data)
 
     def test_a_full_disk(self):
         with mock.patch("os.replace", side_effect=OSError("No space left on device")):
-            self.assertEqual(self.put_answer(), [])
+            self.answer()
+        self.assertEqual(os.listdir("kept"), [])
         os.rmdir("kept")
-        Cache("kept").put(self.job(), self.answer(), time.time_ns() + LATER)
+        self.answer()
         Cache("kept").prune()
 
     def test_folder(self):
@@ -215,41 +273,53 @@ class NotKept(InFolder):
             ("xdg", f"{self.work}/home/.cache/fmtcanon/check"),
             ("", f"{self.work}/home/.cache/fmtcanon/check"),
             (f"{self.work}/src/a.c", None),
+            (f"{self.work}/writable", None),
+            (f"{self.work}/linked", None),
         ]:
+            os.makedirs("writable/fmtcanon/check", exist_ok=True)
+            os.chmod("writable/fmtcanon", 0o777)
+            os.makedirs("linked/fmtcanon", exist_ok=True)
+            if not os.path.lexists("linked/fmtcanon/check"):
+                os.symlink(self.work, "linked/fmtcanon/check")
             with mock.patch.dict(os.environ, {"XDG_CACHE_HOME": value, "HOME": f"{self.work}/home"}):
                 self.assertEqual(cache_folder(), wanted)
             self.assertTrue(wanted is None or os.stat(wanted).st_mode & 0o777 == 0o700)
 
     def test_most(self):
-        """Entries that weren't used for longest are removed, and what runs left that ended."""
+        """Entries that weren't used for longest are removed, and what runs left that ended; nothing else."""
         now = time.time()
-        for number in range(20):
-            os.utime(self.put(f"kept/{number}", "x" * 100), (now - number, now - number))
+        names = [f"{number:032}" for number in range(20)]
+        for number, name in enumerate(names):
+            os.utime(self.put(f"kept/{name}", "x" * 100), (now - number, now - number))
+        os.utime(self.put("kept/thesis.pdf", "x" * 5_000), (1, 1))
         os.utime(self.put(f"kept/{of_cache.UNFINISHED}old", "x"), (now - 5_000, now - 5_000))
         self.put(f"kept/{of_cache.UNFINISHED}new", "x")
         with mock.patch.multiple(of_cache, MOST=2_002, LEFT=1_200):
             Cache("kept").prune()
-            names = {f"{of_cache.UNFINISHED}new", *map(str, range(20))}
-            self.assertEqual(set(os.listdir("kept")), names)
-            self.put("kept/last", "x" * 100)
+            stay = {f"{of_cache.UNFINISHED}new", "thesis.pdf"}
+            self.assertEqual(set(os.listdir("kept")), {*stay, *names})
+            self.put(f"kept/{'f' * 32}", "x" * 100)
             Cache("kept").prune()
-        self.assertEqual(set(os.listdir("kept")), {f"{of_cache.UNFINISHED}new", "last", *map(str, range(10))})
+        self.assertEqual(set(os.listdir("kept")), {*stay, "f" * 32, *names[:10]})
 
 
 def write_and_read(self, number, results):
     """Writes and reads the same entry again and again, and takes some away. Says how often each was found."""
     chosen, found = random.Random(number), Counter()
+    cache, job = Cache("kept"), self.job()
+    data = of_cache.encoded({"libraries": [], "answer": of_cache.fields_of(answer_for(job.file))})
     until = time.monotonic() + 1
     while time.monotonic() < until:
         action = chosen.randrange(4)
         if action == 0:
-            Cache("kept").put(self.job(), self.answer(), time.time_ns() + LATER)
+            cache.write("kept/" + "a" * 32, data)
         elif action == 1 and number == 0:
             with mock.patch.multiple(of_cache, MOST=0, LEFT=0):
-                Cache("kept").prune()
+                cache.prune()
         else:
-            one = Cache("kept").get(self.job())
-            found["none" if one is None else "right" if one == answer_for(one.file) else "wrong"] += 1
+            one = cache.get("kept/" + "a" * 32)
+            is_right = one is not None and of_cache.answer_in(job.file, one) == answer_for(job.file)
+            found["none" if one is None else "right" if is_right else "wrong"] += 1
     results.put(found)
 
 
@@ -267,27 +337,6 @@ class Together(InFolder):
         self.assertGreater(found["right"], 20)
         self.assertEqual(found["wrong"], 0)
         self.assertEqual([it for it in os.listdir("kept") if it.startswith(of_cache.UNFINISHED)], [])
-
-
-SAID = b"""ignoring nonexistent directory "/usr/local/x"
-#include "..." search starts here:
- quoted
-#include <...> search starts here:
- /tmp/own
- ../in clude
- /usr/include
-End of search list.
- /not/this
-"""
-
-
-class Read(unittest.TestCase):
-    def test_dependencies(self):
-        rule = b"x: a.c ../in\\ clude/b.h \\\n /usr/include/c.h /tmp/own/inttypes.h /tmp/owned.h\n"
-        found = dependencies_of(rule, SAID, "/src", "/tmp/own")
-        files = {"/src/a.c", "/src/../in clude/b.h", "/usr/include/c.h", "/tmp/owned.h"}
-        self.assertEqual(found.files, files)
-        self.assertEqual(found.folders, {"/usr/local/x", "/src/quoted", "/src/../in clude", "/usr/include"})
 
 
 if __name__ == "__main__":

@@ -122,7 +122,7 @@ PLACES = b"""#define A "at"
 
 class InMacros(unittest.TestCase):
     def test_definitions(self):
-        found = [(it.name, os.path.relpath(it.file), it.line) for it in definitions_in(DEFINED, ".")]
+        found = [(it.name, os.path.relpath(it.file), it.line) for it in definitions_in(DEFINED, ".") if not it.is_system]
         self.assertEqual(found[1:], DEFINITIONS)
 
     def test_calls(self):
@@ -286,7 +286,7 @@ class Baselines(unittest.TestCase):
 
     def test_damaged(self):
         """What isn't a baseline is never overwritten, also not by an update."""
-        for text in ["", "{}", "[]", '{"form": 2, "findings": []}', '{"form": 1, "findings": [1]}']:
+        for text in ["", "{}", "[]", '{"form": 1, "findings": []}', '{"form": 2, "findings": [1]}']:
             Path("known").write_text(text, encoding="utf-8")
             for is_update in (False, True):
                 with self.assertRaises(Unreadable):

@@ -98,21 +98,27 @@ class Counts(unittest.TestCase):
     def test_unread(self):
         said = "1 file, 2 formats, 3 arguments: nothing found"
         self.assertEqual(self.summary(files=1, formats=2, arguments=3), said)
-        one = self.summary(files=1, formats=2, arguments=3, unread=1)
+        one = self.summary(files=1, formats=2, arguments=3, unread_calls=1)
         self.assertEqual(one, f"{said}; 1 call with a format that wasn't read")
-        more = self.summary(files=1, formats=2, arguments=3, unread=12)
+        more = self.summary(files=1, formats=2, arguments=3, unread_calls=12)
         self.assertEqual(more, f"{said}; 12 calls with formats that weren't read")
 
     def test_others(self):
-        """Functions that aren't known are named if four times as many of their calls have formats as were judged."""
-        others = {"say:0:1": 2, "log_it:1:2": 5, "c:0:1": 1, "b:0:1": 1}
+        """Functions that aren't known are named if four times as many of their calls have formats as were judged, and
+        counted in any case. One that takes its arguments itself has no option.
+        """
+        others = {"say:0:1": 2, "log_it:1:2": 5, "c:0:1": 1, "b:0:1": 1, "d:0:1": 1}
         said = self.summary(others, files=1, formats=2)
         self.assertIn(
             "5 calls of log_it (--function log_it:1:2), 2 calls of say (--function say:0:1), 1 call of b", said
         )
         self.assertNotIn("--function c", said)
-        self.assertNotIn("--function", self.summary(others, files=1, formats=3))
-        self.assertNotIn("--function", self.summary({}, files=1))
+        said = self.summary(others, files=1, formats=3)
+        self.assertTrue(said.endswith("functions that aren't known get literals with %: 10 calls of 5 others"), said)
+        self.assertNotIn("aren't known", self.summary({}, files=1))
+        said = command.summary(Counter(files=1, formats=9), Counter({"say:1": 12, "own:1": 11}), frozenset({"own"}))
+        self.assertIn("12 calls of say (--function say:1); ", said)
+        self.assertTrue(said.endswith("take their arguments themselves get literals with %: 11 calls of own"), said)
 
 
 class Troubles(unittest.TestCase):

@@ -147,6 +147,9 @@ WHOLE = [
     ),
     ('"%d %f"', '"%d %e"', "directives", 'directives differ at argument 2: "%f" and "%e"'),
     ('"%*d %s"', '"%d%d %s"', "directives", 'directives differ at argument 1: "%*d" and "%d"'),
+    ('"%d: %m"', '"%d: "', "directives", 'directives differ by %m, in the first alone: "%d: %m" and "%d: "'),
+    ('"%d: "', '"%d: %m"', "directives", 'directives differ by %m, in the second alone: "%d: " and "%d: %m"'),
+    ('"%m %s"', '"%s %m"', "directives", 'directives differ by %m, in both: "%m %s" and "%s %m"'),
     ('"%*d"', '"%*i"', "same", 'same: "%*d" and "%*i"'),
     ('"%f km"', '"%f miles"', "words", 'the words differ: "%f km" and "%f miles"'),
     (

@@ -239,6 +239,25 @@ class Lines(unittest.TestCase):
         for text in ['"%d" FOO', "PRId64", '"%d", "%d"', 'L"%d"', 'f("%" PRId64)', '"%" PRId64;']:
             self.assertEqual(run("--literal", text), (2, []), text)
 
+    def test_calls(self):
+        """A call that is pasted is read as what it is, and a text that only looks like one as a text."""
+        for call, shown, *given in [
+            (r'printf("%lu bytes\n", strlen(name));', r"%lu bytes\n", "strlen(name)"),
+            ('n = snprintf(s, sizeof s, _("%d" "|%s"), f(a, b), c)', "%d|%s", "f(a, b)", "c"),
+            ('return fprintf (stderr, "%" PRIu64, x) ;', "%lu", "x"),
+            ('(void)printf("%d"', "%d"),
+        ]:
+            status, lines = run(call)
+            self.assertEqual((status, lines[0]), (0, shown), call)
+            wanted = [f"argument {at}: {it}" for at, it in enumerate(given, 1)]
+            self.assertEqual([it for it in lines if it.startswith("argument ")], wanted)
+            self.assertEqual(asked(call)[1]["format"], call)
+        self.assertEqual(run('printf("%#d", x)')[1][:2], ["refused 13 AltUndefined at byte 2", "%#d"])
+        others = ['printf("%d") failed', 'use printf("%d", x);', 'open("%s")', 'printf("%d"); printf("%d")']
+        for text in [*others, 'a % b = printf("%d")']:
+            self.assertNotIn("argument 1: ", "\n".join(run(text)[1]), text)
+            self.assertIn(text.replace('"', '\\"'), "\n".join(run(text)[1]), text)
+
     def test_rejected_literals(self):
         """The offset is that of the literals, as the program prints it, and the caret is under the byte."""
         rows = [([r'"\t%y"'], r"\t%y", 4), (['"%d"', r'"\x41" "%d%y"'], "A%d%y", 11)]

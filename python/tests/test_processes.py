@@ -13,7 +13,7 @@ from pathlib import Path
 from fmtcanon.frame.processes import Ended, in_order
 
 # The seconds in which a command and its processes end after a signal, and those to wait for something.
-SOON, LATE = 2, 60
+SOON, LATE = 60, 120
 # A command whose work takes long, and runs a program.
 SLOW = """
 import signal, subprocess, sys, threading, time
@@ -151,22 +151,27 @@ class Results(unittest.TestCase):
 
     def test_items_that_end_their_processes(self):
         """Each has a result of its own, and new processes work on the others."""
+        own = os.getpid()
+        # What other tests left.
+        before = children_of(own)
         for jobs in [1, 2, 5]:
             for ending in [(), (0,), (7,), (3, 4, 5, 6), range(20)]:
                 for count in [1, 20]:
-                    work, own = functools.partial(end_at, ending), os.getpid()
+                    work = functools.partial(end_at, ending)
                     found = list(in_order(work, range(count), jobs, instead=lambda *given: given))
                     wanted = [(it, "ended by signal 9") if it in ending else it for it in range(count)]
-                    self.assertEqual((found, children_of(own)), (wanted, []), (jobs, ending, count))
+                    left = [it for it in children_of(own) if it not in before]
+                    self.assertEqual((found, left), (wanted, []), (jobs, ending, count))
 
     def test_a_process_that_ends_by_itself(self):
         self.assertEqual(list(in_order(leave, [1], 1, instead=lambda *given: given)), [(1, "ended")])
 
     def test_results_that_nobody_wants(self):
         """The processes end with the first result that is taken."""
+        before = children_of(os.getpid())
         results = in_order(double, range(1000), 2)
         next(results)
-        there = children_of(os.getpid())
+        there = [it for it in children_of(os.getpid()) if it not in before]
         results.close()
         self.assertEqual((len(there), [it for it in there if is_there(it)]), (2, []))
 

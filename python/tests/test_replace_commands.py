@@ -1,6 +1,7 @@
 """Tests of what fmtcanon-replace does with compile commands, with the system's compiler and without libclang."""
 
 import os
+import re
 import subprocess
 import tempfile
 import unittest
@@ -8,8 +9,7 @@ import unittest.mock
 from pathlib import Path
 
 from fmtcanon import Model
-from fmtcanon.compiling.compile_commands import SOURCES, CompileCommand, said
-from fmtcanon.compiling.dependencies import names_in_rule
+from fmtcanon.compiling.compile_commands import SOURCES, CompileCommand, names_in_rule, said
 from fmtcanon.compiling.left import Left
 from fmtcanon.compiling.targets import check_model, model_in
 from fmtcanon.rewriting.units import Inclusions, Units, asked, units_of
@@ -22,7 +22,7 @@ int d = 1; int line = __LINE__;
 """
 # Words that make a compiler write the file `keep`, or one with a name of its own, and what becomes of them.
 WRITING = [
-    (["-Wp,-DX,-MD,keep"], ["-Wp,-DX"]),
+    (["-Wp,-DX,-MD,keep"], ["-DX"]),
     (["--output=keep"], []),
     (["--output", "keep"], []),
     (["--serialize-diagnostics", "keep"], []),
@@ -57,6 +57,7 @@ UNUSED = [
     ["-c", "-pipe", "-g3", "-ggdb", "-fno-omit-frame-pointer", "-ftree-vectorize", "-fdata-sections", "-flto=auto"],
     ["-Xclang", "-disable-O0-optnone"],
     ["-Wl,-z,relro", "-Wl,--as-needed", "-Wl,-rpath,/x", "-lm", "-L", "/x", "-Wa,--noexecstack", "-shared", "-pg"],
+    ["-fno-such-option-of-this-year", "-fprofile-use=x", "-fuse-ld=./x"],
     ["-fdebug-prefix-map=/a=.", "-fdiagnostics-color=always", "-fmessage-length=0", "--param", "x=1", "-mllvm", "-x"],
 ]
 # Words with which it isn't known what the file means, or what would be written.
@@ -65,6 +66,10 @@ UNCLEAR = [
     ["-Wl,-wrap=printf"],
     ["-Wl,-z,relro,--wrap,printf"],
     ["-Wl,--defsym,printf=mine"],
+    ["-Wl,@more"],
+    ["-Wl,-O1,-T,script"],
+    ["-Xlinker", "@more"],
+    ["-Wl,-alias,_mine,_printf"],
     ["-Xlinker", "--wrap=printf"],
     ["-Wa,--defsym,printf=1"],
     ["-fexec-charset=latin1"],
@@ -86,7 +91,19 @@ UNCLEAR = [
     ["-Wp,-MD"],
     ["-Wp,-P"],
     ["-index-store-path", "x"],
-    ["-fno-such-option-of-this-year"],
+    ["--no-such-option-of-this-year"],
+    ["--target=./evil"],
+    ["-target", "./evil"],
+    ["--target", "x/y"],
+    ["-D=1"],
+    ["-DX Y"],
+    ["-D", "1X"],
+    ["-Uprintf(x)"],
+    ["--sysroot=@more"],
+    ["-fpack-struct=@more"],
+    ["--gcc-toolchain=@more"],
+    ["-fno-modules"],
+    ["-fwide-exec-charset=UTF-16"],
     ["-x", "c++-header"],
     ["-xassembler"],
     ["other.c"],
@@ -97,13 +114,14 @@ UNCLEAR = [
 
 class Words(unittest.TestCase):
     def used(self, *words):
-        words, at = CompileCommand("/", os.path.realpath("/a/b.c"), ("gcc", *words, "-c", "a/b.c")).used()
-        self.assertEqual((words[0], words.pop(at)), ("gcc", "a/b.c"))
+        words, file = CompileCommand("/", os.path.realpath("/a/b.c"), ("gcc", *words, "-c", "a/b.c")).used()
+        self.assertEqual((words[0], file), ("gcc", "a/b.c"))
         return words[1:]
 
     def test_used(self):
         for words in USED:
-            self.assertEqual(self.used(*words), words)
+            joined = re.sub(r"(?<= -[DUIx]) |(?<= -include) |(?<= -isystem) ", "", f" {' '.join(words)}")
+            self.assertEqual(" ".join(self.used(*words)), joined.lstrip().replace("-Wp,", ""))
 
     def test_unused(self):
         for words in UNUSED:
@@ -118,8 +136,10 @@ class Words(unittest.TestCase):
     def test_the_file(self):
         with self.assertRaises(Left):
             CompileCommand("/", os.path.realpath("/a/b.c"), ("gcc", "-c", "a/c.c")).used()
-        words = CompileCommand("/", os.path.realpath("/a/b.c"), ("gcc", "-c", "--", "a/b.c")).preprocessing()
-        self.assertEqual(words, (["gcc", "a/b.c", "-E", "-w"], 1))
+        named = [("--", "a/b.c"), ("a/b.c", "--", "-fplugin=x.so"), ("a/b.c", "-D"), ("a/b.c", "-I", "-fplugin=x.so")]
+        for words in [*named, ("a/b.c", "-I@more"), ("a/b.c", "-idirafter", "@more"), ("a/b.c", "-Wp,-I,@more")]:
+            with self.assertRaises(Left, msg=words):
+                CompileCommand("/", os.path.realpath("/a/b.c"), ("gcc", *words)).used()
 
     def test_nothing_is_written(self):
         """A compiler that is run with such a word leaves all files as they are."""

@@ -19,7 +19,7 @@ from fmtcanon.frame.interrupting import Interrupted, interruptible
 from fmtcanon.rewriting.files import put_in_place
 
 # The seconds in which the command ends after a signal.
-SOON = 2
+SOON = 60
 # A user to whom root gives a file.
 ANOTHER = 1000
 
@@ -172,7 +172,7 @@ class Runs(unittest.TestCase):
 
         def run():
             try:
-                running.run(["sh", "-c", "sleep 30; echo"], "/", {})
+                running.run(["sh", "-c", "sleep 1000; echo"], "/", {})
             except Left as left:
                 found.append(str(left))
 
@@ -328,7 +328,7 @@ class Ends(InFolder):
         began = time.monotonic()
         run = self.run_of("hang and kill", stdout=subprocess.PIPE)
         errors = run.communicate(timeout=60)[1].decode()
-        self.assertLess(time.monotonic() - began, 10)
+        self.assertLess(time.monotonic() - began, SOON)
         self.assertEqual((run.returncode, errors.count("interrupted")), (128 + signal.SIGTERM, 1))
 
     def test_a_signal_between_files(self):

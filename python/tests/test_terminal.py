@@ -55,7 +55,8 @@ de.po:14:12: error: argument 1 is int (%d) in 'msgid_plural', and string (%s)
  14 | "gel\u00f6scht: %s Dateien"
     |            ^^ string
 de.po:18:13: error: 'msgstr' is not a valid C format string, unlike 'msgid'.
-    Reason: refused 13 AltUndefined at byte 6 [format]
+    Reason: `%#d` isn't a directive, write `%d`: refused 13 AltUndefined at
+    byte 6 [format]
  18 | msgstr "%s: %#d"
     |             ^^^ AltUndefined
     help: `#` has no meaning with `d`. Write %d.

@@ -7,7 +7,7 @@ from typing import Callable, Dict, Iterator, NamedTuple, Optional, Sequence, Set
 
 import fmtcanon
 
-from ..formats.rejections import advice_on, refused_span
+from ..formats.rejections import advice_on, instead_of, instead_span, refused_span
 from ..formats.verdicts import argument_words
 from ..frame.command_line import model_names
 from ..frame.findings import ERROR, WARNING, Finding
@@ -380,9 +380,8 @@ class Checker:
             # The message for one may leave out arguments that no list of arguments may.
             self.leave(file, message, f"'msgid' isn't checked: {rejection.reason}")
         else:
-            reason = (
-                f"'{second.name}' is not a valid C format string, unlike '{first.name}'. Reason: {rejection.reason}"
-            )
+            why = said_of(rejection, found.text, models[0])
+            reason = f"'{second.name}' is not a valid C format string, unlike '{first.name}'. Reason: {why}"
             self.report_of(file, message, Reason(FORMAT, reason, refusal=rejection.refusal), (first, second))
         return True
 
@@ -436,6 +435,17 @@ def rejection_of(format: MessageFormat, models: Sequence[fmtcanon.Model]) -> Opt
             return WhyRejected(str(refusal), refusal)
     reason = format.two_types(models[0])
     return WhyRejected(reason) if reason else None
+
+
+def said_of(rejection: WhyRejected, text: bytes, model: fmtcanon.Model) -> str:
+    """Returns why a format is rejected, and first what to write, if that is known."""
+    refusal = rejection.refusal
+    instead = instead_of(text, refusal, model) if refusal else None
+    if refusal is None or instead is None:
+        return rejection.reason
+    start, end = instead_span(text, refusal)
+    wrong, right = (it.decode(errors="backslashreplace") for it in (text[start:end], instead))
+    return f"`{wrong}` isn't a directive, write `{right}`: {rejection.reason}"
 
 
 def marks_of(reason: Reason, texts: Sequence[MessageText], model: fmtcanon.Model) -> Iterator[Mark]:

@@ -1,23 +1,24 @@
 """The baseline: a file of findings that are known, so that only others are reported.
 
-A finding is known by its file, its kind, its call and its directive, and by how many there are: not by its line, which
-moves, nor by its message, which depends on the options and the version.
+A finding is known by its file, its kind, its call, its directive, and what is wrong on which platforms, and by how many
+there are: not by its line, which moves, nor by its message, which depends on the options and the version.
 """
 
 import collections
 import json
 import os
-import tempfile
 from pathlib import Path
 from typing import Any, Counter, Dict, Iterable, Set, Tuple
 
+from ..fitting.judging import Fit
 from ..fitting.reporting import SILENT
 from ..frame.findings import Finding
-from ..source.files import Unreadable
+from ..frame.interrupting import temporary_folder
+from ..source.files import Unreadable, read_file
 
 # The version of the form of the file.
-FORM = 1
-NAMES = ("file", "kind", "function", "macro", "format", "directive", "type")
+FORM = 2
+NAMES = ("file", "kind", "function", "macro", "format", "directive", "type", "wrong")
 COUNT = "count"
 Entry = Tuple[Any, ...]
 
@@ -39,8 +40,7 @@ class Baseline:
 
     def read(self) -> Counter[Entry]:
         try:
-            with open(self.path, encoding="utf-8") as stream:
-                found = json.load(stream)
+            found = json.loads(read_file(self.path, is_given=True).data)
             if found["form"] != FORM:
                 raise ValueError(f"its form is {found['form']!r}, and not {FORM}")
             return collections.Counter({tuple(it.get(name) for name in NAMES): it[COUNT] for it in found["findings"]})
@@ -62,7 +62,9 @@ class Baseline:
             return True
         # The uses of a macro may have several formats.
         details = {**finding.details, "format": None} if "macro" in finding.details else finding.details
-        entry = (self.name_of(finding.file), finding.kind, *(details.get(it) for it in NAMES[2:]))
+        fits = {name: it["fit"] for name, it in details.get("platforms", {}).items()}
+        wrong = ", ".join(f"{name}: {it}" for name, it in fits.items() if it != Fit.EQUAL.value) or None
+        entry = (self.name_of(finding.file), finding.kind, *(details.get(it) for it in NAMES[2:-1]), wrong)
         self.found[entry] += 1
         self.missing[entry] -= 1
         return self.missing[entry] < 0
@@ -84,7 +86,7 @@ class Baseline:
             with open(self.path, "xb") as stream:
                 stream.write(text)
             return
-        with tempfile.TemporaryDirectory(prefix=".fmtcanon-", dir=self.folder) as folder:
+        with temporary_folder(prefix=".fmtcanon-", dir=self.folder) as folder:
             made = Path(folder, "baseline")
             made.write_bytes(text)
             made.chmod(os.stat(self.path).st_mode & 0o777)

@@ -1,53 +1,78 @@
-"""Keeps what was found in a file in the cache folder of the user, for as long as all that it depends on is as it was.
+"""Keeps what was found in a file in the cache folder of the user, under a hash of all that it was made from.
 
-An entry is a file whose name is the hash of the question: the version, the commands, the options and the environment.
-In it are the files that the compiler read, with their states, and the answer. It is written under another name first, so
-that nobody reads half of it, and has a hash of itself, so that a damaged one counts as none.
+That is what the compilers' preprocessors make of the file before they expand macros, which takes half the time and
+has the same answers, with the definitions of these; the bytes of the files that are in it; what the compilers say of
+themselves; and the question. So nothing has to be known of where compilers look for headers: they are asked. An answer
+is kept only if no file changed from before the first of them ran until after the last one. An entry is written under
+another name first, so that nobody reads half of it, and has a hash of itself, so that a damaged one counts as none.
 """
 
 import collections
 import contextlib
 import dataclasses
 import functools
+import gc
+import hashlib
 import json
 import os
 import re
+import stat
 import tempfile
 import time
 import zlib
 from pathlib import Path
-from typing import Any, Dict, FrozenSet, Iterator, List, Optional, Sequence, Set, Tuple
+from typing import Any, Callable, Dict, FrozenSet, Iterator, List, NamedTuple, Optional, Sequence, Set, Tuple
 
 from .. import __version__
+from ..compiling.compile_commands import CompileCommand
+from ..compiling.left import Left, own_trouble
 from ..compiling.libclang import cindex
+from ..compiling.line_markers import files_in
+from ..compiling.stand_ins import original
 from ..fitting.checking import Answer, CallLines, Found, Job, answer, answer_without
+from ..fitting.unit import command_with
 from ..frame.excerpts import Excerpt
 from ..frame.findings import Finding
 from ..frame.processes import in_order
-from .states import SIZE, State, States, contents, digest, is_older, names_below, searched_folders, state_of
+from ..source.files import read_file
 
-# The most bytes that are kept, and how many are left once there are more.
-MOST, LEFT = 100_000_000, 80_000_000
+# The most bytes that are kept, how many are left once there are more, and the most of an entry, packed and not.
+MOST, LEFT, MOST_PACKED, MOST_OF_ONE = 100_000_000, 80_000_000, 4_000_000, 64_000_000
 # The seconds after which an unfinished entry was left by a run that ended, and those after which use is noted.
 OLD, DAY = 3_600, 86_400
+# The nanoseconds after which a file that is written again has another time, and where times are of whole seconds.
+SETTLED, SETTLED_BY_SECONDS = 50_000_000, 3_000_000_000
 UNFINISHED = "unfinished-"
+# The length of a hash, and the names of entries.
+SIZE = 16
+ENTRY = re.compile(r"[0-9a-f]{32}|unfinished-\w+")
 # Names in the environment that tell a compiler what to do.
 TELLING = re.compile(r"(?:CPATH|PATH|.*_PATH|GCC_.*|LANG|LC_.*)", re.DOTALL)
+# What goes wrong with an entry that another version may have written, or nobody.
+DAMAGED = (OSError, ValueError, TypeError, KeyError, IndexError, AttributeError, RecursionError, zlib.error, Left)
 # The libraries that an answer depends on.
 LIBRARIES = re.compile(r"/\S*/lib(?:fmtcanon|clang|LLVM)[^/\s]*$", re.MULTILINE)
+# The macro of a compiler that knows no option for directives alone.
+CLANG = "__clang__"
+
+
+def digest(data: bytes) -> str:
+    return hashlib.blake2b(data, digest_size=SIZE).hexdigest()
 
 
 def cache_folder() -> Optional[str]:
-    """Returns the folder for the entries, or None if there can't be one."""
+    """Returns the folder for the entries, or None if there can't be one, or others may write there."""
     top = os.environ.get("XDG_CACHE_HOME", "")
     if not os.path.isabs(top):
         top = os.path.join(os.path.expanduser("~"), ".cache")
     folder = os.path.join(top, "fmtcanon", "check")
     try:
         os.makedirs(folder, mode=0o700, exist_ok=True)
+        states = [os.lstat(it) for it in (os.path.dirname(folder), folder)]
     except OSError:
         return None
-    return folder
+    is_own = all(stat.S_ISDIR(it.st_mode) and it.st_uid == os.geteuid() and not it.st_mode & 0o022 for it in states)
+    return folder if is_own else None
 
 
 def own_state() -> str:
@@ -59,91 +84,155 @@ def own_state() -> str:
     return digest(repr((__version__, sorted(found))).encode())
 
 
-def libraries() -> List[str]:
-    """Returns the paths of the libraries that are loaded."""
+def state_of(path: str) -> Tuple[int, ...]:
+    """Returns the numbers that tell versions of a file apart; none if it isn't a file."""
+    try:
+        found = os.stat(path)
+    except (OSError, ValueError):
+        return ()
+    is_file = stat.S_ISREG(found.st_mode)
+    return (found.st_ctime_ns, found.st_mtime_ns, found.st_size, found.st_dev, found.st_ino) if is_file else ()
+
+
+def is_settled(state: Sequence[int], since: int) -> bool:
+    """Returns whether a file that has a state wasn't changed since a time, whose nanoseconds are given."""
+    change = state[0] if state else 0
+    return change < since - (SETTLED if change % 1_000_000_000 else SETTLED_BY_SECONDS)
+
+
+def hash_of(path: str, state: Tuple[int, ...]) -> str:
+    """Returns the hash of the bytes of a file that has a state, or nothing if it can't be read."""
+    return known_hash(path, state) if is_settled(state, time.time_ns()) else known_hash.__wrapped__(path, state)
+
+
+@functools.lru_cache(maxsize=10_000)
+def known_hash(path: str, _state: Tuple[int, ...]) -> str:
+    try:
+        return digest(read_file(path).data)
+    except (OSError, ValueError):
+        return ""
+
+
+def libraries() -> List[Tuple[str, List[int]]]:
+    """Returns the libraries that are loaded, with their states."""
     try:
         maps = Path("/proc/self/maps").read_text(encoding="utf-8", errors="surrogateescape")
     except OSError:
         return []
-    return sorted(set(LIBRARIES.findall(maps)))
+    return [(it, list(state_of(it))) for it in sorted(set(LIBRARIES.findall(maps)))]
 
 
-def compiler_of(word: str, folder: str) -> Optional[str]:
-    """Returns the path of a compiler."""
-    if "/" in word:
-        return os.path.join(folder, word)
-    paths = (os.path.join(it, word) for it in os.environ.get("PATH", os.defpath).split(os.pathsep) if it)
-    return next((it for it in paths if os.access(it, os.X_OK)), None)
+class ReadUnit(NamedTuple):
+    """What the preprocessor makes of a file by a command, and the files in it."""
+
+    text: bytes
+    files: Set[str]
+
+
+class Read(NamedTuple):
+    """What a file is by each of its commands, in the short form; a hash of all that an answer about it is made from,
+    without the question; the states of the files; and when they were first read.
+    """
+
+    units: Sequence[ReadUnit]
+    hash: str
+    states: Dict[str, Tuple[int, ...]]
+    began: int
+
+    def is_still(self) -> bool:
+        """Returns whether no file changed since it was first read, and each is the same one."""
+        return all(state_of(path) == it and is_settled(it, self.began) for path, it in self.states.items())
 
 
 class Cache:
     """The entries in a folder."""
 
     def __init__(self, folder: str) -> None:
-        self.folder, self.states = folder, States()
+        self.folder = folder
         environment = sorted(it for it in os.environ.items() if TELLING.fullmatch(it[0]))
         self.front = repr((own_state(), getattr(cindex, "__file__", ""), os.getcwd(), environment))
 
-    def path_of(self, job: Job) -> str:
-        question, settings = job.question, job.question.settings
-        commands = [(it.folder, it.file, it.words) for it in job.commands]
-        asked = [it.name for it in question.models], list(question.added)
-        given = sorted(settings.functions.items()), sorted(settings.types.items())
-        text = repr((self.front, job.file, commands, asked, given))
-        return os.path.join(self.folder, digest(text.encode("utf-8", "surrogateescape")))
+    def answer(self, job: Job) -> Answer:
+        """Returns what is kept for a file, or what is found now, which is kept if nothing changed meanwhile."""
+        was = self.read(job)
+        if was is None:
+            return answer(job)
+        if job.among and not any(job.among & it.files for it in was.units):
+            return nothing_in(job.file)
+        job = job._replace(among=frozenset())
+        kept = self.get(self.path_of(job, asked_in(job), was.hash)) if job.commands else None
+        if kept is not None:
+            with contextlib.suppress(*DAMAGED):
+                told = frozenset(it for one in was.units for it in job.told & one.files)
+                return answer_in(job.file, kept)._replace(included=told)
+        found, hash = self.judged(job, was)
+        if hash:
+            self.put_answer(job, found, hash)
+        return found
 
-    def get(self, job: Job) -> Optional[Answer]:
-        """Returns what is kept for a file, or None if there is nothing, or not all is as it was."""
-        path = self.path_of(job)
-        try:
-            with open(path, "rb") as stream:
-                entry = decoded(stream.read())
-            if entry is None or not self.is_valid(entry):
-                return None
-            if time.time() - os.stat(path).st_mtime > DAY:
-                os.utime(path)
-            files = {os.path.realpath(it) for it, _, _ in entry["files"]} if job.among else set()
-            answer = answer_in(job.file, entry["answer"])
-        except (OSError, ValueError, TypeError, KeyError, IndexError, AttributeError, zlib.error):
-            # Another version may have written it, or nobody.
-            return None
-        return answer if not job.among or job.among & files else nothing_in(job.file)
+    def judged(self, job: Job, was: Read) -> Tuple[Answer, str]:
+        """Returns what is found in a file now, and the hash of all that this was made from, or nothing if that changed
+        meanwhile.
+        """
+        found = None
+        with contextlib.suppress(Left), own_trouble():
+            units = [read_unit(job, it) for it in job.commands]
+            found = answer(job._replace(texts=[it.text for it in units]))
+            # Where something is found, compilers ran again, and may have found other headers.
+            if found.is_whole and self.is_as_it_was(job, was, units, bool(found.found)):
+                return found, was.hash
+        return found or answer(job), ""
 
-    def is_valid(self, entry: Dict[str, Any]) -> bool:
-        """Returns whether the files of an entry are as they were, and the same would be found."""
-        if not all(self.states.is_as_it_was(path, State(*state), hash) for path, state, hash in entry["files"]):
+    def read(self, job: Job) -> Optional[Read]:
+        """Returns what a file is now, or None if a compiler can't preprocess it."""
+        began = time.time_ns()
+        with contextlib.suppress(Left), own_trouble():
+            units = [read_unit(job, it, is_asked=True) for it in job.commands]
+            states = {it: state_of(it) for it in sorted({job.file}.union(*(it.files for it in units)))}
+            return Read(units, self.hash_of(job, units, states), states, began)
+        return None
+
+    def is_as_it_was(self, job: Job, was: Read, units: Sequence[ReadUnit], is_asked: bool = False) -> bool:
+        """Returns whether units have the files of the short text, which didn't change; and if compilers are asked for that
+        again, whether it is the same.
+        """
+        if [it.files for it in units] != [it.files for it in was.units] or not was.is_still():
             return False
-        return bool(self.states.found_in(entry["folders"], entry["names"]) == entry["found"])
+        again = self.read(job) if is_asked else was
+        return again is not None and again.hash == was.hash and was.is_still()
 
-    def put(self, job: Job, answer: Answer, began: int) -> None:
-        """Keeps the answer about a file whose reading began at this time, in nanoseconds, unless a file changed since."""
-        entry = self.entry_of(job, answer, began)
-        if entry is not None:
-            self.write(self.path_of(job), encoded(entry))
+    def hash_of(self, job: Job, units: Sequence[ReadUnit], states: Dict[str, Tuple[int, ...]]) -> str:
+        """Returns a hash of all that an answer about a file is made from, without the question."""
+        own = "" if job.source is None else digest(job.source)
+        parts: List[Any] = [self.front, job.file, own, [(it, hash_of(it, state)) for it, state in states.items()]]
+        for command, unit in zip(job.commands, units):
+            compiler = sorted(command.macros().items()), command.system_folders()
+            parts += [command.folder, command.words, compiler, digest(without_folder(unit.text, job))]
+        return digest(repr(parts).encode("utf-8", "surrogateescape"))
 
-    def entry_of(self, job: Job, answer: Answer, began: int) -> Optional[Dict[str, Any]]:
-        read = answer.read
-        compilers = {compiler_of(it.words[0], it.folder) for it in job.commands}
-        if read is None or None in compilers or not read.folders or job.source is not None:
-            return None
-        names: Set[str] = set()
-        files: List[Tuple[str, State, str]] = []
-        for path in sorted({job.file, *read.files, *filter(None, compilers)}):
-            state = state_of(path)
-            found = contents(path, state) if state and is_older(state, began) else None
-            if state is None or found is None or not (found[2] or path in compilers):
-                return None
-            files.append((path, state, found[0]))
-            names |= found[1] if path not in compilers else set()
-        for path in libraries():
-            files.append((path, state_of(path) or State(0, 0, 0, 0), ""))
-        folders = sorted(searched_folders(read))
-        names |= names_below(read.files, set(folders))
-        if not self.states.are_older(folders, names, began):
-            return None
-        there = self.states.found_in(folders, names)
-        kept = {"files": files, "folders": folders, "names": sorted(names), "found": there}
-        return {**kept, "answer": fields_of(answer)}
+    def path_of(self, job: Job, asked: Any, hash: str) -> str:
+        """Returns the path of the entry of a question about a file that has a hash."""
+        settings = job.question.settings
+        parts = hash, sorted(settings.functions.items()), sorted(settings.types.items()), asked
+        return os.path.join(self.folder, digest(repr(parts).encode("utf-8", "surrogateescape")))
+
+    def get(self, path: str) -> Any:
+        """Returns what is kept in an entry, as JSON has it, or None if there is nothing."""
+        with contextlib.suppress(*DAMAGED):
+            entry = decoded(read_file(path, MOST_PACKED, os.O_NOFOLLOW).data)
+            if entry is not None and all(list(state_of(it)) == state for it, state in entry["libraries"]):
+                if time.time() - os.stat(path).st_mtime > DAY:
+                    os.utime(path)
+                return entry["answer"]
+        return None
+
+    def put(self, path: str, found: Any) -> None:
+        """Keeps what is found in an entry."""
+        self.write(path, encoded({"libraries": libraries(), "answer": found}))
+
+    def put_answer(self, job: Job, found: Answer, hash: str) -> None:
+        """Keeps the answer about a file that has a hash."""
+        self.put(self.path_of(job, asked_in(job), hash), fields_of(found))
 
     def write(self, path: str, data: bytes) -> None:
         """Writes an entry as a whole. If it can't be written, nothing is kept."""
@@ -170,12 +259,46 @@ class Cache:
                     os.unlink(path)
 
     def entries(self) -> Iterator[Tuple[float, int, str]]:
-        """Yields when each file of the folder was last used, its size and its path."""
+        """Yields when each entry was last used, its size and its path."""
         with contextlib.suppress(OSError), os.scandir(self.folder) as found:
-            for one in found:
+            for one in filter(lambda it: ENTRY.fullmatch(it.name), found):
                 with contextlib.suppress(OSError):
                     state = one.stat(follow_symlinks=False)
                     yield state.st_mtime, state.st_size, one.path
+
+
+def short_text(command: CompileCommand, source: bytes) -> bytes:
+    """Returns a text that says what the preprocessor makes of a source, and takes less time: by gcc without expanding
+    macros, unless a directive has __COUNTER__.
+    """
+    if CLANG not in command.macros():
+        with contextlib.suppress(Left):
+            return command.preprocessed(source, "-fdirectives-only")
+    return command.preprocessed(source, "-dD")
+
+
+def read_unit(job: Job, command: CompileCommand, is_asked: bool = False) -> ReadUnit:
+    """Returns what a file is by one of its commands, in the short form if only that is asked. Raises Left if the compiler
+    can't preprocess it.
+    """
+    one = command_with(command, job.question.settings)
+    source = original(command.file).source if job.source is None else job.source
+    text = short_text(one, source) if is_asked else one.preprocessed(source)
+    return ReadUnit(text, files_in(text, command.folder, job.question.settings.folder))
+
+
+def asked_in(job: Job) -> Tuple[Any, ...]:
+    """Returns what is asked about the formats of a file: also of functions of other files that hand theirs on. Where they
+    do isn't said by the answer.
+    """
+    found = sorted((key, [it[:2] for it in listed]) for key, listed in job.question.settings.found.items())
+    return [it.name for it in job.question.models], list(job.question.added), found
+
+
+def without_folder(text: bytes, job: Job) -> bytes:
+    """Returns a text without the name of the folder of this command, which each run has another one of."""
+    folder = job.question.settings.folder
+    return text.replace(os.fsencode(folder), b"") if folder else text
 
 
 def encoded(entry: Dict[str, Any]) -> bytes:
@@ -188,7 +311,8 @@ def decoded(data: bytes) -> Optional[Dict[str, Any]]:
     """Returns the entry that bytes are, or None if they are damaged."""
     if bytes.fromhex(digest(data[SIZE:])) != data[:SIZE]:
         return None
-    found: Dict[str, Any] = json.loads(zlib.decompress(data[SIZE:]))
+    unpacked = zlib.decompressobj()
+    found: Dict[str, Any] = json.loads(unpacked.decompress(data[SIZE:], MOST_OF_ONE))
     return found
 
 
@@ -199,7 +323,8 @@ def fields_of(answer: Answer) -> Dict[str, Any]:
         for key, it in answer.found.items()
     ]
     fixes = [(start, None if text is None else text.hex(), why) for start, (text, why) in answer.fixes.items()]
-    return {"found": found, "counts": answer.counts, "others": answer.others, "fixes": fixes}
+    counted = {"counts": answer.counts, "others": answer.others, "called": sorted(answer.called)}
+    return {"found": found, "fixes": fixes, **counted}
 
 
 def answer_in(file: str, fields: Dict[str, Any]) -> Answer:
@@ -209,7 +334,7 @@ def answer_in(file: str, fields: Dict[str, Any]) -> Answer:
     }
     fixes = {start: (None if text is None else bytes.fromhex(text), why) for start, text, why in fields["fixes"]}
     counts, others = (collections.Counter(fields[it]) for it in ("counts", "others"))
-    return Answer(file, found, counts, others, fixes)
+    return Answer(file, found, counts, others, fixes, called=frozenset(fields["called"]))
 
 
 def uses_in(uses: Sequence[Any]) -> FrozenSet[CallLines]:
@@ -228,23 +353,22 @@ def finding_in(fields: Dict[str, Any]) -> Finding:
 
 def answer_and_keep(cache: Optional[Cache], job: Job) -> Answer:
     """Checks a file, and keeps the answer if there is a cache."""
-    began = time.time_ns()
-    found = answer(job)
-    if cache:
-        cache.put(job, found, began)
+    found = cache.answer(job) if cache else answer(job)
+    # The units that libclang parsed refer to themselves.
+    gc.collect()
     return found
 
 
-def answers_of(jobs: Sequence[Job], cache: Optional[Cache], count: int) -> Iterator[Answer]:
-    """Yields the answers about files in their order: those that are kept or need no compiler, and the others by several
-    processes.
-    """
-    kept = [(cache.get(it) if cache else None) if it.commands else answer(it) for it in jobs]
-    rest = [job for job, it in zip(jobs, kept) if it is None]
+def answers_of(
+    jobs: Sequence[Job], cache: Optional[Cache], count: int, known: Callable[[Job], Optional[Answer]] = lambda it: None
+) -> Iterator[Answer]:
+    """Yields the answers about files in their order: those that are known, and the others by several processes."""
+    early = [known(it) for it in jobs]
+    rest = [job for job, it in zip(jobs, early) if it is None]
     others = in_order(functools.partial(answer_and_keep, cache), rest, count, instead=answer_without)
-    for one in kept:
+    for one in early:
         yield next(others) if one is None else one
-    if cache and rest:
+    if cache:
         cache.prune()
 
 

@@ -2,17 +2,30 @@
 these, is reported.
 """
 
+import collections
 import difflib
 import os
-from typing import Any, Dict, Iterable, Iterator, List, Optional, Tuple
+import re
+import sys
+from typing import Any, Dict, Iterable, Iterator, List, Set, Tuple
 
 from ..compiling.git import FileChange, Git
 from ..fitting.checking import Answer, Found
-from ..source.files import Unreadable
+from ..source.files import SOURCES, Unreadable, bytes_of
 
 # The first and the last of lines that a change adds. If it removes some and adds none, the last is before the first.
 Lines = Tuple[int, int]
 MERGE_BASE = "..."
+# All lines of a file.
+WHOLE = [(1, sys.maxsize)]
+# What may be a directive that gives lines other numbers, in a text without spliced lines, and a splice. A comment may be
+# before it and in it; what it hides isn't looked at.
+LINE_DIRECTIVE = re.compile(
+    rb"^(?:[^\n]*\*/)?[ \t\v\f]*(?:#|%:|\?\?=)[ \t\v\f]*(?:line(?![\w$])|\d|/\*)", re.MULTILINE
+)
+SPLICE = re.compile(rb"(?:\\|\?\?/)[ \t\v\f\r]*\n")
+# How many pairs of equal lines are looked at. A line that comes too often for that says nothing about where a change is.
+PAIRS = 200_000
 
 
 class GitChange:
@@ -20,16 +33,23 @@ class GitChange:
 
     def __init__(self, changes: Iterable[FileChange], is_cached: bool) -> None:
         self.lines: Dict[str, List[Lines]] = {}
+        # Those that may give lines other numbers.
+        self.renumbered: Set[str] = set()
         # The texts to judge instead of those of the work tree.
         self.staged: Dict[str, bytes] = {}
         # What isn't compared, by its path.
         self.others: Dict[str, FileChange] = {}
         for one in changes:
             path = os.path.realpath(one.name)
-            if one.error or one.why_not:
+            if one.error and not SOURCES.fullmatch(path):
+                # A unit may include it all the same.
+                self.lines[path] = WHOLE
+            elif one.error or one.why_not:
                 self.others[path] = one
             elif one.new is not None:
                 self.lines[path] = list(changed_lines(one.old or b"", one.new))
+                if is_renumbered(one.new):
+                    self.renumbered.add(path)
                 if is_cached and bytes_of(path) != one.new:
                     self.staged[path] = one.new
 
@@ -44,19 +64,18 @@ class GitChange:
         return any(first <= end and start <= last for start, end in self.lines.get(path, ()))
 
     def part_of(self, answer: Answer) -> Answer:
-        """Returns what an answer has in lines that changed, with the fixes for that."""
-        found = {key: it for key, it in answer.found.items() if self.has(it)}
+        """Returns what an answer has in lines that changed, with the fixes for that: all of it if a file that changed, or
+        that is included and did, may give lines other numbers.
+        """
+        is_all = not self.renumbered.isdisjoint({answer.file, *answer.included})
+        found = {key: it for key, it in answer.found.items() if is_all or self.has(it)}
         places = {it.place for it in found.values()}
         return answer._replace(found=found, fixes={it: fix for it, fix in answer.fixes.items() if it in places})
 
 
-def bytes_of(path: str) -> Optional[bytes]:
-    """Returns the bytes of a file, or None if it can't be read."""
-    try:
-        with open(path, "rb") as stream:
-            return stream.read()
-    except OSError:
-        return None
+def is_renumbered(text: bytes) -> bool:
+    """Returns whether a text may have a directive that gives lines other numbers."""
+    return bool(LINE_DIRECTIVE.search(SPLICE.sub(b"", text)))
 
 
 def changed_lines(old: bytes, new: bytes) -> Iterator[Lines]:
@@ -69,7 +88,8 @@ def changed_lines(old: bytes, new: bytes) -> Iterator[Lines]:
     while back < most - front and first[-1 - back] == second[-1 - back]:
         back += 1
     first, second = (it[front : len(it) - back] for it in (first, second))
-    for kind, _, _, start, end in difflib.SequenceMatcher(None, first, second).get_opcodes():
+    counts, most = collections.Counter(second), PAIRS // (len(second) + 1) + 1
+    for kind, _, _, start, end in difflib.SequenceMatcher(lambda it: counts[it] > most, first, second).get_opcodes():
         if kind != "equal":
             yield front + start + 1, front + end
 
@@ -86,4 +106,5 @@ def change_of(options: Any) -> GitChange:
         revision = git.merge_base(revision[: -len(MERGE_BASE)] or "HEAD", "HEAD")
     if ".." in revision:
         raise Unreadable(f"{revision}: give one revision, or REV... for where HEAD left it")
-    return GitChange(git.changes([revision], [], options.exclude, options.cached), options.cached)
+    changes = git.changes([revision], [], options.exclude, options.cached, is_source=lambda _: True)
+    return GitChange(changes, options.cached)

@@ -1,14 +1,18 @@
 """Says whether each printf format fits its call on every platform."""
 
 import collections
+import functools
+import gc
 from dataclasses import replace
-from typing import Any, Counter, Dict, Iterable, Iterator, List, Optional, Sequence, Set, Tuple
+from typing import Any, Counter, Dict, FrozenSet, Iterable, Iterator, List, Optional, Sequence, Set, Tuple
 
+from ..compiling.closure import Wrappers
 from ..compiling.libclang import MISSING, cindex
 from ..compiling.retargeting import write_headers
 from ..compiling.sources import Files
-from ..fitting.checking import Answer, Found, Question
-from ..fitting.reporting import COMPOSED, RANK, RULES, SIGN, shown_file, with_source
+from ..fitting.checking import Answer, Found, Job, Question
+from ..fitting.fixing import WRONG
+from ..fitting.reporting import COMPOSED, RANK, RULES, SIGN, UNREAD, shown_file, with_source, with_wrapper
 from ..fitting.unit import Settings
 from ..frame.command_line import MODELS, USAGE, status_of
 from ..frame.findings import ERROR, Finding, Printer, by_place, leveled
@@ -17,21 +21,25 @@ from ..frame.output import complain
 from ..source.files import Unreadable
 from .baseline import Baseline
 from .cache import Cache, answers_of, cache_folder
-from .changes import change_of
+from .changes import GitChange, change_of
 from .jobs import jobs_of, name_files
 from .options import NAME, is_writing, parsed
+from .wrapping import Search, Wrapped
 
 
-# How many functions that aren't known the last line names, if they get this many times the formats that were judged.
-MOST_NAMED, TIMES = 3, 4
+# From how many calls on the last line names a function that isn't known, with the option for it; and how many it names in
+# any case if they get this many times the formats that were judged.
+NAMED_FROM, LEAST_NAMED, TIMES = 10, 3, 4
+# What is counted of each file.
+COUNTS = ("files", "formats", "arguments", "unread_calls", "abroad")
 # The outputs whose messages say how often a macro is used. In the others it is a number, so that they can be merged.
 COUNTED = ("text", "github")
 
 
-def question_of(options: Any, folder: str, is_kept: bool) -> Question:
+def question_of(options: Any, folder: str) -> Question:
     """Returns what the options ask. The folder gets the headers of this command."""
-    added = [it for it in (RANK, SIGN, COMPOSED) if getattr(options, it)]
-    settings = Settings(write_headers(folder), dict(options.function), dict(options.type), folder if is_kept else "")
+    added = [it for it in (RANK, SIGN, COMPOSED, UNREAD, WRONG) if getattr(options, it)]
+    settings = Settings(write_headers(folder), dict(options.function), dict(options.type), folder)
     return Question(MODELS[options.model], added, settings)
 
 
@@ -57,31 +65,92 @@ def each_once(answers: Iterable[Answer]) -> Iterator[Answer]:
         yield Answer(file, {key: it.counted() for key, it in known.items()}, nothing, nothing, {})
 
 
+def known_answer(wrapped: Wrapped, cache: Optional[Cache], job: Job) -> Optional[Answer]:
+    """Returns the answer about a file that was judged to find functions, if they change nothing of it, and keeps it."""
+    known = wrapped.answer_of(job)
+    if known and known.answer and known.hash and cache:
+        cache.put_answer(job, known.answer, known.hash)
+    return known.answer if known else None
+
+
+def found_in(
+    files: Files, question: Question, change: Optional[GitChange], options: Any, cache: Optional[Cache], printer: Printer
+) -> Tuple[Iterable[Answer], Wrapped]:
+    """Returns what is found in the files that are judged, and the functions of other files that this depends on. If not
+    all files are judged, others are searched only for functions that the judged ones call.
+    """
+    search = Search(files, question, cache, options.jobs)
+    part, parts = options.shard
+    jobs = list(jobs_of(files, question, change))[part - 1 :: parts]
+    printer.progress.expect(len(jobs))
+    if change is None and search.jobs.keys() <= {it.file for it in jobs}:
+        search.search_all()
+        wrapped = search.wrapped()
+        known = functools.partial(known_answer, wrapped, cache)
+        return printer.progress.each(answers_of(known_by(jobs, wrapped), cache, options.jobs, known)), wrapped
+    answers = list(printer.progress.each(answers_of(jobs, cache, options.jobs)))
+    search.search_for(it for one in answers for it in one.called)
+    wrapped = search.wrapped()
+    changed = [at for at, one in enumerate(answers) if one.called & wrapped.wrappers.keys()]
+    again = known_by([jobs[it] for it in changed], wrapped)
+    for at, one in zip(changed, answers_of(again, cache, options.jobs)):
+        answers[at] = one
+    return answers, wrapped
+
+
+def known_by(jobs: Iterable[Job], wrapped: Wrapped) -> List[Job]:
+    """Returns jobs with what is known of functions of other files."""
+    return [
+        it._replace(question=it.question._replace(settings=it.question.settings._replace(found=wrapped.wrappers)))
+        for it in jobs
+    ]
+
+
+def with_wrappers(answer: Answer, wrappers: Wrappers) -> Answer:
+    """Returns an answer that says why functions of other files print as `printf` does."""
+    found = {key: it._replace(finding=with_wrapper(it.finding, wrappers)) for key, it in answer.found.items()}
+    return answer._replace(found=found)
+
+
 def counted(count: int, word: str) -> str:
     return f"{count} {word if count == 1 else word + 's'}"
 
 
-def summary(counts: Counter[str], others: Counter[str]) -> str:
-    """Returns what is said at the end: how much was judged and wasn't, and what was found. If hardly anything was judged,
-    it names the functions that aren't known and get most formats.
+def summary(counts: Counter[str], others: Counter[str], taking: FrozenSet[str] = frozenset()) -> str:
+    """Returns what is said at the end: how much was judged and wasn't, and what was found. It names the functions that
+    aren't known and get many formats, or the most if hardly anything was judged.
     """
     judged = ", ".join(counted(counts[f"{it}s"], it) for it in ("file", "format", "argument"))
     found = ", ".join(f"{counts[it]} {it}" for it in RULES if counts[it])
     parts = [f"{judged}: {found or 'nothing found'}"]
     if counts["known"]:
         parts.append(f"{counts['known']} in the baseline")
-    if counts["unread"]:
-        calls = counted(counts["unread"], "call")
-        parts.append(f"{calls} with {'a format that wasn' if counts['unread'] == 1 else 'formats that weren'}'t read")
-    if sum(others.values()) > TIMES * counts["formats"]:
-        names = [f"{counted(count, 'call')} of {it.split(':')[0]} (--function {it})" for it, count in named(others)]
-        parts.append(f"functions that aren't known get literals with %: {', '.join(names)}")
+    if counts["unread_calls"]:
+        calls = counted(counts["unread_calls"], "call")
+        parts.append(f"{calls} with {'a format that wasn' if counts['unread_calls'] == 1 else 'formats that weren'}'t read")
+    if counts["abroad"]:
+        where = "on 64-bit Windows alone, in files with headers that it lacks (--model llp64)"
+        parts.append(f"{counts['abroad']} more {where}")
+    own = collections.Counter({it: count for it, count in others.items() if it.partition(":")[0] in taking})
+    rest = others - own
+    least = LEAST_NAMED if sum(others.values()) > TIMES * counts["formats"] else 0
+    parts += named("functions that aren't known get literals with %", rest, least, " (--function {})")
+    parts += named("functions that take their arguments themselves get literals with %", own, least, "")
     return "; ".join(parts)
 
 
-def named(others: Counter[str]) -> List[Tuple[str, int]]:
-    """Returns the functions that are called most, and how often each is."""
-    return sorted(others.items(), key=lambda it: (-it[1], it[0]))[:MOST_NAMED]
+def named(what: str, others: Counter[str], least: int, option: str) -> List[str]:
+    """Returns what is said of functions: those that are called often, or the most called of all, by their names, and how
+    many others there are.
+    """
+    listed = sorted(others.items(), key=lambda it: (-it[1], it[0]))
+    shown = [it for at, it in enumerate(listed) if it[1] >= NAMED_FROM or at < least]
+    # One is named in no more words than it is counted.
+    shown = listed if len(listed) == len(shown) + 1 else shown
+    names = [f"{counted(count, 'call')} of {it.partition(':')[0]}{option.format(it)}" for it, count in shown]
+    rest, more = sum(it[1] for it in listed[len(shown) :]), len(listed) - len(shown)
+    names += [f"{counted(rest, 'call')} of {counted(more, 'other')}"] if more else []
+    return [f"{what}: {', '.join(names)}"] if names else []
 
 
 def with_count(finding: Finding) -> Finding:
@@ -90,13 +159,19 @@ def with_count(finding: Finding) -> Finding:
     return replace(finding, message=f"{finding.message} ({uses} uses)") if uses > 1 else finding
 
 
-def check(printer: Printer, answers: Iterable[Answer], fail_on: Sequence[str], baseline: Optional[Baseline]) -> int:
+def check(
+    printer: Printer,
+    answers: Iterable[Answer],
+    fail_on: Sequence[str],
+    baseline: Optional[Baseline],
+    taking: FrozenSet[str] = frozenset(),
+) -> int:
     """Prints what is found and isn't in the baseline. Returns the exit status."""
     status = 0
     counts: Counter[str] = collections.Counter()
     others: Counter[str] = collections.Counter()
     for one in answers:
-        counts.update({it: one.counts[it] for it in ("files", "formats", "arguments", "unread")})
+        counts.update({it: one.counts[it] for it in COUNTS})
         others.update(one.others)
         for finding in by_place(leveled(it.finding, fail_on) for it in one.found.values()):
             if baseline and not baseline.is_new(finding):
@@ -112,17 +187,17 @@ def check(printer: Printer, answers: Iterable[Answer], fail_on: Sequence[str], b
             baseline.add_judged(one.file)
     printer.end()
     said = baseline.end() if baseline else ""
-    printer.say("; ".join(filter(None, [summary(counts, others), said])))
+    printer.say("; ".join(filter(None, [summary(counts, others, taking), said])))
     return status
 
 
-def fix(options: Any, files: Files, answers: Sequence[Answer]) -> int:
+def fix(options: Any, files: Files, answers: Sequence[Answer], wrappers: Wrappers) -> int:
     """Writes what is proposed, or prints it as a diff. Returns the exit status."""
     # Other runs begin faster without these.
     from ..rewriting.writing import replace as write_all
     from .fixer import Fixer
 
-    fixer = Fixer(options, files, answers)
+    fixer = Fixer(options, files, answers, wrappers)
     status = write_all(options, fixer, fixer.names())
     return max(status, USAGE if any(it.counts["left"] for it in answers) else 0)
 
@@ -141,15 +216,16 @@ def run(options: Any) -> int:
         cache = Cache(folder_of_cache) if folder_of_cache else None
         with temporary_folder() as folder:
             printer = Printer(NAME, options.output, RULES, color=options.color)
-            part, parts = options.shard
-            jobs = list(jobs_of(files, question_of(options, folder, cache is not None), change))[part - 1 :: parts]
-            printer.progress.expect(len(jobs))
-            found = each_once(printer.progress.each(answers_of(jobs, cache, options.jobs)))
+            question = question_of(options, folder)
+            # What is there by now stays, so that nobody looks at it after each file.
+            gc.freeze()
+            answers, wrapped = found_in(files, question, change, options, cache, printer)
+            found: Iterable[Answer] = (with_wrappers(it, wrapped.wrappers) for it in each_once(answers))
             if change:
                 found = map(change.part_of, found)
             if is_writing(options):
-                return fix(options, files, list(found))
-            return check(printer, found, options.fail_on, baseline)
+                return fix(options, files, list(found), wrapped.wrappers)
+            return check(printer, found, options.fail_on, baseline, wrapped.taking)
     except BrokenPipeError:
         raise
     except (Unreadable, OSError) as error:

@@ -2,6 +2,7 @@
 
 from typing import Any, Dict, List, Sequence, Union
 
+from ..compiling.closure import Wrappers
 from ..compiling.functions import Functions
 from ..compiling.sources import Files, Name
 from ..fitting.checking import Answer, Found
@@ -19,8 +20,10 @@ class Fixer(Rewriter):
 
     name, rules = NAME, RULES
 
-    def __init__(self, options: Any, files: Files, answers: Sequence[Answer]) -> None:
-        super().__init__(files, Functions(dict(options.function), options.attribute), [Model.LP64], options.diff)
+    def __init__(self, options: Any, files: Files, answers: Sequence[Answer], wrappers: Wrappers) -> None:
+        found = wrappers if options.attribute else {}
+        functions = Functions(dict(options.function), options.attribute, found, options.attribute)
+        super().__init__(files, functions, [Model.LP64], options.diff)
         self.fail_on = options.fail_on
         self.answers = {shown_file(it.file): it for it in answers}
 

@@ -7,7 +7,10 @@ from ..compiling.compile_commands import SOURCES
 from ..compiling.sources import NO_COMMAND, Files
 from ..fitting.asking import job_of
 from ..fitting.checking import Job, Question
+from ..source.files import SOURCES as WITH_HEADERS
 from .changes import GitChange
+
+of_source = WITH_HEADERS.fullmatch
 
 
 def jobs_of(files: Files, question: Question, change: Optional[GitChange] = None) -> Iterator[Job]:
@@ -19,10 +22,11 @@ def jobs_of(files: Files, question: Question, change: Optional[GitChange] = None
     included = frozenset(change.lines.keys() - {it.path for it in names if not files.why_skipped(it)})
     for name in names:
         if name.path in change.lines:
-            yield job_of(files, name, question, change.staged.get(name.path))
+            job = job_of(files, name, question, change.staged.get(name.path))
+            yield job._replace(told=frozenset(change.renumbered))
         elif included and not files.why_skipped(name):
-            yield job_of(files, name, question, among=included)
-    for path in sorted(included & change.staged.keys()):
+            yield job_of(files, name, question, among=included)._replace(told=frozenset(change.renumbered))
+    for path in sorted(filter(of_source, included & change.staged.keys())):
         yield Job(path, (), question, "a header has changes that aren't staged")
     if not files.options.files:
         for path in sorted(filter(SOURCES.fullmatch, included)):
@@ -34,4 +38,4 @@ def jobs_of(files: Files, question: Question, change: Optional[GitChange] = None
 def name_files(options: Any, change: GitChange) -> None:
     """Has the files of a change read if the options name none."""
     if not options.files and not options.database:
-        options.files = sorted(os.path.relpath(it) for it in change.lines)
+        options.files = sorted(os.path.relpath(it) for it in filter(of_source, change.lines))

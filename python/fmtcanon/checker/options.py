@@ -32,11 +32,12 @@ Examples:
   fmtcanon-check -p build --git main...
 
 Functions of the C library's printf family, as its headers declare them, and those with the attribute \
-format(printf, m, n) are known. Integers are compared by size, rank and sign; other arguments must have the type that \
+format(printf, m, n) are known; and those that hand their format and their further arguments on to a function that \
+prints as vprintf does, in any file of the compile commands, or else of the folders of the files. Integers are compared by size, rank and sign; other arguments must have the type that \
 the directive takes. Arguments are counted from 1, as in %1$d.
 
-Calls whose formats can't be read are counted in the last line. If other variadic functions get four times as many \
-literals with % as were judged, it names the most frequent of them, with the option --function for each.
+Calls whose formats can't be read are counted in the last line. It names the other variadic functions that get ten \
+literals with % or more, with the option --function for each.
 
 The kinds of findings are {', '.join(RULES)}.
 
@@ -61,6 +62,7 @@ def parser() -> Parser:
         ("--rank", "also report arguments of the right size and the wrong type, as long and long long"),
         ("--sign", "also report arguments that differ only in signedness"),
         ("--composed", "also report directives of several literals, once for each file and type"),
+        ("--unread", "also list the calls whose formats can't be read"),
     ]:
         made.add_argument(option, action="store_true", help=text)
     git = "report only what is in lines that differ from REV, or HEAD, and in calls and formats that have such lines; \
@@ -75,6 +77,8 @@ REV... is where HEAD left REV"
     made.add_argument("--update-baseline", action="store_true", help=update)
     add_fail_on(made, tuple(RULES), ERRORS)
     add_writing(made, "write what is proposed where only a length modifier changes and the program prints the same")
+    wrong = "with --fix, also write what is wrong where it is compiled: there the program prints something else then"
+    made.add_argument("--wrong", action="store_true", help=wrong)
     made.add_argument("--no-cache", action="store_true", help="keep nothing, and judge again what is kept")
     made.add_output()
     made.add_color()

@@ -45,20 +45,23 @@ def call_sites(text: str, spans: Sequence[Span], given: Iterable[str]) -> List[i
     that is given, is known by its name, or is declared as variadic or with the attribute in the text.
     """
     names = {*given, *KNOWN, *(BUILT_IN_PREFIX + it for it in KNOWN), *declared_names(text, spans)}
+    stems = stems_of(names)
     found: Set[int] = set()
     for start, end in spans:
         own = text[start:end]
         found.update(start + it.end() - 1 for it in AFTER_VALUE.finditer(own))
-        found.update(start + it for it in after_names(own, names))
+        found.update(start + it for it in after_names(own, names, stems))
     return sorted(found)
 
 
-def after_names(own: str, names: Set[str]) -> Iterator[int]:
-    """Yields where parentheses are in a text after these names; or after any, if operators are among them."""
+def after_names(own: str, names: Set[str], stems: Sequence[str]) -> Iterator[int]:
+    """Yields where parentheses are in a text after these names, which have these stems; or after any, if operators are
+    among them.
+    """
     if "operator" in names:
         yield from (it.end() - 1 for it in AFTER_NAME.finditer(own))
     # To look for one text after another takes a tenth of the time of a pattern of all.
-    for stem in stems_of(names):
+    for stem in stems:
         at = own.find(stem)
         while at >= 0:
             start, end = name_around(own, at)

@@ -12,6 +12,7 @@ from .retargeting import TYPE_MARK
 
 REFERENCES = ("DECL_REF_EXPR", "MEMBER_REF_EXPR")
 CASTS = ("CSTYLE_CAST_EXPR", "CXX_STATIC_CAST_EXPR", "CXX_FUNCTIONAL_CAST_EXPR")
+OPERATORS = ("BINARY_OPERATOR", "UNARY_OPERATOR", "CONDITIONAL_OPERATOR")
 VARIABLES = ("VAR_DECL", "PARM_DECL", "FIELD_DECL")
 FUNCTIONS = ("FUNCTION_DECL", "CXX_METHOD")
 # Where typedefs are whose types depend on no parameter of a template.
@@ -84,3 +85,35 @@ def named_by(type: Any) -> str:
                 return ""
         else:
             return ""
+
+
+def part_name(cursor: Any) -> str:
+    """Returns the name of the typedef of the C library that the first operand of an operator has for its type, of those
+    that have the type of the whole, or nothing.
+    """
+    waiting, whole = [cursor], cursor.type.get_canonical().spelling
+    while waiting:
+        part = unparenthesized(waiting.pop())
+        if part.kind.name in OPERATORS:
+            children = list(part.get_children())
+            waiting += reversed(children[1:] if part.kind.name == "CONDITIONAL_OPERATOR" else children)
+        elif part is not cursor and part.type.get_canonical().spelling == whole:
+            found = "size_t" if part.kind.name == "CXX_UNARY_EXPR" else library_name(part.type)
+            if found:
+                return found
+    return ""
+
+
+def library_name(type: Any) -> str:
+    """Returns the first typedef of the C library in the names of a type, or nothing."""
+    while type.kind.name in ("ELABORATED", "TYPEDEF"):
+        if type.kind.name == "ELABORATED":
+            type = type.get_named_type()
+            continue
+        declaration = type.get_declaration()
+        name = str(declaration.spelling).replace(TYPE_MARK, "")
+        name = name[2:] if name[:2] == "__" else name
+        if name in COMPILED.types:
+            return name
+        type = declaration.underlying_typedef_type
+    return ""

@@ -13,6 +13,7 @@ from .retargeting import PRI_MARK
 # Kinds of what is around an expression without a change of its value.
 AROUND = ("UNEXPOSED_EXPR", "PAREN_EXPR")
 TOKEN = re.compile(r'(?:u8)?("(?:[^"\\]|\\.)*")\s*(?:' + PRI_MARK + ")?", re.DOTALL)
+TRIGRAPH, NEXT_MARK = re.compile(r"\?\?[=/'()!<>-]"), re.compile(r"(?<=\?)\?")
 MARK_AFTER = re.compile(r"\s*" + PRI_MARK)
 # The longest text of a mark, and what is before it.
 LONGEST_MARK = 64
@@ -33,13 +34,14 @@ class Literal(NamedTuple):
 
 
 class Format(NamedTuple):
-    """What may be the format of a call: its literals together, and as the text has them; and how many of the first
-    bytes are left out, as in `"x%d" + 1`.
+    """What may be the format of a call: its literals together, and as the text has them; how many of the first bytes are
+    left out, as in `"x%d" + 1`; and the file and the line where it begins.
     """
 
     source: str
     tokens: Tuple[Literal, ...]
     skipped: int = 0
+    place: Tuple[str, int] = ("", 0)
 
 
 # An expression whose value is another's, and how many bytes further that one's begins.
@@ -84,7 +86,11 @@ class Formats:
         text = LINE_MARKER.sub("", text + (mark.group() if mark else ""))
         tokens = tuple(Literal(it[1], it[2] or "") for it in TOKEN.finditer(text))
         source = literal.spelling
-        return Format(source[source.index('"') :] if source.startswith("u8") else source, tokens, skipped)
+        if not any(TRIGRAPH.search(it.source) for it in tokens):
+            # libclang's own spelling of a literal leaves out what keeps question marks from being a trigraph.
+            source = NEXT_MARK.sub(r"\?", source)
+        plain = source[source.index('"') :] if source.startswith("u8") else source
+        return Format(plain, tokens, skipped, self.unit.place_of(literal.location))
 
     def inside(self, cursor: Any) -> Sequence[Inside]:
         """Returns the expressions whose value an expression may have; none if that can't be read."""
@@ -231,6 +237,16 @@ def unparenthesized(cursor: Any) -> Any:
         if len(children) != 1:
             break
         cursor = children[0]
+    return cursor
+
+
+def bare_of(cursor: Any) -> Any:
+    """Returns what is in parentheses and casts."""
+    while cursor.kind.name in (*AROUND, "CSTYLE_CAST_EXPR"):
+        children = list(cursor.get_children())
+        if not children:
+            break
+        cursor = children[-1]
     return cursor
 
 

@@ -1,5 +1,6 @@
 """Which functions are known to take a format: by an option, by an attribute, or as the C library's."""
 
+import re
 from typing import Any, Dict, Iterator, List, Mapping, NamedTuple, Optional, Sequence, Tuple
 
 from ..source.attributes import FORMAT
@@ -9,15 +10,34 @@ from .libclang import cindex
 from .parsing import Parsed, has_prototype
 
 DECLARED = ("FUNCTION_DECL", "VAR_DECL", "FIELD_DECL", "PARM_DECL")
+FUNCTIONS = ("FUNCTION_DECL", "CXX_METHOD")
 REFERENCES = ("DECL_REF_EXPR", "MEMBER_REF_EXPR")
+OFFSET = re.compile(r"(?<=\w)@\d+@(?=F@)")
 ARRAYS = ("CONSTANTARRAY", "INCOMPLETEARRAY", "VARIABLEARRAY")
 
 
+class Wrapper(NamedTuple):
+    """A function that hands its format on to another, or a pointer that is given one that prints as `printf` does: how
+    many parameters it has, where its format is, the name of the other, and where that is.
+    """
+
+    parameters: int
+    shape: Shape
+    to: str
+    file: str
+    line: int
+    is_given: bool = False
+
+
 class Functions(NamedTuple):
-    """What the options say of functions: where some have their formats, and whether attributes count."""
+    """What is known of functions: where some have their formats, by the options, whether attributes count, those that hand
+    their formats on, by what tells them apart, and whether those of a unit count that nothing else does.
+    """
 
     given: Mapping[str, Shape] = {}
     by_attribute: bool = True
+    found: Mapping[str, Tuple[Wrapper, ...]] = {}
+    with_own: bool = False
 
 
 class Callee(NamedTuple):
@@ -35,6 +55,9 @@ class Callee(NamedTuple):
     doubt: str = ""
     last: Optional[int] = None
     has_prototype: bool = True
+    key: str = ""
+    is_library: bool = False
+    keys: Tuple[str, ...] = ()
 
 
 class Callees:
@@ -60,12 +83,30 @@ class Callees:
         """Returns a function or a pointer, and whether it returns no pointer that a call could call."""
         if declaration.hash not in self.known:
             type, callee = function_of(declaration.type), self.known_as(declaration)
+            if not callee.shape and self.functions.found:
+                callee = self.handing(declaration, callee)
             if type and not callee.shape and not is_system(declaration):
                 is_known = type.kind.name == "FUNCTIONPROTO" or callee.name not in KNOWN
-                callee = callee._replace(last=self.last_of(declaration, type), has_prototype=is_known)
+                last = self.last_of(declaration, type)
+                keys = tuple(keys_of(declaration)) if last is not None else ()
+                callee = callee._replace(last=last, has_prototype=is_known, keys=keys)
             is_all = type is not None and function_of(type.get_result()) is None
             self.known[declaration.hash] = callee, is_all
         return self.known[declaration.hash]
+
+    def handing(self, declaration: Any, callee: Callee) -> Callee:
+        """Returns a function as one that hands its format on, or a pointer as one that is given such a function, if it is
+        one of these by its name and its parameters.
+        """
+        type = function_of(declaration.type)
+        if type is None or type.kind.name != "FUNCTIONPROTO":
+            return callee
+        for key in keys_of(declaration):
+            for one in self.functions.found.get(key, ()):
+                is_variadic = one.shape.first is not None
+                if len(list(type.argument_types())) == one.parameters and type.is_function_variadic() == is_variadic:
+                    return callee._replace(shape=one.shape, doubt="", key=key)
+        return callee
 
     def last_of(self, declaration: Any, type: Any) -> Optional[int]:
         """Returns the index of the last parameter of a variadic function without an attribute `format`."""
@@ -92,9 +133,10 @@ class Callees:
         """Returns what is declared, with where it has its format."""
         name = declaration.spelling
         given = self.functions.given.get(name) or self.shape_by_attribute(declaration)
-        if given or declaration.kind.name != "FUNCTION_DECL":
+        if declaration.kind.name != "FUNCTION_DECL":
             return Callee(name, given, given is not None)
-        return self.of_library(declaration)
+        library = self.of_library(declaration)
+        return library if not given else Callee(name, given, True, is_library=library.is_library)
 
     def shape_by_attribute(self, declaration: Any) -> Optional[Shape]:
         """Returns what the attributes of a declaration, of the first one of its function, or of its type say."""
@@ -118,7 +160,27 @@ class Callees:
         # Without a prototype it has that which compilers know.
         own = function if function.type.get_canonical().kind.name == "FUNCTIONPROTO" else function.canonical
         is_known = not doubt or (name in BUILT_IN and has_prototype(own, known))
-        return Callee(name, Shape(known.index, known.first) if is_known else None, doubt=doubt)
+        return Callee(name, Shape(known.index, known.first) if is_known else None, doubt=doubt, is_library=not doubt)
+
+
+def keys_of(declaration: Any) -> Iterator[str]:
+    """Yields what tells a function apart, or a pointer to one: the typedefs of its type, and its own name, or that of its
+    function and its index if it is a parameter.
+    """
+    kind = declaration.kind.name
+    if kind != "FUNCTION_DECL":
+        for typedef in typedefs_of(declaration.type):
+            if function_of(typedef.underlying_typedef_type):
+                # In C the key of a typedef has the name of its file.
+                yield "@T@" + str(typedef.get_usr()).rpartition("@T@")[2]
+    function = declaration.semantic_parent if kind == "PARM_DECL" else None
+    if function is None or function.kind.name not in FUNCTIONS:
+        # That of a local variable has its offset, which is another on each platform.
+        yield OFFSET.sub("@", str(declaration.get_usr()))
+        return
+    for index, parameter in enumerate(function.get_arguments()):
+        if parameter.hash == declaration.hash:
+            yield f"{function.get_usr()}#{index}"
 
 
 def function_of(type: Any) -> Any:
@@ -127,6 +189,12 @@ def function_of(type: Any) -> Any:
     while type.kind.name in ("POINTER", *ARRAYS):
         type = (type.get_pointee() if type.kind.name == "POINTER" else type.element_type).get_canonical()
     return type if type.kind.name in ("FUNCTIONPROTO", "FUNCTIONNOPROTO") else None
+
+
+def is_list(type: Any) -> bool:
+    """Returns whether a type is that of a `va_list`, or what it is as a parameter."""
+    spelling = type.get_canonical().spelling
+    return "__va_list_tag" in spelling or "__builtin_va_list" in spelling
 
 
 def is_system(declaration: Any) -> bool:

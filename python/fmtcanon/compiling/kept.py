@@ -146,7 +146,6 @@ class KeptUnits:
         self, command: CompileCommand, text: str, platform: Platform, own: Mapping[str, str], functions: Functions
     ) -> FormatCalls:
         """Returns the calls in the text of a unit, as it is on a platform."""
-        used, at = command.used()
-        cut = cut_of(text, encode_literal(os.fsencode(used[at])).decode())
+        cut = cut_of(text, encode_literal(os.fsencode(command.used()[1])).decode())
         kept = self.units(command)[platform.name]
         return KeptCalls(command, kept.text(text, cut, platform, own), platform, functions, kept)

@@ -6,10 +6,13 @@ from typing import Any, Dict, List, Optional, Set
 
 from ..source.known import GETTEXT, KNOWN
 from .calls import Calls
+from .closure import own_among
 from .compile_commands import CompileCommand
-from .functions import Functions
+from .functions import Callees, Functions, keys_of
 from .left import Left
 from .parsing import CALL_EXPR, FUNCTION_DECL, SCOPES, TYPES, VISIT_INSIDE, VISIT_NEXT
+from .retargeting import own_spans
+from .wrappers import candidates_in
 
 # An attribute that has another function's code run under a name.
 ALIAS = re.compile(r"(?<![\w$])_*(alias|weakref|ifunc)(?![\w$])")
@@ -57,6 +60,11 @@ class MarkedCalls(Calls):
         self.uses: Dict[int, List[str]] = {}
         self.why: Dict[int, str] = {}
         self.names = {*KNOWN, *functions.given}
+        if functions.with_own:
+            spans = own_spans(self.text.decode("latin-1"))
+            plain = Callees(self, functions._replace(found={}))
+            own = own_among(list(candidates_in(self, plain, spans)), functions.found)
+            self.callees = Callees(self, functions._replace(found=own))
         # In C, what declares types has no calls.
         self.without_calls = () if command.is_cxx() else TYPES
         self.visit(self.note)
@@ -119,6 +127,8 @@ class MarkedCalls(Calls):
             return f"a key for translators, argument of {name}"
         if callee.shape or callee.doubt:
             return callee.doubt or f"it isn't the format of {name}"
+        if any(it in self.functions.found for it in keys_of(function)):
+            return f"argument of {name}, which another file defines, and which isn't declared with the attribute format"
         is_attributed = not self.functions.by_attribute and self.format_by_attribute(function)
         return f"argument of {name}, not a known printf-like function{'; try --attribute' if is_attributed else ''}"
 

@@ -24,6 +24,7 @@ SHIMS = [
     "-D__malloc__(...)=__malloc__",
     "-D__builtin_va_arg_pack()=0",
     "-D__builtin_va_arg_pack_len()=0",
+    *(f"-D__builtin_{it}_overflow_p(a,b,c)=(sizeof((a)+(b)+(c))==0)" for it in ("add", "sub", "mul")),
 ]
 FLAGS = ["-undef", "-nostdinc", "-w", "-ferror-limit=0", "-fdouble-square-bracket-attributes"]
 # In an attribute, gcc's name of the language of formats, which an older clang hasn't.
@@ -98,7 +99,7 @@ class Parsed:
             if it.severity >= ERROR and not self.file_of(it.location).startswith(self.folders)
         ]
 
-    def presumed(self, location: Any) -> Any:
+    def presumed(self, location: Any) -> Tuple[str, int]:
         """Returns the name of the file and the line of a location, as line markers have them."""
         name, line, column = cindex._CXString(), ctypes.c_uint(), ctypes.c_uint()
         library = cindex.conf.lib
@@ -163,11 +164,12 @@ class Parsed:
             return f"{name} isn't at file scope"
         return None if has_prototype(first, known) else f"{name} has another prototype"
 
+    def location_at(self, offset: int) -> Any:
+        return cindex.conf.lib.clang_getLocationForOffset(self.unit, self.file, offset)
+
     def cursor_at(self, offset: int) -> Any:
         """Returns the innermost cursor at an offset of the text."""
-        library = cindex.conf.lib
-        location = library.clang_getLocationForOffset(self.unit, self.file, offset)
-        cursor = library.clang_getCursor(self.unit, location)
+        cursor = cindex.conf.lib.clang_getCursor(self.unit, self.location_at(offset))
         cursor._tu = self.unit
         return cursor
 

@@ -4,6 +4,7 @@ The GNU C library defines its types by `typedef WORDS NAME;`, so preprocessed te
 by these names.
 """
 
+import re
 from typing import Dict, Mapping, NamedTuple, Tuple
 
 from ..models import Model
@@ -23,6 +24,16 @@ class Platform(NamedTuple):
     constants: Dict[str, str]
     members: Mapping[str, Mapping[str, str]]
     wider: Mapping[str, str]
+
+
+# Headers of POSIX and Linux that the C library of 64-bit Windows lacks, and what a source says that is for Windows, too.
+NOT_OF_WINDOWS = re.compile(
+    r".*/(?:(?:linux|asm|scsi|net|netinet|arpa|rpc)/.*|(?:aio|argp|byteswap|dlfcn|elf|endian|err|error|execinfo|fnmatch|fts"
+    r"|ftw|glob|grp|ifaddrs|langinfo|link|mntent|mqueue|netdb|poll|pty|pwd|regex|resolv|shadow|spawn|sysexits|syslog|termios?"
+    r"|ucontext|utmpx?|wordexp|sys/(?:epoll|inotify|ioctl|ipc|mman|mount|msg|poll|prctl|ptrace|reboot|resource|select|sem|shm"
+    r"|socket|statfs|statvfs|syscall|sysinfo|sysmacros|times|uio|un|utsname|vfs|wait|xattr))\.h)"
+)
+FOR_WINDOWS = re.compile(rb"_?WIN(?:32|64)\b|__MINGW|_MSC_VER|__CYGWIN__|windows\.h")
 
 
 class Choice(NamedTuple):

@@ -8,6 +8,7 @@ from contextlib import contextmanager
 from typing import Any, Dict, Iterator, Mapping, Optional, Sequence, Set
 
 from ..frame.interrupting import CLEANING
+from ..frame.processes import RUN, limited_memory
 from .left import Left
 
 # The seconds that a run of a compiler may take.
@@ -19,6 +20,8 @@ LOCK = threading.Lock()
 RUNNING: Set["subprocess.Popen[bytes]"] = set()
 # Names in the environment that have a compiler write a file or change its options.
 WRITING = ("DEPENDENCIES_OUTPUT", "SUNPRO_DEPENDENCIES", "CC_PRINT_", "CC_LOG_", "CCC_")
+# Clang reads no file of options that its own name, or a target's, would be that of.
+OWN = {"CLANG_NO_DEFAULT_CONFIG": "1"}
 
 
 def run(
@@ -32,6 +35,7 @@ def run(
     Raises Left if it can't be run, takes too long, or the command is to end.
     """
     values: Dict[str, Optional[str]] = {it: os.environ[it] for it in os.environ if not it.startswith(WRITING)}
+    values.update(OWN)
     values.update(names)
     environment = {name: value for name, value in values.items() if value is not None}
     pipe = subprocess.PIPE
@@ -50,11 +54,12 @@ def run(
 def started(
     words: Sequence[str], folder: str, environment: Mapping[str, str], **streams: Any
 ) -> Iterator["subprocess.Popen[bytes]"]:
-    """Gives a process in a group of its own, which ends with the block."""
-    with LOCK:
+    """Gives a process in a group of its own, which has a limit of memory and ends with the block."""
+    with LOCK, limited_memory():
         check_stopping()
         process = subprocess.Popen(words, cwd=folder, env=environment, start_new_session=True, **streams)
         RUNNING.add(process)
+        RUN.add(process.pid)
     try:
         yield process
     finally:
@@ -62,6 +67,7 @@ def started(
             kill(process)
             RUNNING.discard(process)
         process.wait()
+        RUN.discard(process.pid)
         for stream in (process.stdin, process.stdout, process.stderr):
             if stream:
                 stream.close()

@@ -12,6 +12,7 @@ from types import TracebackType
 from typing import NamedTuple, Optional, Set, Type
 
 from ..frame.interrupting import CLEANING
+from ..source.files import read_file
 from .left import Left
 from .running import LOCK, check_stopping
 
@@ -32,13 +33,8 @@ class Original(NamedTuple):
 
 
 def original(path: str) -> Original:
-    """Reads a file. Raises `OSError` for a link, and for what isn't a regular file, such as a FIFO."""
-    handle = os.open(path, os.O_RDONLY | os.O_NOFOLLOW | os.O_NONBLOCK)
-    with open(handle, "rb") as stream:
-        state = os.fstat(handle)
-        if not stat.S_ISREG(state.st_mode):
-            raise OSError(errno.EINVAL, "it isn't a regular file")
-        return Original(path, stream.read(), state)
+    """Reads a file. Raises `OSError` for a link, and for what isn't a regular file."""
+    return Original(path, *read_file(path, flags=os.O_NOFOLLOW))
 
 
 def is_stand_in(path: str) -> bool:

@@ -3,7 +3,7 @@
 import functools
 import os
 from dataclasses import replace
-from typing import Any, Dict, List, NamedTuple, Sequence, Set, Tuple
+from typing import Any, Dict, List, NamedTuple, Optional, Sequence, Set, Tuple
 
 from ..compiling.calls import Key
 from ..compiling.compile_commands import SOURCES, CompileCommand, commands_in, default_command
@@ -13,6 +13,7 @@ from ..compiling.sources import NO_COMMAND
 from ..fitting.checking import Answer, Job, JudgedUnit, Question, add, answer
 from ..fitting.judging import SIGNED, Fault, Fit, judged
 from ..fitting.locating import Located
+from ..fitting.reporting import message_of
 from ..fitting.silencing import Silences
 from ..fitting.unit import Settings, Unit
 from ..formats.verdicts import shown
@@ -36,12 +37,15 @@ class JudgedUse(NamedTuple):
         """Returns whether the arguments have the types that the format takes. A sign may be another if the format that
         was there, whose types are given, took the same sign.
         """
-        return self.is_judged and all(
-            fit is Fit.EQUAL or (fit is Fit.SIGN and is_as_before(it, before, count))
-            for it in self.faults
-            for fit, platform in zip(it.fits, PLATFORMS)
-            if platform.model in models
-        )
+        return self.is_judged and self.first_fault(before, count, models) is None
+
+    def first_fault(self, before: bytes, count: int, models: Sequence[Model]) -> Optional[Fault]:
+        """Returns the first argument that doesn't fit, or None."""
+        for fault in self.faults:
+            fits = [fit for fit, it in zip(fault.fits, PLATFORMS) if it.model in models and fit is not Fit.EQUAL]
+            if any(fit is not Fit.SIGN or not is_as_before(fault, before, count) for fit in fits):
+                return fault
+        return None
 
 
 def is_as_before(fault: Fault, before: bytes, count: int) -> bool:
@@ -115,8 +119,12 @@ class Compiled:
         why = self.why_unused(*span)
         if why:
             return replace(finding, message=f"{finding.message}; {why}")
-        does_fit = all(it.fits(old, len(new), self.models) for it in self.uses_in(*span))
-        return as_note(finding) if does_fit else finding
+        uses = self.uses_in(*span)
+        if all(it.fits(old, len(new), self.models) for it in uses):
+            return as_note(finding)
+        fault = next(filter(None, (it.first_fault(old, len(new), self.models) for it in uses)), None)
+        said = message_of(fault, self.models) if fault else ""
+        return replace(finding, message=f"{finding.message}; in the call {said}") if said else finding
 
     def errors_in(self, start: Position, end: Position) -> List[Finding]:
         """Returns the errors that fmtcanon-check finds in a place."""

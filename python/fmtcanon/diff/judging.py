@@ -5,6 +5,7 @@ from typing import Any, Dict, Iterable, List, Mapping, NamedTuple, Optional, Seq
 
 from .. import Refused
 from ..formats.explaining import Marked, marked_parts
+from ..formats.items import errnos_of
 from ..formats.rejections import advice_on, refused_span
 from ..formats.verdicts import (
     Library,
@@ -214,7 +215,7 @@ class Wording:
             taken = both_take(self.takers(old, new))
             return f"types differ at {argument_words(verdict.at)}: {taken}, in {self.both()}"
         if verdict.kind is PairKind.DIRECTIVES:
-            return f"directives differ at {argument_words(verdict.at)}: {self.directives(old, new)}"
+            return f"directives differ {self.directives(old, new)}"
         if verdict.kind is PairKind.WORDS:
             return f"the words differ: {self.both()}"
         return f"different: {self.both()}{self.example(old, new)}"
@@ -237,7 +238,14 @@ class Wording:
         return [taker_of(it, self.judged.verdict.at - self.judged.before, self.model) for it in (old, new)]
 
     def directives(self, old: bytes, new: bytes) -> str:
-        return " and ".join("nothing" if it is None else shown(it.text) for it in self.takers(old, new))
+        """Returns where the directives differ, and which they are: `%m` takes no argument."""
+        texts = [None if it is None else it.text for it in self.takers(old, new)]
+        counts = [len(errnos_of(it)) for it in (old, new)]
+        if texts[0] == texts[1] and any(counts):
+            where = ["in the first alone", "in the second alone"] if 0 in counts else ["in both"] * 2
+            return f"by %m, {where[counts[0] == 0]}: {self.both()}"
+        listed = " and ".join("nothing" if it is None else shown(it) for it in texts)
+        return f"at {argument_words(self.judged.verdict.at)}: {listed}"
 
     def excerpts(self) -> Tuple[Tuple[Excerpt, ...], str]:
         """Returns the lines of the two places with what is wrong in each marked, and what helps."""

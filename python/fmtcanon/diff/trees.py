@@ -5,7 +5,7 @@ from typing import Callable, Dict, Iterator, List, Optional, Sequence, Set, Tupl
 
 from ..compiling.git import FileChange, run_git
 from ..source.files import Unreadable, files_below, is_excluded, read
-from .renames import renamed
+from ..source.renames import renamed
 
 
 def compared_below(top: str, globs: Sequence[str]) -> Tuple[Set[str], List[str]]:
@@ -41,7 +41,7 @@ def changes_of(
     if kinds[0] != kinds[1]:
         raise Unreadable(f"{old} and {new}: one is a folder, and the other is a file")
     if not kinds[0]:
-        yield from compared(new, old, new)
+        yield from compared(new, old, new, is_given=True)
         return
     (first_names, first_errors), (second_names, second_errors) = (compared_below(it, globs) for it in (old, new))
     yield from (FileChange("", None, None, it) for it in first_errors + second_errors)
@@ -69,10 +69,12 @@ def renames_in(old: str, went: Set[str], new: str, came: Set[str]) -> Dict[str, 
     return renamed(*sides)
 
 
-def compared(name: str, old: Optional[str], new: Optional[str]) -> Iterator[FileChange]:
+def compared(
+    name: str, old: Optional[str], new: Optional[str], is_given: bool = False
+) -> Iterator[FileChange]:
     """Yields the change of one file, if it changed."""
     try:
-        texts = [None if it is None else read(it) for it in (old, new)]
+        texts = [None if it is None else read(it, is_given=is_given) for it in (old, new)]
     except Unreadable as error:
         yield FileChange(name, None, None, str(error))
         return

@@ -21,8 +21,9 @@ from ..kinds import TYPE_NAMES
 from ..models import model_of
 from ..source.files import Unreadable
 from ..source.places import lone_place
+from ..source.written import WrittenFormat
 from ..specification import NAMES, SpelledSpecification
-from .written_at import NoFormat, format_at
+from .written_at import NoFormat, format_at, format_in_call
 
 NAME = "fmtcanon-explain"
 USAGE_LINES = """\
@@ -34,7 +35,8 @@ DESCRIPTION = """\
 Says in words what a printf format does, how two formats differ, or what a kind of rejection means.
 
 For each directive it prints the number of its argument, counted from 1, the argument's type, what is printed, and \
-which parts have no effect. Formats are those of POSIX fprintf. With --at it also prints the arguments of the call."""
+which parts have no effect. Formats are those of POSIX fprintf. With --at, and for a call that is pasted as FORMAT, it \
+also prints the arguments."""
 EPILOG = """\
 Examples:
   fmtcanon-explain '%-08.6lf of %5zu%%'
@@ -87,6 +89,11 @@ def run(options: Any, formats: Sequence[str]) -> int:
         return explain_kind(options.kind, style_of(options.color, sys.stdout), options.output == "json")
     if options.at is not None:
         return explain_place(options)
+    is_text = not options.literal and options.output == "text" and len(formats) == 1
+    call = format_in_call(os.fsencode(formats[0]), model_of(options.model)) if is_text else None
+    if call:
+        complain(f"{NAME}: this is a call: its format is explained")
+        return put_written(*call, options)
     try:
         texts = [texts_of(it, options.literal) for it in formats]
     except BadLiteral as fault:
@@ -106,16 +113,20 @@ def run(options: Any, formats: Sequence[str]) -> int:
 
 def explain_place(options: Any) -> int:
     """Explains the format at a place of a source, and prints the arguments that are given to it."""
-    model = model_of(options.model)
     try:
-        format, given = format_at(options.at, model)
+        format, given = format_at(options.at, model_of(options.model))
     except (NoFormat, Unreadable) as fault:
         complain(f"{NAME}: {fault}")
         return USAGE
-    known = format.explanation
+    return put_written(format, given, options)
+
+
+def put_written(format: WrittenFormat, given: Sequence[str], options: Any) -> int:
+    """Explains a format of a source, and prints the arguments that are given to it."""
+    model, known = model_of(options.model), format.explanation
     found: Found = reject(format.text, known, model) if isinstance(known, Refused) else known
     if options.output == "json":
-        put(sys.stdout, json.dumps({**as_json(found), "given": given}))
+        put(sys.stdout, json.dumps({**as_json(found), "given": list(given)}))
         return status_of_found(found)
     arguments = [f"argument {number}: {text}" for number, text in enumerate(given, 1)]
     for line in [*lines_of(found, model, style_of(options.color, sys.stdout)), *arguments]:

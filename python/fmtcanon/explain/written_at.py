@@ -1,4 +1,4 @@
-"""Finds the format at a place of a source, for editors without a server."""
+"""Finds the format at a place of a source, for editors without a server, and that of a call that is pasted."""
 
 import os
 import re
@@ -8,11 +8,14 @@ from typing import List, Optional, Tuple
 from ..models import Model
 from ..source.declared import declared_for
 from ..source.files import as_text, read
-from ..source.written import WrittenFormat, WrittenSource
+from ..source.written import WrittenFormat, WrittenSource, split
 
 PLACE = re.compile(r"(?P<file>.+):(?P<line>\d+):(?P<column>\d+)", re.DOTALL)
 # The name of standard input.
 INPUT = "-"
+# What is before a call that is a statement of its own, without the space around it, and after its arguments.
+BEFORE_CALL = re.compile(rb"(?:\(void\)|return|[\w.>*\[\] -]+\+?=)?")
+AFTER_CALL = re.compile(rb"\)?\s*;?\s*")
 
 
 class NoFormat(Exception):
@@ -32,10 +35,30 @@ def format_at(word: str, model: Model) -> Tuple[WrittenFormat, List[str]]:
     format = None if offset is None else written.at(offset)
     if format is None:
         raise NoFormat(f"{word}: there is no format")
-    given = [
-        " ".join(data[start:end].decode(errors="surrogateescape").split()) for start, end in written.arguments(format)
-    ]
-    return format, given
+    return format, sources_of(data, written, format)
+
+
+def format_in_call(data: bytes, model: Model) -> Optional[Tuple[WrittenFormat, List[str]]]:
+    """Returns the format of a text that is one call, as it is pasted from a source, and the source of its arguments; None for
+    all other texts.
+    """
+    written = WrittenSource(data, model, {}) if b'"' in data else None
+    formats = list(written.formats()) if written else []
+    if not written or len(formats) != 1:
+        return None
+    text, place = written.source.plain, formats[0].place
+    call = re.search(rb"(?<![\w$])" + re.escape(place.call.function) + rb"\s*\(", text)
+    if call is None or not BEFORE_CALL.fullmatch(text[: call.start()].strip()):
+        return None
+    if not AFTER_CALL.fullmatch(text, split(text, call.end())[-1][1]):
+        return None
+    return formats[0], sources_of(data, written, formats[0])
+
+
+def sources_of(data: bytes, written: WrittenSource, format: WrittenFormat) -> List[str]:
+    """Returns the source of each argument of a format in one line."""
+    ranges = written.arguments(format)
+    return [" ".join(data[start:end].decode(errors="surrogateescape").split()) for start, end in ranges]
 
 
 def offset_of(data: bytes, line: int, column: int) -> Optional[int]:

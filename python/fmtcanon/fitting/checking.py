@@ -3,29 +3,29 @@
 import collections
 import functools
 from dataclasses import replace
-from typing import Any, Counter, Dict, FrozenSet, Hashable, Iterable, Iterator, List, NamedTuple, Optional, Sequence, Tuple
+from typing import Any, Counter, Dict, FrozenSet, Hashable, Iterator, List, NamedTuple, Optional, Sequence, Tuple
 
 from ..compiling.calls import Call
+from ..compiling.closure import Candidate
 from ..compiling.compile_commands import CompileCommand
-from ..compiling.dependencies import Dependencies
 from ..compiling.left import Left, own_trouble
 from ..compiling.platforms import LLP64
 from ..frame.findings import NOTE, WARNING, Finding
 from ..models import Model
 from . import reporting
 from .composing import is_composed
-from .fixing import Fixes, fixes_of, merged
-from .judging import Fault, Judged, judged
+from .fixing import WRONG, Fixes, fixes_of, merged
+from .judging import ErrnoFormat, Fault, Judged, judged
 from .locating import Located, located
 from .macros import Macros
 from .proposals import proposal
-from .reporting import COMPOSED, LOST, RANK, SIGN, UNUSED, Spot
+from .reporting import COMPOSED, ERRNO, LOST, RANK, SIGN, SIZE, UNREAD, UNUSED, Spot
 from .silencing import Silences
 from .unit import Settings, Unit
 
 
 class Question(NamedTuple):
-    """What is asked: the data models, the kinds of findings that only an option adds, and how units are read."""
+    """What is asked: the data models, the kinds of findings and of fixes that only an option adds, and how units are read."""
 
     models: Sequence[Model]
     added: Sequence[str]
@@ -39,6 +39,13 @@ class JudgedUnit:
         self.unit, self.result, self.question, self.silences = unit, result, question, silences
 
         self.spots: Dict[Hashable, Spot] = {}
+
+    @functools.cached_property
+    def models(self) -> Sequence[Model]:
+        """The data models that are asked about, without that of 64-bit Windows among others if the unit can't be there."""
+        asked = self.question.models
+        rest = [it for it in asked if it is not LLP64.model]
+        return rest if rest and len(rest) < len(asked) and self.unit.is_abroad() else asked
 
     @functools.cached_property
     def where(self) -> Optional[Located]:
@@ -55,10 +62,14 @@ class JudgedUnit:
         return self.spots[key]
 
     def format_lines(self, fault: Fault) -> Iterator[Tuple[str, int, int]]:
-        """Yields the lines of the literals of a fault's format."""
-        for piece in self.where.pieces_of(fault) if self.where else ():
+        """Yields the lines of the literals of a fault's format, and of the definitions of macros that may have them."""
+        file, line = fault.call.formats[fault.format].place
+        yield file, line, line
+        pieces = self.where.pieces_of(fault) if self.where else []
+        for piece in pieces:
             first = piece.place.line
             yield self.unit.command.file, first, first + piece.place.source.count(b"\n")
+        yield from () if pieces else self.macros.lines_with(fault)
 
     def is_silenced(self, fault: Fault, kind: str) -> bool:
         """Returns whether a comment at the directive or at the call silences a finding."""
@@ -71,10 +82,15 @@ class JudgedUnit:
 
     def kind_of(self, fault: Fault) -> Optional[str]:
         """Returns the kind of the finding of a fault, or None if it isn't reported."""
-        kind = self.kind_in(fault, self.question.models)
+        kind = self.kind_in(fault, self.models)
         if kind is None or (kind in (RANK, SIGN, COMPOSED) and kind not in self.question.added):
             return None
         return None if self.is_silenced(fault, kind) else kind
+
+    def is_only_abroad(self, fault: Fault) -> bool:
+        """Returns whether a fault would be an error if the unit could be one of 64-bit Windows."""
+        kind = self.kind_in(fault, self.question.models)
+        return kind in reporting.ERRORS and not self.is_silenced(fault, kind)
 
     def use_comments(self) -> None:
         """Notes which comments silence something, also if it isn't asked about."""
@@ -84,6 +100,10 @@ class JudgedUnit:
                 self.is_silenced(fault, kind)
         for call, finding in findings_of_calls(self.result, list(Model)):
             self.silences.cover([(call.file, call.line)], finding.kind)
+        for call in self.unit.unread:
+            self.silences.cover([(call.file, call.line)], UNREAD)
+        for errno in self.result.errnos:
+            self.silences.cover([(errno.call.file, errno.call.line)], ERRNO)
 
 
 class CallLines(NamedTuple):
@@ -122,8 +142,9 @@ class Found(NamedTuple):
 class Answer(NamedTuple):
     """What is found in a file. `found` are the findings by what tells them apart in all units, `counts` how many
     formats and arguments were judged and calls weren't read, `others` the calls of functions that aren't known, by the
-    option for each, and `fixes` new texts for the places of the file. `read` is what the answer depends on, if it is
-    known.
+    option for each, and `fixes` new texts for the places of the file; and whether all of its units were read.
+    `called` are the keys of functions and pointers of other files that are called, or given formats; `candidates` and
+    `names` are what other files may call. `included` are the files in it that it was asked about.
     """
 
     file: str
@@ -131,12 +152,17 @@ class Answer(NamedTuple):
     counts: Counter[str]
     others: Counter[str]
     fixes: Fixes
-    read: Optional[Dependencies] = None
+    is_whole: bool = False
+    called: FrozenSet[str] = frozenset()
+    included: FrozenSet[str] = frozenset()
+    candidates: Sequence[Candidate] = ()
+    names: FrozenSet[str] = frozenset()
 
 
 class Job(NamedTuple):
     """A file, its compile commands or why it has none, what is asked of it, and why it is skipped, if it is; the text
-    to read instead of its own; and files, if it is judged only if it includes one of them.
+    to read instead of its own; files, if it is judged only if it includes one of them; and what the preprocessor makes
+    of it by each command, if that is known; and files: the answer says which of these it includes.
     """
 
     file: str
@@ -146,6 +172,8 @@ class Job(NamedTuple):
     why_skipped: str = ""
     source: Optional[bytes] = None
     among: FrozenSet[str] = frozenset()
+    texts: Sequence[bytes] = ()
+    told: FrozenSet[str] = frozenset()
 
     def does_include(self) -> bool:
         return not self.among or any(self.among & it.included() for it in self.commands)
@@ -178,8 +206,12 @@ def answer(job: Job) -> Answer:
             result.counts.clear()
             return result
         with own_trouble():
-            fixes, read = fixes_in(result, job, silences)
-            result = result._replace(read=read)
+            fixes, units = fixes_in(result, job, silences)
+            candidates = tuple(dict.fromkeys(it for one in units for it in one.candidates))
+            called = frozenset(it for one in units for it in one.needed())
+            names = frozenset(it for one in units for it in one.names)
+            included = frozenset(it for one in units for it in job.told & one.files()) if job.told else job.told
+            result = result._replace(is_whole=True, called=called, candidates=candidates, names=names, included=included)
     except Left as why:
         add_left(result, job.question, str(why))
     if len(fixes) < len(job.commands):
@@ -191,16 +223,17 @@ def answer(job: Job) -> Answer:
     return result._replace(fixes=merged(fixes))
 
 
-def fixes_in(result: Answer, job: Job, silences: Silences) -> Tuple[List[Fixes], Optional[Dependencies]]:
-    """Adds what is found in the units of a file, and returns the fixes of each and what all read. Raises Left once these
-    are added that could be read.
+def fixes_in(result: Answer, job: Job, silences: Silences) -> Tuple[List[Fixes], List[Unit]]:
+    """Adds what is found in the units of a file, and returns the fixes of each and these. Raises Left once these are
+    added that could be read.
     """
     units: List[JudgedUnit] = []
     left: Optional[Left] = None
-    for command in job.commands:
+    for number, command in enumerate(job.commands):
         try:
             with own_trouble():
-                unit = Unit(command, job.question.settings, job.source)
+                text = job.texts[number] if job.texts else None
+                unit = Unit(command, job.question.settings, job.source, text)
                 units.append(JudgedUnit(unit, judged(unit.calls), job.question, silences))
         except Left as why:
             left = why
@@ -210,21 +243,12 @@ def fixes_in(result: Answer, job: Job, silences: Silences) -> Tuple[List[Fixes],
     for one in units:
         add(result, one)
         if is_reported and one.where:
-            fixes.append(fixes_of(one.unit, one.result.faults, one.where, one.kind_of))
+            is_any = WRONG in job.question.added
+            fixes.append(fixes_of(one.unit, one.result.faults, one.where, one.kind_of, is_any))
     if left:
         raise left
     add_unused(result, job, units, silences)
-    return fixes, together(it.unit.read for it in units)
-
-
-def together(read: Iterable[Optional[Dependencies]]) -> Optional[Dependencies]:
-    """Returns what several units read, if it is known of each."""
-    found = Dependencies()
-    for one in read:
-        if one is None:
-            return None
-        found = found.with_more(one)
-    return found
+    return fixes, [it.unit for it in units]
 
 
 def add_unused(result: Answer, job: Job, units: Sequence[JudgedUnit], silences: Silences) -> None:
@@ -245,7 +269,9 @@ def add_left(answer: Answer, question: Question, why: str) -> None:
 def add(answer: Answer, one: JudgedUnit) -> None:
     """Adds what is found in a unit."""
     unit, result, models = one.unit, one.result, one.question.models
-    answer.counts.update(formats=result.formats, arguments=result.arguments, unread=unit.unread)
+    abroad = {key_of(it, SIZE, one.spot_of(it)) for it in result.faults if not one.kind_of(it) and one.is_only_abroad(it)}
+    answer.counts["abroad"] += len(abroad)
+    answer.counts.update(formats=result.formats, arguments=result.arguments, unread_calls=len(unit.unread))
     answer.others.update(unit.others)
     if unit.why_left:
         add_left(answer, one.question, f"libclang can't parse a part of it: {unit.why_left}")
@@ -253,7 +279,7 @@ def add(answer: Answer, one: JudgedUnit) -> None:
         kind = one.kind_of(fault)
         if kind:
             spot = one.spot_of(fault)
-            finding = reporting.finding_of(fault, kind, spot, models)
+            finding = reporting.with_wrapper(reporting.finding_of(fault, kind, spot, one.models), unit.wrappers)
             use = use_of(fault)
             lines = frozenset([use[:3], *one.format_lines(fault)])
             found = Found(finding, place_of(fault, one.where), frozenset([use]), lines)
@@ -262,7 +288,29 @@ def add(answer: Answer, one: JudgedUnit) -> None:
     for call, finding in findings_of_calls(result, models):
         if not one.silences.cover([(call.file, call.line)], finding.kind):
             lines = frozenset([(call.file, call.line, call.last)])
-            answer.found[key_in(call.file, call.line, finding.message)] = Found(finding, lines=lines)
+            said = reporting.with_wrapper(finding, unit.wrappers)
+            answer.found[key_in(call.file, call.line, finding.message)] = Found(said, lines=lines)
+    for call in unit.unread if UNREAD in one.question.added else ():
+        finding, lines = reporting.unread_finding(call, models), frozenset([(call.file, call.line, call.last)])
+        if not one.silences.cover([(call.file, call.line)], UNREAD):
+            answer.found[key_in(UNREAD, call.file, call.line, call.function)] = Found(finding, lines=lines)
+    add_errnos(answer, one)
+
+
+def add_errnos(answer: Answer, one: JudgedUnit) -> None:
+    """Adds that formats have `%m`: once for each file, at its first call that no comment silences."""
+    found: Dict[str, List[ErrnoFormat]] = {}
+    for errno in one.result.errnos if LLP64.model in one.question.models else ():
+        if not one.silences.cover([(errno.call.file, errno.call.line)], ERRNO):
+            found.setdefault(errno.call.file, []).append(errno)
+    if found and LLP64.model not in one.models:
+        answer.counts["abroad"] += len(found)
+        return
+    for file, listed in found.items():
+        listed.sort(key=lambda it: it.call.line)
+        lines = frozenset((it.call.file, it.call.line, it.call.last) for it in listed)
+        finding = reporting.errno_finding(listed[0], len(listed) - 1)
+        answer.found[key_in(ERRNO, file)] = Found(finding, lines=lines)
 
 
 def findings_of_calls(result: Judged, models: Sequence[Model]) -> Iterator[Tuple[Call, Finding]]:
@@ -270,8 +318,10 @@ def findings_of_calls(result: Judged, models: Sequence[Model]) -> Iterator[Tuple
     for call, names in result.lost:
         message = f"the call of {call.function} isn't there{reporting.listed(names)}"
         yield call, reporting.finding_of_call(call, LOST, message, models)
-    for errno in result.errnos if LLP64.model in models else ():
-        yield errno.call, reporting.errno_finding(errno)
+    for call, count, text in result.surplus:
+        yield call, reporting.surplus_finding(call, count, text, models)
+    for call, text, span in result.undefined:
+        yield call, reporting.undefined_finding(call, text, span, models)
     for refused in result.refused:
         yield refused.call, reporting.refused_finding(refused, models)
 
@@ -296,5 +346,5 @@ def key_of(fault: Fault, kind: str, spot: Spot) -> str:
     """Returns what tells a finding apart: all uses of a directive with one type of argument are one finding, and so are
     all directives that one macro of `#if` makes wrong in a file.
     """
-    what: Tuple[Any, ...] = (fault.directive, fault.given[0].name, fault.is_star)
+    what: Tuple[Any, ...] = (fault.directive, reporting.name_of(fault), fault.is_star)
     return key_in(kind, spot.file, *what) if kind == COMPOSED else key_in(kind, *spot, *what)

@@ -2,15 +2,15 @@
 directives fit their arguments on every platform.
 """
 
-from typing import Callable, Dict, Iterable, List, Optional, Sequence, Tuple
+from typing import Callable, Dict, Iterable, List, Mapping, Optional, Sequence, Tuple
 
-from .. import Refused, same, specifications
+from .. import Refused, same
 from ..compiling.calls import Key
 from ..compiling.platforms import PLATFORMS
 from ..formats.items import specification_alone
 from ..models import Model
 from ..source.respelling import LiteralRun
-from .judging import Fault, Fit, PlatformText, faults_of
+from .judging import Fault, Fit, PlatformText, faults_of, spans_in
 from .locating import Located, Use
 from .proposals import proposal
 from .unit import Unit
@@ -20,16 +20,20 @@ Fixes = Dict[int, Tuple[Optional[bytes], str]]
 # What tells an argument of a call apart: the call, which of its formats, and the index.
 Converted = Tuple[Key, int, int]
 
-NOT_THE_SAME = "its new text prints something else"
+# With this among what a question adds, directives that are wrong where the unit is compiled get new texts, too.
+WRONG = "wrong"
+NOT_THE_SAME = "its new text prints something else; --wrong writes it"
 NOT_WHOLE = "it is only a part of a format"
 NOT_EVERYWHERE = "another use of it would be wrong"
 NOT_FROM_NAME = "its length modifier names a type that each platform chooses"
 
 
 def fixes_of(
-    unit: Unit, faults: Sequence[Fault], where: Located, kind_of: Callable[[Fault], Optional[str]]
+    unit: Unit, faults: Sequence[Fault], where: Located, kind_of: Callable[[Fault], Optional[str]], is_any: bool = False
 ) -> Fixes:
-    """Returns the new texts of places of a unit's file, which fix the faults that have a kind."""
+    """Returns the new texts of places of a unit's file, which fix the faults that have a kind: with `is_any` also where the
+    program prints something else then, since it is wrong where it is compiled.
+    """
     places: Dict[int, Tuple[LiteralRun, List[Fault]]] = {}
     for fault in faults:
         piece = where.piece_of(fault, fault.span.start)
@@ -39,12 +43,17 @@ def fixes_of(
     fixes: Fixes = {start: (None, "") for start in uses}
     for start, (place, listed) in places.items():
         asked = [it for it in listed if kind_of(it)]
-        fixes[start] = fix_of(unit, place, listed, asked, uses.get(start, []))
+        fixes[start] = fix_of(unit, place, listed, asked, uses.get(start, []), is_any)
     return fixes
 
 
 def fix_of(
-    unit: Unit, place: LiteralRun, faults: Sequence[Fault], asked: Sequence[Fault], uses: Sequence[Use]
+    unit: Unit,
+    place: LiteralRun,
+    faults: Sequence[Fault],
+    asked: Sequence[Fault],
+    uses: Sequence[Use],
+    is_any: bool = False,
 ) -> Tuple[Optional[bytes], str]:
     """Returns the new text of a place, or why it has none; no reason if nothing is to be changed. Some of its faults
     are asked about.
@@ -53,19 +62,27 @@ def fix_of(
     edits = {start: (it, new.directive) for start, (it, new) in written.items() if new and new.is_plain}
     if not edits:
         return None, ""
-    if any(names_type(it.directive) and not names_type(new) for it, new in edits.values()):
+    # What is wrong where the unit is compiled prints nothing that is to stay.
+    here = {start: it for start, it in edits.items() if is_any and it[0].fits[0] is not Fit.EQUAL}
+    kept = [it for start, it in edits.items() if start not in here]
+    if any(names_type(it.directive) and not names_type(new) for it, new in kept):
         return None, NOT_FROM_NAME
     if not all(it.is_whole for it in uses):
         return None, NOT_WHOLE
-    text = place.text
-    for start, (fault, directive) in sorted(edits.items(), reverse=True):
-        text = text[:start] + directive.encode() + text[fault.span.end :]
-    if not is_same(place.text, text):
+    text = edited(place.text, edits)
+    if not is_same(edited(place.text, here), text):
         return None, NOT_THE_SAME
     before = {converted(it) for it in faults}
     fixed = {converted(fault) for fault, _ in edits.values()}
     after = {converted(it) for it in faults_with(unit, text, uses)}
     return (text, "") if after <= before - fixed else (None, NOT_EVERYWHERE)
+
+
+def edited(text: bytes, edits: Mapping[int, Tuple[Fault, str]]) -> bytes:
+    """Returns a format with other directives, by where each starts."""
+    for start, (fault, directive) in sorted(edits.items(), reverse=True):
+        text = text[:start] + directive.encode() + text[fault.span.end :]
+    return text
 
 
 def names_type(directive: str) -> bool:
@@ -88,7 +105,7 @@ def converted(fault: Fault) -> Converted:
 
 def faults_with(unit: Unit, text: bytes, uses: Iterable[Use]) -> Iterable[Fault]:
     """Yields the faults, worse than a sign, that the calls with a place have with another text of it."""
-    texts = [PlatformText(text, specifications(text, model=it.model)) for it in PLATFORMS]
+    texts = [PlatformText(text, spans_in(text, it.model)) for it in PLATFORMS]
     for use in uses:
         calls = [it[use.key] for it in unit.calls if use.key in it]
         if len(calls) == len(PLATFORMS):

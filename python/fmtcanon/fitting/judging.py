@@ -1,11 +1,12 @@
 """Judges the calls of a unit: whether each argument has the type that its directive takes, on every platform."""
 
+import bisect
 import enum
 import functools
 import re
-from typing import Iterator, List, Mapping, NamedTuple, Sequence, Set, Tuple, Union
+from typing import Dict, Iterator, List, Mapping, NamedTuple, Optional, Sequence, Set, Tuple, Union
 
-from .. import BadLiteral, Refused, Specification, decode_literal, specifications
+from .. import BadLiteral, Kind, Refused, Specification, decode_literal, specifications
 from ..compiling.calls import Argument, Call, Key
 from ..compiling.formats import Format, Literal
 from ..compiling.platforms import PLATFORMS, Platform
@@ -32,6 +33,10 @@ OTHERS = {
     **{type: re.compile(rf"(?:unsigned )?{name} \*") for type, name in POINTERS.items()},
 }
 QUALIFIER = re.compile(r"\b(?:const|volatile|restrict) ?|(?<=\*)(?:const|volatile|restrict)\b")
+# What the C libraries of GNU and musl take for `ll` before these letters, and the types by those of `j`.
+OF_LONG_LONG = {f"L{letter}".encode() for letter in "diouxX"}
+LONG_LONG: Dict[Optional[Type], Type] = {it: Type.LONG_LONG for it in SIGNED.values()}
+LONG_LONG.update((it, Type.ULONG_LONG) for it in SIGNED)
 # What the data models have for `long` and for `wchar_t`, which may be signed or not.
 LONG_BITS = {Model.LP64: 64, Model.ILP32: 32, Model.LLP64: 32}
 WIDE_STRINGS = {
@@ -60,7 +65,7 @@ class Fault(NamedTuple):
     """An argument that doesn't fit on some platform. `fits`, `wanted` and `given` are of each platform in PLATFORMS.
 
     `span` is the directive in `text`, the format in LP64. `number` is the index of the argument in what the format
-    converts.
+    converts. `tokens` are the literals that the directive is in, with where the bytes of each are in the text.
     """
 
     key: Key
@@ -72,6 +77,7 @@ class Fault(NamedTuple):
     fits: Tuple[Fit, ...]
     wanted: Tuple[Type, ...]
     given: Tuple[Argument, ...]
+    tokens: Tuple[Tuple[Literal, int, int], ...]
 
     @property
     def worst(self) -> Fit:
@@ -100,12 +106,6 @@ class Fault(NamedTuple):
         return self.specification.text.decode(errors="backslashreplace")
 
     @property
-    def tokens(self) -> List[Tuple[Literal, int, int]]:
-        """The literals that the directive is in, with where the bytes of each are in the text."""
-        listed = spans_of(self.call.formats[self.format])
-        return [it for it in listed if it[1] < self.span.end and self.span.start < it[2]]
-
-    @property
     def shown(self) -> str:
         """The directive as the source has it between quotes: with the names of PRI macros."""
         if not any(token.macro for token, _, _ in self.tokens):
@@ -127,7 +127,9 @@ class RefusedFormat(NamedTuple):
 
 
 class ErrnoFormat(NamedTuple):
-    """A format with `%m` of a function whose `%m` some platform's C library lacks: its call, its text, and where that is."""
+    """A format with `%m` of a function whose `%m` some platform's C library lacks: its call, its text, and where that is.
+    What the functions of a program do with it is theirs.
+    """
 
     call: Call
     text: bytes
@@ -136,7 +138,9 @@ class ErrnoFormat(NamedTuple):
 
 class Judged(NamedTuple):
     """What is found in a unit: its faults, the formats that fit their calls except in a sign, the calls that a platform
-    lacks, the formats with `%m`, those that aren't accepted, and how many formats and arguments were judged.
+    lacks, the formats with `%m`, those that aren't accepted, how many formats and arguments were judged, and the calls
+    with more arguments than any of their formats takes, with how many more; and the directives that C leaves undefined,
+    with their calls and formats.
     """
 
     faults: List[Fault]
@@ -146,6 +150,8 @@ class Judged(NamedTuple):
     refused: List[RefusedFormat]
     formats: int
     arguments: int
+    surplus: List[Tuple[Call, int, bytes]]
+    undefined: List[Tuple[Call, bytes, Specification]]
 
 
 def bits_of(type: Type, model: Model) -> int:
@@ -183,8 +189,35 @@ def text_of(format: Format, platform: Platform) -> PlatformText:
 
 @functools.lru_cache(maxsize=4096)
 def spans_in(text: bytes, model: Model) -> Sequence[Specification]:
-    """Returns the directives of a format. Raises `Refused`."""
-    return specifications(text, model=model)
+    """Returns the directives of a format, with `%Lx` as the C libraries of GNU and musl take it: as `%llx`. Raises
+    `Refused`.
+    """
+    places, read = set(), text
+    while True:
+        try:
+            found = specifications(read, model=model)
+        except Refused as why:
+            at = undefined_at(read, why)
+            if at is None:
+                raise
+            # A length modifier of one byte moves nothing.
+            read = read[:at] + b"j" + read[at + 1 :]
+            places.add(at)
+        else:
+            return [it._replace(type=LONG_LONG[it.type]) if it.modifier_at in places else it for it in found]
+
+
+def undefined_at(text: bytes, why: Refused) -> Optional[int]:
+    """Returns where the `L` of a conversion to an integer is, for which the library rejects a format, or None."""
+    one = why.specification
+    if why.kind is not Kind.LENGTH_UNDEFINED or one is None:
+        return None
+    return one.modifier_at if text[one.modifier_at : one.end] in OF_LONG_LONG else None
+
+
+def undefined_in(text: bytes, spans: Sequence[Specification]) -> Iterator[Specification]:
+    """Yields the directives of a format that C leaves undefined, and that are judged all the same."""
+    return (it for it in spans if text[it.modifier_at : it.end] in OF_LONG_LONG)
 
 
 def bytes_of(format: Format) -> bytes:
@@ -205,6 +238,9 @@ def arguments_of(spans: Sequence[Specification]) -> Iterator[Tuple[int, int, Typ
 def faults_of(key: Key, calls: Sequence[Call], number: int, texts: Sequence[PlatformText]) -> Iterator[Fault]:
     """Yields the arguments of a call, as it is on each platform, that don't fit one of its formats."""
     listed = [list(arguments_of(it.spans)) for it in texts]
+    tokens: List[Tuple[Literal, int, int]] = []
+    starts: List[int] = []
+    ends: List[int] = []
     for found in zip(*listed):
         index, argument, _ = found[0]
         given = tuple(it.arguments[argument] if argument < len(it.arguments) else MISSING for it in calls)
@@ -217,12 +253,17 @@ def faults_of(key: Key, calls: Sequence[Call], number: int, texts: Sequence[Plat
             for fit, had in zip(map(fit_of, wanted, given, [it.model for it in PLATFORMS]), given)
         )
         if set(fits) != {Fit.EQUAL}:
-            yield Fault(key, calls[0], number, text, spans[index], argument, fits, wanted, given)
+            if not tokens:
+                tokens = spans_of(calls[0].formats[number])
+                starts, ends = [it[1] for it in tokens], [it[2] for it in tokens]
+            span = spans[index]
+            own = tokens[bisect.bisect_right(ends, span.start) : bisect.bisect_left(starts, span.end)]
+            yield Fault(key, calls[0], number, text, span, argument, fits, wanted, given, tuple(own))
 
 
 def judged(units: Sequence[Mapping[Key, Call]]) -> Judged:
     """Judges the calls of a unit, which are those of each platform."""
-    result = Judged([], set(), [], [], [], 0, 0)
+    result = Judged([], set(), [], [], [], 0, 0, [], [])
     formats = arguments = 0
     for key, call in units[0].items():
         calls = [it[key] for it in units if key in it and len(it[key].formats) == len(call.formats)]
@@ -230,6 +271,8 @@ def judged(units: Sequence[Mapping[Key, Call]]) -> Judged:
             missing = [it.name for it, unit in zip(PLATFORMS, units) if key not in unit]
             result.lost.append((call, missing or [it.name for it in PLATFORMS[1:]]))
             continue
+        # How many arguments each format takes.
+        taken: List[int] = []
         for number in range(len(call.formats)):
             texts, text = [], b""
             try:
@@ -239,19 +282,23 @@ def judged(units: Sequence[Mapping[Key, Call]]) -> Judged:
             except (Refused, BadLiteral) as why:
                 result.refused.append(RefusedFormat(call, text, why))
                 continue
-            if call.function not in WITH_ERRNO:
+            if call.is_library and call.function not in WITH_ERRNO:
                 result.errnos.extend(ErrnoFormat(call, texts[0].text, at) for at in errnos_of(texts[0].text)[:1])
             formats += 1
-            arguments += sum(1 for _ in arguments_of(texts[0].spans))
+            result.undefined.extend((call, texts[0].text, it) for it in undefined_in(texts[0].text, texts[0].spans))
+            found = [number for _, number, _ in arguments_of(texts[0].spans)]
+            arguments += len(found)
+            taken.append(max(found, default=-1) + 1)
             faults = list(faults_of(key, calls, number, texts))
             result.faults.extend(faults)
             if all(it.worst is Fit.SIGN for it in faults):
                 result.fitting.add((key, number))
+        if call.is_all and taken and len(taken) == len(call.formats) and max(taken) < len(call.arguments):
+            text = b"\n".join(map(bytes_of, call.formats))
+            result.surplus.append((call, len(call.arguments) - max(taken), text))
     return result._replace(formats=formats, arguments=arguments)
 
 
-# Each fault of a format asks for its literals.
-@functools.lru_cache(maxsize=16)
 def spans_of(format: Format) -> List[Tuple[Literal, int, int]]:
     """Returns the literals of a format, with where the bytes of each are in its text."""
     at, found = -format.skipped, []

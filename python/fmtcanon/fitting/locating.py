@@ -1,5 +1,8 @@
 """Finds where the directives of a unit are in its source, by a marker that is put before each string literal."""
 
+import bisect
+import functools
+import itertools
 import re
 from typing import AbstractSet, Dict, List, NamedTuple, Optional, Sequence, Tuple
 
@@ -11,7 +14,7 @@ from ..compiling.markers import Marker
 from ..compiling.parsing import OTHER_BYTES
 from ..compiling.stand_ins import Original
 from ..source.respelling import LiteralRun, runs_in
-from ..source.tokens import plain_literals
+from ..source.tokens import STRING, plain_literals
 from .judging import Fault
 from .unit import Unit
 
@@ -45,9 +48,8 @@ class Located(NamedTuple):
         piece = self.piece_of(fault, index)
         if piece is None:
             return None
-        plain, offsets = plain_literals(piece.place.source)
-        at = source_offset(plain, index - piece.at)
-        return None if at is None else piece.place.start + offsets[at]
+        at = offset_in(piece.place.source, index - piece.at)
+        return None if at is None else piece.place.start + at
 
     def piece_of(self, fault: Fault, index: int) -> Optional[Piece]:
         text, pieces = self.formats.get((fault.key, fault.format), (b"", []))
@@ -67,6 +69,23 @@ class Located(NamedTuple):
                 is_whole = len(pieces) == 1 and in_ascii(piece.place.text) == in_ascii(text)
                 found.setdefault(piece.place.start, []).append(Use(key, number, is_whole))
         return found
+
+
+def offset_in(source: bytes, index: int) -> Optional[int]:
+    """Returns where the byte of an index of the text of string literals is in their source, or None."""
+    plain, offsets = plain_literals(source)
+    literals, starts = literals_in(plain)
+    number = bisect.bisect_right(starts, index) - 1
+    at = source_offset(literals[number].group(), index - starts[number]) if number >= 0 else None
+    return None if at is None else offsets[literals[number].start() + at]
+
+
+@functools.lru_cache(maxsize=16)
+def literals_in(plain: bytes) -> Tuple[List["re.Match[bytes]"], List[int]]:
+    """Returns the literals in the plain source of some, and where the text of each begins in that of all."""
+    literals = list(re.finditer(STRING, plain))
+    sizes = (len(decode_literal(it.group())) for it in literals)
+    return literals, list(itertools.accumulate(sizes, initial=0))[:-1]
 
 
 def located(unit: Unit) -> Optional[Located]:

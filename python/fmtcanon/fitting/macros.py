@@ -1,13 +1,13 @@
 """Finds the macro whose definition has the directive of a fault: all its uses are one finding."""
 
 import functools
-import os
 import re
-from typing import Dict, Iterator, List, Mapping, NamedTuple, Optional, Set, Tuple
+from typing import Dict, Iterator, List, Mapping, NamedTuple, Optional, Sequence, Set, Tuple
 
 from .. import source_offset
 from ..compiling.calls import Call
-from ..compiling.stand_ins import original
+from ..compiling.line_markers import path_in
+from ..source.files import bytes_of
 from ..source.tokens import NAME
 from .judging import Fault
 
@@ -20,24 +20,27 @@ WORD = re.compile(NAME)
 
 
 class Definition(NamedTuple):
-    """A definition of a macro: its name, the file and the line where it is, and what the macro expands to."""
+    """A definition of a macro: its name, the file and the line where it is, what the macro expands to, and whether it is
+    in a header of the system.
+    """
 
     name: str
     file: str
     line: int
     body: bytes
+    is_system: bool = False
 
 
 def definitions_in(text: bytes, folder: str) -> Iterator[Definition]:
-    """Yields the definitions of macros in preprocessed text, without those of system headers."""
+    """Yields the definitions of macros in preprocessed text."""
     file, is_system, line, counted = "", True, 1, 0
     for found in LINE.finditer(text):
         if found[1] is not None:
-            name = re.sub(rb"\\(.)", rb"\1", found[2])
-            file, is_system = os.path.realpath(os.path.join(folder, os.fsdecode(name))), SYSTEM in found[3].split()
+            file, is_system = path_in(found[2], folder), SYSTEM in found[3].split()
             line, counted = int(found[1]), found.end() + 1
-        elif not is_system:
-            yield Definition(found[4].decode(), file, line + text.count(b"\n", counted, found.start()), found[5])
+        elif file:
+            at = line + text.count(b"\n", counted, found.start())
+            yield Definition(found[4].decode(), file, at, found[5], is_system)
 
 
 class Macros:
@@ -47,8 +50,11 @@ class Macros:
         # What is read instead of files.
         self.texts = texts
         self.known: Dict[str, List[Definition]] = {}
+        # Those of system headers, too.
+        self.all: Dict[str, List[Definition]] = {}
         for one in definitions_in(text, folder):
-            self.known.setdefault(one.name, []).append(one)
+            for known in (self.all,) if one.is_system else (self.known, self.all):
+                known.setdefault(one.name, []).append(one)
 
     def of(self, fault: Fault) -> Optional[Definition]:
         """Returns the only definition with the directive's literal among the macros that the lines of the call name,
@@ -58,31 +64,47 @@ class Macros:
         text = self.lines_of(fault.call)
         if literal in text:
             return None
-        found = {it for name in self.reached(text) for it in self.known[name] if literal in it.body}
+        found = {it for it in self.reached(text, self.known) if literal in it.body}
         return found.pop() if len(found) == 1 else None
+
+    def lines_with(self, fault: Fault) -> Iterator[Tuple[str, int, int]]:
+        """Yields the lines of all definitions, also of the system, that may have the directive's literal: a file, the first
+        and the last.
+        """
+        literal = fault.tokens[0][0].source.encode()
+        listed = self.reached(self.lines_of(fault.call), self.all)
+        yield from ((it.file, it.line, last_line(source_of(it.file), it.line)) for it in listed if literal in it.body)
 
     def lines_of(self, call: Call) -> bytes:
         """Returns the lines of a call."""
         source = self.texts[call.file] if call.file in self.texts else source_of(call.file)
-        return b"\n".join(source.split(b"\n")[call.line - 1 : call.last])
+        return b"\n".join(lines_in(source)[call.line - 1 : call.last])
 
-    def reached(self, text: bytes) -> Set[str]:
-        """Returns the macros that a text names, and those that these are made of."""
-        waiting, found = {it.decode(errors="replace") for it in WORD.findall(text)}, set()
+    @staticmethod
+    def reached(text: bytes, known: Mapping[str, Sequence[Definition]]) -> Iterator[Definition]:
+        """Yields the definitions of the macros that a text names, and of those that these are made of."""
+        waiting: Set[str] = {it.decode(errors="replace") for it in WORD.findall(text)}
+        found: Set[str] = set()
         while waiting:
-            found |= waiting & self.known.keys()
-            bodies = b" ".join(it.body for name in waiting & self.known.keys() for it in self.known[name])
-            waiting = {it.decode(errors="replace") for it in WORD.findall(bodies)} - found
-        return found
+            found |= waiting
+            listed = [it for name in waiting & known.keys() for it in known[name]]
+            yield from listed
+            waiting = {it.decode(errors="replace") for one in listed for it in WORD.findall(one.body)} - found
+
+
+source_of = functools.lru_cache(maxsize=16)(bytes_of)
 
 
 @functools.lru_cache(maxsize=16)
-def source_of(file: str) -> bytes:
-    """Returns the bytes of a file; none if it can't be read."""
-    try:
-        return original(file).source
-    except OSError:
-        return b""
+def lines_in(source: bytes) -> List[bytes]:
+    return source.split(b"\n")
+
+
+@functools.lru_cache(maxsize=256)
+def last_line(source: bytes, line: int) -> int:
+    """Returns the last line of a definition that begins in a line."""
+    found = DEFINITION.match(source, line_start(source, line))
+    return line + (found.group().count(b"\n") if found else 0)
 
 
 def macro_at(source: bytes, offset: int) -> str:
@@ -94,15 +116,17 @@ def macro_at(source: bytes, offset: int) -> str:
     return found[1].decode() if found and offset < found.end() else ""
 
 
+def line_start(source: bytes, line: int) -> int:
+    """Returns where a line of a source begins."""
+    return sum(map(len, lines_in(source)[: line - 1])) + line - 1
+
+
 def span_of(definition: Definition, fault: Fault) -> Optional[Tuple[bytes, int, Optional[int]]]:
     """Returns the source that has a definition, where the directive of a fault is in it, and its last byte, if that is
     in the same literal; None if the definition hasn't its literal once.
     """
     source = source_of(definition.file)
-    start = 0
-    for _ in range(definition.line - 1):
-        start = source.find(b"\n", start) + 1
-    found = DEFINITION.match(source, start)
+    found = DEFINITION.match(source, line_start(source, definition.line))
     literal, begin, end = fault.tokens[0]
     plain = literal.source.encode()
     if found is None or found.group().count(plain) != 1:

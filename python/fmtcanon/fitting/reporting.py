@@ -6,8 +6,9 @@ import re
 from dataclasses import replace
 from typing import Any, Callable, Dict, List, NamedTuple, Optional, Sequence, Tuple
 
-from .. import Refused
+from .. import Refused, Specification
 from ..compiling.calls import Call
+from ..compiling.closure import Wrappers
 from ..compiling.platforms import LLP64, PLATFORMS
 from ..formats.rejections import advice_on, refused_span
 from ..frame.command_line import model_names
@@ -15,6 +16,7 @@ from ..frame.excerpts import Excerpt, literal_excerpt
 from ..frame.findings import ERROR, NOTE, WARNING, Finding
 from ..kinds import TYPE_NAMES, Type
 from ..models import Model
+from ..source.files import bytes_of
 from ..source.places import column_of
 from .judging import MISSING, ORDER, SIGNED, ErrnoFormat, Fault, Fit, RefusedFormat
 from .locating import Located
@@ -23,14 +25,18 @@ from .proposals import fitting, proposal
 
 SIZE, KIND, RANK, SIGN, COMPOSED = "size", "kind", "rank", "sign", "composed"
 LOST, ERRNO, UNJUDGED, SKIPPED, UNUSED, FIXED = "lost", "errno", "unjudged", "skipped", "unused", "fixed"
+SURPLUS, UNREAD, UNDEFINED = "surplus", "unread", "undefined"
 RULES = {
     SIZE: "An argument has another size than its directive takes on some platform.",
     KIND: "An argument is missing, or of another kind than its directive takes, as a double for %d.",
     RANK: "An argument has the size that its directive takes, and another type, on some platform.",
     SIGN: "An argument is signed and its directive takes an unsigned one, or the other way round.",
     COMPOSED: "An argument doesn't fit a directive whose length modifier may have been chosen by #if.",
+    SURPLUS: "A call has more arguments than its format takes.",
+    UNDEFINED: "A directive is undefined in C, as %Lx, and judged as some C libraries take it.",
     LOST: "A call is only there on some platforms.",
-    ERRNO: "A format has %m, which the C library of 64-bit Windows lacks; in syslog it is POSIX's.",
+    ERRNO: "A format of the C library has %m, which that of 64-bit Windows lacks; in syslog it is POSIX's.",
+    UNREAD: "The format of a call isn't a literal, and isn't read.",
     UNJUDGED: "What may be the format of a call isn't accepted.",
     SKIPPED: "A file, or a part of it, wasn't judged; or not by itself, as a header.",
     UNUSED: "A comment that silences findings silences none.",
@@ -49,6 +55,8 @@ VOWELS = re.compile(r"[aeio]|un[^_]")
 NAMES = {"z": ("ssize_t", "size_t"), "t": ("ptrdiff_t", "size_t"), "64": ("int64_t", "uint64_t")}
 
 
+# The types of integers by the names that they have in C.
+PLAIN_TYPES = {name: it for it, name in TYPE_NAMES.items() if it in (*SIGNED, *SIGNED.values())}
 # The headers of the types that casts name.
 HEADERS = dict.fromkeys(["intmax_t", "uintmax_t", "int64_t", "uint64_t", "uintptr_t"], "stdint.h")
 HEADERS.update(size_t="stddef.h", wint_t="wchar.h")
@@ -136,7 +144,8 @@ def message_of(fault: Fault, models: Sequence[Model]) -> str:
     for fit, platform in zip(fault.fits, PLATFORMS):
         if platform.model in models and fit is not Fit.EQUAL:
             groups.setdefault(fit, []).append(platform.name)
-    wrong = [f"{FITS[it]}{listed(groups[it])}" for it in reversed(ORDER) if it in groups and it in FITS]
+    kinds = [it for it in reversed(ORDER) if it in groups and it in FITS]
+    wrong = [f"{FITS[it]}{listed(groups[it])}{where_else(fault, groups[it])}" for it in kinds]
     if Fit.KIND in groups:
         wrong.append(f"it takes {taken(fault)}")
     return f"{what} for {a(name_of(fault))}: {', '.join(wrong)}{advice(fault)}"
@@ -160,9 +169,25 @@ def listed(names: Sequence[str]) -> str:
 def name_of(fault: Fault) -> str:
     """Returns the type of an argument as the source names it, or as it would: that of `sizeof` has no name in clang."""
     argument, end = fault.given[0], fitting(fault)
+    if argument.name == argument.spelling and is_named_by(argument.part, fault):
+        return argument.part
     if argument.name != argument.spelling or end not in NAMES or len(set(fault.given)) == 1:
         return argument.name
     return NAMES[end][argument.type in SIGNED]
+
+
+def is_named_by(name: str, fault: Fault) -> bool:
+    """Returns whether a typedef has the type of the argument on each platform: a difference of times is a time_t."""
+    types = [PLAIN_TYPES.get(it.types.get(name, "")) for it in PLATFORMS]
+    return types == [it.type for it in fault.given] and None not in types
+
+
+def where_else(fault: Fault, platforms: Sequence[str]) -> str:
+    """Returns what the argument is on these platforms, if that is another type than its name says."""
+    named = PLAIN_TYPES.get(name_of(fault))
+    types = {it.type for it, platform in zip(fault.given, PLATFORMS) if platform.name in platforms}
+    other = types.pop() if len(types) == 1 else named
+    return f", where it is {a(TYPE_NAMES[other])}" if named and other and other is not named else ""
 
 
 def details_of(fault: Fault) -> Dict[str, Any]:
@@ -179,6 +204,7 @@ def details_of(fault: Fault) -> Dict[str, Any]:
         "type": None if fault.given[0] is MISSING else name_of(fault),
         "platforms": platforms,
         "proposal": str(written) if written else None,
+        **({"wrapper": fault.call.key} if fault.call.key else {}),
     }
 
 
@@ -200,6 +226,20 @@ def finding_of(fault: Fault, kind: str, spot: Spot, models: Sequence[Model]) -> 
         model_names(sorted(wrong)),
         details,
     )
+
+
+def with_wrapper(finding: Finding, known: Wrappers) -> Finding:
+    """Returns a finding that says why its function prints as `printf` does, if that is one of these that hand their
+    formats on.
+    """
+    listed = known.get(finding.details.get("wrapper", ""), ())
+    if not listed:
+        return finding
+    # Functions of one name in several programs do the same.
+    name, one = finding.details["function"], listed[0]
+    how = "may be" if one.is_given else "hands its format to"
+    why = f"{name} {how} {one.to} at {shown_file(one.file)}:{one.line}"
+    return replace(finding, message=f"{finding.message} ({why})", details={**finding.details, "wrapper": why})
 
 
 def fix_of(fault: Fault, spot: Spot) -> Optional[Dict[str, Any]]:
@@ -249,12 +289,38 @@ def refused_finding(refused: RefusedFormat, models: Sequence[Model]) -> Finding:
     return replace(finding, excerpts=(excerpt,), help=advice_on(text, why, models[0]))
 
 
-def errno_finding(found: ErrnoFormat) -> Finding:
-    """Returns the finding of a format with `%m`, on the platform whose C library lacks it."""
+def errno_finding(found: ErrnoFormat, others: int = 0) -> Finding:
+    """Returns the finding of a format with `%m`, on the platform whose C library lacks it, and how many others the file has."""
     call, text, at = found
-    message = f"%m in a format of {call.function}: missing on {TITLES[LLP64.name]}; use %s and strerror(errno)"
+    more = f", and in {others} more of the file" if others else ""
+    message = f"%m in a format of {call.function}{more}: missing on {TITLES[LLP64.name]}; use %s and strerror(errno)"
     excerpt = literal_excerpt("format", text, at, at + 2, "")
     return replace(finding_of_call(call, ERRNO, message, [LLP64.model], text), excerpts=(excerpt,))
+
+
+def surplus_finding(call: Call, count: int, text: bytes, models: Sequence[Model]) -> Finding:
+    """Returns the finding of a call with arguments that its format doesn't take, and how many."""
+    takes = "its format takes" if len(call.formats) == 1 else "any of its formats takes"
+    what = "1 argument" if count == 1 else f"{count} arguments"
+    return finding_of_call(call, SURPLUS, f"{what} of {call.function} more than {takes}", models, text)
+
+
+def undefined_finding(call: Call, text: bytes, span: Specification, models: Sequence[Model]) -> Finding:
+    """Returns the finding of a directive that C leaves undefined, and that is judged as the C library of GNU takes it."""
+    directive = text[span.start : span.end].decode(errors="backslashreplace")
+    written = text[span.start : span.modifier_at] + b"ll" + text[span.end - 1 : span.end]
+    message = (
+        f"{directive} in a format of {call.function}: undefined in C, and judged as the {written.decode()} that it is "
+        f"in the C libraries of GNU and musl; use {written.decode()}"
+    )
+    excerpt = literal_excerpt("format", text, span.start, span.end, "")
+    return replace(finding_of_call(call, UNDEFINED, message, models, text), excerpts=(excerpt,))
+
+
+def unread_finding(call: Call, models: Sequence[Model]) -> Finding:
+    """Returns the note of a call whose format isn't read."""
+    found = finding_of_call(call, UNREAD, f"not read: the format of {call.function}, which isn't a literal", models)
+    return replace(found, level=NOTE)
 
 
 def finding_of_call(call: Call, kind: str, message: str, models: Sequence[Model], format: bytes = b"") -> Finding:
@@ -268,7 +334,7 @@ def finding_of_call(call: Call, kind: str, message: str, models: Sequence[Model]
         WARNING,
         message,
         models=model_names(models),
-        details={"function": call.function, **known},
+        details={"function": call.function, **known, **({"wrapper": call.key} if call.key else {})},
     )
 
 
@@ -292,8 +358,5 @@ def with_source(finding: Finding) -> Finding:
 @functools.lru_cache(maxsize=8)
 def lines_of(file: str) -> List[str]:
     """Returns the lines of a file; none if it can't be read."""
-    try:
-        with open(file, encoding="utf-8", errors="surrogateescape", newline="") as stream:
-            return [it.rstrip("\r") for it in stream.read().split("\n")]
-    except OSError:
-        return []
+    data = bytes_of(file)
+    return [it.rstrip("\r") for it in data.decode(errors="surrogateescape").split("\n")] if data else []

@@ -1,29 +1,33 @@
 """A unit: a file as one of its compile commands compiles it, and its calls on every platform."""
 
 import dataclasses
+import functools
+import os
 from concurrent.futures import ThreadPoolExecutor
-from typing import Dict, List, Mapping, NamedTuple, Optional, Sequence
+from typing import Dict, List, Mapping, NamedTuple, Optional, Sequence, Set, Tuple
 
-from ..compiling.calls import Call, FormatCalls, Key
+from ..compiling.calls import Call, Calls, FormatCalls, Key, words_for
+from ..compiling.closure import Candidate, Wrappers, is_local, needs_of
 from ..compiling.compile_commands import CompileCommand
-from ..compiling.dependencies import Dependencies
 from ..compiling.functions import Functions
 from ..compiling.kept import KeptUnits
 from ..compiling.left import Left
+from ..compiling.line_markers import files_in
 from ..compiling.parsing import as_utf8
-from ..compiling.platforms import COMPILED, PLATFORMS, Platform
-from ..compiling.retargeting import retargeted
+from ..compiling.platforms import COMPILED, FOR_WINDOWS, NOT_OF_WINDOWS, PLATFORMS, Platform
+from ..compiling.retargeting import ENTERED, markers, own_spans, retargeted
 from ..compiling.stand_ins import Original, original
 from ..compiling.targets import model_in
 from ..models import Model
+from ..source.files import bytes_of
 from ..source.known import Shape
 from .alike import calls_on_all
 
 
 class Settings(NamedTuple):
     """The words that find the headers of this command; functions that take formats, by the options; typedefs, each with
-    the one whose type it has; the folder of this command if it is to be known what units read; and those that are kept
-    while their sources are edited.
+    the one whose type it has; the folder with these headers; units that are kept while their sources are edited; and the
+    functions of all units that hand their formats on.
     """
 
     words: Sequence[str]
@@ -31,45 +35,78 @@ class Settings(NamedTuple):
     types: Mapping[str, str]
     folder: str = ""
     kept: Optional[KeptUnits] = None
+    found: Wrappers = {}
+
+
+def read_command(command: CompileCommand, settings: Settings) -> CompileCommand:
+    """Returns the command with which a unit is preprocessed. Raises Left if it is of another data model."""
+    model = model_in(command.macros())
+    if model is not Model.LP64:
+        raise Left(f"it is compiled for {model.name if model else 'another data model'}, and not for LP64")
+    return command_with(command, settings)
+
+
+def command_with(command: CompileCommand, settings: Settings) -> CompileCommand:
+    """Returns a compile command as units are read by it."""
+    words = (command.words[0], *settings.words, *command.words[1:], "-U_FORTIFY_SOURCE")
+    return dataclasses.replace(command, words=words)
 
 
 class Unit:
     """The calls of a unit on each platform, and why libclang can't parse a part of it, if so. Its source may be another
-    than that of the file.
+    than that of the file, and what the preprocessor makes of that may be known.
     """
 
-    def __init__(self, command: CompileCommand, settings: Settings, source: Optional[bytes] = None) -> None:
-        model = model_in(command.macros())
-        if model is not Model.LP64:
-            raise Left(f"it is compiled for {model.name if model else 'another data model'}, and not for LP64")
-        words = (command.words[0], *settings.words, *command.words[1:], "-U_FORTIFY_SOURCE")
-        self.command, self.settings, self.source = dataclasses.replace(command, words=words), settings, source
-        # What was read, if that is known.
-        self.read: Optional[Dependencies] = None
-        text = self.first_text()
-        first = self.parsed(text, COMPILED)
-        known = None if settings.types else calls_on_all(first, text)
-        self.calls: List[Dict[Key, Call]] = known or [it.found for it in self.parsed_everywhere(text, first)]
+    def __init__(
+        self, command: CompileCommand, settings: Settings, source: Optional[bytes] = None, text: Optional[bytes] = None
+    ) -> None:
+        self.command, self.settings, self.source = read_command(command, settings), settings, source
+        # The functions that hand their formats on: those that are known, and the unit's own.
+        self.known = settings.found
+        self.read = read = self.text(self.original().source) if text is None else as_utf8(text).decode()
+        first = self.parsed(read, COMPILED)
+        self.known, self.wrappers = first.known, first.own
+        known = None if settings.types else calls_on_all(first, read)
+        self.calls: List[Dict[Key, Call]] = known or [it.found for it in self.parsed_everywhere(read, first)]
         errors = first.errors()
         self.why_left: Optional[str] = errors[0] if errors else None
         self.unread, self.others = first.unread, first.others
+        self.candidates, self.called, self.names = first.candidates, first.called, first.names
         self.defined: Optional[bytes] = None
 
-    def first_text(self) -> str:
-        """Returns the text of the unit, and notes what was read if it is asked for."""
-        if not self.settings.folder or self.source is not None:
-            return self.text()
-        text, self.read = self.command.preprocessed_with(self.settings.folder)
-        return as_utf8(text).decode()
+    def needed(self) -> Set[str]:
+        """Returns the keys of functions and pointers of other units that calls and formats of this one depend on."""
+        used = {call.key for call in self.calls[0].values() if call.key}
+        own = [it for it in self.candidates if not it.is_pointer]
+        local = (it for it in self.candidates if it.is_pointer and is_local(it.key))
+        return (self.called | used | needs_of([*own, *local])) - {it.key for it in own}
 
-    def text(self, source: Optional[bytes] = None) -> str:
-        """Returns what the compiler's preprocessor makes of the file, or of another source of it."""
-        return as_utf8(self.command.preprocessed(self.source if source is None else source)).decode()
+    def is_abroad(self) -> bool:
+        """Returns whether the unit can't be one of 64-bit Windows: it includes a header that this lacks, and nothing in its
+        sources is for Windows.
+        """
+        own, is_lacking, was_own = {self.command.file}, False, True
+        for _, _, name, flags in markers(self.read):
+            file = os.path.join(self.command.folder, name.strip('"'))
+            is_lacking = is_lacking or (was_own and flags.startswith(ENTERED) and bool(NOT_OF_WINDOWS.fullmatch(file)))
+            was_own = "3" not in flags
+            own.update([file] if was_own else ())
+        return is_lacking and not any(map(is_for_windows, own))
+
+    def text(self, source: bytes) -> str:
+        """Returns what the compiler's preprocessor makes of a source of the file. Each is given in the same way: a header
+        that a file finds in its own folder and by -I is read twice if the compiler reads the file, and otherwise once.
+        """
+        return as_utf8(self.command.preprocessed(source)).decode()
 
     def original(self) -> Original:
         """Returns the file, with the source that is judged. Raises `OSError` if it can't be read."""
         file = original(self.command.file)
         return file if self.source is None else file._replace(source=self.source)
+
+    def files(self) -> Set[str]:
+        """Returns the paths of the files in the unit."""
+        return files_in(self.read.encode(), self.command.folder, self.settings.folder)
 
     def definitions(self) -> bytes:
         """Returns the text of the unit with the definitions of its macros."""
@@ -87,11 +124,33 @@ class Unit:
 
     def parsed(self, text: str, platform: Platform) -> FormatCalls:
         own = {name: platform.types.get(type, type) for name, type in self.settings.types.items()}
-        functions = Functions(self.settings.functions)
+        functions = Functions(self.settings.functions, found=self.known)
         if self.settings.kept is not None:
             return self.settings.kept.calls(self.command, text, platform, own, functions)
-        return FormatCalls(self.command, retargeted(text, platform, own).encode(), platform, functions)
+        return FormatCalls(self.command, retargeted(text, platform, own).encode(), platform, functions, self.source)
 
     def marked(self, text: str) -> Dict[Key, Call]:
         """Returns the calls in the text of another source of the file, as it is compiled."""
         return self.parsed(text, COMPILED).found
+
+
+@functools.lru_cache(maxsize=10_000)
+def is_for_windows(path: str) -> bool:
+    """Returns whether a source says that something in it is for Windows."""
+    return bool(FOR_WINDOWS.search(bytes_of(path)))
+
+
+def candidates_of(command: CompileCommand, settings: Settings, text: bytes) -> Tuple[List[Candidate], Set[str]]:
+    """Returns the functions of a unit with this text that may hand their formats on, and what pointers are given there;
+    and the names of variadic functions and of such pointers, if there are pointers.
+    """
+    unit = parsed_with(command, settings, text)
+    return unit.candidates_among(Functions(settings.functions), own_spans(unit.text.decode("latin-1"))), unit.names
+
+
+def parsed_with(command: CompileCommand, settings: Settings, text: bytes) -> Calls:
+    """Returns a unit as it is compiled."""
+    command = read_command(command, settings)
+    own = {name: COMPILED.types.get(type, type) for name, type in settings.types.items()}
+    changed = retargeted(as_utf8(text).decode(), COMPILED, own).encode()
+    return Calls(command, changed, Functions(settings.functions), words_for(COMPILED))

@@ -12,6 +12,7 @@ from fmtcanon import Model
 
 from ..frame.visible import visible
 from ..kinds import TYPE_NAMES
+from ..rejected import refusal_of
 
 # How many percent signs are tried as the beginning of the back that two long formats share.
 MOST_SIGNS = 8
@@ -92,18 +93,23 @@ def shared_back(first: bytes, second: bytes, front: int) -> int:
     return low
 
 
+def is_cut(front: bytes) -> bool:
+    """Returns whether a front of a format ends within a specification."""
+    refusal = refusal_of(front)
+    return refusal is not None and refusal.kind is fmtcanon.Kind.TRUNCATED
+
+
 def narrowed(old: bytes, new: bytes) -> Tuple[int, int]:
     """Returns the lengths of a front and of a back that two accepted formats share. Neither ends within a specification.
     Without them the formats are the same if and only if they are with them.
     """
     shared = shared_front(old, new)
-    cut = fmtcanon._refused_specification(old[:shared])
-    front = cut.start if cut else shared
+    front = old.rfind(b"%", 0, shared) if is_cut(old[:shared]) else shared
     back = shared_back(old, new, front)
     for _ in range(MOST_SIGNS):
         sign = old.find(b"%", len(old) - back)
         back = len(old) - sign if sign >= 0 else 0
-        if not back or not any(fmtcanon._refused_specification(it[: len(it) - back]) for it in (old, new)):
+        if not back or not any(is_cut(it[: len(it) - back]) for it in (old, new)):
             return front, back
         back -= 1
     return front, 0

@@ -1,6 +1,7 @@
 """Has a signal end a command soon, wherever it is, with the processes that work for it and what these run."""
 
 import os
+import secrets
 import shutil
 import signal
 import sys
@@ -9,7 +10,11 @@ from contextlib import contextmanager
 from types import FrameType
 from typing import Callable, Iterator, List, NoReturn, Optional
 
-NUMBERS = (signal.SIGINT, signal.SIGTERM, signal.SIGHUP)
+NAMES = ("SIGINT", "SIGTERM", "SIGHUP")
+# Windows has the first two alone.
+NUMBERS = tuple(getattr(signal, name) for name in NAMES if hasattr(signal, name))
+# Whether there are timers, by which a signal is raised again.
+HAS_TIMERS = hasattr(signal, "setitimer")
 # How often a wait ends, in seconds, to see a signal that came just before it, or to another thread.
 LOOK = 0.2
 # What is done before a process ends early, whatever its main thread does meanwhile.
@@ -36,7 +41,7 @@ class Signals:
     def take(self, number: int, frame: Optional[FrameType]) -> None:
         if self.number is None:
             self.number = number
-            signal.setitimer(signal.ITIMER_REAL, LOOK, LOOK)
+            set_timer(LOOK)
         if not is_destructor(frame):
             self.check()
 
@@ -63,6 +68,12 @@ class Signals:
         self.check()
 
 
+def set_timer(seconds: float) -> None:
+    """Sends this process a signal again and again, after this time each; or no more, for 0."""
+    if HAS_TIMERS:
+        signal.setitimer(signal.ITIMER_REAL, seconds, seconds)
+
+
 def is_destructor(frame: Optional[FrameType]) -> bool:
     """Returns whether a frame is that of a destructor, or of what one calls."""
     while frame and frame.f_code.co_name != "__del__":
@@ -84,12 +95,13 @@ def interruptible() -> Iterator[Signals]:
     it.
     """
     signals = Signals()
-    numbers = [it for it in NUMBERS if signal.getsignal(it) is not signal.SIG_IGN] + [signal.SIGALRM]
+    numbers = [it for it in NUMBERS if signal.getsignal(it) is not signal.SIG_IGN]
+    numbers += [signal.SIGALRM] if HAS_TIMERS else []
     before = [signal.signal(number, signals.take) for number in numbers]
     try:
         yield signals
     finally:
-        signal.setitimer(signal.ITIMER_REAL, 0)
+        set_timer(0)
         for number, handler in zip(numbers, before):
             signal.signal(number, handler)
 
@@ -100,21 +112,24 @@ def clean() -> None:
 
 
 @contextmanager
-def temporary_folder() -> Iterator[str]:
+def temporary_folder(prefix: Optional[str] = None, dir: Optional[str] = None) -> Iterator[str]:
     """Gives a folder that is removed after a block, and when the command ends early within it."""
-    with tempfile.TemporaryDirectory() as folder:
-        owner = os.getpid()
+    folder = os.path.join(dir or tempfile.gettempdir(), (prefix or "fmtcanon-") + secrets.token_hex(8))
+    owner = os.getpid()
 
-        def remove() -> None:
-            # A process that works for this one isn't to remove it.
-            if os.getpid() == owner:
-                shutil.rmtree(folder, ignore_errors=True)
+    def remove() -> None:
+        # A process that works for this one isn't to remove it.
+        if os.getpid() == owner:
+            shutil.rmtree(folder, ignore_errors=True)
 
-        CLEANING.append(remove)
-        try:
-            yield folder
-        finally:
-            CLEANING.remove(remove)
+    # A signal may come as soon as it is there.
+    CLEANING.append(remove)
+    try:
+        os.mkdir(folder, 0o700)
+        yield folder
+    finally:
+        remove()
+        CLEANING.remove(remove)
 
 
 def end(number: int) -> NoReturn:

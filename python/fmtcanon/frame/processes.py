@@ -3,14 +3,19 @@
 from __future__ import annotations
 
 import collections
+import contextlib
+import ctypes
+import glob
 import itertools
 import os
 import queue
 import signal
+import sys
 import threading
 import time
 import traceback
-from typing import TYPE_CHECKING, Any, Callable, Deque, Iterable, Iterator, List, NamedTuple, Optional, Tuple, TypeVar
+from typing import TYPE_CHECKING, Any, Callable, Deque, Iterable, Iterator, List, NamedTuple, Optional, Set, Tuple
+from typing import TypeVar
 
 from .interrupting import CLEANING, LOOK, NUMBERS, clean
 
@@ -19,8 +24,14 @@ if TYPE_CHECKING:
 
 # Up to how many items are worked on by one process, and how many results wait for each of several.
 FEW, WAITING = 8, 4
-# The seconds that a process has to end before it is killed.
-GRACE = 1.0
+# The seconds that a process has to end before it is killed, and those that it has for an item.
+GRACE, LONGEST = 1.0, 600.0
+# The bytes of memory that a process may have, and each that it starts.
+MEMORY = 4 << 30
+# The programs that this process runs.
+RUN: Set[int] = set()
+# As Linux numbers it: a process gets the children of those that it started, once these are gone.
+CHILD_SUBREAPER = 36
 _Item = TypeVar("_Item")
 _Result = TypeVar("_Result")
 
@@ -33,7 +44,7 @@ class Slot:
     """The result of an item, once it is there."""
 
     def __init__(self, item: Any) -> None:
-        self.item, self.is_done = item, False
+        self.item, self.is_done, self.late = item, False, 0.0
         self.result: Any = None
 
     def put(self, result: Any) -> None:
@@ -112,7 +123,7 @@ class Workers:
             else:
                 slot.put(self.work(item))
                 return
-        worker = self.idle.pop()
+        worker, slot.late = self.idle.pop(), time.monotonic() + LONGEST
         self.busy.append((worker, slot))
         try:
             worker.connection.send(item)
@@ -126,6 +137,11 @@ class Workers:
         ready: List[Any] = []
         while not ready:
             ready = wait([worker.connection for worker, _ in self.busy], LOOK)
+            late = [it for it in self.busy if it[1].late < time.monotonic() and it[0].connection not in ready]
+            for worker, slot in late:
+                self.drop(worker, slot, f"took more than {LONGEST:.0f} seconds")
+            if late:
+                return
         for worker, slot in [it for it in self.busy if it[0].connection in ready]:
             try:
                 is_done, result = worker.connection.recv()
@@ -138,12 +154,14 @@ class Workers:
             self.busy.remove((worker, slot))
             self.idle.append(worker)
 
-    def drop(self, worker: Worker, slot: Slot) -> None:
-        """Takes note that a process ended while it had an item. Raises Ended if nothing is the result of that."""
+    def drop(self, worker: Worker, slot: Slot, how: str = "") -> None:
+        """Takes note that a process ended while it had an item, or takes too long and is ended. Raises Ended if nothing
+        is the result of that.
+        """
         worker.connection.close()
         wait_or_kill(worker.process, GRACE)
         status = worker.process.exitcode
-        how = "ended" + (f" by signal {-status}" if status < 0 else "")
+        how = how or "ended" + (f" by signal {-status}" if status < 0 else "")
         if not self.instead:
             raise Ended(f"one of its processes {how}")
         slot.put(self.instead(slot.item, how))
@@ -174,6 +192,11 @@ def started(work: Callable[[Any], Any], others: Iterable[Connection] = ()) -> Wo
     """
     from multiprocessing import get_context
 
+    if not hasattr(signal, "pthread_sigmask"):
+        raise OSError("signals can't be held")
+    # What one leaves that is killed is a child of this process then, on Linux.
+    if sys.platform == "linux":
+        ctypes.CDLL(None).prctl(CHILD_SUBREAPER, 1, 0, 0, 0)
     # Another way to start one runs the command's own file again.
     context = get_context("fork")
     own, other = context.Pipe()
@@ -197,6 +220,22 @@ def wait_or_kill(process: Any, seconds: float) -> None:
     if process.is_alive():
         process.kill()
         process.join()
+    if process.exitcode:
+        end_left()
+
+
+def end_left() -> None:
+    """Ends what processes left that are gone: the compilers of one that was killed, with their groups."""
+    from multiprocessing import active_children
+
+    known = RUN.union(it.pid for it in active_children())
+    for path in glob.glob("/proc/self/task/*/children"):
+        with contextlib.suppress(OSError), open(path, encoding="ascii") as stream:
+            for left in set(map(int, stream.read().split())) - known:
+                group = os.getpgid(left)
+                if group != os.getpgrp():
+                    os.killpg(group, signal.SIGKILL)
+                    os.waitpid(left, 0)
 
 
 # Those whose processes are there, to be ended when the command ends early.
@@ -217,6 +256,7 @@ def serve(work: Callable[[Any], Any], own: Connection, others: Iterable[Connecti
         # The process that started it decides. What it runs itself doesn't ignore the signals.
         signal.signal(number, lambda *_: None)
     signal.pthread_sigmask(signal.SIG_UNBLOCK, NUMBERS)
+    limit_memory()
     LIVE.clear()
     for it in others:
         it.close()
@@ -234,6 +274,28 @@ def serve(work: Callable[[Any], Any], own: Connection, others: Iterable[Connecti
         except OSError:
             # Nobody waits for it any more: the process ends once it has cleaned.
             receiving.join()
+
+
+def limit_memory() -> None:
+    """Limits the memory of this process, and of each that it starts."""
+    # Windows doesn't have it, and neither starts processes here.
+    import resource
+
+    _, most = resource.getrlimit(resource.RLIMIT_AS)
+    resource.setrlimit(resource.RLIMIT_AS, (MEMORY if most < 0 else min(MEMORY, most), most))
+
+
+@contextlib.contextmanager
+def limited_memory() -> Iterator[None]:
+    """Limits the memory of what is started in a block."""
+    import resource
+
+    before = resource.getrlimit(resource.RLIMIT_AS)
+    limit_memory()
+    try:
+        yield
+    finally:
+        resource.setrlimit(resource.RLIMIT_AS, before)
 
 
 def receive(own: Connection, given: queue.SimpleQueue[Any]) -> None:

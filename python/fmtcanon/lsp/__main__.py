@@ -1,5 +1,17 @@
+"""The command fmtcanon-lsp."""
+
 import sys
 
-from .command import main
+from ..frame.systems import require_posix
 
-sys.exit(main())
+
+def main() -> int:
+    require_posix("fmtcanon-lsp")
+    # What it imports isn't there on other systems.
+    from .command import main as run
+
+    return run()
+
+
+if __name__ == "__main__":
+    sys.exit(main())

@@ -55,7 +55,8 @@ class Compiler:
         try:
             if not self.worker.connection.poll():
                 if self.given and time.monotonic() > self.late:
-                    self.stop(kill=True)
+                    # It ends its compilers, which would go on without it.
+                    self.stop()
                     raise CompilerEnded("it takes too long")
                 return None
             is_done, result = self.worker.connection.recv()

@@ -6,11 +6,10 @@ import re
 import shutil
 from typing import Dict, Optional, Sequence, Tuple
 
-from ..compiling.compile_commands import CompileCommand
+from ..compiling.compile_commands import DATABASE as FILE, CompileCommand
 from ..compiling.left import Left
 from ..compiling.sources import Files
 
-FILE = "compile_commands.json"
 # Where it is looked for in each folder above a source.
 FOLDERS = ("", "build")
 # Programs that are compilers, also for another machine or of a version.
@@ -27,6 +26,13 @@ def folder_above(path: str) -> Optional[str]:
         if folder == os.path.dirname(folder):
             return None
         folder = os.path.dirname(folder)
+
+
+def check_owner(database: str, path: str) -> None:
+    """Raises Left for a database that nobody named and that is neither the user's, root's nor of the file's owner."""
+    owners = {0, os.geteuid(), *(os.stat(it).st_uid for it in [path] if os.path.exists(it))}
+    if not {os.stat(database).st_uid, os.lstat(database).st_uid} <= owners:
+        raise Left(f"{database} belongs to another user: name its folder in the option database")
 
 
 def check_program(command: CompileCommand) -> None:
@@ -56,6 +62,8 @@ class Databases:
         with these flags. Raises `OSError` or Left.
         """
         where = folder or folder_above(path)
+        if where and not folder:
+            check_owner(os.path.join(where, FILE), path)
         if where is None:
             return Files(argparse.Namespace(database=None, files=[path], exclude=[], flag=list(flags)))
         status = os.stat(os.path.join(where, FILE))

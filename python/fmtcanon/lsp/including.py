@@ -3,12 +3,12 @@
 import re
 from typing import Optional
 
-from ..source.tokens import CHARACTER, COMMENT, RAW, STRING
+from ..source.tokens import CHARACTER, COMMENT, OPEN, RAW, STRING
 from .diagnosing import TextEdit
 
 # What may have the text of a directive in it, and the lines of directives.
 LINE = re.compile(
-    rb"|".join([RAW, STRING, CHARACTER, COMMENT])
+    rb"|".join([RAW, STRING, CHARACTER, COMMENT, OPEN])
     + rb"|^[ \t]*#[ \t]*(?P<word>\w+)[ \t]*(?P<name><[^>\n]*>)?(?:[^\\\n/]|\\[\s\S]|/(?![/*])|"
     + COMMENT
     + rb")*(?:\n|\Z)",

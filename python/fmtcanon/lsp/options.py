@@ -29,6 +29,9 @@ class Options(NamedTuple):
     flags: Sequence[str] = ()
     added: Sequence[str] = ()
 
+# The most seconds that a text may take.
+LONGEST = 3600
+
 
 def options_of(given: Any, before: Options = Options()) -> Tuple[Options, List[str]]:
     """Returns the options that an editor gives, over those from before, and what is wrong with them."""
@@ -42,7 +45,7 @@ def options_of(given: Any, before: Options = Options()) -> Tuple[Options, List[s
         elif name == "compile" and isinstance(value, bool):
             options = options._replace(compile=value)
         elif name == "seconds" and type(value) in (int, float) and value > 0:
-            options = options._replace(seconds=value)
+            options = options._replace(seconds=min(value, LONGEST))
         elif name == "database" and (value is None or isinstance(value, str)):
             options = options._replace(database=value)
         elif name == "flags" and is_list_of_text(value):

@@ -12,6 +12,7 @@ from ..frame.findings import Finding, Printer, by_place
 from ..frame.output import Unwritable
 from ..frame.processes import in_order
 from ..models import Model
+from ..source import files as source_files
 from ..catalogs.checking import RULES, UNJUDGED, Checker, Right
 
 NAME = "fmtcanon-po"
@@ -97,8 +98,7 @@ def standard_input() -> Union[bytes, str]:
 def read_file(file: str) -> Union[bytes, str]:
     """Returns the bytes of a file, or why it can't be read."""
     try:
-        with open(file, "rb") as stream:
-            return stream.read()
+        return source_files.read_file(file, is_given=True).data
     except OSError as error:
         return str(error.strerror)
 

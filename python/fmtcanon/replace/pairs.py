@@ -16,6 +16,7 @@ from ..formats.verdicts import (
     specifications,
     taker_of,
 )
+from ..source.files import read_file
 from ..source.respelling import decoded
 
 LIBRARY = Library()
@@ -40,8 +41,7 @@ def format_of(word: bytes) -> Optional[bytes]:
 def pairs_in(file: str) -> List[Tuple[bytes, bytes]]:
     """Returns the pairs of a file with an old and a new format in each line, with a tab between."""
     try:
-        with open(file, "rb") as stream:
-            lines = stream.read().splitlines()
+        lines = read_file(file, is_given=True).data.splitlines()
     except OSError as error:
         raise Wrong(f"{file}: {error.strerror or error}") from error
     pairs: Dict[bytes, bytes] = {}

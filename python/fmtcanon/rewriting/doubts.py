@@ -9,6 +9,7 @@ from typing import Iterator, Set, Tuple
 
 from ..compiling.compile_commands import CompileCommand
 from ..compiling.left import Left
+from ..source.files import read_file
 from ..source.known import KNOWN
 from ..source.respelling import decoded
 from ..source.tokens import PREPROCESSED, without_splices
@@ -59,8 +60,7 @@ def project_part(command: CompileCommand, text: bytes) -> Tuple[bytes, Set[str]]
 @functools.lru_cache(maxsize=None)
 def has_line_directive(file: str, _time: int) -> bool:
     """Returns whether a file, as it was at this time, says that its lines are another file's."""
-    with open(file, "rb") as stream:
-        return bool(LINE_DIRECTIVE.search(without_splices(stream.read())))
+    return bool(LINE_DIRECTIVE.search(without_splices(read_file(file).data)))
 
 
 def check(command: CompileCommand, text: bytes) -> None:

@@ -15,6 +15,8 @@ from ..source.respelling import LiteralRun, literals_of
 from ..source.tokens import Tokens, common_front
 from . import doubts
 
+# The macro for when a file was changed.
+OWN_TIME = b"__TIMESTAMP__"
 # A token, or the number of the place whose marker it is.
 Piece = Union[bytes, int]
 
@@ -83,14 +85,15 @@ class File:
 
     def judge(self, command: CompileCommand) -> "Seen":
         """Judges the places by one compile command. Returns what it makes of the file."""
-        text, marker = command.preprocessed(), Marker()
+        text, marker = command.preprocessed(self.original.source), Marker()
         doubts.check(command, text)
         if self.changes_columns():
             doubts.check_columns(text)
         assertions = assertions_in(command.macros())
         marked, front, pieces = self.marked(command, text, marker)
         before = Tokens(text[front:], assertions)
-        if rendered(pieces, self.old) != before.words:
+        # Whatever is replaced in a file, it has another time then.
+        if OWN_TIME in self.original.source or rendered(pieces, self.old) != before.words:
             raise Left("its compiler reads it otherwise once literals are replaced")
         counts = Counter(it for it in pieces if isinstance(it, int))
         calls = MarkedCalls(command, marked, marker, self.functions) if counts else None

@@ -9,6 +9,7 @@ from typing import Callable, Dict, Iterable, NamedTuple, Optional, Set
 
 from ..compiling.compile_commands import CompileCommand
 from ..compiling.left import Left
+from ..source.files import bytes_of
 
 # The endings of what a compiler of C reads.
 OF_C = re.compile(r".*\.(?:c|cc|cp|cpp|cxx|c\+\+|C|CPP|m|mm|M|S|sx|i|ii)", re.DOTALL)
@@ -39,11 +40,7 @@ def asked(command: CompileCommand) -> Optional[Inclusions]:
 @functools.lru_cache(maxsize=None)
 def name_that_registers(file: str) -> str:
     """Returns the file and the name in it of a function that gives a conversion another meaning, or nothing."""
-    try:
-        with open(file, "rb") as stream:
-            found = REGISTERS.search(stream.read())
-    except OSError:
-        return ""
+    found = REGISTERS.search(bytes_of(file))
     return f"{os.path.relpath(file)} names {found.group().decode()}" if found else ""
 
 

@@ -4,10 +4,10 @@ import re
 from typing import Iterator, List, NamedTuple, Tuple
 
 from .places import column_of
-from .tokens import CHARACTER, COMMENT, RAW, STRING
+from .tokens import CHARACTER, COMMENT, OPEN, RAW, STRING
 
 MARK = b"fmtcanon:"
-TOKEN = re.compile(rb"|".join([RAW, STRING, CHARACTER, rb"(?P<comment>" + COMMENT + rb")"]))
+TOKEN = re.compile(rb"|".join([RAW, STRING, CHARACTER, rb"(?P<comment>" + COMMENT + rb")", OPEN]))
 OK = re.compile(r"/[/*][\s*/]*fmtcanon:\s*ok(?![\w-])(?P<kinds>.*)", re.DOTALL)
 # What begins the reason after the kinds.
 REASON = "--"
@@ -35,12 +35,14 @@ def ok_comments(source: bytes) -> List[OkComment]:
 
 
 def found_in(source: bytes) -> Iterator[OkComment]:
+    counted, lines_before = 0, 1
     for token in TOKEN.finditer(source):
         text = token["comment"]
         found = OK.match(text.decode(errors="replace")) if text else None
         if found:
             kinds = found["kinds"].rstrip("*/").partition(REASON)[0].replace(",", " ").split()
-            line = source.count(b"\n", 0, token.start()) + 1
+            lines_before += source.count(b"\n", counted, token.start())
+            counted, line = token.start(), lines_before
             last = line + text.count(b"\n")
             lines = (line, last) if has_code(source, token.start(), token.end()) else (last + 1, last + 1)
             yield OkComment(line, column_of(source, token.start()), *lines, tuple(kinds))

@@ -9,6 +9,7 @@ import re
 from typing import Dict, Iterator, List, Mapping, Optional, Set, Tuple
 
 from .attributes import FORMAT, arguments_in, constant_of, printf_indexes
+from .files import bytes_of
 from .known import KNOWN, Shape
 from .tokens import NAME
 
@@ -93,9 +94,5 @@ def headers_named(here: str, name: bytes, folder: str) -> Iterator[Tuple[str, in
 @functools.lru_cache(maxsize=KEPT)
 def read_of(path: str, time: int) -> Tuple[Dict[bytes, Shape], List[bytes]]:
     """Returns the functions of a header of this time, and what it includes."""
-    try:
-        with open(path, "rb") as stream:
-            data = stream.read(LARGEST)
-    except OSError:
-        data = b""
+    data = bytes_of(path)
     return declared_in(data), INCLUDE.findall(data)

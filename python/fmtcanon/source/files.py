@@ -1,24 +1,71 @@
-"""Files of C source: which these are, and how one is read."""
+"""Files of C source: which these are; and how a file is read whose name is somebody else's."""
 
+import errno
 import fnmatch
 import os
 import re
-from typing import List, Sequence, Set, Tuple
+import stat
+from typing import List, NamedTuple, Sequence, Set, Tuple
 
 # The endings of C and C++, of what they include, and of what is made into them.
 SOURCES = re.compile(r".*\.(?:[chyl]|cc|cpp|cxx|c\+\+|hh|hpp|hxx|h\+\+|inc|inl|ipp|tcc|def|C|H|m|mm|pc|ec)", re.DOTALL)
+
+
+# The most bytes of a file that are read.
+MOST = 1 << 28
 
 
 class Unreadable(Exception):
     """Something can't be read, and why."""
 
 
-def read(path: str, name: str = "") -> bytes:
+class ReadFile(NamedTuple):
+    """The bytes of a file, and its state when they were read."""
+
+    data: bytes
+    state: os.stat_result
+
+
+def read_file(path: str, most: int = MOST, flags: int = 0, is_given: bool = False) -> ReadFile:
+    """Reads a file. Raises `OSError` for what isn't a regular file, as a FIFO or a device, or is larger than this: it
+    isn't even opened. One that the user names may be of any kind.
+    """
+    if not is_given:
+        check_regular(os.stat(path))
+    handle = os.open(path, os.O_RDONLY | (0 if is_given else os.O_NONBLOCK) | flags)
+    with open(handle, "rb") as stream:
+        state = os.fstat(handle)
+        if not is_given:
+            check_regular(state)
+        data = stream.read(min(state.st_size, most) + 1) or b""
+        if len(data) > state.st_size:
+            # A file of /proc has no size.
+            data += stream.read(most + 1 - len(data)) or b""
+    if len(data) > most:
+        raise OSError(errno.EFBIG, "it is too large")
+    return ReadFile(data, state)
+
+
+def check_regular(state: os.stat_result) -> None:
+    if stat.S_ISDIR(state.st_mode):
+        raise IsADirectoryError(errno.EISDIR, os.strerror(errno.EISDIR))
+    if not stat.S_ISREG(state.st_mode):
+        raise OSError(errno.EINVAL, "it isn't a regular file")
+
+
+def bytes_of(path: str) -> bytes:
+    """Returns the bytes of a file; none if it can't be read."""
+    try:
+        return read_file(path).data
+    except (OSError, ValueError):
+        return b""
+
+
+def read(path: str, name: str = "", is_given: bool = False) -> bytes:
     """Returns the bytes of a file of text, which may have another name in what is said of it."""
     name = name or path
     try:
-        with open(path, "rb") as stream:
-            data = stream.read()
+        data = read_file(path, is_given=is_given).data
     except OSError as error:
         raise Unreadable(f"{name}: {error.strerror or error}") from error
     return as_text(name, data)

@@ -12,7 +12,7 @@ from ..frame.excerpts import line_of
 from ..models import Model
 from .known import GETTEXT
 from .macros import PlacePart, definitions, expansion
-from .tokens import CHARACTER, COMMENT, NAME, NUMBER, SPLICE, STRING
+from .tokens import CHARACTER, COMMENT, NAME, NUMBER, OPEN, SPLICE, STRING
 
 # A comment that isn't closed goes to the end.
 ANY_COMMENT = COMMENT + rb"|/\*[\s\S]*"
@@ -29,7 +29,7 @@ DIRECTIVE = rb"#[ \t]*(?:define[ \t]+(?P<defined>" + NAME + rb")|" + OTHER_DIREC
 TOKEN = (
     rb"(?P<mark>[(),;{}])|(?P<call>" + NAME + rb")\s*\("
     rb"|(?P<string>(?:u8)?" + STRING + rb")|(?P<raw>" + RAW_START + rb")|(?P<wide>[uUL]" + STRING + rb")"
-    rb"|(?P<name>" + NAME + rb")|" + DIRECTIVE + rb"|" + ANY_COMMENT + rb"|" + CHARACTER
+    rb"|(?P<name>" + NAME + rb")|" + DIRECTIVE + rb"|" + ANY_COMMENT + rb"|" + CHARACTER + rb"|" + OPEN
 )
 # Statements after the end of another that have nothing of interest: what was before them is over.
 OTHER_STATEMENTS = rb"(?P<over>(?<=[;{}])(?:[^\"'/#;{}]{0,400}[;{}]){1,64})|"
@@ -226,7 +226,7 @@ def end_of_raw(text: bytes, start: int) -> int:
 # A statement, or the front of a long one: its parts have no bound, and a match keeps a state for each.
 STATEMENT = re.compile(
     rb"(?:[^\"'/#;{}]+|" + rb"|".join([STRING, CHARACTER, ANY_COMMENT]) + rb"|/(?![/*])|#[ \t]*" + OTHER_DIRECTIVE
-    + rb"|#){1,100}(?P<end>[;{}])?|(?P<mark>[;{}])|[\s\S]"
+    + rb"|#|" + OPEN + rb"){1,100}(?P<end>[;{}])?|(?P<mark>[;{}])|[\s\S]"
 )
 IS_DIRECTIVE = re.compile(rb"[ \t]*#")
 # What the pattern of statements doesn't know: raw strings and separators within numbers.

@@ -7,6 +7,8 @@ from typing import List, Sequence, Tuple
 # A string literal without a prefix, in which lines may be spliced.
 STRING = rb'"[^"\\\n]*(?:\\(?:\r\n|[\s\S])[^"\\\n]*)*"'
 RAW = rb"(?:u8|[uUL])?R\"(?P<raw>[^()\\\s\"]{0,16})\([\s\S]*?\)(?P=raw)\""
+# A literal that isn't closed, up to the end of its line, or of the text: so none is read again from each quote in it.
+OPEN = rb'"(?:[^"\\\n]|\\(?:\r\n|[\s\S]))*|(?<!\w)(?:u8|[uUL])?R"[^()\\\s"]{0,16}\([\s\S]*'
 MAY_BE_RAW = re.compile(rb'(?<!\w)(?:u8|[uUL])?R"')
 CHARACTER = rb"(?:u8|[uUL])?'(?:[^'\\\n]|\\[\s\S])*'"
 NUMBER = rb"\.?[0-9](?:[eEpP][-+]|'?[\w.])*"
@@ -16,7 +18,7 @@ COMMENT = rb"/\*[^*]*\*+(?:[^/*][^*]*\*+)*/|//(?:[^\\\n]|\\[\s\S])*(?=\n|\Z)"
 GAP = rb"(?:[ \t\n\v\f\r]|\\\r?\n|" + COMMENT + rb")*"
 SPLICE = re.compile(rb"\\\r?\n")
 LINE_MARKER = rb"^# \d+ \"[^\n]*"
-REST = rb"|".join([CHARACTER, NUMBER, NAME, rb"[^\s]"])
+REST = rb"|".join([CHARACTER, NUMBER, NAME, OPEN, rb"[^\s]"])
 PREPROCESSED = re.compile(
     rb"(?P<marker>" + LINE_MARKER + rb")|(?P<string>" + RAW + rb"|(?:u8|[uUL])?" + STRING + rb")|" + REST, re.MULTILINE
 )

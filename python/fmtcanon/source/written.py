@@ -10,9 +10,9 @@ from ..formats.explaining import ExplainedDirective, Explanation, explain
 from .declared import LIBRARY, Shapes, declared_in
 from .macros import PlacePart
 from .places import ANY_COMMENT, NOT_FORMATS, SPACE, Place, Source
-from .tokens import CHARACTER, RAW, STRING
+from .tokens import CHARACTER, OPEN, RAW, STRING
 
-MARKS = re.compile(rb"(?P<mark>[()\[\]{},;])|" + rb"|".join([RAW, STRING, CHARACTER, ANY_COMMENT]) + rb"|[\s\S]")
+MARKS = re.compile(rb"(?P<mark>[()\[\]{},;])|" + rb"|".join([RAW, STRING, CHARACTER, ANY_COMMENT, OPEN]) + rb"|[\s\S]")
 PREPROCESSED_LINE = re.compile(rb"\n[ \t]*#")
 # How far a call goes at most, before its format and after it.
 BEFORE, AFTER = 2_000, 20_000
