@@ -6,6 +6,10 @@
 # make check-more        tries the library with tools that the gate doesn't need: clang, valgrind,
 #                        gettext, libclang, mypy, lintian, debootstrap, meson, CMake, the shells of the
 #                        completions, wasm-opt, node, browsers, and a cross compiler and an emulator of AArch64
+# make quick             builds the program and the library without proving them, and tries both: for work in between.
+#                        What it passes is not proved, and the gate tries all of it again
+# make run               builds the program so, and asks it for the canonical text of a format, or with
+#                        ASK="same '%05d' '%.5d'" something different
 # make mutants           tries the mutants that the records don't have as refused, and writes them there
 # make library           builds the C library alone
 # make page              the library as a module of WebAssembly, and the page that runs it in a browser, in out/web
@@ -20,6 +24,8 @@
 # make deb MAINTAINER=   a Debian package of it, by the person who is named so: 'Name <address>'
 # make wheel             a wheel of the Python module with the library and the program inside
 #                        All three also write out/SHA256SUMS
+# make crate             a package of Cargo, made of the proved sources: with rustc, and without the kit, it builds the
+#                        program and the library
 # make tables SOURCES= RELEASES=
 #                        writes out/tables.md: what the commands say of a machine's own catalogs, of source
 #                        trees with a compile_commands.json in these folders, and of releases in pairs of folders
@@ -53,14 +59,12 @@ CPU_x86_64 = --cpu x86-64
 CPU_aarch64 = --target aarch64-unknown-linux-gnu
 CPU = $(CPU_$(TARGET))
 
-# How many checks `rt ci` runs side by side: one a processor, with 5 GB of free memory. Left alone, it plans twice the memory
-# that a check takes, and the largest crate starts last. Beside it run half as many; on two processors two, since neither
-# has enough to run for all processors all the time.
+# How many checks `rt ci` and the trials of mutants run side by side: one a processor, with 5 GB of free memory. So each has
+# one job; left alone, `rt ci` gives some four, and such a check takes up to twice the time of processors.
 JOBS = $(shell awk -v n="$$(nproc)" '/^MemAvailable/ { m = int($$2 / 5000000); \
     if (m > n) m = n; if (m < 1) m = 1; print m }' /proc/meminfo)
-BESIDE = $(shell echo $$(( $(JOBS) > 4 ? $(JOBS) / 2 : $(JOBS) > 1 ? 2 : 1 )))
 
-.PHONY: all program library archive test gate beside-gate tried trials check-more mutants tools c-tools
+.PHONY: all program library archive test gate sample tried trials quick run check-more mutants tools c-tools crate
 .PHONY: page try try-again web-tools built places install uninstall dist deb wheel npm tables
 
 all: $(if $(PROGRAM),program) library
@@ -74,8 +78,12 @@ library: $(C)/libfmtcanon.a $(SHARED)
 # The folder in which the crate of the C library is proved and built; rt knows what has changed.
 C_CRATE = crates/fmtcanon_c
 
+# In the gate, over the libraries that `rt ci` has proved (tests/mutants/built.py).
+BUILD_C = cd $(C_CRATE) && rt lib $(CPU)
+BUILD_C_OVER_CI = python3 -m tests.mutants.built $(C_CRATE)/out/libfmtcanon_c.a $(CPU)
+
 archive: tools c-tools
-	cd $(C_CRATE) && rt lib $(CPU)
+	$(BUILD_C)
 	mkdir -p $(C)
 
 # One object, whose only global names are those of the header.
@@ -91,9 +99,11 @@ $(C)/libfmtcanon.a: $(C)/fmtcanon.o
 	rm -f $@
 	$(CROSS)ar rcs $@ $<
 
+LINK = $(CC) -shared -Wl,-soname,$(SONAME) -Wl,-z,defs -Wl,-z,text -Wl,-z,relro -Wl,-z,now $(LDFLAGS)
+
 # Its other names are hard links: `rt ci` refuses a tree with symbolic ones.
 $(SHARED): $(C)/fmtcanon.o
-	$(CC) -shared -Wl,-soname,$(SONAME) -Wl,-z,defs -Wl,-z,text -Wl,-z,relro -Wl,-z,now $(LDFLAGS) -o $@ $<
+	$(LINK) -o $@ $<
 	ln -f $@ $(C)/$(SONAME)
 	ln -f $@ $(C)/libfmtcanon.so
 
@@ -127,44 +137,92 @@ try-again:
 MINUTES = out/minutes
 TIMED = tests/timed.sh $(MINUTES)
 
-# The trials use the program that `gate` has just proved and built. Nothing can go on from the proofs of `rt ci`, so beside
-# it the crates are proved once more for the mutants and the library, in folders that stay (tests/mutants/work.py).
+# All crates are proved once, by `rt ci`. What comes after it stands on the libraries and the program that it leaves.
 test: tools c-tools
 	mkdir -p $(dir $(MINUTES))
 	rm -f $(MINUTES)
 	python3 -m tests.mutants --recorded
-	$(TIMED) tests/both.sh '$(TIMED) $(MAKE) gate' '$(TIMED) $(MAKE) beside-gate'
+	$(TIMED) $(MAKE) gate
+	$(TIMED) $(MAKE) library BUILD_C='$(BUILD_C_OVER_CI)'
+	$(TIMED) $(MAKE) sample
 	$(TIMED) $(MAKE) tried
 	@cat $(MINUTES)
 
-# The tests try this program and this library, whatever the environment names.
-TRY = FMTCANON_PROGRAM=$(CURDIR)/$(PROGRAM) FMTCANON_LIBRARY=$(CURDIR)/$(C)/$(SONAME) python3 -m unittest
-tried:
-	$(TRY) -q tests.documents
-	$(TRY) -q tests.program
-	$(TRY) -q tests.library
-	$(TRY) -q tests.packages
-	$(TRY) -q tests.commands
-	$(TRY) -q tests.web
-
+# `rt ci` gives a crate back the library that another command of rt has left there, so none is to be there.
 gate: tools
+	rm -rf crates/*/out/rlib out/proved.txt
 	RT_JOBS=$(JOBS) rt ci
+	python3 -m tests.mutants.built --mark
 
-beside-gate: tools c-tools
-	tests/both.sh 'python3 -m tests.mutants --gate --jobs $(BESIDE)' '$(TRY) -q tests.mutants'
-	$(TRY) -q tests.mutants.statements
+sample: tools
+	python3 -m tests.mutants --gate --jobs $(JOBS)
+
+# As many side by side as `make -j` says, or one a processor. Each says what it printed when it ends.
+SIDE_BY_SIDE = $(MAKE) -k --output-sync=target $(if $(findstring jobserver,$(MAKEFLAGS)),,-j$(JOBS))
+
+# The tests try this program and this library, whatever the environment names. What they make of the Makefile has one job.
+TRY = MAKEFLAGS= FMTCANON_PROGRAM=$(CURDIR)/$(PROGRAM) FMTCANON_LIBRARY=$(CURDIR)/$(C)/$(SONAME) python3 -m unittest -q
+SUITES = tests.program tests.commands tests.library tests.packages tests.documents tests.web
+tried:
+	$(SIDE_BY_SIDE) tests.mutants.statements $(SUITES)
+
+.PHONY: tests.mutants tests.mutants.statements $(SUITES)
+tests.mutants tests.mutants.statements $(SUITES):
+	$(TRY) $@
 
 trials: program library
-	$(MAKE) tried
+	$(SIDE_BY_SIDE) $(SUITES)
+
+# The program and the library as the kit compiles them without a proof, with its traps. Every source is a prerequisite, since
+# nothing else says what has changed. The tree goes again, since `rt ci` refuses one with symbolic links.
+QUICK = out/quick
+RT_SOURCES = crates.txt $(wildcard crates/*/src/*.rt crates/*/src/*/*.rt crates/*/src/*/*/*.rt)
+$(QUICK)/fmtcanon: $(RT_SOURCES) $(wildcard quick/*) | tools
+	mkdir -p $(QUICK)
+	cd crates/fmtcanon && ../../quick/module.sh $(CURDIR)/$(QUICK)/program.bc
+	quick/program.sh $(QUICK)/program.bc $@
+
+$(QUICK)/libproved.a: $(RT_SOURCES) $(wildcard quick/*) | tools c-tools
+	mkdir -p $(QUICK)
+	rm -rf $(QUICK)/tree
+	python3 quick/c_crate.py $(QUICK)/tree
+	cd $(QUICK)/tree/crates/quick_c && $(CURDIR)/quick/module.sh $(CURDIR)/$(QUICK)/library.bc
+	quick/library.sh $(QUICK)/library.bc $(QUICK)/library.o
+	rm -rf $(QUICK)/tree $@
+	ar rcs $@ $(QUICK)/library.o
+
+$(QUICK)/$(SONAME): $(QUICK)/libproved.a library/join.sh library/optional_error.c
+	CC="$(CC)" library/join.sh $< $(QUICK)/fmtcanon.o
+	rm -f $(QUICK)/libfmtcanon.a
+	ar rcs $(QUICK)/libfmtcanon.a $(QUICK)/fmtcanon.o
+	$(LINK) -o $(QUICK)/libfmtcanon.so.$(VERSION) $(QUICK)/fmtcanon.o
+	ln -f $(QUICK)/libfmtcanon.so.$(VERSION) $(QUICK)/libfmtcanon.so
+	ln -f $(QUICK)/libfmtcanon.so.$(VERSION) $@
+
+# The status of the program isn't that of make: a difference and a rejection are answers.
+ASK = canon 'Total: %i of %u%%'
+run: $(QUICK)/fmtcanon
+	@$< $(ASK) || [ $$? -le 3 ]
+	@echo "To ask more: make run ASK=\"same '%05d' '%.5d'\", or $<. To have the program, proved: make" >&2
+
+# `make install` in the suites installs these files. The suite of packages is of what `make` builds: the folder of sources
+# that it packs, and the program that is proved.
+QUICK_SUITES = $(filter-out tests.packages,$(SUITES))
+quick:
+	$(SIDE_BY_SIDE) $(QUICK)/fmtcanon $(QUICK)/$(SONAME)
+	$(SIDE_BY_SIDE) PROGRAM=$(QUICK)/fmtcanon C=$(QUICK) $(QUICK_SUITES)
+	@echo 'Not run: proofs, mutants, and tests.packages, which is of what make builds. The gate runs them: make test'
 
 # What the gate doesn't try is in files more_*.py.
 check-more: program library $(C)/second.a page
 	$(MAKE) library TARGET=aarch64
 	cd $(C_CRATE) && rt lib $(CPU)
 	python3 bench/paths.py $(C)
-	$(TRY) discover -q -s tests -t . -p 'more_*.py'
+	$(TRY) tests.mutants
+	$(TRY) discover -s tests -t . -p 'more_*.py'
 
 mutants: tools
+	$(TRY) tests.mutants
 	python3 -m tests.mutants --jobs $(JOBS)
 
 # A tool that is missing is named, and that fails.
@@ -184,6 +242,14 @@ c-tools:
 
 web-tools:
 	@command -v wasm-opt > /dev/null || { echo 'wasm-opt is missing: the package binaryen has it'; exit 1; }
+
+# The sources without contracts, as a package. Whoever has it needs no kit, and neither does this.
+crate:
+	@command -v cargo > /dev/null || { echo 'cargo is missing: rustup.rs has it'; exit 1; }
+	rm -rf out/crate
+	python3 cargo/make_crate.py out/crate
+	cd out/crate && cargo package --no-verify --allow-dirty
+	cp out/crate/target/package/fmtcanon-$(VERSION).crate out/
 
 # The targets below need what only `make` builds.
 built:

@@ -3,7 +3,7 @@
     python3 -m tests.commands.first_screen
 
 It needs a Python that has libclang, and the library. more_reading.py compares the picture with what the commands
-print, and tests/documents/ with the README.
+print.
 """
 
 import re
@@ -30,6 +30,7 @@ STYLES = {
     "1;36": ' font-weight="bold" fill="#5fd7ff"',
 }
 PROMPT = ' fill="#8bd649"'
+KEPT = 'xml:space="preserve"'
 
 
 def spans(line):
@@ -50,13 +51,14 @@ def drawn(screens):
     height, width = LINE * (len(lines) - 1) + 2 * MARGIN, round(LETTER * COLUMNS) + 2 * MARGIN
     head = f'<svg xmlns="http://www.w3.org/2000/svg" viewBox="0 0 {width} {height}" width="{width}" height="{height}">'
     parts = [head, f'<rect width="{width}" height="{height}" rx="8" fill="{GROUND}"/>']
-    parts.append(f'<g font-family="monospace" font-size="{SIZE}" fill="{PLAIN}" xml:space="preserve">')
+    parts.append(f'<g font-family="monospace" font-size="{SIZE}" fill="{PLAIN}">')
     for number, line in enumerate(lines):
         column, y = 0, MARGIN + LINE * number + SIZE
         for text, style in line:
-            # Each part has its own place and length, so that carets are below what they mark in every font.
+            # Each part has its own place and length, so that carets are below what they mark in every font. Chromium
+            # keeps spaces only where the part itself says so.
             x, length = MARGIN + LETTER * column, LETTER * len(text)
-            parts.append(f'<text x="{x:.1f}" y="{y}" textLength="{length:.1f}"{style}>{escape(text)}</text>')
+            parts.append(f'<text x="{x:.1f}" y="{y}" textLength="{length:.1f}" {KEPT}{style}>{escape(text)}</text>')
             column += len(text)
     return "\n".join([*parts, "</g>", "</svg>", ""])
 

@@ -209,6 +209,7 @@ CALLS = [
         [(6, 25, "size", "%zu")],
     ),
     ('#define SHOW(n) printf("%lu\\n", n)\nvoid f(size_t n) { SHOW(n); SHOW(n); }', [], [(5, 25, "size", "%zu")]),
+    ('#define SHOW(n) printf("%lu\\n", n)\nvoid f(size_t n) { SHOW(n); SHOW(sizeof n); }', [], [(5, 25, "size", "%zu")]),
     ('void f(size_t n) { printf("%lu", n); printf("%lu", n); }', [], [(5, 28, "size", "%zu"), (5, 46, "size", "%zu")]),
     ('void f(uint64_t n) { printf("%" PRIu64 " %lu", n, n); }', [], [(5, 42, "size", "PRIu64")]),
     ('void f(time_t n) { printf("%ld", n); }', [], [(5, 28, "size", "%jd with a cast to intmax_t")]),

@@ -1,4 +1,5 @@
-"""Tries what fmtcanon-check keeps of earlier runs: a second run starts no compiler, and says what a first one says.
+"""Tries what fmtcanon-check keeps of earlier runs: a second run judges nothing again, and says what a first one says. It
+asks compilers only for the short text of each file.
 
 It needs libclang and gcc.
 """
@@ -17,8 +18,10 @@ from tests.frame.cases import tests_of
 from tests.frame.harness import TIMEOUT
 
 COUNT = 12
-# A compiler that notes each run, in another folder than those of sources: a folder that changes is looked at again.
-COMPILER = '#!/bin/sh\necho run >> "{work}/notes/runs"\nexec gcc "$@"\n'
+# A compiler that notes the words of each run, in another folder than those of sources, and has more words of its own.
+COMPILER = '#!/bin/sh\necho "$*" >> "{work}/notes/runs"\nexec gcc {more} "$@"\n'
+# The runs that ask for the short text of a file, and those that ask what a compiler is.
+SHORT, ABOUT = "-fdirectives-only", ("-E -dM ", "-E -v ")
 HEADER = "typedef unsigned long count_t;\nvoid out(const char *, ...) __attribute__((format(printf, 1, 2)));\n"
 
 
@@ -30,7 +33,7 @@ def tool(folder, work, python):
 
 def start(tool):
     """Sources that include headers, which a compiler finds in two folders."""
-    tool.put("cc", COMPILER.format(work=tool.work)).chmod(0o755)
+    tool.put("cc", COMPILER.format(work=tool.work, more="")).chmod(0o755)
     tool.put("inc/first/.keep", "")
     tool.put("notes/runs", "")
     tool.put("inc/last/count.h", HEADER)
@@ -44,10 +47,10 @@ def start(tool):
 
 
 def runs(tool):
-    """How often the compiler ran since this was last asked."""
-    count = len((tool.work / "notes/runs").read_text().splitlines())
+    """How often the compiler read a file to be judged since this was last asked."""
+    listed = (tool.work / "notes/runs").read_text().splitlines()
     tool.put("notes/runs", "")
-    return count
+    return sum(SHORT not in it and not it.startswith(ABOUT) for it in listed)
 
 
 def entries(tool):
@@ -59,7 +62,7 @@ def said(tool, *words):
 
 
 def test_second_run(tool, trials):
-    """A second run says the same and starts no compiler, with each output and option of one kind; others start it."""
+    """A second run says the same and judges nothing, with each output and option of one kind; others do."""
     start(tool)
     fresh = said(tool, "--no-cache")
     trials.expect("a fresh run", (fresh[0], fresh[1].count("\n"), runs(tool) > COUNT), (1, 3 * COUNT, True))
@@ -69,7 +72,7 @@ def test_second_run(tool, trials):
     trials.expect("the second run", (said(tool), runs(tool)), (fresh, 0))
     for words in (["-j1"], ["--fail-on=rank"], ["--output=text"], ["--output=sarif"], ["--shard=1/3"]):
         found = tool.run("-p", ".", *words)
-        trials.expect(f"{words}: no compiler", runs(tool), 0)
+        trials.expect(f"{words}: nothing is judged", runs(tool), 0)
         trials.expect(f"{words}: the same", found, tool.run("-p", ".", *words, "--no-cache"))
         runs(tool)
     for words in (["--rank"], ["--model=ilp32"], ["--function=none:1"], ["--type=count_t=size_t"]):
@@ -90,7 +93,7 @@ def test_changes(tool, trials):
         ("a source", "f3.c", SAYS + 'void g(size_t n) { printf("%lu", n); }\n', 1),
         ("a header", "inc/last/count.h", wide, COUNT - 1),
         ("a header that is found earlier", "inc/first/count.h", narrow, COUNT - 1),
-        ("one in a folder that wasn't there", "inc/missing/count.h", wide, COUNT - 1),
+        ("one in a folder that wasn't there, after that", "inc/missing/count.h", wide, 0),
         ("a header of the C library's name", "inc/first/stdio.h", "#include_next <stdio.h>\n", COUNT),
         ("one that no file asks for", "inc/first/other.h", "int x;\n", 0),
     ]
@@ -98,7 +101,7 @@ def test_changes(tool, trials):
         tool.put(file, text)
         time.sleep(0.2)
         found = said(tool)
-        is_read = runs(tool) >= count if count else runs(tool) == 0
+        is_read = runs(tool) >= count if count else not runs(tool)
         trials.expect(f"{name}: as many files as have it are read", is_read, True)
         trials.expect(f"{name}: the same as without a cache", found, said(tool, "--no-cache"))
         runs(tool)
@@ -110,9 +113,9 @@ def test_changes(tool, trials):
     for one in sorted(tool.work.glob("*.c")) + [tool.work / "inc/last/count.h"]:
         one.touch()
     trials.expect("touched files", (said(tool)[0], runs(tool)), (1, 0))
-    tool.put("cc", COMPILER.format(work=tool.work) + "# another\n").chmod(0o755)
-    time.sleep(0.2)
-    trials.expect("another compiler", (said(tool)[0], runs(tool) > COUNT), (1, True))
+    for more, is_another in [("-w", False), ("-DANOTHER", True)]:
+        tool.put("cc", COMPILER.format(work=tool.work, more=more)).chmod(0o755)
+        trials.expect(f"a compiler with {more}", (said(tool)[0], runs(tool) >= COUNT), (1, is_another))
 
 
 def test_damage(tool, trials):
@@ -129,7 +132,7 @@ def test_damage(tool, trials):
     files[5].unlink()
     files[5].mkdir()
     trials.expect("damaged entries", (said(tool), runs(tool) > COUNT), (wanted, True))
-    trials.expect("they are replaced", sum(it.is_file() and it.stat().st_size > 1_000 for it in files), COUNT - 1)
+    trials.expect("they are replaced", [it for it in files if it.is_dir() or it.read_bytes() != whole[it]], [files[5]])
     files[5].rmdir()
     said(tool)
     runs(tool)

@@ -132,6 +132,35 @@ COUNTED = [
         "2 calls with formats that weren't read",
     ),
     ("#include <stdarg.h>\nvoid f(const char *s, va_list a) { vprintf(s, a); }", [], [], "nothing found\n"),
+    # Arguments that no format takes, as gcc and clang say by default.
+    *(
+        (f"void f(int n, char *s) {{ {call} }}", [], ["surplus"] if is_found else [], f"{'1 surplus' if is_found else 'found'}\n")
+        for call, is_found in [
+            ('printf("%d", n, 2);', True),
+            ('printf("x", n);', True),
+            ('printf(n ? "%d" : "", n, n);', True),
+            ('printf("%1$d", n, n);', True),
+            ('printf(n ? "%d %d" : "%d", n, n);', False),
+            ('printf("%2$d %1$d", n, n);', False),
+            ('printf("%*d", n, n);', False),
+        ]
+    ),
+    ('void f(int n, char *s) { printf(n ? "%d" : s, n, n); }', [], [], "1 call with a format that wasn't read\n"),
+    ("void f(char *s) { printf(s); }", ["--unread"], ["unread"], "1 unread; 1 call with a format that wasn't read\n"),
+    # %Lx is judged as %llx, and said to be undefined.
+    ('void f(long long n) { printf("%#Lx %*Ld", n, 1, n); }', [], ["undefined"] * 2, "1 format, 3 arguments: 2 undefined\n"),
+    ('void f(int n) { printf("%Lx", n); }', [], ["undefined", "size"], "1 format, 1 argument: 1 size, 1 undefined\n"),
+    ('void f(int n) { printf("%La", n); printf("%Lc", n); }', [], ["unjudged", "kind"], "1 kind, 1 unjudged\n"),
+    # %m is the C library's, and said once for a file.
+    ('void f(void) { printf("%m"); printf("a %m"); }', [], ["errno"], "2 formats, 0 arguments: 1 errno\n"),
+    (
+        'void say(const char *, ...) __attribute__((format(printf, 1, 2)));\nvoid f(void) { say("%m"); }',
+        [],
+        [],
+        "1 format, 0 arguments: nothing found\n",
+    ),
+    # Question marks that the source keeps from being a trigraph.
+    ('void f(size_t n) { printf("?\\?\\?(%d)?\\?=\\n", n); }', [], ["size"], "1 format, 1 argument: 1 size\n"),
     (
         'enum { N = 1 };\nvoid say(const char *, ...) __attribute__((format(printf, N, N + 1)));\nvoid f(long n) { say("%d", n); }',
         [],
@@ -144,6 +173,23 @@ COUNTED = [
         [],
         [],
         "2 calls of say (--function say:2)",
+    ),
+    # From ten calls on a function is always named.
+    (
+        "void say(int, const char *, ...), tell(const char *, ...);\nvoid f(int n) { "
+        + 'printf("%d", n); ' * 9
+        + 'tell("%d", n); '
+        + 'say(1, "%d", n); ' * 10
+        + "}",
+        [],
+        [],
+        "%: 10 calls of say (--function say:2), 1 call of 1 other\n",
+    ),
+    (
+        "void say(int, const char *, ...);\nvoid f(int n) { " + 'printf("%d", n); say(1, "%d", n); ' * 9 + "}",
+        [],
+        [],
+        "9 formats, 9 arguments: nothing found\n",
     ),
     (
         'void say(int, const char *, ...);\nvoid f(long n) { say(1, "%d", n); }',
@@ -184,7 +230,7 @@ BARE = [
 
 
 def test_counted(tool, trials):
-    """What isn't read is counted, and functions that aren't known are named if nearly nothing was judged."""
+    """What isn't read is counted, and functions that aren't known are named, also if nearly nothing was judged."""
     rows = [(f"{SAYS}{body}\n", words, kinds, said) for body, words, kinds, said in COUNTED]
     rows += [(f"{body}\n", [], kinds, said) for body, kinds, said in BARE]
     for text, words, kinds, said in rows:
@@ -309,6 +355,9 @@ def test_written(tool, trials):
             True,
             " [fixed]",
         ),
+        ('void f(uint32_t n) { printf("%ld", n); }', [], False, "; not written: its new text prints something else"),
+        ('void f(uint32_t n) { printf("%ld", n); }', ["--wrong"], True, "%ld is now %u, for a uint32_t [fixed]"),
+        ('void f(size_t n, int i) { printf("%lu %ld", n, i); }', ["--wrong"], True, "%ld is now %d, for an int [fixed]"),
         ('void f(unsigned long n) { printf("%zu", n); }', [], False, "; not written: its length modifier names a type"),
         ('void f(long n) { printf("%jd %td", n, n); }', [], False, "; not written: its length modifier names a type"),
         ('void f(size_t n) { printf("x%lu" + 1, n); }', [], False, "; not written: it is only a part of a format"),
@@ -318,6 +367,45 @@ def test_written(tool, trials):
         status, output, fault = tool.run("--fix", "--rank", *words, "written.c")
         is_same = (tool.work / "written.c").read_text(encoding="utf-8") == text
         trials.expect(f"{body} {words}: {output} {fault}", (is_same, said in output), (not is_fixed, True))
+
+
+# Directives with their arguments, and what is said of the type.
+NAMED = [
+    ("%ld", "(a - b) / 60", "a time_t: wrong size on 32-bit systems with a 64-bit time_t and 64-bit Windows;"),
+    ("%ld", "l + s->st_mtime", "a time_t: wrong size on 32-bit systems with a 64-bit time_t and 64-bit Windows;"),
+    ("%ld", "s->st_size", "an off_t: wrong size on 32-bit systems with a 64-bit time_t and 64-bit Windows;"),
+    ("%lu", "n * 2", "a size_t: wrong size on 64-bit Windows, wrong type on 32-bit systems;"),
+    ("%u", "(uint32_t)l + (uint64_t)u", "a uint64_t: wrong size;"),
+    ("%lu", "l ? n : 1", "a size_t: wrong size on 64-bit Windows, wrong type on 32-bit systems;"),
+    ("%lu", "u / sizeof(int)", "an unsigned long: wrong size on 64-bit Windows, where it is an unsigned long long;"),
+    ("%d", "l", "a long: wrong size on 64-bit Unix, wrong type on 32-bit systems and 64-bit Windows;"),
+]
+
+
+def test_names(tool, trials):
+    """A type is named by the typedef of a part that has the same type everywhere, or it is said what it is elsewhere."""
+    front = f"{SAYS}#include <sys/stat.h>\nvoid f(time_t a, time_t b, struct stat *s, size_t n, long l, unsigned long u) {{\n"
+    calls = "".join(f'printf("{directive}", {given});\n' for directive, given, _ in NAMED)
+    tool.put("names.c", f"{front}{calls}}}\n")
+    _, output, fault = tool.run("--output", "json", "names.c")
+    messages = [json.loads(it)["message"] for it in output.splitlines()]
+    found = [it.startswith(f"{directive} for {said}") for it, (directive, _, said) in zip(messages, NAMED)]
+    trials.expect(f"{messages} {fault}", found, [True] * len(NAMED))
+
+
+def test_headers_found_twice(tool, trials):
+    """A header that is in the file's own folder and found by -I is read alike by the file's name and from its source."""
+    tool.put("src/b.h", "#ifndef B\n#define B\n#include <stdio.h>\n\n\n\n#endif\n")
+    tool.put("lib/u.h", '#include "b.h"\n')
+    text = '#include "b.h"\n#include "u.h"\nvoid f(size_t n, unsigned long m) {\n  printf("%lu\\n", n);\n  printf("%lu\\n", m); }\n'
+    tool.put("src/a.c", text)
+    words = "--flag=-Isrc", "--flag=-Ilib", "src/a.c"
+    for cache in [{}, {"XDG_CACHE_HOME": str(tool.work / "cache")}]:
+        status, output, fault = tool.run(*words, **cache)
+        trials.expect(f"{output} {fault}", (status, output.startswith("src/a.c:4:11: error: %lu for a size_t")), (1, True))
+    status, output, fault = tool.run("--fix", *words)
+    fixed = (tool.work / "src/a.c").read_text(encoding="utf-8")
+    trials.expect(f"{output} {fault}", (status, fixed), (0, text.replace("%lu", "%zu", 1)))
 
 
 def test_troubles(tool, trials):

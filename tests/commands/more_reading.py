@@ -1,4 +1,4 @@
-"""Tries the pages that people read first: each command of the tutorial, and the picture and the calls of the README, on a
+"""Tries the pages that people read first: each command of the tutorial, and the picture of the README, on a
 terminal. They need libclang and git.
 """
 
@@ -35,13 +35,6 @@ void f(ssize_t size, struct stat stbuff, struct active *a, struct timeval tv, ch
 
 def reader(folder, python, program, work):
     return Reader(work, folder, python, program)
-
-
-def test_readme(reader, trials):
-    """The calls that are wrong elsewhere, of the README."""
-    for name, text in first_screen.FILES.items():
-        reader.put(name, text)
-    reader.try_page(trials, TOP / "README.md", "A call that is wrong elsewhere")
 
 
 def test_tutorial(reader, trials):

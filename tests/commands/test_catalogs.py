@@ -37,7 +37,7 @@ found 1 fatal error
 wrong.po:7:9: error: argument 1 is string (%s) in 'msgid', and int (%d) in 'msgstr' [types]
 wrong.po:11:9: error: argument 1 is int (%d) in 'msgid', and long (%ld) in 'msgstr' [types]
 wrong.po:15:9: error: number of format specifications in 'msgid' and 'msgstr' does not match: 2 and 1 [number]
-wrong.po:19:11: error: 'msgstr' is not a valid C format string, unlike 'msgid'. Reason: refused 2 Truncated at byte 3 [format]
+wrong.po:19:11: error: 'msgstr' is not a valid C format string, unlike 'msgid'. Reason: `%` isn't a directive, write `%%`: refused 2 Truncated at byte 3 [format]
 wrong.po:23:16: error: argument 2 is double (%5.1f) in 'msgid', and string (%s) in 'msgstr' [types]
 6 messages judged, 0 not judged
 found 5 fatal errors

@@ -190,19 +190,19 @@ def test_submodule(tool, trials):
     tool.put("lib/new.c", OLD)
     trials.expect("a submodule with a file that git doesn't know", tool.run("--git")[:2], (0, ""))
     tool.put("lib/a.c", WRONG)
-    trials.expect("a submodule with changes", tool.run("--git"), (0, line, ""))
+    trials.expect("a submodule with changes that aren't committed", tool.run("--git")[:2], (0, ""))
+    made, mark = Tool("diff", tool.folder, tool.work / "lib"), tool.work / "mark"
+    made.git("commit", "-qam", "third")
+    trials.expect("a submodule with another commit", tool.run("--git"), (0, line, ""))
     status, output, _ = tool.run("--git", "--fail-on", "unjudged", "--output", "json")
     found = json.loads(output)
     trials.expect("as JSON", (status, found["file"], found["kind"], found["level"]), (1, "lib", "unjudged", "error"))
     trials.expect("other paths", tool.run("--git", "--", "a.c")[:2], (0, ""))
     trials.expect("--exclude", tool.run("--git", "--exclude", "lib")[:2], (0, ""))
-    made, mark = Tool("diff", tool.folder, tool.work / "lib"), tool.work / "mark"
     tool.put("watch", WATCHER.format(mark)).chmod(0o755)
     made.git("config", "core.fsmonitor", str(tool.work / "watch"))
     trials.expect("with a program that watches its files", (tool.run("--git")[:2], mark.exists()), ((0, line), False))
     made.git("config", "--unset", "core.fsmonitor")
-    made.git("commit", "-qam", "third")
-    trials.expect("a submodule with another commit", tool.run("--git")[:2], (0, line))
     tool.git("add", "lib")
     for words in [["--git"], ["--git", "--cached"]]:
         trials.expect(f"fmtcanon-diff {words}", tool.run(*words)[:2], (0, line))

@@ -1,5 +1,6 @@
 """Tries the manual page and the completions against the program's help."""
 
+import importlib
 import re
 import subprocess
 
@@ -111,6 +112,22 @@ def completed_command(name, words):
     script = 'source "$0"; name=$1; COMP_WORDS=("$@"); COMP_CWORD=$(($# - 1)); _fmtcanon_commands "$name"; printf "%s\\n" "${COMPREPLY[@]}"'
     words = ["bash", "-c", script, TOP / "completions/fmtcanon-commands.bash", name, *words]
     return subprocess.run(words, stdout=subprocess.PIPE, timeout=TIMEOUT, check=True).stdout.decode().split()
+
+
+def test_kinds(module, trials):
+    """The manual pages and the completions have each kind of a finding that a command has."""
+    for command, of_command, entry in [("check", "fitting", r"^\.B {}$"), ("diff", "diff", r"\b{}\b")]:
+        rules = importlib.import_module(f"{module.__name__}.{of_command}.reporting").RULES
+        page = (TOP / f"man/fmtcanon-{command}.1").read_text(encoding="utf-8")
+        missing = [it for it in rules if not re.search(entry.format(it), page, re.MULTILINE)]
+        trials.expect(f"kinds of fmtcanon-{command}(1)", missing, [])
+        for file, pattern in [
+            ("_fmtcanon-commands", r"values -s , kind ([\w ]*)"),
+            ("fmtcanon-commands.fish", rf"fmtcanon-{command} -l fail-on -x -a '([^']*)'"),
+        ]:
+            text = (TOP / "completions" / file).read_text(encoding="utf-8")
+            listed = [set(it.split()) for it in re.findall(pattern, text)]
+            trials.expect(f"kinds of {command} in {file}", any(set(rules) <= it for it in listed), True)
 
 
 def test_command_completions(trials):

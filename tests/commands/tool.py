@@ -42,7 +42,7 @@ class Tool:
             [*self.words, *words],
             cwd=self.work / where,
             env={**self.environment, **names},
-            timeout=10 * TIMEOUT,
+            timeout=TIMEOUT,
             check=False,
             stdin=subprocess.DEVNULL,
             capture_output=True,

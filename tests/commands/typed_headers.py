@@ -66,7 +66,7 @@ def preprocessed(tool, header):
 def listed(tool, names):
     """The expressions of headers."""
     words = [tool.python, str(TOP / "tests/platforms/list_types.py"), str(tool.work), *names]
-    done = subprocess.run(words, cwd=tool.work, capture_output=True, text=True, check=True, timeout=10 * TIMEOUT)
+    done = subprocess.run(words, cwd=tool.work, capture_output=True, text=True, check=True, timeout=TIMEOUT)
     return dict(zip(names, map(json.loads, done.stdout.splitlines())))
 
 

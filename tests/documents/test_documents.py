@@ -12,16 +12,17 @@ from tests.commands import more_replace as replacing
 from tests.commands.reader import SHOWN
 from tests.documents.test_words import pages
 from tests.frame.cases import tests_of
-from tests.frame.harness import TOP, examples, fences, model_rows, section, usage_texts
+from tests.frame.harness import TOP, fences, model_rows, section, usage_texts
 from tests.library import more_fewer_peers as fewer_peers
 from tests.library import more_sentences
 from tests.library import test_bounds_peers as bounds_peers
+from tests.library import test_definition_of_numbers as definition_of_numbers
 from tests.library import test_library as library
 from tests.library import test_literals as literals
 from tests.library import test_opaque as opaque
 from tests.library import test_sentences as sentences
 from tests.library import test_whole_types as whole_types
-from tests.mutants import clauses, mutant_files, unedited
+from tests.mutants import mutant_files, one_answer
 from tests.program import more_linear as linear
 from tests.program import test_memory as memory
 from tests.program import test_short_streams as short_streams
@@ -92,6 +93,11 @@ def pairs_of(count):
     return count * (count - 1) // 2
 
 
+def number_in(file, pattern):
+    """Returns what a pattern finds in a file: a number."""
+    return re.search(pattern, (TOP / file).read_text(encoding="utf-8"))[1].replace("_", "")
+
+
 def tested_counts():
     """What the table of tests/README.md says is tested: patterns of its numbers, each with the numbers that the
     files give.
@@ -107,6 +113,8 @@ def tested_counts():
         5 * texts,
         6 * shapes,
     ]
+    yield r"(\d+) made lists of words", [int(number_in("tests/commands/more_hostile_words.py", r'"HOSTILE_LISTS", ([\d_]+)'))]
+    yield r"flags, widths, precisions and values \| (\d+) directives", [definition_of_numbers.COUNT]
     yield r"other programs' test suites, and worked rows \| (\d+) and (\d+) \|", [
         data_count("vectors.txt"),
         data_count("numbers.txt"),
@@ -263,7 +271,7 @@ def lines_of(pattern, without=("/uses/src/tests", "/uses_low/src/tests")):
 
 
 def test_sizes(trials):
-    """The numbers of callers, of functions of C and of lines in docs/VERIFICATION.md; those of lines within a tenth."""
+    """The numbers of callers, of functions of C and of lines in docs/VERIFICATION.md; those of lines within a twentieth."""
     text = with_digits((TOP / "docs/VERIFICATION.md").read_text(encoding="utf-8"))
     callers = [
         name
@@ -286,8 +294,8 @@ def test_sizes(trials):
     ]
     pattern = r"About (\d+) lines of Rattle with their contracts, (\d+) lines of definitions, (\d+) lines of proofs, (\d+) lines of Python, and (\d+) lines of tests"
     found = re.search(pattern, text)
-    near = found and [abs(int(number) - count) * 10 <= count for number, count in zip(found.groups(), counts)]
-    trials.expect(f"lines in docs/VERIFICATION.md, within a tenth: {counts}", near, [True] * len(counts))
+    near = found and [abs(int(number) - count) * 20 <= count for number, count in zip(found.groups(), counts)]
+    trials.expect(f"lines in docs/VERIFICATION.md, within a twentieth: {counts}", near, [True] * len(counts))
 
 
 def test_diagram(trials):
@@ -425,16 +433,12 @@ def test_map(trials):
     trials.expect("floors of the map", sorted(it for it in floors if f"`{it}/`" not in text), [])
 
 
-def test_edits(trials):
-    """A mutant changes each public function and breaks each of its clauses, except a few that are listed with a
-    reason.
-    """
-    missing, needless = unedited.all_unedited()
-    trials.expect("public functions that no mutant changes", missing, [])
-    trials.expect("exceptions of unedited.py that a mutant changes", needless, [])
-    _, missing, needless = clauses.unbroken([])
-    trials.expect("clauses of public functions that no recorded mutant breaks", missing, [])
-    trials.expect("exceptions of clauses.py that a mutant breaks", needless, [])
+def test_laws_of_one_answer(trials):
+    """Each law is there by which a contract allows one answer, so that no mutant of it is needed."""
+    for law in sorted({*one_answer.RECORDS.values(), *(it for laws in one_answer.LAWS.values() for it in laws)}):
+        crate, _, name = law.split("::")
+        source = (TOP / f"crates/{crate}/src/laws.rt").read_text(encoding="utf-8")
+        trials.expect(law, f"\npub fn {name}()\n" in source, True)
 
 
 def plain_code(text):
@@ -493,11 +497,15 @@ def test_charts(trials):
 
 
 def test_picture(trials):
-    """The picture of the README shows what the README does."""
-    lines = first_screen.shown(first_screen.PICTURE.read_text(encoding="utf-8"))
-    for command, output in examples(TOP / "README.md", "A call that is wrong elsewhere"):
-        at = lines.index(f"$ {command}")
-        trials.expect(f"docs/first.svg: {command}", lines[at + 1 : at + 1 + len(output)], output)
+    """Each text of the picture of the README keeps its spaces, and the picture has its commands."""
+    picture = first_screen.PICTURE.read_text(encoding="utf-8")
+    squeezed = [it for it in re.findall(r"<text [^>]*>", picture) if first_screen.KEPT not in it]
+    trials.expect("texts of docs/first.svg whose spaces Chromium drops", squeezed, [])
+    lines = first_screen.shown(picture)
+    missing = [it for it in first_screen.COMMANDS if f"$ {it}" not in lines]
+    trials.expect("commands that docs/first.svg lacks", missing, [])
+    shown = (TOP / "README.md").read_text(encoding="utf-8").count("](docs/first.svg)")
+    trials.expect("how often the README shows it", shown, 1)
 
 
 def test_shortcuts(trials):

@@ -30,6 +30,8 @@ STARTS = [("pf_compare/src/laws.rt", "headline"), ("pf_text/src/checking.rt", "c
 # folder.
 WHOLE_FOLDER = "Rattle.pf_whole.specs.meaning"
 WHOLE_STARTS = [("pf_whole/src/laws.rt", "headline")]
+# The law that names no canonical text.
+SAMENESS_STARTS = [("pf_compare/src/laws.rt", "sameness")]
 LOWER = "Rattle.pf_posix.specs"
 # The words for a refusal in the whole language, each with the function whose contract has it; and the words for
 # acceptance.
@@ -43,13 +45,14 @@ ACCEPTED = [(f"{LOWER}.Items", "HasArguments"), (f"{LOWER}.Stretches", "IsUnnumb
 PROGRAM_STARTS = [("fmtcanon/src/run.rt", "run")]
 LIBRARY = "fmtcanon_c/src"
 EXPORTED = re.compile(r'^pub extern "C" fn (\w+)', re.MULTILINE)
-# What the files may name, besides each other: the library's definitions, and the code's declarations.
-KNOWN = r"Rattle\.(std\.specs|\w+\.specs\.declared)\."
+# What the files may name, besides each other: the library's definitions, the code's declarations, and the number of a
+# character, which is built into the prover.
+KNOWN = r"(Rattle\.(std\.specs|\w+\.specs\.declared)|Prim\.Native\.Char)\."
 # Where a refusal in the whole language has definitions, too.
 READERS = ["Rattle.pf_values.specs", "Rattle.pf_text.specs"]
 NAME = r"[^\W\d]\w*"
 # An import: of names of a module, or of a module by another name.
-IMPORT = re.compile(rf"^ *(?:ghost )?(pub )?use (Rattle[\w.]+?)(?:\.\{{([^{{}}]*)\}}| as ({NAME}));?$", re.MULTILINE)
+IMPORT = re.compile(rf"^ *(?:ghost )?(pub )?use ((?:Rattle|Prim)[\w.]+?)(?:\.\{{([^{{}}]*)\}}| as ({NAME}));?$", re.MULTILINE)
 # What a definition begins with, at the margin or inside a module with parameters.
 HEAD = re.compile(rf"^(?:  )?(?:abbrev |inst )?(?:pub )?(record |data )?({NAME}) *(?:[:({{]|where)")
 WORDS = re.compile(rf"(?<![\w.])({NAME})((?:\.{NAME})*)")
@@ -179,6 +182,7 @@ def size_of(found):
 def sizes():
     """What each begins with, and the size of what it depends on."""
     starts = {
+        "Which formats are equivalent": SAMENESS_STARTS,
         "The headline and a rejection": STARTS,
         "The headline of the whole language": WHOLE_STARTS,
         "An answer of the program": PROGRAM_STARTS,
@@ -343,6 +347,8 @@ def try_whole(trials, known):
     trials.expect("lines in docs/VERIFICATION.md", sizes and [int(it) for it in sizes.groups()], counts)
     read = re.search(r"the (\d+) lines of that folder", verification)
     trials.expect("lines to read, in docs/VERIFICATION.md", read and int(read[1]), counts[0])
+    readme = re.search(r"the ([\d,]+) lines of definitions", (TOP / "README.md").read_text(encoding="utf-8"))
+    trials.expect("lines to read, in the README", readme and int(readme[1].replace(",", "")), counts[0])
 
 
 def test_sizes(trials):

@@ -255,7 +255,33 @@ def test_results(trials):
     trials.expect("findings of the README", named, {it: errors[it] for it in ("bcal", "redis", "libpsm2", "iproute2")})
     alone = catalogs["Messages with a fault by `fmtcanon-po` alone"]
     trials.expect("translations of the README", re.search(r"And (\d+) translations", readme)[1], alone)
+    versions = re.findall(r"\b[a-z]\w+ \d+\.\d+\b", readme)
+    trials.expect("programs of the README that the findings lack", [it for it in versions if it not in read(page)], [])
+    flagged = next(row for row in table_of(page, "Translations") if "`%#<PRIu64>`" in row[1])
+    more = int(re.search(r"and (\d+) more", flagged[0])[1])
+    trials.expect("translations with a flag", re.search(r"(\d+) have a `#`", readme)[1], str(more + 1))
     trials.expect("translations of the findings", re.findall(r"^The (\d+) are those above", text, re.MULTILINE), [alone])
+
+
+def test_proved(trials):
+    """The README has each crate but the callers, with public calls and laws of it; the kit's logic of docs/INSTALL.md; and
+    the minutes and the cores of docs/CONTRIBUTING.md.
+    """
+    readme, rows = read(TOP / "README.md"), table_of(TOP / "README.md", "What is proved")
+    crates = [it.name for it in (TOP / "crates").iterdir() if not it.name.startswith("uses")]
+    trials.expect("crates of the README", sorted(row[0].strip("`") for row in rows), sorted(crates))
+    for crate, _, carried in rows:
+        folder = TOP / "crates" / crate.strip("`") / "src"
+        sources = {it.stem: read(it) for it in folder.rglob("*.rt")}
+        for name in re.findall(r"`((?:laws::)?\w+)`", carried):
+            texts = [sources["laws"]] if name.startswith("laws::") else sources.values()
+            function = rf"^pub fn {name.split('::')[-1]}\b"
+            trials.expect(f"{name} of {crate}", any(re.search(function, it, re.MULTILINE) for it in texts), True)
+    logic = r"logic(?: `rt version` gives as)? `(\w+)`"
+    trials.expect("the kit's logic", re.search(logic, readme)[1], re.search(r"whose " + logic, read(DOCS / "INSTALL.md"))[1])
+    minutes = re.search(r"make test +# (\d+) minutes on four cores", readme)[1]
+    measured = re.search(r"from nothing, on four cores \| (\d+) min", read(DOCS / "CONTRIBUTING.md"))[1]
+    trials.expect("minutes of the gate, in tens", int(minutes), round(int(measured), -1))
 
 
 def test_kinds_of_findings(trials):

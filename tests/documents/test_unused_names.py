@@ -18,7 +18,7 @@ from tests.frame.harness import TOP
 from tests.mutants import rattle_functions
 from tests.mutants.crates import PARTS
 from tests.mutants.definitions import without_comments
-from tests.mutants.unedited import exported, is_public
+from tests.mutants.public_functions import exported, is_public
 
 IMPORT = re.compile(r"^ *(?:ghost )?use Rattle\.[\w.]+(?:\.\{([^}]*)\}| as (\w+));?$", re.MULTILINE)
 # What begins a part of a source file that may name what `ghost use` imports; the part is in the braces after it.

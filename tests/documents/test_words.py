@@ -67,11 +67,13 @@ CALLING = "crates/*/CALLING.md"
 PROOFS, DEFINITIONS = "crates/*/PROOFS.md", "crates/*/DEFINITIONS.md"
 # How many words each page may have, and how many percent more are let pass.
 LIMITS = {
-    "README.md": 818,
+    # With what is proved, crate by crate, and outputs.
+    "README.md": 1250,
     # With the outputs of a session, and the words.
     "docs/TUTORIAL.md": 730,
-    "docs/FAQ.md": 730,
-    "docs/INSTALL.md": 530,
+    # With the words, and other tools.
+    "docs/FAQ.md": 880,
+    "docs/INSTALL.md": 600,
     "docs/try/README.md": 100,
     # With the lines of real programs.
     "docs/FINDINGS.md": 1190,
@@ -92,16 +94,18 @@ LIMITS = {
     "docs/C.md": 1680,
     "docs/PYTHON.md": 940,
     # With the theorem as it is written, the assumptions as a table, and the words of the last line of a check.
-    "docs/VERIFICATION.md": 2180,
+    "docs/VERIFICATION.md": 2600,
     # With one format read through the definitions.
     "docs/DEFINITIONS.md": 2720,
     "docs/PERFORMANCE.md": 600,
     # With a walk through one call, and words of the sources.
     "docs/internals/ARCHITECTURE.md": 1760,
-    "docs/internals/DECISIONS.md": 2080,
-    "docs/CONTRIBUTING.md": 980,
-    "SECURITY.md": 162,
-    "CHANGELOG.md": 1080,
+    # With the forms that differ from those first named.
+    "docs/DECISIONS.md": 2200,
+    "docs/CONTRIBUTING.md": 1120,
+    # With the command that tries each promise.
+    "SECURITY.md": 640,
+    "CHANGELOG.md": 1160,
     CALLING: 9400,
     # What works in proofs, with an index by what rt prints, and how four crates are proved.
     PROOFS: 4200,
@@ -109,8 +113,8 @@ LIMITS = {
     DEFINITIONS: 1500,
 }
 MARGIN = 10
-# How many words the README and all pages of docs/ may have together.
-TOGETHER = 28000
+# How many words all pages of docs/ may have together.
+TOGETHER = 29000
 
 
 def files(*patterns):
@@ -223,9 +227,9 @@ def limit_of(path):
 
 
 def test_together(trials):
-    """The README and the pages of docs/ are no longer than a long evening."""
-    count = words_in(files("README.md", "docs/**/*.md"))
-    trials.expect(f"words of README and docs: {count}, at most {TOGETHER}", count <= TOGETHER, True)
+    """The pages of docs/ are no longer than a long evening."""
+    count = words_in(files("docs/**/*.md"))
+    trials.expect(f"words of docs: {count}, at most {TOGETHER}", count <= TOGETHER, True)
 
 
 def test_words(trials):

@@ -55,10 +55,10 @@ def meant(text):
 
 def assembler(command):
     """Returns the assembler of a unit, in which each string is named by what it means."""
-    words, _ = command.preprocessing()
+    words, file = command.used()
     environment = {**os.environ, "SOURCE_DATE_EPOCH": "0"}
     done = subprocess.run(
-        [*words[:-2], "-g0", "-S", "-o", "-"], cwd=command.folder, capture_output=True, check=True, env=environment
+        [*words, "-g0", "-S", "-o", "-", file], cwd=command.folder, capture_output=True, check=True, env=environment
     )
     strings = {}
     for label, lines in STRING_DATA.findall(done.stdout):

@@ -54,18 +54,26 @@ class Given:
 
 
 class Case(unittest.TestCase):
-    """The tests of a module; it prints how many checks of theirs passed and failed."""
+    """The tests of a module; it prints how many checks of theirs passed and failed. Once all have run, they are as many
+    as a document says, if `said` returns that.
+    """
+
+    said = None
 
     @classmethod
     def setUpClass(cls):
-        cls.trials = Trials()
+        cls.trials, cls.left = Trials(), {name for name in vars(cls) if name.startswith("test_")}
 
     @classmethod
     def tearDownClass(cls):
         print(f"{cls.__module__}: {cls.trials}", flush=True)
+        tried = cls.trials.passed + cls.trials.failed
+        if cls.said and not cls.left and cls.said() != tried:
+            raise AssertionError(f"{cls.__module__} tries {tried}, and a document says {cls.said()}")
 
     def try_function(self, function, known):
         trials = Trials()
+        self.left.discard(self._testMethodName)
         try:
             with contextlib.ExitStack() as stack:
                 Given(known, trials, stack).call(function)
@@ -86,8 +94,11 @@ def method_of(function, known):
     return functools.wraps(function)(lambda self: self.try_function(function, known))
 
 
-def tests_of(known):
-    """Returns the class of the tests among the globals of a module: its functions whose names begin with `test_`."""
+def tests_of(known, said=None):
+    """Returns the class of the tests among the globals of a module: its functions whose names begin with `test_`. A
+    document has the number of trials that `said` returns.
+    """
     names = [name for name, it in known.items() if name.startswith("test_") and inspect.isfunction(it)]
     methods = {name: method_of(known[name], known) for name in names}
-    return type("Tests", (Case,), {"__module__": known["__name__"], **methods})
+    more = {"said": staticmethod(said)} if said else {}
+    return type("Tests", (Case,), {"__module__": known["__name__"], **more, **methods})

@@ -13,6 +13,7 @@ from tests.frame.harness import SONAME, TOP
 
 # A Python that Debian makes its modules for.
 SYSTEM_PYTHON = "/usr/bin/python3"
+PROGRAM = "crates/fmtcanon/out/fmtcanon"
 __unittest = True
 
 
@@ -26,7 +27,7 @@ def built(variable, usual):
 
 def program():
     """The path of the program."""
-    return str(built("FMTCANON_PROGRAM", "crates/fmtcanon/out/fmtcanon"))
+    return str(built("FMTCANON_PROGRAM", PROGRAM))
 
 
 def folder():
@@ -35,15 +36,16 @@ def folder():
 
 
 @lru_cache(maxsize=None)
-def module_over(program, folder):
+def module_over(folder):
     os.environ["FMTCANON_LIBRARY"] = str(folder / SONAME)
-    os.environ["FMTCANON_PROGRAM"] = program
+    # What runs the program finds the tree's own.
+    os.environ.setdefault("FMTCANON_PROGRAM", str(TOP / PROGRAM))
     return importlib.import_module("fmtcanon")
 
 
-def module(program, folder):
-    """The Python module, over the program and the library."""
-    return module_over(program, folder)
+def module(folder):
+    """The Python module, over the library."""
+    return module_over(folder)
 
 
 def work():

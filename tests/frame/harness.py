@@ -7,7 +7,8 @@ import subprocess
 
 from tests.frame import TOP
 
-TIMEOUT = 60
+# The seconds after which a run counts as hanging: many times what any takes, also on a busy machine.
+TIMEOUT = 600
 VERSION = (TOP / "VERSION").read_text(encoding="utf-8").strip()
 # The name by which programs ask for the C library.
 SONAME = f"libfmtcanon.so.{VERSION.split('.')[0]}"

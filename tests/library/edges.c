@@ -556,8 +556,8 @@ static void without_memory(void)
     fmtcanon_fits_models("%2$s%1$d", 8, "%d%s", 4, &e);
     fmtcanon_directives(LP64, "%*.*f", 5, NULL, 0, &e);
     fmtcanon_directives(LP64, "%d%d%d%d%d%d%d%d%d%d%d%d%d%d%d%d", 32, NULL, 0, &e);
-    fmtcanon_specifications(LP64, "%d%d%d%d%d%d%d%d%d%d%d%d%d%d%d%d%d%d%d%d%d%d%d%d%d%d%d%d%d%d%d%-+05.2d", 70, NULL, 0, NULL, &e);
-    fmtcanon_specifications(LP64, "%2$d", 4, NULL, 0, NULL, &e);
+    fmtcanon_specifications(LP64, "%d%d%d%d%d%d%d%d%d%d%d%d%d%d%d%d%d%d%d%d%d%d%d%d%d%d%d%d%d%d%d%-+05.2d", 70, NULL, 0, &e);
+    fmtcanon_specifications(LP64, "%2$d", 4, NULL, 0, &e);
     WANT(growths == 0);
 }
 
@@ -579,7 +579,7 @@ static void in_small_stack(void)
     WANT(fmtcanon_same(LP64, a, n, b, n, &e) == 0 && fmtcanon_same_models(a, n, b, n, &e) == 0);
     WANT(fmtcanon_compare(LP64, a, n, b, n, out, sizeof out, &found, &e) > 4094);
     WANT(fmtcanon_arguments(LP64, w, m, bytes, sizeof out, &e) == 5 && fmtcanon_directives(LP64, w, m, records, 8, &e) == 4);
-    WANT(fmtcanon_specifications(LP64, w, m, parts, 4, NULL, &e) == 4 && fmtcanon_specifications(LP64, "%2$d", 4, parts, 4, parts, &e) == -21);
+    WANT(fmtcanon_specifications(LP64, w, m, parts, 4, &e) == 4 && fmtcanon_specifications(LP64, "%2$d", 4, parts, 4, &e) == -21);
     WANT(fmtcanon_fits(LP64, w, m, v, m, &e) == 1 && fmtcanon_fits_models(w, m, v, m, &e) == FMTCANON_IN_ALL);
     WANT(fmtcanon_fits_fewer(LP64, w, m, "%d", 2, &e) == 1);
     WANT(fmtcanon_fits_fewer_models(w, m, "%d", 2, &e) == FMTCANON_IN_ALL);

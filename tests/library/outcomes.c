@@ -96,7 +96,6 @@ struct given {
     size_t cap;
     fmtcanon_comparison *found;
     struct fmtcanon_bounds *bounds;
-    fmtcanon_specification *rejected;
     fmtcanon_error *error;
 };
 
@@ -136,7 +135,7 @@ static int64_t made(const struct given *g)
     case DIRECTIVES:
         return fmtcanon_directives(g->model, f, n, last_records(g, RECORD), records(g, RECORD), g->error);
     case SPECIFICATIONS:
-        return fmtcanon_specifications(g->model, f, n, last_records(g, LONG_RECORD), records(g, LONG_RECORD), g->rejected, g->error);
+        return fmtcanon_specifications(g->model, f, n, last_records(g, LONG_RECORD), records(g, LONG_RECORD), g->error);
     case DECODE: return fmtcanon_decode_literal(f, n, g->out, g->cap, g->error);
     case ENCODE: return fmtcanon_encode_literal(f, n, g->out, g->cap);
     case SOURCE_OFFSET: return fmtcanon_source_offset(f, n, m);
@@ -168,12 +167,10 @@ static void try_refused(struct given g, int64_t result, int count)
 {
     static const fmtcanon_error before = {77, 78, 79};
     g.out = locked(g.cap), g.error = locked(sizeof before), g.found = locked(sizeof *g.found), g.bounds = locked(sizeof *g.bounds);
-    g.rejected = locked(sizeof *g.rejected);
     for (fails_at = 0; fails_at < count; fails_at++) {
         fmtcanon_error error = before;
         int64_t found;
-        fmtcanon_specification rejected;
-        if (result < 0) g.error = &error, g.rejected = &rejected;
+        if (result < 0) g.error = &error;
         found = counted(&g);
         want(found == FMTCANON_ERROR_NOMEMORY || (result < 0 && found == result), "memory is out where an allocation is refused");
         want(found == result || !memcmp(&error, &before, sizeof error), "the error is left as it was");
@@ -188,14 +185,13 @@ static void try_one(struct given g)
     fmtcanon_error error;
     fmtcanon_comparison found;
     struct fmtcanon_bounds bounds;
-    fmtcanon_specification rejected;
     int64_t result;
     int count;
-    g.out = (char *)out, g.error = &error, g.found = &found, g.bounds = &bounds, g.rejected = &rejected;
+    g.out = (char *)out, g.error = &error, g.found = &found, g.bounds = &bounds;
     result = counted(&g);
     count = growths;
     if (!has_room(&g, result)) g.out = locked(g.cap);
-    if (result >= 0 || result == FMTCANON_ERROR_MODEL) g.error = locked(sizeof error), g.rejected = locked(sizeof rejected);
+    if (result >= 0 || result == FMTCANON_ERROR_MODEL) g.error = locked(sizeof error);
     if (result < 0) g.found = locked(sizeof found), g.bounds = locked(sizeof bounds);
     want(counted(&g) == result && growths == count, "the same result and as many allocations");
     try_refused(g, result, count);
@@ -211,7 +207,7 @@ int main(void)
         for (text = 0; text < COUNT(TEXTS); text++)
             for (model = 0; model < COUNT(MODELS); model++)
                 for (room = 0; room < COUNT(ROOMS); room++) {
-                    struct given g = {call, MODELS[model], TEXTS[text].first, TEXTS[text].second, NULL, ROOMS[room], NULL, NULL, NULL, NULL};
+                    struct given g = {call, MODELS[model], TEXTS[text].first, TEXTS[text].second, NULL, ROOMS[room], NULL, NULL, NULL};
                     sprintf(now, "%s of texts %d, model %d, room %d", NAMES[call], (int)text, (int)model, (int)ROOMS[room]);
                     try_one(g);
                 }

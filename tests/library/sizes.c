@@ -241,14 +241,14 @@ static void specifications(void)
     fmtcanon_specification *records = __real_malloc(units * sizeof *records);
     one("", "a%-i", "");
     WANT(records != NULL);
-    WANT(fmtcanon_specifications(LP64, first, first_len, records, units, NULL, &error) == (int64_t)units);
+    WANT(fmtcanon_specifications(LP64, first, first_len, records, units, &error) == (int64_t)units);
     for (size_t k = 0; k < units; k++) {
         WANT(records[k].begin == 4 * k + 1 && records[k].width_at == 4 * k + 3 && records[k].end == 4 * k + 4);
         WANT(records[k].argument == k && records[k].needless == FMTCANON_PART_MINUS);
     }
     __real_free(records);
     one("%2$d", "%4$c", "");
-    WANT(fmtcanon_specifications(LP64, first, first_len, NULL, 0, NULL, &error) == -FMTCANON_MISSING_ARGUMENT);
+    WANT(fmtcanon_specifications(LP64, first, first_len, NULL, 0, &error) == -FMTCANON_MISSING_ARGUMENT);
 }
 
 /* Literal bytes between any two directives. */

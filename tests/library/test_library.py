@@ -22,7 +22,7 @@ LAWS = TOP / "crates/fmtcanon_c/specs/Header.antt"
 STRICT = ["-Wall", "-Wextra", "-pedantic", "-Werror", f"-I{HEADER.parent}"]
 # The documents, or their parts below a heading, whose examples need the library, the module or the commands installed.
 DOCUMENTS = [
-    ("README.md", "A difference that is shown"),
+    ("README.md", "What is built over it"),
     ("docs/C.md", None),
     ("docs/EXPLAINING.md", None),
     ("docs/TRANSLATIONS.md", "Check a catalog"),
@@ -185,7 +185,7 @@ def try_header_laws(errors, trials):
 
 
 def lines_of(words, **options):
-    done = subprocess.run(words, stdout=subprocess.PIPE, stderr=subprocess.STDOUT, timeout=600, check=False, **options)
+    done = subprocess.run(words, stdout=subprocess.PIPE, stderr=subprocess.STDOUT, timeout=3 * TIMEOUT, check=False, **options)
     return done.returncode, done.stdout.decode(errors="replace")
 
 
@@ -403,9 +403,10 @@ def test_program(program, module, trials):
         trials.expect(f"types {one}", run(program, ["types", "--", one]), (2, b"", line))
 
 
-def prefix(work, trials):
-    """A folder with what `make install` puts there."""
-    trials.expect("make install", make(["install", f"DESTDIR={work / 'stage'}", *PLACES]), (0, ""))
+def prefix(program, folder, work, trials):
+    """A folder with what `make install` puts there, of this program and this library."""
+    words = [f"PROGRAM={program}", f"C={folder}", f"DESTDIR={work / 'stage'}", *PLACES]
+    trials.expect("make install", make(["install", *words]), (0, ""))
     return work / "stage/usr"
 
 

@@ -115,7 +115,7 @@ def compiled(compiler, sources, work):
     made = work / "literals"
     done = subprocess.run(
         [*compiler, file, "-o", made],
-        timeout=10 * TIMEOUT,
+        timeout=TIMEOUT,
         check=False,
         capture_output=True,
         env={**os.environ, "LC_ALL": "C"},
@@ -168,6 +168,15 @@ def test_encoded(module, compiler, trials, work):
     trials.expect(f"{compiler}: literals are compiled without a warning", (found is not None, said), (True, ""))
     for text, bytes_found in zip(listed, found or []):
         trials.expect(f"the literal of {text!r}", bytes_found, text)
+
+
+def test_lengths(module, trials):
+    """No bytes are longer than their source, and no literal than four times its text and two quotes, as the header says."""
+    longer = [it for it in sources() if len(module.decode_literal(it)) > len(it)]
+    trials.expect("sources with more bytes", longer, [])
+    every = [*texts(), b"\x01" * 50]
+    trials.expect("longer literals", [it for it in every if len(module.encode_literal(it)) > 4 * len(it) + 2], [])
+    trials.expect("the longest literal of 50 bytes", len(module.encode_literal(every[-1])), 202)
 
 
 def test_places(module, trials):

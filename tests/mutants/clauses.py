@@ -1,23 +1,15 @@
 """Lists the clauses of public functions that no recorded mutant breaks.
 
-Usage: python3 -m tests.mutants.clauses [CRATE ..]
-
 A clause is broken by a mutant if the goals that refused it (`crates/NAME/refused.txt`) have the clause's name, or, of a
 clause without one, if they are of the function. Only current lines count. Where a mutant has no twin, such a goal may be
-true, and only no longer be proved by the search. unedited.py says which functions are public. A method of a trait has
+true, and only no longer be proved by the search. public_functions.py says which functions are public. A method of a trait has
 the clauses that the trait declares for it, or if the trait is std's, those of its ghost members, as one without a name.
-
-Its last line is 'N passed, M failed', and it exits with 1 where M isn't 0.
 """
 
 import re
-import sys
 
-from tests.mutants import rattle_functions
-from tests.mutants.crates import Crates
-from tests.mutants.mutants import Mutants
-from tests.mutants.refused import kit_of
-from tests.mutants.unedited import exported, has_body, is_public, sources_of
+from tests.mutants import one_answer, rattle_functions
+from tests.mutants.public_functions import exported, has_body, is_public, sources_of
 
 CLAUSE = re.compile(r"\bensures\s+(\w*)\s*(?=\{)")
 TRAIT = re.compile(r"\bpub trait (\w+)[^{]*(?=\{)")
@@ -25,6 +17,7 @@ METHOD = re.compile(r"\bfn (\w+)")
 GHOST = re.compile(r"\bghost \w+ = ")
 # Clauses that no mutant breaks, each with the reason.
 EXCEPTIONS = {
+    **one_answer.REASONS,
     "fmtcanon::answer::Ending::outcome: digit": "it says something of the definition alone",
     "pf_canon::languages::ProfilePassed::len: left": "of this type it says nothing",
     "pf_posix::argument_types::arguments: length": "no body changes the length of a slice that it is given",
@@ -97,34 +90,18 @@ def is_broken(path, clause, refused):
     return any(re.search(rf"-clause-{clause}\b", it) if clause else it.startswith("returns") for it in goals)
 
 
-def unbroken(names):
-    """Returns how many clauses of these crates a mutant breaks, and which none does, without the exceptions; and the
+def unbroken(mutants):
+    """Returns how many clauses a mutant with a current line breaks, and which none does, without the exceptions; and the
     exceptions that one does.
     """
-    crates, count, missing = Crates(), 0, []
+    crates, count, missing = mutants.crates, 0, []
     of_traits = clauses_of_traits(crates)
-    # The kit that made the records, so that none has to be here.
-    mutants = Mutants(crates, kit_of(crates.folder(crates.names()[0])))
-    for name in names or crates.names():
+    for name in crates.names():
         refused = refusals(mutants.current(name))
         for path, clause, _ in public_clauses(crates.folder(name), of_traits):
             if is_broken(path, clause, refused):
                 count += 1
             else:
                 missing.append(f"{name}::{path}" + (f": {clause}" if clause else ""))
-    needless = [] if names else sorted(EXCEPTIONS.keys() - set(missing))
-    return count, [it for it in missing if it not in EXCEPTIONS], needless
-
-
-def main():
-    count, missing, needless = unbroken(sys.argv[1:])
-    for it in missing:
-        print(f"no mutant breaks {it}")
-    for it in needless:
-        print(f"a mutant breaks {it}, which is an exception")
-    print(f"{count} passed, {len(missing) + len(needless)} failed")
-    return 1 if missing or needless else 0
-
-
-if __name__ == "__main__":
-    sys.exit(main())
+    excepted = {it for it in EXCEPTIONS if it.partition("::")[0] in crates.names()}
+    return count, [it for it in missing if it not in excepted], sorted(excepted - set(missing))

@@ -25,12 +25,17 @@ class Crates:
         """Returns the names of the crates, in the order of crates.txt."""
         return list(self.lines)
 
+    def needed(self, name):
+        """Returns the libraries that the line of a crate names: this repository's and the kit's."""
+        return self.lines[name].partition(":")[2].split()
+
     @lru_cache(maxsize=None)
     def below(self, name):
         """Returns the crates of this repository that a crate needs, lowest first."""
-        direct = [it for it in self.lines[name].partition(":")[2].split() if it in self.lines]
         found = []
-        for it in direct:
+        for it in self.needed(name):
+            if it not in self.lines:
+                continue
             found += [crate for crate in [*self.below(it), it] if crate not in found]
         return found
 
@@ -38,7 +43,6 @@ class Crates:
         """Returns the crates that need a crate."""
         return [it for it in self.lines if name in self.below(it)]
 
-    def is_library(self, name):
-        """Returns whether other crates can need this one."""
-        is_static = "staticlib" in self.lines[name].partition(":")[0]
-        return not is_static and not (self.folder(name) / "src/main.rt").is_file()
+    def is_static(self, name):
+        """Returns whether a crate is a static library, which no other crate needs."""
+        return "staticlib" in self.lines[name].partition(":")[0]

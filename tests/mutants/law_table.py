@@ -93,6 +93,16 @@ LAWS = [
         "crates/pf_values/specs/meaning/Headline.antt",
     ),
     Law(
+        "pf_compare::laws::sameness",
+        "uses",
+        edits_of_equivalence(
+            "(",
+            "AreEquivalent model t u",
+            "(canonical t h ≡ canonical u g)",
+            ("meaning::are_equivalent_by_second",) * 2,
+        ),
+    ),
+    Law(
         "pf_whole::laws::headline",
         "uses",
         edits_of_headline(

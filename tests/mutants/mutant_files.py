@@ -9,7 +9,8 @@ tries too. Both have lines of these kinds; lines that are empty or start with `#
     old: TEXT       the text to replace, which occurs once in the file
     copy: NAME      in mutants.txt, in the place of `old:`: the text is the body of a copy of this function of the file
     new: TEXT       the text that replaces it
-    same: TEXT      in mutants.txt: the text of the twin in its place, which means what the code means
+    same: TEXT      in mutants.txt: the text of the twin in its place, which means what the code means; a mutant of one pair
+                    has none where twins.py makes the twin
     twin: NAME      starts the twin of a mutant of must-fail/, with `same:` and without `new:`; or that mutant in other
                     words, with both
 
@@ -24,6 +25,7 @@ from dataclasses import dataclass, field, replace
 from typing import Optional
 
 from tests.mutants import copies, rattle_functions
+from tests.mutants.twins import twin_of_copy, twin_of_edit
 
 WORDS = ("mutant", "twin", "file", "after", "old", "copy", "new", "same")
 
@@ -140,6 +142,14 @@ class Reader:
     def __init__(self, name=None):
         self.mutants, self.twins = ({name: []} if name else {}), {}
         self.pairs, self.parts = self.mutants.get(name), {}
+
+    def made(self):
+        """Returns the mutants of mutants.txt, with twins by rule for those of one pair that have none."""
+        for pairs in self.mutants.values():
+            if len(pairs) == 1 and pairs[0].same is None:
+                [it] = pairs
+                pairs[0] = replace(it, same=twin_of_copy(it.new) if isinstance(it, Copy) else twin_of_edit(it.old))
+        return self
 
     def read(self, text):
         for word, rest in lines_of(text):
@@ -296,7 +306,7 @@ def listed_in(crate):
     for file in sorted((crate / "must-fail").glob("*.edit")):
         found.update(read_pairs(file.read_text(encoding="utf-8"), file.stem))
     more = crate / "mutants.txt"
-    listed = Reader().read(more.read_text(encoding="utf-8") if more.is_file() else "")
+    listed = Reader().read(more.read_text(encoding="utf-8") if more.is_file() else "").made()
     for name in found.keys() & listed.mutants.keys():
         raise ValueError(f"the mutant {name} of {crate.name} is both in must-fail/ and in mutants.txt")
     for name in listed.twins.keys() - found.keys():

@@ -1,4 +1,4 @@
-"""Tries the mutants of a crate, over a proof of the crate as it stands."""
+"""Tries the mutants of a crate, over the proved libraries below it."""
 
 import re
 import shutil
@@ -7,8 +7,7 @@ from contextlib import contextmanager
 
 from tests.mutants.mutant_files import applied, batches, proof_files
 from tests.mutants.reports import Report, Verdict, verdict_of, verdict_with_twin
-from tests.mutants.schedule import Task
-from tests.mutants.work import run_rt, say
+from tests.mutants.schedule import Task, say
 
 ANSWER = re.compile(r"^(?:abbrev )?pub ([\w-]+) :", re.MULTILINE)
 # How many mutants share a check at least, if there are that many, and at most.
@@ -22,9 +21,9 @@ class Trial:
     `refused` is called with the name of each mutant that is refused, and with the goals that refused it.
     """
 
-    def __init__(self, name, mutants, work, refused=lambda mutant, goals: None):
-        self.name, self.mutants, self.work, self.refused = name, mutants, work, refused
-        self.crate, self.outcomes, self.found = work.crates.folder(name), {}, {}
+    def __init__(self, name, mutants, built, refused=lambda mutant, goals: None):
+        self.name, self.mutants, self.built, self.refused = name, mutants, built, refused
+        self.crate, self.outcomes, self.found = built.crates.folder(name), {}, {}
         self.lock, self.free_copies = threading.Lock(), []
         for it in self.tried():
             if it.is_broken():
@@ -52,17 +51,16 @@ class Trial:
         return [it for it in self.tried() if it.label() not in self.found]
 
     def tasks(self, jobs):
-        """Returns the tasks that try what is left, once the crate is proved. What takes longest goes first: the mutants
-        of a high crate, and those of no function, each tried alone.
+        """Returns the tasks that try what is left. What takes longest goes first: the mutants of a high crate, and those
+        of no function, each tried alone.
         """
-        after, height = frozenset([("proof", self.name)]), -len(self.work.crates.below(self.name))
+        height = -len(self.built.crates.below(self.name))
         groups = [[it] for it in self.left() if not it.functions]
         many = [it for it in self.left() if it.functions]
         most = min(max(LEAST, -(-len(many) // jobs)), MOST)
         groups += [group for group, _ in batches(many, self.crate, most)]
         for number, group in enumerate(groups):
-            call = lambda group=group: (True, self.judge(group))  # noqa: E731
-            yield Task((self.name, number), call, after, (1, height, number))
+            yield Task(lambda group=group: self.judge(group), (1, height, number))
 
     def judge(self, mutants, has_answers=True):
         """Tries mutants in one check, and returns the tasks that try those again that it doesn't show refused.
@@ -86,8 +84,7 @@ class Trial:
 
     def again(self, mutants, has_answers):
         """Returns the task that tries these mutants once more."""
-        call = lambda: (True, self.judge(mutants, has_answers))  # noqa: E731
-        return Task((self.name, mutants[0].label(), has_answers), call, rank=(1, 0, 0))
+        return Task(lambda: self.judge(mutants, has_answers), (0, 0, 0))
 
     def checked(self, mutants, has_answers):
         """Returns the report of a check of the functions that these mutants change, or of all if they change none."""
@@ -98,28 +95,25 @@ class Trial:
         paths = sorted({path for it in mutants for path in it.listed()})
         words = [word for path in paths for word in ("--only", f"{self.name}::{path}")]
         with self.changed({**texts, **dict.fromkeys(answers, "")}) as folder:
-            said = run_rt(folder, "check", "--jobs", "1", "--allow-holes", *words)[0]
+            said = self.built.check(folder, "--allow-holes", *words)
         return Report(said, self.name, answers)
 
     @contextmanager
     def changed(self, texts):
         """Gives a copy of the crate with these texts, in which nothing else is checked meanwhile."""
         with self.lock:
-            copy = self.free_copies.pop() if self.free_copies else None
-        copy = copy or self.work.copy(self.name)
-        folder = copy / "crates" / self.name
+            folder = self.free_copies.pop() if self.free_copies else None
+        folder = folder or self.built.copy(self.name)
         for file, text in texts.items():
             (folder / file).write_text(text, encoding="utf-8")
         yield folder
         for file in texts:
-            shutil.copyfile(self.work.crate(self.name) / file, folder / file)
+            shutil.copyfile(self.crate / file, folder / file)
         with self.lock:
-            self.free_copies.append(copy)
+            self.free_copies.append(folder)
 
     def end(self):
-        """Settles what was not judged, and returns how many mutants were refused and how many not."""
-        for it in self.left():
-            self.settle(it, Verdict.NOT_JUDGED, "the crate, or one below it, is not proved without it")
+        """Returns how many mutants were refused and how many not."""
         refused = sum(verdict is Verdict.REFUSED for verdict, _ in self.outcomes.values())
         return refused, len(self.mutants) - refused
 

@@ -5,19 +5,21 @@ Usage: python3 -m tests.mutants [--jobs N] [--all] [CRATE ..] [NAME ..]
        python3 -m tests.mutants --gate [--jobs N]
 
 A mutant is an edit of a crate's `mutants.txt`, or of its `must-fail/` (mutant_files.py has the format). It is
-tried on a copy of the sources, over a proof of the crate as it stands. Mutants of different functions share a check.
+tried on a copy of the sources, over the proved libraries below the crate. Mutants of different functions share a check.
 Names of crates or of mutants select those to try.
 
 A mutant is refused if a goal that has no answer is open in a function whose body it changes; or in any function, if it
 changes a constant, a table or a file of specs/; and if its twin, an edit of the same shape that means what the code
-means, opens no such goal. The crate without it is proved, so that goal is open because of the mutant, and by the twin
-because of what it means. An answer that no longer proves its goal shows nothing, since it may only not fit the wording.
+means, opens no such goal. So the twin shows that the goal is open because of what the mutant means. An answer that no
+longer proves its goal shows nothing, since it may only not fit the wording.
 
 Each refusal is a line of the record `crates/NAME/refused.txt`, with a key of the mutant and of what its
 functions promise (mutant_keys.py). Mutants with a current line are not tried again, unless --all is given.
 
---recorded tries nothing: it fails if a mutant has no current line. --gate proves each crate, tries a sample of its
-mutants that depends on the commit, compares the goals with the recorded ones, and writes no record.
+--recorded tries nothing: it fails if a mutant has no current line, or if no mutant breaks a clause of a public function
+(clauses.py). --gate tries a sample of the mutants, which the
+commit decides, over the libraries that `rt ci` has just left. It compares the goals with the recorded ones, and
+writes no record.
 
 Its last line is 'N passed, M failed', and it exits with 1 if M isn't 0.
 """
@@ -26,16 +28,17 @@ import argparse
 import hashlib
 import subprocess
 
+from tests.mutants.built import Built
+from tests.mutants.clauses import unbroken
 from tests.mutants.crates import TOP, Crates
 from tests.mutants.mutant_files import mutants_of
 from tests.mutants.mutant_keys import Keys, checksum
 from tests.mutants.mutant_trials import Trial
 from tests.mutants.refused import Record
-from tests.mutants.schedule import run_all
-from tests.mutants.work import files_below, open_work, say
+from tests.mutants.schedule import run_all, say
 
-# The gate tries one in this number of mutants of each crate, and one at least.
-ONE_IN = 20
+# The gate tries one mutant in 20, all of them of one crate in 3: what the mutants of a crate share costs most of a trial.
+ONE_IN, CRATES_ONE_IN = 20, 3
 
 
 class Mutants:
@@ -60,14 +63,12 @@ class Mutants:
         """Returns the goals of each mutant of a crate that has a current line."""
         return [self.records[name].goals(it.name) for it in self.of_crate[name] if self.is_current(name, it)]
 
-    def without_twin(self):
-        """Returns the names of the mutants that have no twin."""
-        return [f"{name}/{it.name}" for name, every in self.of_crate.items() for it in every if it.twin is None]
-
     def faults_of_record(self, name):
         """Yields what is wrong with the record of a crate."""
         for mutant in self.of_crate[name]:
-            if not self.is_current(name, mutant):
+            if mutant.twin is None:
+                yield f"{name}/{mutant.name} has no twin"
+            elif not self.is_current(name, mutant):
                 yield f"{name}/{mutant.name} has no current line: `python3 -m tests.mutants {name} {mutant.name}` tries it"
         record, names = self.records[name], {it.name for it in self.of_crate[name]}
         for mutant in sorted(record.lines.keys() - names):
@@ -85,67 +86,64 @@ class Mutants:
         recorded = self.records[name].goals(mutant.name)
         return "" if goals == recorded else f"{name}/{mutant.name} is recorded with other goals: {recorded}"
 
-    def sample(self, name, seed):
-        """Returns the mutants of a crate that the gate tries."""
-        mutants = sorted(
-            self.of_crate[name], key=lambda it: hashlib.sha256(f"{seed}{name}/{it.name}".encode()).hexdigest()
-        )
-        return mutants[: -(-len(mutants) // ONE_IN)]
+    def sample(self, seed):
+        """Returns the mutants that the gate tries, by their crates."""
+        crates = sorted(filter(self.of_crate.get, self.of_crate), key=lambda it: -len(self.of_crate[it]))
+        crates = crates[int(checksum(seed), 16) % min(CRATES_ONE_IN, len(crates)) :: CRATES_ONE_IN]
+        every = {name: in_order(f"{seed}{name}/", self.of_crate[name]) for name in crates}
+        return {name: mutants[: -(-len(mutants) * CRATES_ONE_IN // ONE_IN)] for name, mutants in every.items()}
+
+
+def in_order(seed, mutants):
+    """Returns mutants in an order that a seed decides."""
+    return sorted(mutants, key=lambda it: hashlib.sha256(f"{seed}{it.name}".encode()).hexdigest())
 
 
 def seed_of(top):
-    """Returns what a sample depends on: the contents of the commit, or of the crates where git has no commit."""
+    """Returns what a sample depends on: the commit, which nobody can choose, or the lists of mutants if git has none."""
     how = {"cwd": top, "stdout": subprocess.PIPE, "stderr": subprocess.DEVNULL, "check": True}
     try:
-        return subprocess.run(["git", "rev-parse", "HEAD^{tree}"], **how).stdout.decode().strip()
+        return subprocess.run(["git", "rev-parse", "HEAD"], **how).stdout.decode().strip()
     except (OSError, subprocess.CalledProcessError):
-        return checksum(sorted(files_below(top / "crates").items()))
+        return checksum([it.read_bytes() for it in sorted((top / "crates").glob("*/mutants.txt"))])
 
 
-def try_all(wanted, needed, jobs, refused, ended=lambda work: 0):
-    """Proves the crates that are needed, tries the chosen mutants of each, and calls `ended` with the folders of the
-    proofs. Returns how many mutants were refused and how many not, with what `ended` found wrong.
-    """
-    with open_work(Crates()) as work:
-        trials = [
-            Trial(name, mutants, work, lambda mutant, goals, it=name: refused(it, mutant, goals))
-            for name, mutants in wanted.items()
-        ]
-        tasks = [*work.tasks(needed), *(task for trial in trials for task in trial.tasks(jobs))]
-        done = run_all(tasks, jobs)
-        counts = [trial.end() for trial in trials]
-        unproved = [name for name in needed if ("proof", name) not in done]
-        wrong = len(unproved) + (0 if unproved else ended(work))
+def try_all(built, wanted, jobs, refused):
+    """Tries the chosen mutants of each crate. Returns how many were refused and how many not."""
+    trials = [
+        Trial(name, mutants, built, lambda mutant, goals, it=name: refused(it, mutant, goals))
+        for name, mutants in wanted.items()
+    ]
+    run_all([task for trial in trials for task in trial.tasks(jobs)], jobs)
+    counts = [trial.end() for trial in trials]
     for trial in trials:
         trial.name_what_is_not_refused()
-    return sum(good for good, _ in counts), sum(bad for _, bad in counts) + wrong
-
-
-def library_in(work):
-    """Builds the C library over the proof of its crate, and returns how many faults that had."""
-    return subprocess.run(["make", "library", f"C_CRATE={work.crate('fmtcanon_c')}"], cwd=TOP).returncode and 1
+    return sum(good for good, _ in counts), sum(bad for _, bad in counts)
 
 
 def compare_records(mutants):
-    """Compares the record of each crate with its mutants, and returns how many are recorded and how many faults."""
+    """Compares the record of each crate with its mutants and clauses, and returns how many mutants are recorded, and how
+    many faults there are.
+    """
     faults = [fault for name in mutants.of_crate for fault in mutants.faults_of_record(name)]
+    count, missing, needless = unbroken(mutants)
+    faults += [f"no mutant breaks {it}" for it in missing]
+    faults += [f"a mutant breaks {it}, which is an exception" for it in needless]
     for fault in faults:
         say(fault)
     recorded = sum(mutants.is_current(name, it) for name, every in mutants.of_crate.items() for it in every)
-    say(f"{recorded} mutants of {len(mutants.of_crate)} crates are recorded as refused")
-    say(f"{len(mutants.without_twin())} mutants have no twin")
+    say(f"{recorded} mutants of {len(mutants.of_crate)} crates are recorded as refused, and break {count} clauses")
     return recorded, len(faults)
 
 
 def try_sample(mutants, jobs):
-    """Proves all crates, tries a sample, and builds the C library. Returns how many passed and how many failed."""
-    seed = seed_of(TOP)
-    wanted = {name: mutants.sample(name, seed) for name in mutants.of_crate}
+    """Tries a sample over what `rt ci` has proved. Returns how many passed and how many failed."""
+    wanted = mutants.sample(seed_of(TOP))
     names = [f"{name}/{it.name}" for name, every in wanted.items() for it in every]
     say(f"a sample of {len(names)} mutants: {' '.join(names)}")
     faults = []
     refused = lambda *found: faults.append(mutants.compare(*found))  # noqa: E731
-    passed, failed = try_all(wanted, list(wanted), jobs, refused, library_in)
+    passed, failed = try_all(Built(mutants.crates), wanted, jobs, refused)
     faults = [it for it in faults if it]
     for fault in faults:
         say(fault)
@@ -162,8 +160,9 @@ def try_wanted(mutants, options):
         mutants.records[name].keep_only({it.name for it in mutants.of_crate[name]})
         found = [it for it in mutants.of_crate[name] if not only or it.name in only]
         wanted[name] = [it for it in found if options.all or not mutants.is_current(name, it)]
-    wanted = {name: found for name, found in wanted.items() if found}
-    return try_all(wanted, list(wanted), options.jobs, mutants.put)
+    wanted, built = {name: found for name, found in wanted.items() if found}, Built(mutants.crates, of_ci=False)
+    built.prove_below(wanted, options.jobs)
+    return try_all(built, wanted, options.jobs, mutants.put)
 
 
 def main():
@@ -172,7 +171,7 @@ def main():
     how = parser.add_mutually_exclusive_group()
     how.add_argument("--all", action="store_true", help="try those with a current line, too")
     how.add_argument("--recorded", action="store_true", help="compare the records, and try nothing")
-    how.add_argument("--gate", action="store_true", help="prove all crates, and try a sample")
+    how.add_argument("--gate", action="store_true", help="try a sample over the libraries of rt ci")
     parser.add_argument(
         "words", nargs="*", metavar="CRATE | NAME", help="the crates and the mutants to try; all if none is named"
     )

@@ -4,18 +4,19 @@ Usage: python3 -m unittest tests.mutants.statements
 
 A law has no body, so no mutant holds its statement. Each law here has callers in crates/uses or crates/uses_low whose
 clauses follow from it. Here they require the statement instead, over a copy of its definition. With the definition as
-it is, they are proved. With each edit, those that need what it takes away aren't, and the others are.
+it is, they are proved. With each edit, those that need what it takes away aren't, and the others are. One check of a crate
+tries all: each round of edits has copies of the callers.
 """
 
 import itertools
 import re
+from pathlib import Path
 
 from tests.frame.cases import tests_of
+from tests.mutants.built import Built
 from tests.mutants.crates import TOP, Crates
 from tests.mutants.law_table import LAWS
 from tests.mutants.reports import Report
-from tests.mutants.schedule import run_all
-from tests.mutants.work import open_work, run_rt
 
 # The statements and the definitions import so.
 GHOST_USE = re.compile(r"^ghost use ([\w.]+)\.\{(.*?)\};$", re.MULTILINE | re.DOTALL)
@@ -91,65 +92,96 @@ def with_statement(text, law, module):
     return text
 
 
-def edited(crate, laws, edits):
-    """Returns the files of a crate in which the callers use statements of edited definitions, by their paths."""
-    files = {"src/lib.rt": (crate / "src/lib.rt").read_text(encoding="utf-8"), "specs/Lib.antt": ""}
+def modules_of(laws):
+    """Returns the modules of the callers of these laws."""
+    return sorted({caller.split("::")[0] for law in laws for caller in law.callers})
+
+
+def marked(text, laws, mark):
+    """Returns a text with the names of these laws' statements and modules marked."""
+    names = "|".join(name for law in laws for name in (law.statement, law.module))
+    return re.sub(rf"\b(?:{names})\b", lambda it: f"{it[0]}{mark}", text)
+
+
+def edited(crate, laws, edits, mark):
+    """Returns the files in which copies of the callers use statements of edited definitions, by their paths."""
+    files = {}
     for law, edit in zip(laws, edits):
-        files["src/lib.rt"] += f"pub mod {law.module};\n"
-        files["specs/Lib.antt"] += f"pub mod {law.statement}\n"
-        files[f"specs/{law.statement}.antt"] = definition_of(law, edit)
-        files[f"src/{law.module}.rt"] = (
+        files[f"specs/{law.statement}{mark}.antt"] = definition_of(law, edit)
+        files[f"src/{law.module}{mark}.rt"] = (
             f"//! The statement.\nghost use Rattle.{law.users}.specs.{law.statement}.{{{law.statement}}};\n\n"
             f"pub fn {law.function}()\n    requires {{ {law.statement} }}\n    ensures {{ {law.statement} }}\n{{}}\n"
         )
-        for module in sorted({it.split("::")[0] for it in law.callers}):
-            file = f"src/{module}.rt"
-            before = files.get(file) or (crate / file).read_text(encoding="utf-8")
-            files[file] = with_statement(before, law, module)
+    for module in modules_of(laws):
+        text = (crate / f"src/{module}.rt").read_text(encoding="utf-8")
+        for law in laws:
+            text = with_statement(text, law, module) if module in modules_of([law]) else text
+        files[f"src/{module}{mark}.rt"] = text
+        for file in (crate / "proofs" / module).rglob("*.antt"):
+            text = file.read_text(encoding="utf-8").replace(f".proofs.{module}.", f".proofs.{module}{mark}.")
+            files[f"proofs/{module}{mark}/{file.relative_to(crate / 'proofs' / module)}"] = text
+    return {path: marked(text, laws, mark) for path, text in files.items()}
+
+
+def files_of(crate, laws, rounds):
+    """Returns the files that a crate gets for all rounds, each with copies of its own."""
+    files = {}
+    for number, edits in enumerate(rounds):
+        files.update(edited(crate, *zip(*tried(laws, edits)), str(number)))
+    root = (crate / "src/lib.rt").read_text(encoding="utf-8")
+    modules = [Path(path).stem for path in files if path.startswith("src/")]
+    specs = [Path(path).stem for path in files if path.startswith("specs/")]
+    files["src/lib.rt"] = root + "".join(f"pub mod {it};\n" for it in modules)
+    files["specs/Lib.antt"] = "".join(f"pub mod {it}\n" for it in specs)
     return files
 
 
-def proved_callers(crate, name, laws):
-    """Returns which callers are proved in a folder, whatever becomes of the laws."""
-    callers = [it for law in laws for it in law.callers]
-    paths = [*callers, *(f"{law.module}::{law.function}" for law in laws)]
-    words = [word for path in paths for word in ("--only", f"{name}::{path}")]
-    said, _ = run_rt(crate, "check", "--jobs", "1", "--allow-holes", *words)
+def proved_in(built, name, laws, rounds):
+    """Returns which callers are proved in each round, whatever becomes of the laws."""
+    folder = built.copy(name)
+    for file, text in files_of(built.crates.folder(name), laws, rounds).items():
+        (folder / file).parent.mkdir(parents=True, exist_ok=True)
+        (folder / file).write_text(text, encoding="utf-8")
+    callers = [callers_of([law for law, _ in tried(laws, edits)]) for edits in rounds]
+    paths = [[f"{name}::{it.replace('::', f'{number}::')}" for it in found] for number, found in enumerate(callers)]
+    said = built.check(folder, "--allow-holes", *(word for found in paths for it in found for word in ("--only", it)))
     lines = Report(said, name).lines
-    if any(f"{name}::{it}" not in lines for it in callers):
+    if any(it not in lines for found in paths for it in found):
         raise ValueError(said[-2000:])
-    return [it for it in callers if lines[f"{name}::{it}"].startswith(("proved", "no holes"))]
+    is_proved = lambda it: lines[it].startswith(("proved", "no holes"))  # noqa: E731
+    return [[it for it, path in zip(*both) if is_proved(path)] for both in zip(callers, paths)]
 
 
 def rounds_of(laws):
-    """Returns the edits of each law's definition in one check after another: none, and then each, one a check."""
+    """Returns the edits of each law's definition in one round after another: none, and then each."""
     return [(None,) * len(laws), *itertools.zip_longest(*(law.edits for law in laws))]
 
 
+def tried(laws, edits):
+    """Returns the laws that a round tries, with their edits: all where nothing is edited, and otherwise those edited."""
+    return [(law, edit) for law, edit in zip(laws, edits) if edit or not any(edits)]
+
+
+def callers_of(laws):
+    """Returns the callers of these laws, each once."""
+    return list(dict.fromkeys(it for law in laws for it in law.callers))
+
+
 def wanted_callers(laws, edits):
-    """Returns the callers that are to be proved with these edits."""
+    """Returns the callers that are to be proved in a round with these edits."""
     lost = {caller for edit in edits if edit for caller in edit.callers}
-    return [it for law in laws for it in law.callers if it not in lost]
-
-
-def try_edits(crate, name, laws, edits):
-    """Writes the edited statements into a copy of a crate, and returns which callers are proved."""
-    for file, text in edited(crate, laws, edits).items():
-        (crate / file).parent.mkdir(exist_ok=True)
-        (crate / file).write_text(text, encoding="utf-8")
-    return proved_callers(crate, name, laws)
+    return [it for it in callers_of([law for law, _ in tried(laws, edits)]) if it not in lost]
 
 
 def test_statements(trials):
-    with open_work(Crates()) as work:
-        for name in sorted({law.users for law in LAWS}):
-            laws = [law for law in LAWS if law.users == name]
-            done = run_all(work.tasks([name]), 1)
-            trials.expect(f"{name} is proved", ("proof", name) in done, True)
-            for edits in rounds_of(laws):
-                said = "; ".join(f"{law.path}: {it.new}" for law, it in zip(laws, edits) if it)
-                found = try_edits(work.copy(name) / "crates" / name, name, laws, edits)
-                trials.expect(f"callers proved with {said or 'nothing edited'}", found, wanted_callers(laws, edits))
+    built, users = Built(Crates(), of_ci=False), sorted({law.users for law in LAWS})
+    built.prove_below(users, 1)
+    for name in users:
+        laws = [law for law in LAWS if law.users == name]
+        rounds = rounds_of(laws)
+        for edits, found in zip(rounds, proved_in(built, name, laws, rounds)):
+            said = "; ".join(f"{law.path}: {it.new}" for law, it in zip(laws, edits) if it)
+            trials.expect(f"callers proved with {said or 'nothing edited'}", found, wanted_callers(laws, edits))
 
 
 Tests = tests_of(globals())

@@ -1,11 +1,13 @@
 """Three small crates, each above the one before, and mutants of the lowest with the verdict that each must get."""
 
+import tempfile
+from pathlib import Path
+
 from tests.mutants.reports import Verdict
 
 FILES = {
     "crates.txt": "low:\nmiddle: low\nfmtcanon_c: low middle\n",
     "HANDLES": "Handles allowed: none.\n",
-    "Makefile": "library:\n\t@echo built over $(notdir $(C_CRATE))\n",
     "crates/low/specs/Lib.antt": "pub mod Doubles\npub mod Signs\n",
     "crates/low/specs/Doubles.antt": """-- Twice a number.
 use Rattle.std.specs.Prelude.{ℕ, ◌+◌}
@@ -20,7 +22,6 @@ tripled n = n + n + n
 use Rattle.std.specs.Prelude.{ℕ, ◌+◌}
 
 infixl 20 ◌⊕◌
-
 abbrev pub ◌⊕◌ : ℕ → ℕ → ℕ
 n ⊕ m = n + m
 """,
@@ -121,6 +122,65 @@ pub fn again(n: u8) -> u32 {
 }
 """,
 }
+# Those with what the key of a mutant of `made` depends on: a definition, an operator, a module and types. Another
+# type of the lowest crate has the name of a variant.
+KEYED = {
+    **FILES,
+    "crates/low/specs/Names.antt": """use Rattle.low.specs.Signs.{◌⊕◌}
+pub use Rattle.low.specs.Parts.{part}
+
+abbrev pub named : ℕ
+named = part ⊕ 1
+
+abbrev pub unnamed : ℕ
+unnamed = 2
+""",
+    "crates/low/specs/Parts.antt": "abbrev pub part : ℕ\npart = 3\n",
+    "crates/low/src/sizes.rt": """pub struct Size { size: u32 }
+
+pub const SIZES: [Size; 2] = [Size { size: 1 }, Size { size: 2 }];
+
+impl<'a> From<&'a u32> for Size {
+    ghost from_gives = { λ n size. size ≡ n };
+
+    fn from(n: &u32) -> Size {
+        Size { size: *n }
+    }
+}
+
+impl Model for Size {
+    ghost Value = { ℕ };
+}
+""",
+    "crates/low/src/others.rt": "pub struct First { size: u32 }\n",
+    "crates/middle/src/made.rt": """
+ghost use Rattle.low.specs.Doubles.{
+    doubled,
+};
+ghost use Rattle.low.specs.Signs.{◌⊕◌};
+ghost use Rattle.low.specs.Names as names;
+
+use low::{SIZES, Size};
+
+enum Side {
+    First,
+}
+
+/// Returns something.
+pub fn made(n: Size) -> u32
+    ensures { result ≡ doubled n ⊕ names.named }
+{
+    called(n) + SIZES[Side::First as usize]
+}
+
+fn called(n: Size) -> u32
+    ensures { result ≡ n }
+{
+    n
+}
+""",
+    "crates/middle/proofs/made/made/Answers.antt": "pub returns : goal.returns\nreturns c = refl\n",
+}
 WIDE = "file: src/lib.rt\nafter: pub fn twice\nold: let wide = u32::from(n);\nnew: "
 EVEN = "file: src/lib.rt\nafter: pub fn even\nold: wide + wide\nnew: "
 SEVEN = f"{WIDE}let wide = u32::from(n); if n == 7 {{ return"
@@ -149,9 +209,23 @@ MUTANTS = {
 }
 
 
+# A mutant of middle, whose check needs the library of low.
+OF_MIDDLE = {"by-two": ("file: src/lib.rt\nold: twice(n)\nnew: twice(n) + 1\nsame: twice((n))", Verdict.REFUSED)}
+
+
 def mutants_text(names):
     """Returns the text of a `mutants.txt` with these mutants."""
-    return "".join(f"mutant: {name}\n{MUTANTS[name][0]}\n\n" for name in names)
+    return "".join(f"mutant: {name}\n{(MUTANTS[name] if name in MUTANTS else OF_MIDDLE[name])[0]}\n\n" for name in names)
+
+
+def in_folder(test):
+    """Gives a test a folder of its own."""
+
+    def run(self):
+        with tempfile.TemporaryDirectory(prefix="fmtcanon-test-") as folder:
+            test(self, Path(folder))
+
+    return run
 
 
 def write(folder, files):

@@ -151,13 +151,14 @@ def needed_by_page():
     return re.findall(r" from (\d+\.\d+) on\b", (TOP / "docs/INSTALL.md").read_text(encoding="utf-8"))
 
 
+def without_make():
+    """The environment without what a make above says through it, for example that the folders entered are printed."""
+    said = ("MAKEFLAGS", "MAKELEVEL", "MFLAGS", "MAINTAINER")
+    return {name: value for name, value in os.environ.items() if name not in said}
+
+
 def make(words, folder=TOP, path=None):
-    # A make above says through these that it prints the folders that it enters.
-    environment = {
-        name: value
-        for name, value in os.environ.items()
-        if name not in ("MAKEFLAGS", "MAKELEVEL", "MFLAGS", "MAINTAINER")
-    }
+    environment = without_make()
     environment["PATH"] = path or os.environ["PATH"]
     done = subprocess.run(
         ["make", "-s", *words],
@@ -440,6 +441,26 @@ def test_command_pages(trials):
             for tag in re.findall(r"^\.TP\n\.BI? (.*)$", section, flags=re.MULTILINE)
         ]
         trials.expect(f"options of fmtcanon-{name}.1", sorted(tags), sorted(options_of(name)))
+
+
+def test_first_command(trials):
+    """`make run`, which proves nothing, prints what the README and docs/INSTALL.md say; asked again, it compiles nothing."""
+    install, readme = ((TOP / name).read_text(encoding="utf-8") for name in ("docs/INSTALL.md", "README.md"))
+    [(first, line)] = re.findall(r"^    (make run)\n\n.*prints `(.*)` in a minute or two", install, re.MULTILINE)
+    [again] = re.findall(r'`(make run ASK="[^`]*")`', readme)
+    trials.expect("the first command of the README", f"\n    {first} " in readme, True)
+    for command, wanted in [(first, line), (again, "same")]:
+        done = subprocess.run(
+            ["bash", "-c", command],
+            cwd=TOP,
+            env=without_make(),
+            capture_output=True,
+            encoding="utf-8",
+            timeout=TIMEOUT,
+            check=False,
+        )
+        trials.expect(command, (done.returncode, done.stdout.splitlines()[-1:]), (0, [wanted]))
+    trials.expect("what is printed again", done.stdout, "same\n")
 
 
 Tests = tests_of(globals())

@@ -9,10 +9,23 @@
 #include <sys/uio.h>
 #include <unistd.h>
 
+static int number(const char *name, int otherwise)
+{
+    const char *text = getenv(name);
+    return text == NULL ? otherwise : atoi(text);
+}
+
+/* The number of a standard stream. A program may read and write copies of them, whose numbers INPUT and OUTPUT are. */
+static int standard(int stream)
+{
+    return stream == number("INPUT", 0) ? 0 : stream == number("OUTPUT", 1) ? 1 : stream;
+}
+
 static long noted(const char *call, int stream, size_t asked, long moved)
 {
     char line[96];
     const char *name = getenv("CALLS");
+    stream = standard(stream);
     int file = stream > 2 || name == NULL ? -1 : (int)syscall(SYS_openat, AT_FDCWD, name, O_WRONLY | O_APPEND | O_CREAT, 0600);
     if (file >= 0) {
         int size = snprintf(line, sizeof line, "%s %d %zu %ld\n", call, stream, asked, moved);
@@ -39,7 +52,7 @@ static size_t at_most_a_step(size_t size)
 
 ssize_t read(int stream, void *bytes, size_t size)
 {
-    size = stream == 0 ? at_most_a_step(size) : size;
+    size = standard(stream) == 0 ? at_most_a_step(size) : size;
     return noted("read", stream, size, syscall(SYS_read, stream, bytes, size));
 }
 

@@ -15,6 +15,10 @@ static long number(const char *name, long otherwise)
     return text == NULL ? otherwise : strtol(text, NULL, 10);
 }
 
+/* A program may read and write copies of its standard streams, whose numbers INPUT and OUTPUT are. */
+static int is_input(int stream) { return stream == number("INPUT", 0); }
+static int is_output(int stream) { return stream == number("OUTPUT", 1); }
+
 /* How many of so many bytes the next call may move, where some were moved before; none for all of a
  * stream that doesn't fail. */
 static long share(const char *name, long moved, size_t size)
@@ -33,11 +37,11 @@ static long failed(void)
 ssize_t write(int stream, const void *bytes, size_t size)
 {
     static long moved;
-    long part = stream == 1 ? share("ROOM", moved, size) : (long)size;
-    if (stream == 1 && part == 0 && size > 0)
+    long part = is_output(stream) ? share("ROOM", moved, size) : (long)size;
+    if (is_output(stream) && part == 0 && size > 0)
         return failed();
     part = syscall(SYS_write, stream, bytes, (size_t)part);
-    if (stream == 1 && part > 0)
+    if (is_output(stream) && part > 0)
         moved += part;
     return part;
 }
@@ -45,11 +49,11 @@ ssize_t write(int stream, const void *bytes, size_t size)
 ssize_t read(int stream, void *bytes, size_t size)
 {
     static long moved;
-    long part = stream == 0 ? share("FEED", moved, size) : (long)size;
-    if (stream == 0 && part == 0 && size > 0)
+    long part = is_input(stream) ? share("FEED", moved, size) : (long)size;
+    if (is_input(stream) && part == 0 && size > 0)
         return failed();
     part = syscall(SYS_read, stream, bytes, (size_t)part);
-    if (stream == 0 && part > 0)
+    if (is_input(stream) && part > 0)
         moved += part;
     return part;
 }

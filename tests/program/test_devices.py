@@ -169,7 +169,7 @@ NOT_ASKED = [
     (["--version"], 3),
 ]
 # How long a run may take that has nothing to wait for, in seconds.
-SOON = 10
+SOON = 60
 # The program reads and writes this number of bytes in one call, or fewer.
 BLOCK = 8192
 # Formats whose answers have this number of bytes, below, at and above a block.

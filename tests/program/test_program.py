@@ -7,11 +7,12 @@ import os
 import re
 import subprocess
 
-from tests.frame.cases import Given, Trials, tests_of
+from tests.frame.cases import tests_of
 from tests.frame.harness import TIMEOUT, TOP, VERSION, examples, model_rows, run, usage_texts
 
 # The documents, or their parts below a heading, whose examples need the program alone.
 DOCUMENTS = [
+    ("README.md", "At work"),
     ("docs/CHEATSHEET.md", None),
     ("docs/USING.md", None),
     ("docs/REFUSALS.md", None),
@@ -64,18 +65,6 @@ def test_examples(program, trials):
             # Output with no newline at its end shows as a line, too.
             trials.expect(f"{name}: {command}", got if got.endswith("\n") or not got else got + "\n", wanted)
         trials.expect(f"{name} has examples", found > 0, True)
-
-
-def test_first_command(trials):
-    """The first command of docs/INSTALL.md, which proves nothing, prints what the page says."""
-    page = (TOP / "docs/INSTALL.md").read_text(encoding="utf-8")
-    [(command, line)] = re.findall(
-        r"^    (cd \S+ && rt try -- .*)\n\n.*prints `(.*)` in about a minute", page, re.MULTILINE
-    )
-    done = subprocess.run(
-        ["bash", "-c", command], cwd=TOP, capture_output=True, encoding="utf-8", timeout=10 * TIMEOUT, check=False
-    )
-    trials.expect(command, (done.stdout, done.stderr.rpartition(" ")[2]), (f"{line}\n", "proved=no\n"))
 
 
 def test_usage(program, trials):
@@ -277,18 +266,10 @@ def test_devices(program, trials):
         trials.expect(f"{words} with the other two closed", done.returncode, 0)
 
 
-def test_count(trials):
-    """tests/README.md says how many trials there are, with this one."""
-    counted = Trials()
-    for name, test in list(globals().items()):
-        if name.startswith("test_") and test is not test_count:
-            Given({}, counted, None).call(test)
+def said_to_be_tried():
+    """Returns how many runs and comparisons tests/README.md says that these tests make."""
     found = re.search(r"([\d,]+) runs and comparisons", (TOP / "tests/README.md").read_text(encoding="utf-8"))
-    trials.expect(
-        "trials in tests/README.md",
-        found and int(found.group(1).replace(",", "")),
-        counted.passed + counted.failed + 1,
-    )
+    return int(found[1].replace(",", ""))
 
 
-Tests = tests_of(globals())
+Tests = tests_of(globals(), said_to_be_tried)

@@ -123,7 +123,7 @@ def test_engines(node, module, work, tools, trials):
     """Two engines of JavaScript, of Chromium and of Safari, answer alike, and the module has this version."""
     tools.need("jsc", "libjavascriptcoregtk-4.0-bin")
     made = test_page.build()
-    scripts = "\n".join(made.script_of(it) for it in ["library.js", "words.js", "explain.js"])
+    scripts = "\n".join(made.script_of(it) for it in ["library.js", "rejected.js", "words.js", "explain.js"])
     given = {
         "MODULE": base64.b64encode(module.read_bytes()).decode(),
         "TABLE": json.loads(made.TABLE.read_text(encoding="utf-8")),

@@ -24,7 +24,13 @@ assert.equal(own.version(), VERSION);
 assert.throws(() => own.check("%"), (fault) => fault instanceof Refused && fault.kind === 2 && fault.at === 1 && fault.name === "Truncated");
 assert.throws(() => own.check("%\\u0101"), TypeError);
 assert.throws(() => own.render(0, "%d", [{ kind: 7, value: "a" }]), TypeError);
-assert.throws(() => own.canonical(3, "%d"), TypeError);
+for (const model of [3, -1, 0.5, NaN, "0", "lp64", "llp64", undefined, null, {}, [], true, 0n]) {
+  for (const name of ["canonical", "isCanonical", "canonicalLength", "types", "bounds", "directives", "specifications"])
+    assert.throws(() => own[name](model, "%d"), TypeError);
+  for (const name of ["same", "fits", "compare"]) assert.throws(() => own[name](model, "%lu", "%llu"), TypeError);
+  assert.throws(() => own.render(model, "%d", [{ kind: 1, value: 1 }]), TypeError);
+}
+assert.deepEqual([0, 1, 2].map((model) => own.same(model, "%lu", "%llu")), [true, false, false]);
 assert.equal(own.render(0, "%5d|%s", [{ kind: 1, value: -7n }, { kind: 7, value: "ab" }]), "   -7|ab");
 assert.deepEqual(own.bounds(0, "%d"), { least: 1n, greatest: 11n });
 assert.deepEqual(own.bounds(0, "%s"), { least: 0n, greatest: null });

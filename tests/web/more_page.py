@@ -27,28 +27,64 @@ TYPED = [
         "%-05d of %5zu%%",
         "",
         "accepted: it takes 2 arguments, and it prints 15 to 36 bytes",
-        ["size_t", "-2147483648", "%-5d of %5lu%%"],
+        ["size_t", "-2147483648", "Canonical text in LP64%-5d of %5lu%%", "It prints 42    of    42%"],
     ),
-    ("%05d", "%.5d", "different (in all data models)", ["-0001", "-00001"]),
+    ("%05d", "%.5d", "different (in all data models)", ["-0001", "-00001", "First format: canonical text%05d"]),
     (
         "size %zu",
         "size %u",
         "types differ at argument 1 (LP64 and LLP64: types differ at argument 1; ILP32: same)",
-        ["Argument 1"],
+        ["Argument 1", "Write the second as size %zu"],
     ),
-    ("%5c", "    %c", "same (in all data models)", []),
-    ("%d and %#d", "", "refused 13 AltUndefined at byte 9", ["Where"]),
-    ("\\n%#d", "", "refused 13 AltUndefined at byte 4", ["Where"]),
-    ("%-08.6lf|%*d", "", "accepted: it takes 3 arguments", ["argument 2"]),
-    ("%1$s %2$d", "%2$d %1$s", "First format: refused 6 Numbered at byte 2", ["they are the same"]),
-    ("%d files in %s", "In %s sind %d Dateien", "types differ at argument 1", ["string"]),
-    ("%s\\q", "", "literal 3 BadEscape at byte 2", ["Where"]),
-    ('a"b\\q', "", "literal 3 BadEscape at byte 3", ["Where"]),
-    ("%d", "a\\q", "Second format: literal 3 BadEscape at byte 1", ["Where"]),
+    ("%5c", "    %c", "same (in all data models)", ["Canonical text of both    %c"]),
+    ("%.3s", "%3s", "different (in all data models)", ["First format nothing", "Second format    "]),
+    ("%.0s", "", "accepted: it takes 1 argument, and it prints 0 bytes", ["It prints nothing"]),
+    ("%d and %#d", "", "refused 13 AltUndefined at byte 9", ["%d and %#d"]),
+    ("\\n%#d", "", "refused 13 AltUndefined at byte 4", []),
+    ("100%", "", "refused 2 Truncated at byte 4", ["100%end"]),
+    ("100% done", "", "accepted: it takes 1 argument", ["For a percent sign, write %%."]),
+    ("%-08.6lf|%*d", "", "accepted: it takes 3 arguments", ["argument 2", "refused 9 Float"]),
+    ("%1$s %2$d", "%2$d %1$s", "same types: each takes the arguments of the other", ["refused 6 Numbered at byte 2"]),
+    ("%1$s", "%1$d", "types differ at argument 1: one doesn't", ["prints an address as a number"]),
+    (
+        "%d files in %s",
+        "In %s sind %d Dateien",
+        "types differ at argument 1",
+        ["string", "mostly crashes", "Write the second as In %2$s sind %1$d Dateien: "],
+    ),
+    ("%s\\q", "", "literal 3 BadEscape at byte 2", ["%s\\q"]),
+    ('a"b\\q', "", "literal 3 BadEscape at byte 3", []),
+    ("%d", "a\\q", "Second format: literal 3 BadEscape at byte 1", []),
     ('"Total:\\t%i" "\\n"', "", "accepted: it takes 1 argument, and it prints 9 to 19 bytes", ["Total:\\t%d\\n"]),
+    (
+        'printf("%lu bytes\\n", strlen(name));',
+        "",
+        "accepted: it takes 1 argument, and it prints 8 to 27 bytes",
+        ["read as %lu bytes\\n"],
+    ),
+    ('n = f(stderr, _("%d" "%#d"), (x)) < 0', "", "refused 13 AltUndefined at byte 24", ["read as %d%#d"]),
+    ('"%d\\n", x);', "", "accepted: it takes 1 argument, and it prints 2 to 12 bytes", ["read as %d\\n"]),
+    ('"%" PRIu64 "|%#" PRId64', "", "refused 13 AltUndefined at byte 17", []),
+    (
+        '"%" PRIu64',
+        "%llu",
+        "types differ at argument 1 (LP64: types differ at argument 1; ILP32 and LLP64: same)",
+        ["PRIu64 is lu"],
+    ),
+    ('open("%s", %d) = %d', "", "accepted: it takes 3 arguments", ['open(\\"%s\\", %d) = %d']),
+    ('open("%s") failed', "", "accepted: it takes 1 argument, and it prints at least 15 bytes", []),
     ("", "", "Type a format", []),
     ("%s \u00fcber %d", "", "accepted: it takes 2 arguments, and it prints at least 8 bytes", ["\u00fcber"]),
     ("%d%m", "", "accepted: it takes 1 argument", ["takes no argument"]),
+]
+# What is typed for the argument of a format, and a part of what is said then.
+CHOSEN = [
+    ("%05d", "-7", "It prints -0007"),
+    ("%c|", "'A'", "It prints A|"),
+    ("%x", "0xff", "It prints ff"),
+    ("%5.2s|", "a\\tb", "It prints    a\\t|"),
+    ("%d", "2147483648", "from -2147483648 to 2147483647"),
+    ("%d", "seven", "a number, as -7"),
 ]
 
 
@@ -84,7 +120,51 @@ def test_explain(node, module, program, folder, work, trials):
 def typed(browser, first, second):
     browser.type("first", first)
     browser.type("second", second)
-    return browser.text("summary"), browser.text("answer")
+    return browser.text("summary"), browser.text("result") + browser.text("answer")
+
+
+def try_choosing(browser, trials):
+    """Arguments can be typed, and the address has them."""
+    for format, value, wanted in CHOSEN:
+        typed(browser, format, "")
+        browser.type("value1", value)
+        trials.expect(f"{format!r} with {value!r}: {wanted}", wanted in browser.text("values"), True)
+    typed(browser, "%05d", "%.5d")
+    browser.type("value1", "7")
+    trials.expect("arguments without a difference", "Both print 00007" in browser.text("values"), True)
+    browsers.until(lambda: browser.script("return location.hash") == "#f=%2505d&g=%25.5d&a1=7", "the address")
+
+
+# Types into the first box as soon as it is there, before the script of the page runs.
+EARLY = """
+document.addEventListener("readystatechange", () => {
+  const box = document.readyState === "interactive" && document.getElementById("first");
+  if (box) box.value = "%s early";
+});
+"""
+
+
+def try_early(browser, page, trials):
+    """What is typed while the page loads stays."""
+    script = browser.developer("Page.addScriptToEvaluateOnNewDocument", source=EARLY)["identifier"]
+    browser.open(page)
+    trials.expect("what is typed early", browser.script("return document.getElementById('first').value"), "%s early")
+    trials.expect("the answer to it", browser.text("summary").startswith("accepted: it takes 1 argument"), True)
+    browser.developer("Page.removeScriptToEvaluateOnNewDocument", identifier=script)
+
+
+# How far down the verdict ends, in windows of these sizes: above the keyboard of a phone.
+VERDICT = {(1280, 900): 300, (390, 844): 380}
+
+
+def try_verdict(browser, page, trials):
+    """The verdict is on the screen while one types, above the examples."""
+    for (width, height), most in VERDICT.items():
+        window = {"width": width, "height": height, "deviceScaleFactor": 1, "mobile": width < 600}
+        browser.developer("Emulation.setDeviceMetricsOverride", **window)
+        browser.open(page + "#f=%2505d&g=%25.5d")
+        found = browser.script("return document.getElementById('summary').getBoundingClientRect().bottom")
+        trials.expect(f"where the verdict ends at {width}x{height}: {found:.0f}", found <= most, True)
 
 
 def try_typing(browser, trials):
@@ -126,14 +206,15 @@ def try_examples(browser, page, trials):
 
 
 def try_keyboard(browser, page, trials):
-    """The tab key reaches the boxes, the choices and the examples in this order."""
+    """The tab key reaches the pages, the boxes, the choices, the buttons and the arguments in this order."""
     browser.open(page)
     order = []
-    for _ in range(6):
+    for _ in range(12):
         for kind in ("rawKeyDown", "keyUp"):
             browser.developer("Input.dispatchKeyEvent", type=kind, key="Tab", code="Tab", windowsVirtualKeyCode=9)
         order.append(browser.script("const it = document.activeElement; return it.id || it.name || it.tagName"))
-    trials.expect("the order of the tab key", order, ["first", "second", "model", "literal", "BUTTON", "BUTTON"])
+    wanted = ["A"] * 4 + ["first", "second", "model", "literal", "link", "BUTTON", "value1", "value2"]
+    trials.expect("the order of the tab key", order, wanted)
 
 
 def try_names(browser, trials):
@@ -146,7 +227,8 @@ def try_names(browser, trials):
         (role, name) for role, name in roles if role in ("textbox", "radio", "checkbox", "button", "heading", "group")
     ]
     trials.expect("names of controls", [it for it in asked if not it[1]], [])
-    trials.expect("controls", len([it for it in asked if it[0] == "textbox"]), 2)
+    # Two formats, and the two arguments of the first example.
+    trials.expect("controls", len([it for it in asked if it[0] == "textbox"]), 4)
 
 
 TIMED = """
@@ -225,13 +307,16 @@ def test_chromium(page, tools, trials):
         browser.open(page)
         trials.expect("its version", f"fmtcanon {VERSION}." in browser.script("return document.body.innerText"), True)
         try_typing(browser, trials)
+        try_choosing(browser, trials)
         try_address(browser, page, trials)
+        try_early(browser, page, trials)
         try_examples(browser, page, trials)
         try_keyboard(browser, page, trials)
         try_names(browser, trials)
         try_speed(browser, trials)
         try_long(browser, trials)
         try_screens(browser, page, trials)
+        try_verdict(browser, page, trials)
         try_log(browser, trials)
         print(f"the page in Chromium {browser.version}", flush=True)
 
@@ -242,6 +327,7 @@ def test_firefox(page, tools, trials):
     with browsers.firefox() as browser:
         browser.open(page)
         try_typing(browser, trials)
+        try_choosing(browser, trials)
         try_address(browser, page, trials)
         try_examples(browser, page, trials)
         try_speed(browser, trials)

@@ -19,15 +19,15 @@ WEB, TRY = TOP / "web", TOP / "docs/try"
 LISTED = {"char *": "out", "unsigned char *": "out", "const char *": "text", "const fmtcanon_argument *": "arguments"}
 LISTED = {**LISTED, "fmtcanon_directive *": "directives", "fmtcanon_specification *": "specifications"}
 SINGLE = {"fmtcanon_error *": "error", "struct fmtcanon_bounds *": "bounds", "fmtcanon_comparison *": "comparison"}
-SINGLE = {**SINGLE, "fmtcanon_specification *": "rejected", "int": "model", "uint32_t": "number", "uint64_t": "long"}
+SINGLE = {**SINGLE, "int": "model", "uint32_t": "number", "uint64_t": "long"}
 # The structures of library.js in the Python module.
-STRUCTURES = {"error": "CError", "bounds": "CBounds", "comparison": "CComparison", "rejected": "CSpecification"}
+STRUCTURES = {"error": "CError", "bounds": "CBounds", "comparison": "CComparison"}
 STRUCTURES = {**STRUCTURES, "directives": "CDirective", "specifications": "CSpecification", "arguments": "CArgument"}
 # A module that has only the front of one.
 EMPTY = b"\0asm\1\0\0\0"
 # What makes a browser ask for something, or run what isn't in the page.
 REQUESTS = (
-    r"https?:|\bsrc\b|\bhref\b|\burl\(|@import|\bimport\b|\bfetch\(|XMLHttpRequest|WebSocket|sendBeacon|<link|<iframe"
+    r"https?:|\bsrc\b|\burl\(|@import|\bimport\b|\bfetch\(|XMLHttpRequest|WebSocket|sendBeacon|<link|<iframe"
 )
 # Words of the table that are short enough for others to use them.
 SHORT = 12
@@ -111,6 +111,9 @@ def test_build(trials):
         re.findall(REQUESTS, page.replace("default-src 'none'; script-src", "").replace("style-src", "")),
         [],
     )
+    links = re.findall(r'<a href="([^"]*)">', page)
+    trials.expect("links that don't lead from docs/try to a page", [it for it in links if not (TRY / it).is_file()], [])
+    trials.expect("links, and what has an address", (len(links) > 3, page.count("href=")), (True, len(links)))
     for kind, tag in [("script", '<script type="module">'), ("style", "<style>")]:
         inside = re.search(rf"{tag}(.*?)</{kind}>", page, flags=re.DOTALL).group(1)
         wanted = base64.b64encode(hashlib.sha256(inside.encode()).digest()).decode()
