@@ -16,7 +16,10 @@ from pathlib import Path
 HERE = Path(__file__).resolve().parent
 VERSION = (HERE.parent / "VERSION").read_text(encoding="utf-8").strip()
 TABLE = HERE.parent / "python/fmtcanon/formats/words.json"
-SCRIPTS = ["library.js", "words.js", "explain.js", "typed.js", "elements.js", "answer.js", "page.js"]
+SCRIPTS = [
+    "library.js", "rejected.js", "words.js", "explain.js", "typed.js", "elements.js", "fixes.js", "answer.js",
+    "values.js", "page.js",
+]
 MODULE = re.compile(r'^const MODULE = "([^"]*)";$', re.MULTILINE)
 
 

@@ -1,6 +1,8 @@
 // The calls of fmtcanon.h, in a WebAssembly module. A text is a string with one byte in each character: bytesOf makes it of
 // any string, and textOf makes a string of it.
 
+import { specificationIn } from "./rejected.js";
+
 // The calls without the `fmtcanon_` of their names, with their parameters in the order of the header.
 export const CALLS = {
   check: "text error",
@@ -24,7 +26,7 @@ export const CALLS = {
   whole_same_models: "text text error",
   whole_compare: "model text text out comparison error",
   directives: "model text directives error",
-  specifications: "model text specifications rejected error",
+  specifications: "model text specifications error",
   decode_literal: "text out error",
   encode_literal: "text out",
   source_offset: "text long",
@@ -33,7 +35,7 @@ export const CALLS = {
 };
 
 // How many bytes the structures of the header have, and one item of each list.
-const RECORDS = { error: 16, bounds: 16, comparison: 16, rejected: 104 };
+const RECORDS = { error: 16, bounds: 16, comparison: 16 };
 export const SIZES = { ...RECORDS, out: 1, directives: 48, specifications: 104, arguments: 32 };
 const GIVEN = ["model", "number", "long", "text", "arguments"];
 const LISTS = ["text", "arguments", "out", "directives", "specifications"];
@@ -124,6 +126,10 @@ export class Library {
   made(name, given, count = 0) {
     const rest = [...given], places = {}, words = [];
     const parameters = PARAMETERS[name].map((kind) => [kind, GIVEN.includes(kind) ? rest.shift() : null]);
+    for (const [kind, value] of parameters) {
+      // WebAssembly would take another value for 0.
+      if (kind === "model" && !(value in MODELS && Number.isInteger(value))) throw new TypeError(`not a data model: ${value}`);
+    }
     this.reserve(parameters.reduce((sum, [kind, value]) => sum + rounded(sizeOf(kind, value, count)), 0));
     let at = this.base;
     for (const [kind, value] of parameters) {
@@ -174,8 +180,7 @@ export class Library {
     if (size === WRONG_COUNT) return new TypeError(`argument count: wanted ${at}`);
     if (size === WRONG_TYPE) return new TypeError(`argument ${at}: wrong type`);
     const [kind, side] = [8, 12].map((it) => view.getUint32(places.error + it, true));
-    const rejected = places.rejected && specificationAt(view, places.rejected);
-    return Object.assign(new Refused(kind, this.kindName(kind), at, side), rejected && { specification: rejected });
+    return new Refused(kind, this.kindName(kind), at, side);
   }
 
   // Returns what a call writes. It is made again if the room is too small: with `more` bytes than it returns.
@@ -235,8 +240,10 @@ export class Library {
 
   /** Returns each conversion specification with its parts. */
   specifications(model, text) {
-    const { size, view, places } = this.call("specifications", [model, text], text.split("%").length - 1);
-    return listed(size, (index) => specificationAt(view, places.specifications + SIZES.specifications * index));
+    const { size, view, places } = this.made("specifications", [model, text], text.split("%").length - 1);
+    if (size >= 0) return listed(size, (index) => specificationAt(view, places.specifications + SIZES.specifications * index));
+    const fault = this.fault({ size, places, view });
+    throw fault instanceof Refused ? Object.assign(fault, { specification: specificationIn(this, text, fault) }) : fault;
   }
 
   same(model, first, second, whole = true) {
@@ -307,5 +314,5 @@ function specificationAt(view, at) {
   const found = {}, numbers = numbersAt(view, at, NUMBERS.length);
   NUMBERS.forEach((name, index) => (found[name] = numbers[index]));
   SETS.forEach((name, index) => (found[name] = view.getUint32(at + 8 * NUMBERS.length + 4 * index, true)));
-  return found.start === null ? null : found;
+  return found;
 }
