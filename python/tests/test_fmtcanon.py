@@ -293,14 +293,8 @@ class Calls(unittest.TestCase):
     def test_examples(self):
         self.assertEqual(doctest.testmod(fmtcanon).failed, 0)
 
-    @needs_program
-    def test_examples_of_sessions(self):
-        self.assertEqual(doctest.testmod(fmtcanon.sessions).failed, 0)
-        self.assertGreater(doctest.testmod(fmtcanon.sessions).attempted, 0)
-
-    @needs_program
     def test_page(self):
-        """The sessions of docs/PYTHON.md and of the page of the module on a package index."""
+        """The examples of docs/PYTHON.md and of the page of the module on a package index."""
         for page in ["docs/PYTHON.md", "python/README.md"]:
             done = doctest.testfile(str(TOP / page), module_relative=False)
             self.assertEqual((done.failed, done.attempted > 5), (0, True))

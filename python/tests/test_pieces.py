@@ -1,10 +1,12 @@
 """Tests of `show`: its pieces are those that the program prints."""
 
 import random
+import subprocess
 import unittest
 
 import fmtcanon
 from fmtcanon import Model, Refused
+from fmtcanon.program import program
 
 from . import needs_program
 
@@ -41,15 +43,18 @@ def line(piece):
 class Pieces(unittest.TestCase):
     def test_random_formats(self):
         for model in Model:
-            accepted = 0
-            with fmtcanon.Session("show", model=model) as session:
-                for text in formats():
-                    try:
-                        found = (0, "\n".join(map(line, fmtcanon.show(text, model=model))).encode())
-                        accepted += 1
-                    except Refused as refusal:
-                        found = (2, str(refusal).encode())
-                    self.assertEqual(found, session.ask(text), text)
+            accepted, texts = 0, list(formats())
+            words = [program(), "show", "--null", "--model", model.name.lower()]
+            records = b"".join(it.encode() + b"\0" for it in texts)
+            replies = subprocess.run(words, input=records, stdout=subprocess.PIPE, check=False).stdout.split(b"\0")
+            self.assertEqual(len(replies), len(texts) + 1)
+            for text, reply in zip(texts, replies):
+                try:
+                    found = "0 " + "\n".join(map(line, fmtcanon.show(text, model=model)))
+                    accepted += 1
+                except Refused as refusal:
+                    found = f"2 {refusal}"
+                self.assertEqual(found.encode(), reply, text)
             self.assertGreater(accepted, FORMATS // 3)
 
 

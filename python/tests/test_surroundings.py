@@ -98,7 +98,7 @@ class Command(unittest.TestCase):
         done = python(["-m", "fmtcanon", "canon", "%i"], FMTCANON_PROGRAM="/nothing/fmtcanon")
         self.assertEqual(done.returncode, 127)
         wanted = (
-            b"fmtcanon: /nothing/fmtcanon can't be run: No such file or directory; `Session` and `python -m fmtcanon` need "
+            b"fmtcanon: /nothing/fmtcanon can't be run: No such file or directory; `python -m fmtcanon` needs "
             b"the program, which is for x86-64: install it, or name its file by FMTCANON_PROGRAM\n"
         )
         self.assertEqual(done.stderr, wanted)
