@@ -2,6 +2,7 @@
 above.
 """
 
+import contextlib
 import itertools
 import json
 import os
@@ -12,7 +13,6 @@ import tempfile
 import time
 import unittest
 from pathlib import Path
-from unittest import mock
 
 import fmtcanon
 from fmtcanon import Model
@@ -24,27 +24,8 @@ from fmtcanon.formats.rejections import instead_of, refused_span
 
 LENGTHS = ["", "hh", "h", "l", "ll", "j", "z", "t", "L"]
 CONVERSIONS = "diouxXbfFeEgGaAcspnCS"
-# What a random text and a random catalog are made of.
+# What a random text is made of.
 LETTERS = ["%"] * 6 + list("$*.019-+ #'Ihljztdsxcfnpm%a!<") + ["<PRIu64>", "1$", "2$", "*1$", "\n"]
-COMMENTS = ["# l\n", "#. #, fuzzy\n", "#, fuzzy\n", "#, c-format\n", '#~ msgid "m"\n', "  #! fuzzy\n", "\n", " \t"]
-CONTEXTS = ['msgctxt "j"\n', 'msgctxt "\\q"\n', 'domain "k"\n']
-MSGIDS = [
-    'msgid "a"\n',
-    'msgid "%d"',
-    'msgid ""\n"b"\n',
-    'msgid "\\\\n\\n\\"\\t"\n',
-    'msgid "\u00e9"\n',
-    'msgid "\\x41\\101"',
-]
-MSGSTRS = [
-    'msgstr "c"\n',
-    'msgstr ""\n"%s"\n"d"\n',
-    'msgstr "e" "f"',
-    'msgstr "\\1" "2"\n',
-    'msgid_plural "g"\nmsgstr[0] "h"\nmsgstr[1] "i"\n',
-    'msgid_plural "g"\nmsgstr[0] "h"\n# a\nmsgstr[01] ""\n',
-]
-FAULTY = ['msgid_plural "g"\nmsgstr[0] "h"\nmsgstr[0] ""\n', 'msgstr "\\q"\n', "msgstr", '"n"', "x", "\u00e9"]
 # What comes first in a long text, and what it repeats.
 FRONTS = [
     "",
@@ -58,39 +39,7 @@ UNITS = [
     *['"a"', '"a" ', '"a"\n', '"\\n" ', '"\\\\" ', "#a\n", "# ", " ", "\n", "\\n", "#,", "#, fuzzy\n", '# "\n"x"\n'],
     *['msgid "a" ', 'msgctxt "a" ', 'msgid "a" msgstr "b" ', 'msgid "a"\n#\nmsgstr "\\1"\n#c\n', 'msgstr[0] "a"\n'],
 ]
-TEXTS, CATALOGS = 20_000, 10_000
-
-
-def some(chosen, texts, chance):
-    return chosen.choice(texts) if chosen.random() < chance else ""
-
-
-def catalog(chosen):
-    """A random catalog, most of whose entries are right."""
-    text = ""
-    for _ in range(chosen.randrange(1, 6)):
-        text += some(chosen, COMMENTS, 0.7) + some(chosen, COMMENTS, 0.5) + some(chosen, CONTEXTS, 0.1)
-        text += (
-            chosen.choice(MSGIDS) + some(chosen, COMMENTS, 0.1) + some(chosen, FAULTY, 0.03) + chosen.choice(MSGSTRS)
-        )
-    return (text + some(chosen, COMMENTS, 0.3)).encode()
-
-
-def read(text, by_tokens):
-    """The messages of a catalog as tuples, or the line of its fault."""
-    reader = PoReader(charset_named("UTF-8"))
-    try:
-        if by_tokens:
-            with mock.patch.object(PoReader, "entry", return_value=None):
-                found = list(reader.read(text))
-        else:
-            found = list(reader.read(text))
-    except BadCatalog as fault:
-        return fault.line, str(fault)
-    return [
-        (it.line, it.column, it.flags, it.has_context, it.is_fuzzy, it.msgid, it.plural, it.forms, it.bad_bytes)
-        for it in found
-    ]
+TEXTS = 20_000
 
 
 def answer(text, model=Model.LP64):
@@ -102,21 +51,12 @@ def answer(text, model=Model.LP64):
 
 
 class Reading(unittest.TestCase):
-    def test_entries(self):
-        """Entries of the common shape are read as their tokens are."""
-        chosen, entries = random.Random(73), 0
-        for _ in range(CATALOGS):
-            text = catalog(chosen)
-            found = read(text, False)
-            self.assertEqual(found, read(text, True), text)
-            entries += isinstance(found, list) and len(found)
-        self.assertGreater(entries, CATALOGS)
-
     def test_time(self):
         """Texts that a pattern could match in many ways take linear time."""
         began = time.process_time()
         for front, unit in itertools.product(FRONTS, UNITS):
-            read((front + unit * (30_000 // len(unit))).encode(), False)
+            with contextlib.suppress(BadCatalog):
+                list(PoReader(charset_named("UTF-8")).read((front + unit * (30_000 // len(unit))).encode()))
         self.assertLess(time.process_time() - began, 30)
 
 
