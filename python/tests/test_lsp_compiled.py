@@ -350,21 +350,5 @@ class Commands(unittest.TestCase):
                 os.environ["PATH"] = before
 
 
-class Keeping(unittest.TestCase):
-    """The text of a unit is cut without a compiler."""
-
-    def test_cut(self):
-        """The own text begins after the last header, unless it has a bracket before that."""
-        front = '# 1 "<built-in>"\n# 1 "a.c"\n# 1 "x.h" 1\nint f(void);\n'
-        rows = [
-            (front, '# 2 "a.c" 2\nint g(void);\n'),
-            (front + '# 2 "a.c" 2\n\n# 1 "y.h" 1 3\nint h(void);\n', '# 4 "a.c" 2\nint g(void);\n'),
-            (front, '# 2 "a.c" 2\nint g(void);\n# 1 "y.h" 1 3\nint h(void);\n# 4 "a.c" 2\n'),
-            ("", "int g(void);\n"),
-        ]
-        for before, own in rows:
-            self.assertEqual(cut_of(before + own, '"a.c"'), len(before))
-
-
 if __name__ == "__main__":
     unittest.main()

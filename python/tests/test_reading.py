@@ -16,7 +16,6 @@ OPENED = {
     ("words.py", "<module>", "read_text"): "a file of the module",
     ("checker/baseline.py", "Baseline.write", "open"): "a new file that the user names",
     ("checker/baseline.py", "Baseline.write", "write_bytes"): "a file in a folder that this made",
-    ("compiling/kept.py", "KeptUnit.__init__", "open"): "a file in a folder that this made",
     ("lsp/compiler.py", "Compiler.give", "open"): "a file in a folder that this made",
     ("lsp/worker.py", "CompileWorker.judge", "open"): "that file",
     ("compiling/stand_ins.py", "StandIn.__init__", "os.open"): "the folder of a file that the user names",

@@ -112,9 +112,6 @@ class Calls(Parsed):
 class FormatCalls(Calls):
     """The calls with formats in the text of a unit on a platform, by their keys."""
 
-    # Where what is looked at begins in the text.
-    first = 0
-
     def __init__(
         self,
         command: CompileCommand,
@@ -150,8 +147,7 @@ class FormatCalls(Calls):
             self.own = own_among(self.candidates, functions.found)
             self.known = {**without_defined(functions.found, self.candidates), **self.own}
             self.callees = Callees(self, functions._replace(found=self.known))
-        after = [(max(start, self.first), end) for start, end in spans if end > self.first]
-        self.note_calls(functions, plain, after)
+        self.note_calls(functions, plain, spans)
 
     def note_calls(self, functions: Functions, plain: str, spans: Sequence[Tuple[int, int]]) -> None:
         """Notes the calls in these parts of the text."""

@@ -80,16 +80,12 @@ class Parsed:
             for it in command.words
             if it.startswith(("-std=", "-m32", "-mx32", "-funsigned-char"))
         ]
+        files = [("/unit", self.text.decode())]
         try:
-            self.unit = self.translated([language, *FLAGS, *kept, *SHIMS, *words])
+            self.unit = cindex.Index.create().parse("/unit", [language, *FLAGS, *kept, *SHIMS, *words], files)
         except (cindex.LibclangError, cindex.TranslationUnitLoadError) as error:
             raise Left(f"libclang: {error}") from error
         self.file = self.unit.get_file(self.unit.spelling)
-
-    def translated(self, words: Sequence[str]) -> Any:
-        """Returns what libclang makes of the text with the words of a command."""
-        files = [("/unit", self.text.decode())]
-        return cindex.Index.create().parse("/unit", args=words, unsaved_files=files)
 
     def errors(self) -> List[str]:
         """Returns what libclang can't parse outside of the compiler's own headers."""

@@ -182,28 +182,11 @@ def declarations(platform: Platform) -> str:
     return "".join(f"typedef {platform.types[f'{it}_t']} {TYPE_MARK}{it}_t;" for it in BUILT_IN.split()) + "\n"
 
 
-class TextTraits(NamedTuple):
-    """What a text has anywhere that decides how each part of it is changed: files of 64 bits, and functions of clang."""
-
-    has_large_files: bool
-    is_of_clang: bool
-
-
-def traits_of(text: str) -> TextTraits:
-    return TextTraits(LARGE_FILES.search(text) is not None, OF_CLANG in text)
-
-
 def retargeted(text: str, platform: Platform, own: Mapping[str, str]) -> str:
     """Returns the text of a unit as it is on a platform, with the same lines, after one of declarations if it needs
     these. `own` are types of typedefs anywhere; typedefs and structs of the C library are changed in system headers
     only.
     """
-    text = retargeted_part(text, platform, own, traits_of(text))
-    return declarations(platform) + text if TYPE_MARK in text else text
-
-
-def retargeted_part(text: str, platform: Platform, own: Mapping[str, str], traits: TextTraits) -> str:
-    """Returns a part of a text, between line markers, as it is on a platform."""
     types, wider = {**platform.types, **own}, platform.wider
 
     def constant(found: "re.Match[str]") -> str:
@@ -211,16 +194,17 @@ def retargeted_part(text: str, platform: Platform, own: Mapping[str, str], trait
         return f"({found[2]}{found[3]}{number}{platform.constants[found['name']]}{found[5]})"
 
     text = PRI.sub(lambda it: f'"{platform.modifiers[it[2]]}{it[1]}"/*{macro_of(it[1], it[2])}*/', text)
-    if not traits.is_of_clang:
+    if OF_CLANG not in text:
         text = ATOMIC.sub(lambda it: f"__typeof__{it[1]}" if it[1] else "", text)
     text = SIGNED_TYPE.sub(lambda it: f"signed {platform.types[it[1]]}", CONSTANT.sub(constant, text))
-    if platform.model is Model.ILP32 and traits.has_large_files:
+    if platform.model is Model.ILP32 and LARGE_FILES.search(text):
         types, wider = {**types, **FILE_TYPES}, {**wider, **OF_FILES}
     if platform.model is not Model.LP64:
         text = BIT_FIELD.sub(r"\1", text)
     if platform.model is Model.LLP64:
         text = CHARACTER_SIZE.sub(r"int\1", text)
-    return "".join(
+    text = "".join(
         with_types(with_members(it, platform.members), types, wider) if is_system else with_types(it, own, {}) if own else it
         for is_system, it in chunks(text)
     )
+    return declarations(platform) + text if TYPE_MARK in text else text

@@ -3,14 +3,12 @@
 import dataclasses
 import functools
 import os
-from concurrent.futures import ThreadPoolExecutor
 from typing import Dict, List, Mapping, NamedTuple, Optional, Sequence, Set, Tuple
 
 from ..compiling.calls import Call, Calls, FormatCalls, Key, words_for
 from ..compiling.closure import Candidate, Wrappers, is_local, needs_of
 from ..compiling.compile_commands import CompileCommand
 from ..compiling.functions import Functions
-from ..compiling.kept import KeptUnits
 from ..compiling.left import Left
 from ..compiling.line_markers import files_in
 from ..compiling.parsing import as_utf8
@@ -26,15 +24,13 @@ from .alike import calls_on_all
 
 class Settings(NamedTuple):
     """The words that find the headers of this command; functions that take formats, by the options; typedefs, each with
-    the one whose type it has; the folder with these headers; units that are kept while their sources are edited; and the
-    functions of all units that hand their formats on.
+    the one whose type it has; the folder with these headers; and the functions of all units that hand their formats on.
     """
 
     words: Sequence[str]
     functions: Mapping[str, Shape]
     types: Mapping[str, str]
     folder: str = ""
-    kept: Optional[KeptUnits] = None
     found: Wrappers = {}
 
 
@@ -67,7 +63,8 @@ class Unit:
         first = self.parsed(read, COMPILED)
         self.known, self.wrappers = first.known, first.own
         known = None if settings.types else calls_on_all(first, read)
-        self.calls: List[Dict[Key, Call]] = known or [it.found for it in self.parsed_everywhere(read, first)]
+        others = [it for it in PLATFORMS if it is not COMPILED]
+        self.calls: List[Dict[Key, Call]] = known or [first.found, *(self.parsed(read, it).found for it in others)]
         errors = first.errors()
         self.why_left: Optional[str] = errors[0] if errors else None
         self.unread, self.others = first.unread, first.others
@@ -114,19 +111,9 @@ class Unit:
             self.defined = bytes(self.command.run(self.source, "-E", "-dD", "-w").stdout)
         return self.defined
 
-    def parsed_everywhere(self, text: str, first: FormatCalls) -> List[FormatCalls]:
-        """Returns the calls in a text on each platform: on one they are known. Those that are kept are parsed together."""
-        others = [it for it in PLATFORMS if it is not COMPILED]
-        if self.settings.kept is None:
-            return [first, *(self.parsed(text, it) for it in others)]
-        with ThreadPoolExecutor(len(others)) as pool:
-            return [first, *pool.map(lambda it: self.parsed(text, it), others)]
-
     def parsed(self, text: str, platform: Platform) -> FormatCalls:
         own = {name: platform.types.get(type, type) for name, type in self.settings.types.items()}
         functions = Functions(self.settings.functions, found=self.known)
-        if self.settings.kept is not None:
-            return self.settings.kept.calls(self.command, text, platform, own, functions)
         return FormatCalls(self.command, retargeted(text, platform, own).encode(), platform, functions, self.source)
 
     def marked(self, text: str) -> Dict[Key, Call]:

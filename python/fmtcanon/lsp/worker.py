@@ -6,7 +6,6 @@ import tempfile
 import time
 from typing import Iterator, Mapping, NamedTuple, Optional, Sequence, Tuple
 
-from ..compiling.kept import KeptUnits
 from ..compiling.left import Left
 from ..compiling.retargeting import write_headers
 from ..compiling.sources import Name
@@ -42,13 +41,12 @@ class CompiledText(NamedTuple):
 
 
 class CompileWorker:
-    """Judges one text after another. What libclang keeps of headers is in a folder, which goes with the process."""
+    """Judges one text after another. Its headers are in a folder, which goes with the process."""
 
     def __init__(self, folder: str, root: Optional[str]) -> None:
         self.folder, self.root = folder, root
         self.databases = Databases()
         self.words: Sequence[str] = ()
-        self.kept = KeptUnits(folder)
 
     def start(self) -> None:
         """Takes note that this is a process of its own: nothing that it prints gets to the editor."""
@@ -73,7 +71,7 @@ class CompileWorker:
             files = self.databases.files(given.path, given.database, given.flags)
         except (Left, OSError) as why:
             return CompiledAnswer(given.uri, (), str(why))
-        settings = Settings(self.words, given.functions, {}, kept=self.kept)
+        settings = Settings(self.words, given.functions, {})
         question = Question(given.models, given.added, settings)
         found = answer(job_of(files, Name(given.path, given.path), question, data))
         findings = [it.finding for it in found.found.values()]
