@@ -9,7 +9,6 @@ import unittest
 from pathlib import Path
 
 from fmtcanon.compiling.compile_commands import CompileCommand
-from fmtcanon.compiling.kept import cut_of
 from fmtcanon.compiling.left import Left
 from fmtcanon.frame.findings import ERROR, Finding
 from fmtcanon.lsp.compiled import (
