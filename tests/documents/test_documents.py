@@ -7,9 +7,10 @@ import math
 import re
 
 from bench import charts, shortcut_edits
-from tests.commands import changes, first_screen
-from tests.commands import more_replace as replacing
-from tests.commands.reader import SHOWN
+from tests.commands.diff import changes
+from tests.commands.replace import more_replace as replacing
+from tests.commands.shared import first_screen
+from tests.commands.shared.reader import SHOWN
 from tests.documents.test_words import pages
 from tests.frame.cases import tests_of
 from tests.frame.harness import TOP, fences, model_rows, section, usage_texts
@@ -113,7 +114,7 @@ def tested_counts():
         5 * texts,
         6 * shapes,
     ]
-    yield r"(\d+) made lists of words", [int(number_in("tests/commands/more_hostile_words.py", r'"HOSTILE_LISTS", ([\d_]+)'))]
+    yield r"(\d+) made lists of words", [int(number_in("tests/commands/hostile/more_hostile_words.py", r'"HOSTILE_LISTS", ([\d_]+)'))]
     yield r"flags, widths, precisions and values \| (\d+) directives", [definition_of_numbers.COUNT]
     yield r"other programs' test suites, and worked rows \| (\d+) and (\d+) \|", [
         data_count("vectors.txt"),

@@ -1,7 +1,7 @@
 """Checks tables and numbers of the pages against what they are about: the code, the header, the help, the tables of the
 bench, and those of `make tables`.
 
-What needs the library is in tests/commands/test_page_tables.py.
+What needs the library is in tests/commands/pages/test_page_tables.py.
 """
 
 import re

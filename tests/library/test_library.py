@@ -454,22 +454,6 @@ def test_documents(prefix, work, trials):
             trials.expect(f"an example has this block of docs/C.md: {block[:60]}", found, True)
 
 
-def test_unit_tests(program, folder, trials):
-    """The tests of the Python module, and the examples of its text."""
-    environment = {
-        **os.environ,
-        "FMTCANON_PROGRAM": program,
-        "FMTCANON_LIBRARY": str(folder / SONAME),
-        "PYTHONDONTWRITEBYTECODE": "1",
-    }
-    words = [sys.executable, "-m", "unittest", "discover", "-s", "tests", "-t", "."]
-    status, lines = lines_of(words, env=environment, cwd=TOP / "python")
-    if status != 0:
-        print(lines)
-    trials.expect("the tests of the Python module", status, 0)
-    trials.expect("tests of the Python module that are skipped", re.findall(r"skipped=\d+", lines), [])
-
-
 def test_enums(module, trials):
     """The numbers of the module are those of the header."""
     enums = [
