@@ -328,7 +328,7 @@ def test_long_of_whole_language(case):
 
 
 def test_titles(case):
-    """What no call takes is no format if it is rejected, as a title may be; otherwise it is judged."""
+    """What no call takes isn't a format if it is rejected, as a title may be; otherwise it is judged."""
     for old, new, call, wanted in [
         ("CPU% ", "MEM% ", "{ %s, 1 }", None),
         ("CPU% ", "CPU", "x = _(%s);", None),

@@ -39,7 +39,7 @@ class Client:
         self.write(framed({"method": method, "params": params}))
 
     def next(self, wanted):
-        """The next message that is wanted. Others are kept, or are notes."""
+        """The next message that is expected. Others are kept, or are notes."""
         end = time.monotonic() + PATIENCE
         while time.monotonic() < end:
             for at, message in enumerate(self.held):

@@ -58,7 +58,7 @@ def test_conversations_hover(case):
             case.assertIn(more, found)
     case.assertIsNone(client.hover("printf"))
     case.assertIsNone(client.hover("size_t size"))
-    # These are no formats of printf.
+    # These aren't formats of printf.
     client.change(
         {"text": 'strftime(b, 9, "%d %H", t); scanf("%d %5s", &n, s); puts("%x"); other("%3d", "%hs");'}, version=2
     )

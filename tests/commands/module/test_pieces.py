@@ -24,7 +24,7 @@ def directive(chosen):
 
 
 def formats():
-    """Random formats, of which about half are accepted."""
+    """Random formats: about half are accepted."""
     chosen = random.Random(5)
     for _ in range(FORMATS):
         parts = (directive(chosen) if chosen.random() < 0.7 else chosen.choice(WORDS) for _ in range(chosen.randrange(4)))

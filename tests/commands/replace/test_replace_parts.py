@@ -135,7 +135,7 @@ def test_common_front(case):
     case.assertEqual(common_front(first, b"int"), 0)
     case.assertEqual(common_front(first + b'R"x()x"', first), 0)
     case.assertEqual(common_front(first, first), len(b'# 1 "a.h"\nint x;'))
-    # A marker within a declaration is no place to cut.
+    # A text isn't cut at a marker within a declaration.
     second = first + b'# 3 "a.c"\n_Static_assert (\n# 3 "b.h" 3 4\n1,\n# 3 "a.c"\n"x");'
     case.assertEqual(second[common_front(second, second + b" ") :][:12], b'\n# 3 "a.c"\n_')
 

@@ -5,7 +5,7 @@ are in tests/commands/shared/test_terminal.py.
 import os
 import subprocess
 
-from python.tests.terminal import on_terminal
+from tests.commands.shared.terminal import on_terminal
 from tests.frame.cases import tests_of
 from tests.frame.harness import SONAME, TIMEOUT, TOP
 

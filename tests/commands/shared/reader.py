@@ -3,7 +3,7 @@
 import os
 import re
 
-from python.tests.terminal import on_terminal
+from tests.commands.shared.terminal import on_terminal
 from tests.frame.harness import PACKAGES, SONAME, TOP, examples
 
 COMMANDS = ["check", "diff", "explain", "lsp", "po", "replace"]
