@@ -15,10 +15,18 @@ from ..specification import SpelledSpecification
 from ..words import WORDS
 from .items import errnos_of
 from .rejections import instead_of, sentence
-from .verdicts import Argument, Library, PairKind, PairVerdict, taker_of, telling_arguments
+from .verdicts import (
+    Argument,
+    PairKind,
+    PairVerdict,
+    canonical,
+    compared,
+    compared_by_types,
+    printed_by,
+    taker_of,
+    telling_arguments,
+)
 from .wording import meaning, meaning_of_number, notes, type_name
-
-LIBRARY = Library()
 
 
 class ExplainedDirective(NamedTuple):
@@ -127,15 +135,15 @@ def effects_of(found: Sequence[Specification], text: bytes, other: bytes) -> Lis
 def canonical_by_model(texts: Mapping[Model, bytes]) -> Dict[Model, bytes]:
     """Returns the canonical text in each data model; none if arguments are numbered."""
     try:
-        return {model: LIBRARY.canonical(text, model) for model, text in texts.items()}
+        return {model: canonical(text, model) for model, text in texts.items()}
     except Refused:
         return {}
 
 
-def unlike_key(canonical: Mapping[Model, bytes], model: Model) -> List[Model]:
-    """Returns the data models in which the canonical text in one isn't the same as the format."""
-    key = canonical[model]
-    return [it for it, other in canonical.items() if other != key and other != LIBRARY.canonical(key, it)]
+def unlike_key(texts: Mapping[Model, bytes], model: Model) -> List[Model]:
+    """Returns the data models in which the canonical text in one, of these in each, isn't the same as the format."""
+    key = texts[model]
+    return [it for it, other in texts.items() if other != key and other != canonical(key, it)]
 
 
 def bounds_of(text: bytes, model: Model) -> Optional[fmtcanon.Bounds]:
@@ -174,7 +182,7 @@ def compare(
     """Compares two formats. The first may be another text in other data models."""
     formats = (first, second)
     try:
-        found = LIBRARY.compared(first, second, model)
+        found = compared(first, second, model)
     except Refused as refusal:
         rejection = reject(formats[refusal.side], refusal, model, refusal.side)
         is_numbered = refusal.kind is Kind.NUMBERED
@@ -189,7 +197,7 @@ def compare(
 
 def by_types(formats: Tuple[bytes, bytes], model: Model, refusal: Refused) -> Optional[Difference]:
     """Compares the types of two formats if one has numbered arguments; returns None if one is rejected."""
-    found = LIBRARY.by_types(*formats, model, refusal)
+    found = compared_by_types(*formats, model, refusal)
     if found.kind is PairKind.TYPES:
         return Difference(formats, found.kind, at=found.at, parts=parts_at(formats, found.at, model))
     are_same = found.kind is PairKind.SAME or found.refusal is refusal
@@ -230,7 +238,7 @@ def part_at(text: bytes, index: int, model: Model) -> Optional[ExplainedDirectiv
 
 def printed_unlike(formats: Tuple[bytes, bytes], arguments: Tuple[Argument, ...], model: Model) -> Difference:
     """Returns what two formats print for arguments that show a difference, and the first directives that do."""
-    arguments = telling_arguments(LIBRARY, *formats, arguments, model)
+    arguments = telling_arguments(*formats, arguments, model)
     printed = tuple(it for it in (printed_by(it, arguments, model) for it in formats) if it is not None)
     first, second = ([part for part in explain(it, model).parts if part.argument] for it in formats)
     unlike = ((one, two) for one, two in zip(first, second) if not is_alike(one, two, arguments, model))
@@ -272,8 +280,3 @@ def is_alike(first: ExplainedDirective, second: ExplainedDirective, arguments: S
         return True
     one, two = (printed_by(it.text, [argument_of(it, arguments)], model) for it in (first, second))
     return one == two
-
-
-def printed_by(text: bytes, arguments: Sequence[Argument], model: Model) -> Optional[bytes]:
-    """Returns what a format prints, or None if it can't be had."""
-    return LIBRARY.printed(text, arguments, model)

@@ -4,7 +4,7 @@ import collections
 from typing import Any, Dict, Iterable, Iterator, List, Mapping, NamedTuple, Sequence, Tuple
 
 from .. import Refused
-from ..formats.verdicts import Library, shown
+from ..formats.verdicts import canonical, shown
 from ..frame.command_line import model_names
 from ..frame.findings import NOTE, WARNING, Finding
 from ..models import Model
@@ -37,13 +37,12 @@ def listed_in(file: str, data: bytes, models: Sequence[Model]) -> Iterator[Liste
 
 def meaning_of(place: Place, models: Sequence[Model]) -> Tuple[Tuple[bytes, ...], str]:
     found: List[bytes] = []
-    library = Library()
     for model in models:
         text, why = place.text(model)
         if text is None:
             return (), why
         try:
-            found.append(library.canonical(text, model))
+            found.append(canonical(text, model))
         except Refused as refusal:
             return (), f"{refusal} of {shown(text)}"
     return tuple(found), ""

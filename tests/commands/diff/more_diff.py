@@ -53,7 +53,7 @@ def test_pairs(tool, module, trials):
     """Pairs of the whole language have the verdict that they are made for; for the shortened arguments gcc's program
     prints other bytes.
     """
-    from fmtcanon.formats.verdicts import Library, shortened
+    from fmtcanon.formats.verdicts import shortened, verdict_on
 
     unlike = [*unlike_pairs(PAIRS), *string_pairs(PAIRS)]
     pairs = [*((*it, ["same"]) for it in alike_pairs(PAIRS)), *((*it, ["different"]) for it in unlike)]
@@ -67,10 +67,10 @@ def test_pairs(tool, module, trials):
         # Of some pairs only the words differ.
         kinds = ["different" if it == "words" else it for it in kinds]
         trials.expect(f"fmtcanon-diff of {first!r} and {second!r}", kinds, [] if first == second else wanted)
-    library, given, count = Library(), [], 0
+    given, count = [], 0
     for first, second, kinds in unlike:
-        arguments = library.verdict(first.encode(), second.encode(), module.Model.LP64).arguments
-        short = shortened(library, first.encode(), second.encode(), arguments, module.Model.LP64)
+        arguments = verdict_on(first.encode(), second.encode(), module.Model.LP64).arguments
+        short = shortened(first.encode(), second.encode(), arguments, module.Model.LP64)
         count += short != arguments
         given.append(Trial(first, second, tuple(map(argument_of, short, kinds))))
     trials.expect("arguments that are shortened", count >= SHORTENED, True)

@@ -12,7 +12,6 @@ from fmtcanon import Model, Type
 from fmtcanon.diff.judging import RULES, judge
 from fmtcanon.diff.pairing import paired
 from fmtcanon.formats.verdicts import (
-    Library,
     PairKind,
     Taker,
     directives_in,
@@ -34,7 +33,7 @@ def finding(old, new, models=ALL, call="f(%s, x);"):
     """The finding on the one pair of two sources of a call."""
     sources = [Source((call % it).encode()) for it in (old, new)]
     [pair] = paired(*sources).changed
-    return judge(Library(), "a.c", pair, models)
+    return judge("a.c", pair, models)
 
 
 # The literals of an old and a new place, the kind and the message, and the data models in which that holds.
@@ -264,9 +263,8 @@ def test_short(case):
     case.assertLess(len(found), 400)
     case.assertIn("%05d", found)
     case.assertIn("-0001", found)
-    library = Library()
-    case.assertEqual(shortened(library, b"%s%d", b"%.20s%d", (b"a" * 4096, 1), Model.LP64), (b"a" * 21, 1))
-    case.assertEqual(shortened(library, b"%.4094s", b"%.4095s", (b"a" * 4096,), Model.LP64), (b"a" * 4095,))
+    case.assertEqual(shortened(b"%s%d", b"%.20s%d", (b"a" * 4096, 1), Model.LP64), (b"a" * 21, 1))
+    case.assertEqual(shortened(b"%.4094s", b"%.4095s", (b"a" * 4096,), Model.LP64), (b"a" * 4095,))
     found = finding('"%.4094s"', '"%.4095s"').message
     case.assertLess(len(found), 300)
     case.assertIn(" of 4095 bytes", found)
@@ -347,7 +345,7 @@ def test_bytes(case):
     sources = [Source(b'f("\xe9 ' + it + b'", x)') for it in (b"%05d", b"%.5d")]
     [pair] = paired(*sources).changed
     case.assertEqual(
-        judge(Library(), "a.c", pair, ALL).message,
+        judge("a.c", pair, ALL).message,
         'different: "\\xe9 %05d" and "\\xe9 %.5d" print "\\xe9 -0001" and "\\xe9 -00001" for -1',
     )
 
