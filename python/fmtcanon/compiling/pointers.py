@@ -10,8 +10,8 @@ from .call_sites import KEYWORDS, VARIADIC, beginning, declarators, is_byte
 from .closure import LEFT, Candidate, Handing
 from .formats import bare_of, is_null
 from .functions import FUNCTIONS, Callees, function_of, is_list, keys_of
+from .line_markers import SPACE
 from .parsing import CALL_EXPR, VISIT_INSIDE, Parsed
-from .retargeting import SPACE
 
 # A declaration of a pointer to a function with a list or further arguments, or a typedef of such a function.
 POINTER = re.compile(rf"\){SPACE}\((?:[^()]|\([^()]*\))*(?:\.\.\.|va_list\s*\w*){SPACE}\)")

@@ -12,14 +12,11 @@ from pathlib import Path
 from typing import Iterator, List, Mapping, NamedTuple, Tuple
 
 from ..models import Model
+from .line_markers import SPACE, markers
 from .platforms import COMPILED, FILE_TYPES, OF_FILES, Platform
 
-# White space and line markers.
-SPACE = r"(?:\s|(?<=\n)# \d+ [^\n]*)*"
-# The same, which stays.
+# White space and line markers, which stay.
 GAP = f"({SPACE})"
-# A line marker, and its flags: 3 is that of a system header.
-MARKER = re.compile(r'\n# \d+ ("[^"\\\n]*(?:\\.[^"\\\n]*)*")([ \d]*)(?![^\n])')
 # The flags of a marker where a system header begins.
 ENTERED = " 1 3"
 # A typedef of a name, which may be an array.
@@ -102,12 +99,6 @@ def write_headers(folder: str) -> List[str]:
     for name, text in headers():
         Path(folder, name).write_text(text, encoding="utf-8")
     return [f"-I{folder}", "-imacros", os.path.join(folder, OF_COMPILER)]
-
-
-def markers(text: str) -> List[Tuple[int, int, str, str]]:
-    """Returns where the markers of a text begin and end, their files and their flags."""
-    # A pattern that begins with plain text is found several times faster, so that of a line begins with its end.
-    return [(it.start(), it.end() - 1, it[1], it[2]) for it in MARKER.finditer("\n" + text)]
 
 
 def chunks(text: str) -> Iterator[Tuple[bool, str]]:

@@ -14,8 +14,8 @@ from ..source.known import BUILT_IN_PREFIX, GETTEXT, Shape
 from .closure import LEFT, TAKING, Candidate, Handing
 from .formats import AROUND, bare_of
 from .functions import FUNCTIONS, Callees, is_list, is_system, keys_of
+from .line_markers import SPACE
 from .parsing import LINE_MARKER, Parsed
-from .retargeting import SPACE
 
 # Where a function may begin a list of its further arguments, or have a parameter that is one. Patterns that begin with
 # plain text are found several times faster.

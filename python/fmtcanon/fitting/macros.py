@@ -6,13 +6,13 @@ from typing import Dict, Iterator, List, Mapping, NamedTuple, Optional, Sequence
 
 from .. import source_offset
 from ..compiling.calls import Call
-from ..compiling.line_markers import path_in
+from ..compiling.line_markers import parts_in, path_in
 from ..source.files import bytes_of
 from ..source.tokens import NAME
 from .judging import Fault
 
-# A line marker with the flags after it, and a definition, in preprocessed text with its definitions.
-LINE = re.compile(rb'^# (\d+) "((?:[^"\\\n]|\\.)*)"([ \d]*)$|^#define (\w+)(.*)$', re.MULTILINE)
+# A definition in preprocessed text.
+DEFINED = re.compile(rb"^#define (\w+)(.*)$", re.MULTILINE)
 SYSTEM = b"3"
 # A definition in a source, up to the end of the last line that a backslash continues.
 DEFINITION = re.compile(rb"[ \t]*#[ \t]*define[ \t]+(\w+)(?:[^\\\n]|\\[\s\S])*")
@@ -33,14 +33,11 @@ class Definition(NamedTuple):
 
 def definitions_in(text: bytes, folder: str) -> Iterator[Definition]:
     """Yields the definitions of macros in preprocessed text."""
-    file, is_system, line, counted = "", True, 1, 0
-    for found in LINE.finditer(text):
-        if found[1] is not None:
-            file, is_system = path_in(found[2], folder), SYSTEM in found[3].split()
-            line, counted = int(found[1]), found.end() + 1
-        elif file:
-            at = line + text.count(b"\n", counted, found.start())
-            yield Definition(found[4].decode(), file, at, found[5], is_system)
+    for marker, start, end in parts_in(text):
+        file, is_system = path_in(marker[2], folder), SYSTEM in marker[3].split()
+        for found in DEFINED.finditer(text, start, end):
+            line = int(marker[1]) + text.count(b"\n", start + 1, found.start())
+            yield Definition(found[1].decode(), file, line, found[2], is_system)
 
 
 class Macros:

@@ -10,10 +10,10 @@ from ..compiling.closure import Candidate, Wrappers, is_local, needs_of
 from ..compiling.compile_commands import CompileCommand
 from ..compiling.functions import Functions
 from ..compiling.left import Left
-from ..compiling.line_markers import files_in
+from ..compiling.line_markers import files_in, markers
 from ..compiling.parsing import as_utf8
 from ..compiling.platforms import COMPILED, FOR_WINDOWS, NOT_OF_WINDOWS, PLATFORMS, Platform
-from ..compiling.retargeting import ENTERED, markers, own_spans, retargeted
+from ..compiling.retargeting import ENTERED, own_spans, retargeted
 from ..compiling.stand_ins import Original, original
 from ..compiling.targets import model_in
 from ..models import Model
@@ -84,7 +84,7 @@ class Unit:
         """
         own, is_lacking, was_own = {self.command.file}, False, True
         for _, _, name, flags in markers(self.read):
-            file = os.path.join(self.command.folder, name.strip('"'))
+            file = os.path.join(self.command.folder, name)
             is_lacking = is_lacking or (was_own and flags.startswith(ENTERED) and bool(NOT_OF_WINDOWS.fullmatch(file)))
             was_own = "3" not in flags
             own.update([file] if was_own else ())
