@@ -14,7 +14,7 @@ from ..fitting.checking import Answer, Found, Job, Question
 from ..fitting.fixing import WRONG
 from ..fitting.reporting import COMPOSED, RANK, RULES, SIGN, UNREAD, shown_file, with_source, with_wrapper
 from ..fitting.unit import Settings
-from ..frame.command_line import MODELS, USAGE, status_of
+from ..frame.command_line import MODELS, USAGE, counted, status_of
 from ..frame.findings import ERROR, Finding, Printer, by_place, leveled
 from ..frame.interrupting import temporary_folder
 from ..frame.output import complain
@@ -110,10 +110,6 @@ def with_wrappers(answer: Answer, wrappers: Wrappers) -> Answer:
     """Returns an answer that says why functions of other files print as `printf` does."""
     found = {key: it._replace(finding=with_wrapper(it.finding, wrappers)) for key, it in answer.found.items()}
     return answer._replace(found=found)
-
-
-def counted(count: int, word: str) -> str:
-    return f"{count} {word if count == 1 else word + 's'}"
 
 
 def summary(counts: Counter[str], others: Counter[str], taking: FrozenSet[str] = frozenset()) -> str:

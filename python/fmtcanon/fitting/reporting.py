@@ -11,7 +11,7 @@ from ..compiling.calls import Call
 from ..compiling.closure import Wrappers
 from ..compiling.platforms import LLP64, PLATFORMS
 from ..formats.rejections import advice_on, refused_span
-from ..frame.command_line import model_names
+from ..frame.command_line import counted, model_names
 from ..frame.excerpts import Excerpt, literal_excerpt
 from ..frame.findings import ERROR, NOTE, WARNING, Finding
 from ..kinds import TYPE_NAMES, Type
@@ -301,8 +301,7 @@ def errno_finding(found: ErrnoFormat, others: int = 0) -> Finding:
 def surplus_finding(call: Call, count: int, text: bytes, models: Sequence[Model]) -> Finding:
     """Returns the finding of a call with arguments that its format doesn't take, and how many."""
     takes = "its format takes" if len(call.formats) == 1 else "any of its formats takes"
-    what = "1 argument" if count == 1 else f"{count} arguments"
-    return finding_of_call(call, SURPLUS, f"{what} of {call.function} more than {takes}", models, text)
+    return finding_of_call(call, SURPLUS, f"{counted(count, 'argument')} of {call.function} more than {takes}", models, text)
 
 
 def undefined_finding(call: Call, text: bytes, span: Specification, models: Sequence[Model]) -> Finding:

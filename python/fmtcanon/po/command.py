@@ -7,7 +7,7 @@ import os
 import sys
 from typing import Any, Dict, Hashable, Iterator, List, NamedTuple, Optional, Sequence, Set, Tuple, Union
 
-from ..frame.command_line import MODELS, Parser, status_of
+from ..frame.command_line import MODELS, Parser, counted, status_of
 from ..frame.findings import Finding, Printer, by_place
 from ..frame.output import Unwritable
 from ..frame.processes import in_order
@@ -127,10 +127,6 @@ def main(words: Optional[Sequence[str]] = None) -> int:
     if not options.files + more:
         made.error("give the catalogs")
     return status_of(NAME, lambda: check(options, [*options.files, *more]))
-
-
-def counted(count: int, word: str) -> str:
-    return f"{count} {word}" if count == 1 else f"{count} {word}s"
 
 
 def check(options: Any, files: Sequence[str]) -> int:

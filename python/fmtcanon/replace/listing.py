@@ -5,7 +5,7 @@ from typing import Any, Dict, Iterable, Iterator, List, Mapping, NamedTuple, Seq
 
 from .. import Refused
 from ..formats.verdicts import canonical, shown
-from ..frame.command_line import model_names
+from ..frame.command_line import counted, model_names
 from ..frame.findings import NOTE, WARNING, Finding
 from ..models import Model
 from ..source.known import GETTEXT, KNOWN, Shape
@@ -91,15 +91,11 @@ def finding_of(listed: Listed, models: Sequence[Model]) -> Finding:
 
 def heading(group: Sequence[Listed]) -> str:
     """Returns the line above the places of one meaning."""
-    count = places_of(len(group))
+    count = counted(len(group), "place")
     if group[0].why:
         return f"not judged: {count}"
     spellings = len({it.place.text(Model.LP64)[0] for it in group})
     return f"{shown(group[0].meaning[0])}: {count}" + (f", {spellings} spellings" if spellings > 1 else "")
-
-
-def places_of(count: int) -> str:
-    return f"{count} place{'s' if count > 1 else ''}"
 
 
 def functions(listed: Iterable[Listed], given: Mapping[str, Shape]) -> Iterator[Tuple[str, List[Listed]]]:
@@ -110,7 +106,7 @@ def functions(listed: Iterable[Listed], given: Mapping[str, Shape]) -> Iterator[
         if call.function and not call.function.startswith(b"#"):
             found[call.function.decode(errors="backslashreplace"), call.argument].append(one)
     for (name, index), places in sorted(found.items(), key=lambda it: (-len(it[1]), it[0])):
-        yield f"{name}:{index + 1}: {how_known(name, index, given)}, {places_of(len(places))}", places
+        yield f"{name}:{index + 1}: {how_known(name, index, given)}, {counted(len(places), 'place')}", places
 
 
 def how_known(name: str, index: int, given: Mapping[str, Shape]) -> str:
