@@ -3,7 +3,6 @@ format, and the types of the arguments after promotion.
 """
 
 import collections
-import functools
 import os
 import re
 from typing import Any, Counter, Dict, List, NamedTuple, Optional, Sequence, Set, Tuple
@@ -11,7 +10,7 @@ from typing import Any, Counter, Dict, List, NamedTuple, Optional, Sequence, Set
 from .. import encode_literal
 from ..kinds import Type
 from ..models import Model
-from ..source.files import bytes_of
+from ..source.files import known_bytes, lines_in
 from ..source.known import Shape
 from .call_sites import call_sites
 from .closure import Candidate, own_among, without_defined
@@ -221,7 +220,7 @@ class FormatCalls(Calls):
         if next_file == file:
             path = self.file_of(end)
             given = self.source if path == self.command.file else None
-            lines = lines_of(path) if given is None else given.split(b"\n")
+            lines = lines_in(known_bytes(path) if given is None else given)
             source = lines[next_line - 1] if next_line <= len(lines) else b""
             return max(line, next_line - int(len(found["space"]) <= len(source) - len(source.lstrip())))
         # A header is between.
@@ -250,11 +249,6 @@ class FormatCalls(Calls):
     def has_percent(self, argument: Any) -> bool:
         """Returns whether an argument is a literal with a percent sign."""
         return any("%" in it.source for it in self.formats.read(argument) if it)
-
-
-@functools.lru_cache(maxsize=64)
-def lines_of(path: str) -> List[bytes]:
-    return bytes_of(path).split(b"\n")
 
 
 def words_for(platform: Platform) -> Sequence[str]:

@@ -7,7 +7,7 @@ from typing import Dict, Iterator, List, Mapping, NamedTuple, Optional, Sequence
 from .. import source_offset
 from ..compiling.calls import Call
 from ..compiling.line_markers import parts_in, path_in
-from ..source.files import bytes_of
+from ..source.files import known_bytes, lines_in
 from ..source.tokens import NAME
 from .judging import Fault
 
@@ -70,11 +70,11 @@ class Macros:
         """
         literal = fault.tokens[0][0].source.encode()
         listed = self.reached(self.lines_of(fault.call), self.all)
-        yield from ((it.file, it.line, last_line(source_of(it.file), it.line)) for it in listed if literal in it.body)
+        yield from ((it.file, it.line, last_line(known_bytes(it.file), it.line)) for it in listed if literal in it.body)
 
     def lines_of(self, call: Call) -> bytes:
         """Returns the lines of a call."""
-        source = self.texts[call.file] if call.file in self.texts else source_of(call.file)
+        source = self.texts[call.file] if call.file in self.texts else known_bytes(call.file)
         return b"\n".join(lines_in(source)[call.line - 1 : call.last])
 
     @staticmethod
@@ -87,14 +87,6 @@ class Macros:
             listed = [it for name in waiting & known.keys() for it in known[name]]
             yield from listed
             waiting = {it.decode(errors="replace") for one in listed for it in WORD.findall(one.body)} - found
-
-
-source_of = functools.lru_cache(maxsize=16)(bytes_of)
-
-
-@functools.lru_cache(maxsize=16)
-def lines_in(source: bytes) -> List[bytes]:
-    return source.split(b"\n")
 
 
 @functools.lru_cache(maxsize=256)
@@ -122,7 +114,7 @@ def span_of(definition: Definition, fault: Fault) -> Optional[Tuple[bytes, int, 
     """Returns the source that has a definition, where the directive of a fault is in it, and its last byte, if that is
     in the same literal; None if the definition hasn't its literal once.
     """
-    source = source_of(definition.file)
+    source = known_bytes(definition.file)
     found = DEFINITION.match(source, line_start(source, definition.line))
     literal, begin, end = fault.tokens[0]
     plain = literal.source.encode()

@@ -1,6 +1,5 @@
 """Says in words what is found, and where."""
 
-import functools
 import os
 import re
 from dataclasses import replace
@@ -16,7 +15,7 @@ from ..frame.excerpts import Excerpt, literal_excerpt
 from ..frame.findings import ERROR, NOTE, WARNING, Finding
 from ..kinds import TYPE_NAMES, Type
 from ..models import Model
-from ..source.files import bytes_of
+from ..source.files import known_bytes, lines_in
 from ..source.places import column_of
 from .judging import MISSING, ORDER, SIGNED, ErrnoFormat, Fault, Fit, RefusedFormat
 from .locating import Located
@@ -344,18 +343,13 @@ def skipped(path: str, why: str, models: Sequence[Model], level: str) -> Finding
 
 def with_source(finding: Finding) -> Finding:
     """Returns a finding with its line of the source, if that is known, and what is meant in it."""
-    lines = lines_of(finding.file)[finding.line - 1 : finding.line] if finding.column else []
+    source = known_bytes(finding.file)
+    lines = lines_in(source)[finding.line - 1 : finding.line] if source else []
     if not lines or finding.column is None:
         return finding
+    line = lines[0].decode(errors="surrogateescape").rstrip("\r")
     is_short = finding.end is not None and finding.end[0] == finding.line
     end = finding.end[1] if finding.end and is_short else finding.column + 1
     written = finding.details.get("proposal")
     words = f"use {written}" if written and finding.kind != FIXED else ""
-    return replace(finding, excerpts=(Excerpt(str(finding.line), lines[0], finding.column - 1, end - 1, words),))
-
-
-@functools.lru_cache(maxsize=8)
-def lines_of(file: str) -> List[str]:
-    """Returns the lines of a file; none if it can't be read."""
-    data = bytes_of(file)
-    return [it.rstrip("\r") for it in data.decode(errors="surrogateescape").split("\n")] if data else []
+    return replace(finding, excerpts=(Excerpt(str(finding.line), line, finding.column - 1, end - 1, words),))

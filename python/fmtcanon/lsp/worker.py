@@ -9,7 +9,7 @@ from typing import Iterator, Mapping, NamedTuple, Optional, Sequence, Tuple
 from ..compiling.left import Left
 from ..compiling.retargeting import write_headers
 from ..compiling.sources import Name
-from ..fitting import macros, silencing
+from ..fitting import silencing
 from ..fitting.asking import job_of
 from ..fitting.checking import Question, answer
 from ..fitting.reporting import SKIPPED, shown_file
@@ -17,6 +17,7 @@ from ..fitting.unit import Settings
 from ..frame.findings import Finding
 from ..frame.interrupting import CLEANING
 from ..models import Model
+from ..source.files import known_bytes
 from ..source.known import Shape
 from .compiled import CompiledAnswer, FindingAt
 from .databases import Databases, absolute_path
@@ -64,7 +65,7 @@ class CompileWorker:
             self.start()
         # Other files may have changed.
         silencing.comments_of.cache_clear()
-        macros.source_of.cache_clear()
+        known_bytes.cache_clear()
         with open(given.text, "rb") as stream:
             data = stream.read()
         try:
