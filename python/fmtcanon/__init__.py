@@ -566,7 +566,8 @@ def printed(format: Format, arguments: Sequence[Optional[_Argument]], *, model: 
 def _parts_of(
     text: bytes, arguments: Sequence[Optional[_Argument]], model: Model
 ) -> Tuple[List[bytes], List[bytes], List[_Argument]]:
-    """Returns the words of a format, the directives between them, with `%s` for each placeholder, and what they take."""
+    """Returns the words of a format, the directives between them, with `%s` for each placeholder, and what they take.
+    """
     words: List[bytes] = []
     known: List[bytes] = []
     given: List[_Argument] = []

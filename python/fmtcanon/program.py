@@ -1,7 +1,8 @@
 """The program `fmtcanon`: which file it is, and what is said if it can't be run.
 
 Only `python -m fmtcanon` runs it. It is the one that the environment variable FMTCANON_PROGRAM names,
-otherwise the file `program` next to this module, where an installation puts it, otherwise `fmtcanon` on the search path.
+otherwise the file `program` next to this module, where an installation puts it, otherwise `fmtcanon` on the search
+path.
 """
 
 import os

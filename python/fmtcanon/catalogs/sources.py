@@ -29,8 +29,8 @@ class Mark(NamedTuple):
 
 
 class CatalogString(NamedTuple):
-    """A string of a catalog in UTF-8: its source without quotes, with its offset; the name of the text that it is in, and
-    that text, with how many bytes come before the string.
+    """A string of a catalog in UTF-8: its source without quotes, with its offset; the name of the text that it is in,
+    and that text, with how many bytes come before the string.
     """
 
     source: bytes

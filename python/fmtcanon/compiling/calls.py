@@ -25,8 +25,8 @@ from .pointers import given_in, has_pointers, names_among
 from .retargeting import TYPE_MARK, own_spans
 from .wrappers import candidates_in
 
-# Types that gcc has, and no directive takes: each is another than what it is in memory. Where there is no `__int128`, no
-# compiler reads what names it.
+# Types that gcc has, and no directive takes: each is another than what it is in memory. Where there is no `__int128`,
+# no compiler reads what names it.
 OF_GCC = [f"-D{it}=__float128" for it in ("_Float32", "_Float32x", "_Float64", "_Float64x")]
 WITHOUT_INT128 = ["-D__int128=long long", "-D__int128_t=long long", "-D__uint128_t=unsigned long long"]
 TEMPLATE = re.compile(r"template\s*<")
@@ -96,8 +96,8 @@ class Calls(Parsed):
         self.names: Set[str] = set()
 
     def candidates_among(self, functions: Functions, spans: Sequence[Tuple[int, int]]) -> List[Candidate]:
-        """Returns the functions that may hand their formats on in parts of the text, and what pointers to such are given
-        there.
+        """Returns the functions that may hand their formats on in parts of the text, and what pointers to such are
+        given there.
         """
         # What is known of other units may mean other functions.
         callees = Callees(self, functions._replace(found={}))
@@ -126,7 +126,8 @@ class FormatCalls(Calls):
         self.found: Dict[Key, Call] = {}
         # How many calls of a function are in a line.
         self.in_line: Counter[Tuple[int, str]] = collections.Counter()
-        # The calls whose format isn't read; and how many there are of functions that aren't known, by the options for these.
+        # The calls whose format isn't read; and how many there are of functions that aren't known, by the options for
+        # these.
         self.unread: List[Call] = []
         self.others: Counter[str] = collections.Counter()
         # Whether all calls are the same elsewhere, if their arguments have the types there that are declared.
@@ -158,8 +159,8 @@ class FormatCalls(Calls):
             self.note(self.cursor_at(at))
 
     def walk(self) -> None:
-        """Notes the calls outside of system headers. What libclang finds at a place in a template may be what was made of
-        that for some types.
+        """Notes the calls outside of system headers. What libclang finds at a place in a template may be what was made
+        of that for some types.
         """
         for cursor in self.unit.cursor.get_children():
             if not is_system(cursor):

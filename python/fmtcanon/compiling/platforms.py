@@ -27,11 +27,13 @@ class Platform(NamedTuple):
     wider: Mapping[str, str]
 
 
-# Headers of POSIX and Linux that the C library of 64-bit Windows lacks, and what a source says that is for Windows, too.
+# Headers of POSIX and Linux that the C library of 64-bit Windows lacks, and what a source says that is for Windows,
+# too.
 NOT_OF_WINDOWS = re.compile(
-    r".*/(?:(?:linux|asm|scsi|net|netinet|arpa|rpc)/.*|(?:aio|argp|byteswap|dlfcn|elf|endian|err|error|execinfo|fnmatch|fts"
-    r"|ftw|glob|grp|ifaddrs|langinfo|link|mntent|mqueue|netdb|poll|pty|pwd|regex|resolv|shadow|spawn|sysexits|syslog|termios?"
-    r"|ucontext|utmpx?|wordexp|sys/(?:epoll|inotify|ioctl|ipc|mman|mount|msg|poll|prctl|ptrace|reboot|resource|select|sem|shm"
+    r".*/(?:(?:linux|asm|scsi|net|netinet|arpa|rpc)/.*|(?:aio|argp|byteswap|dlfcn|elf|endian|err|error|execinfo"
+    r"|fnmatch|fts|ftw|glob|grp|ifaddrs|langinfo|link|mntent|mqueue|netdb|poll|pty|pwd|regex|resolv|shadow|spawn"
+    r"|sysexits|syslog|termios?|ucontext|utmpx?|wordexp"
+    r"|sys/(?:epoll|inotify|ioctl|ipc|mman|mount|msg|poll|prctl|ptrace|reboot|resource|select|sem|shm"
     r"|socket|statfs|statvfs|syscall|sysinfo|sysmacros|times|uio|un|utsname|vfs|wait|xattr))\.h)"
 )
 FOR_WINDOWS = re.compile(rb"_?WIN(?:32|64)\b|__MINGW|_MSC_VER|__CYGWIN__|windows\.h")

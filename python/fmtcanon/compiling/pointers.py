@@ -1,5 +1,5 @@
-"""What pointers to functions are given that may print as `printf` does: a member, a variable, a parameter, or all that a
-typedef names.
+"""What pointers to functions are given that may print as `printf` does: a member, a variable, a parameter, or all that
+a typedef names.
 """
 
 import re
@@ -193,7 +193,9 @@ def parameters_of(declared: Any) -> int:
 
 
 def type_of(cursor: Any) -> Any:
-    """Returns the type of a function with further arguments, or a list of them, that something is or points to, or None."""
+    """Returns the type of a function with further arguments, or a list of them, that something is or points to, or
+    None.
+    """
     type = function_of(cursor.type)
     if type is None or type.kind.name != "FUNCTIONPROTO":
         return None

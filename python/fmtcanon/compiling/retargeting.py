@@ -1,8 +1,8 @@
 """Makes the preprocessed text of a unit another platform's.
 
-Headers of its own keep the macros of the compiler, <inttypes.h>, <stdint.h>, <limits.h> and others as names in the text.
-In `#if` such a name is 0, and in a constant it is added to the value, so that the preprocessor reads what it reads
-without these headers.
+Headers of its own keep the macros of the compiler, <inttypes.h>, <stdint.h>, <limits.h> and others as names in the
+text. In `#if` such a name is 0, and in a constant it is added to the value, so that the preprocessor reads what it
+reads without these headers.
 """
 
 import functools
@@ -46,8 +46,8 @@ CHARACTER_SIZE = re.compile(r"size_t(\s+__ctype_get_mb_cur_max\b)")
 LETTERS = "diouxX"
 # The types that compilers have macros for, and the constants of each header.
 BUILT_IN = (
-    "size ptrdiff wchar wint intmax uintmax intptr uintptr int64 uint64 int_least64 uint_least64 int_fast16 uint_fast16 "
-    "int_fast32 uint_fast32 int_fast64 uint_fast64"
+    "size ptrdiff wchar wint intmax uintmax intptr uintptr int64 uint64 int_least64 uint_least64 int_fast16 "
+    "uint_fast16 int_fast32 uint_fast32 int_fast64 uint_fast64"
 )
 OF_HEADERS = {
     "limits.h": "LONG_MAX LONG_MIN ULONG_MAX SSIZE_MAX",
@@ -194,8 +194,10 @@ def retargeted(text: str, platform: Platform, own: Mapping[str, str]) -> str:
         text = BIT_FIELD.sub(r"\1", text)
     if platform.model is Model.LLP64:
         text = CHARACTER_SIZE.sub(r"int\1", text)
-    text = "".join(
-        with_types(with_members(it, platform.members), types, wider) if is_system else with_types(it, own, {}) if own else it
-        for is_system, it in chunks(text)
-    )
+    parts = []
+    for is_system, part in chunks(text):
+        if is_system:
+            part = with_types(with_members(part, platform.members), types, wider)
+        parts.append(with_types(part, own, {}) if own and not is_system else part)
+    text = "".join(parts)
     return declarations(platform) + text if TYPE_MARK in text else text

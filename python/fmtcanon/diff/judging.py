@@ -126,7 +126,8 @@ def judge(
     """
     old, new = pair
     found = {model: verdict_in(old, new, model) for model in models}
-    if not new.call.function and all(it.verdict.kind is PairKind.UNJUDGED and it.verdict.refusal for it in found.values()):
+    verdicts = [it.verdict for it in found.values()]
+    if not new.call.function and all(it.kind is PairKind.UNJUDGED and it.refusal for it in verdicts):
         # A title, as "CPU% " is, that no call takes.
         return None
     kinds = {model: it.verdict.kind for model, it in found.items()}

@@ -34,8 +34,8 @@ class DiffReport(NamedTuple):
 
 class DiffQuestion(NamedTuple):
     """What is asked of each file: the data models, the kinds of findings that are errors, whether findings are to have
-    excerpts, the index of the format of functions that the options name, or None if they take none, and what says whether
-    calls fit.
+    excerpts, the index of the format of functions that the options name, or None if they take none, and what says
+    whether calls fit.
     """
 
     models: Sequence[Model]

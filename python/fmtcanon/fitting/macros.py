@@ -20,8 +20,8 @@ WORD = re.compile(NAME)
 
 
 class Definition(NamedTuple):
-    """A definition of a macro: its name, the file and the line where it is, what the macro expands to, and whether it is
-    in a header of the system.
+    """A definition of a macro: its name, the file and the line where it is, what the macro expands to, and whether it
+    is in a header of the system.
     """
 
     name: str
@@ -65,8 +65,8 @@ class Macros:
         return found.pop() if len(found) == 1 else None
 
     def lines_with(self, fault: Fault) -> Iterator[Tuple[str, int, int]]:
-        """Yields the lines of all definitions, also of the system, that may have the directive's literal: a file, the first
-        and the last.
+        """Yields the lines of all definitions, also of the system, that may have the directive's literal: a file, the
+        first and the last.
         """
         literal = fault.tokens[0][0].source.encode()
         listed = self.reached(self.lines_of(fault.call), self.all)

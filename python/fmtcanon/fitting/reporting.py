@@ -62,8 +62,8 @@ HEADERS.update(size_t="stddef.h", wint_t="wchar.h")
 
 
 class Spot(NamedTuple):
-    """A position: a file, a line, and a column, an end and the offsets of both if they are known; and the macro in whose
-    definition it is.
+    """A position: a file, a line, and a column, an end and the offsets of both if they are known; and the macro in
+    whose definition it is.
     """
 
     file: str
@@ -242,8 +242,9 @@ def with_wrapper(finding: Finding, known: Wrappers) -> Finding:
 
 
 def fix_of(fault: Fault, spot: Spot) -> Optional[Dict[str, Any]]:
-    """Returns what may be written instead of the bytes of the source from `start` to `end`, for JSON: `cast` is what the
-    argument needs, and `include` a header. `verified` is whether --fix writes it. None if no place or text is known.
+    """Returns what may be written instead of the bytes of the source from `start` to `end`, for JSON: `cast` is what
+    the argument needs, and `include` a header. `verified` is whether --fix writes it. None if no place or text is
+    known.
     """
     written = proposal(fault)
     if written is None or spot.offsets is None:
@@ -289,7 +290,9 @@ def refused_finding(refused: RefusedFormat, models: Sequence[Model]) -> Finding:
 
 
 def errno_finding(found: ErrnoFormat, others: int = 0) -> Finding:
-    """Returns the finding of a format with `%m`, on the platform whose C library lacks it, and how many others the file has."""
+    """Returns the finding of a format with `%m`, on the platform whose C library lacks it, and how many others the file
+    has.
+    """
     call, text, at = found
     more = f", and in {others} more of the file" if others else ""
     message = f"%m in a format of {call.function}{more}: missing on {TITLES[LLP64.name]}; use %s and strerror(errno)"
@@ -300,11 +303,13 @@ def errno_finding(found: ErrnoFormat, others: int = 0) -> Finding:
 def surplus_finding(call: Call, count: int, text: bytes, models: Sequence[Model]) -> Finding:
     """Returns the finding of a call with arguments that its format doesn't take, and how many."""
     takes = "its format takes" if len(call.formats) == 1 else "any of its formats takes"
-    return finding_of_call(call, SURPLUS, f"{counted(count, 'argument')} of {call.function} more than {takes}", models, text)
+    message = f"{counted(count, 'argument')} of {call.function} more than {takes}"
+    return finding_of_call(call, SURPLUS, message, models, text)
 
 
 def undefined_finding(call: Call, text: bytes, span: Specification, models: Sequence[Model]) -> Finding:
-    """Returns the finding of a directive that C leaves undefined, and that is judged as the C library of GNU takes it."""
+    """Returns the finding of a directive that C leaves undefined, and that is judged as the C library of GNU takes it.
+    """
     directive = text[span.start : span.end].decode(errors="backslashreplace")
     written = text[span.start : span.modifier_at] + b"ll" + text[span.end - 1 : span.end]
     message = (

@@ -79,8 +79,8 @@ class Unit:
         return (self.called | used | needs_of([*own, *local])) - {it.key for it in own}
 
     def is_abroad(self) -> bool:
-        """Returns whether the unit can't be one of 64-bit Windows: it includes a header that this lacks, and nothing in its
-        sources is for Windows.
+        """Returns whether the unit can't be one of 64-bit Windows: it includes a header that this lacks, and nothing in
+        its sources is for Windows.
         """
         own, is_lacking, was_own = {self.command.file}, False, True
         for _, _, name, flags in markers(self.read):
@@ -91,8 +91,9 @@ class Unit:
         return is_lacking and not any(map(is_for_windows, own))
 
     def text(self, source: bytes) -> str:
-        """Returns what the compiler's preprocessor makes of a source of the file. Each is given in the same way: a header
-        that a file finds in its own folder and by -I is read twice if the compiler reads the file, and otherwise once.
+        """Returns what the compiler's preprocessor makes of a source of the file. Each is given in the same way: a
+        header that a file finds in its own folder and by -I is read twice if the compiler reads the file, and otherwise
+        once.
         """
         return as_utf8(self.command.preprocessed(source)).decode()
 

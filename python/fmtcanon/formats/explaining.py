@@ -83,9 +83,9 @@ class Difference(NamedTuple):
 class Rejection(NamedTuple):
     """Why a format is rejected: the refusal, what it means, and what to write instead of the specification.
 
-    `side` is the index of the format, if two are compared. `types` is how their types compare, if numbered arguments are
-    all that is rejected. `at` is the offset of the byte as the program prints it: in string literals, if the format was
-    given as these.
+    `side` is the index of the format, if two are compared. `types` is how their types compare, if numbered arguments
+    are all that is rejected. `at` is the offset of the byte as the program prints it: in string literals, if the format
+    was given as these.
     """
 
     format: bytes
@@ -157,7 +157,8 @@ def bounds_of(text: bytes, model: Model) -> Optional[fmtcanon.Bounds]:
 def part_of(
     text: bytes, found: Specification, effects: Specification, types: Dict[Model, Type]
 ) -> ExplainedDirective:
-    """Returns a directive, whose types are these, with what it prints; what has no effect has none in any data model."""
+    """Returns a directive, whose types are these, with what it prints; what has no effect has none in any data model.
+    """
     one = SpelledSpecification(found._replace(needless=effects.needless, together=effects.together), text)
     argument = None if found.argument is None else found.argument + 1
     said = meaning(one), notes(one), type_name(one)
@@ -210,8 +211,8 @@ def parts_at(formats: Sequence[bytes], index: int, model: Model) -> Tuple[Option
 
 
 def unlike_at(formats: Sequence[bytes], index: int, model: Model) -> Tuple[Optional[ExplainedDirective], ...]:
-    """Returns the directive of each format that takes the argument of this index, or a `%m` in front of it that the other
-    format lacks.
+    """Returns the directive of each format that takes the argument of this index, or a `%m` in front of it that the
+    other format lacks.
     """
     errnos = [errnos_at(it, index, model) for it in formats]
     shared = min(map(len, errnos))
@@ -274,7 +275,9 @@ def argument_of(part: ExplainedDirective, arguments: Sequence[Argument]) -> Argu
     return arguments[(part.argument or 1) - 1]
 
 
-def is_alike(first: ExplainedDirective, second: ExplainedDirective, arguments: Sequence[Argument], model: Model) -> bool:
+def is_alike(
+    first: ExplainedDirective, second: ExplainedDirective, arguments: Sequence[Argument], model: Model
+) -> bool:
     """Returns whether two directives print the same for their arguments."""
     if argument_of(first, arguments) is None:
         return True

@@ -54,7 +54,8 @@ class PairVerdict(NamedTuple):
 
 
 class Span(NamedTuple):
-    """Where a specification is in a format: the offsets of its `%` and of what follows it; and its width and precision."""
+    """Where a specification is in a format: the offsets of its `%` and of what follows it; and its width and precision.
+    """
 
     start: int
     end: int
@@ -101,8 +102,8 @@ def is_cut(front: bytes) -> bool:
 
 
 def narrowed(old: bytes, new: bytes) -> Tuple[int, int]:
-    """Returns the lengths of a front and of a back that two accepted formats share. Neither ends within a specification.
-    Without them the formats are the same if and only if they are with them.
+    """Returns the lengths of a front and of a back that two accepted formats share. Neither ends within a
+    specification. Without them the formats are the same if and only if they are with them.
     """
     shared = shared_front(old, new)
     front = old.rfind(b"%", 0, shared) if is_cut(old[:shared]) else shared
@@ -185,7 +186,8 @@ def both_take(takers: Sequence[Optional[Taker]]) -> str:
 
 
 def directives_in(text: bytes) -> Iterator[Span]:
-    """Yields where a text has specifications, also if it is not a format: then those before and after what is rejected."""
+    """Yields where a text has specifications, also if it is not a format: then those before and after what is rejected.
+    """
     done = 0
     # Most texts have none.
     while text.find(b"%", done) >= 0:

@@ -93,7 +93,8 @@ def has_grouping(text: bytes) -> bool:
 
 
 class Rule(NamedTuple):
-    """What is done with a place: the new text, or why it is left. `marks` are the directives in which the two differ."""
+    """What is done with a place: the new text, or why it is left. `marks` are the directives in which the two differ.
+    """
 
     new: bytes
     why_left: str = ""
