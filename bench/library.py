@@ -4,8 +4,8 @@
     bench/library.py FOLDER
 
 FOLDER has libfmtcanon.a, as `make library` leaves it. The formats are those of shapes.nul, and those of them alone that
-have a directive with a flag, a width, a precision, `i`, or a length modifier other than `h`, `hh`, `l` and `ll`. The calls
-of the whole language are counted over formats that each have a directive that the profile lacks. It needs gcc and
+have a directive with a flag, a width, a precision, `i`, or a length modifier other than `h`, `hh`, `l` and `ll`. The
+calls of the whole language are counted over formats that each have a directive that the profile lacks. It needs gcc and
 valgrind, and prints the first tables of RESULTS.md. The last one is of `printing.c`.
 """
 import re

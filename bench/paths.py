@@ -3,9 +3,9 @@
 
     bench/paths.py FOLDER
 
-FOLDER has libfmtcanon.a, as `make library` leaves it. It needs gcc and valgrind. A path may give up, and then the next one
-finds the same answer. So nothing but its cost shows that a path is never taken. Its last line is 'N passed, M failed', and
-it exits with 1 where M isn't 0.
+FOLDER has libfmtcanon.a, as `make library` leaves it. It needs gcc and valgrind. A path may give up, and then the next
+one finds the same answer. So nothing but its cost shows that a path is never taken. Its last line is 'N passed, M
+failed', and it exits with 1 where M isn't 0.
 """
 import sys
 import tempfile

@@ -3,8 +3,9 @@
 
     bench/python_shortcuts.py TREE..
 
-Each TREE has a compile_commands.json. python_shortcuts.txt has the edits that turn a shortcut off, in a copy of the module. A
-command must find the same without it. It needs libclang, and the library that FMTCANON_LIBRARY names; it writes to out/ alone.
+Each TREE has a compile_commands.json. python_shortcuts.txt has the edits that turn a shortcut off, in a copy of the
+module. A command must find the same without it. It needs libclang, and the library that FMTCANON_LIBRARY names; it
+writes to out/ alone.
 """
 
 import os

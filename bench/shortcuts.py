@@ -1,6 +1,7 @@
 """Counts what each shortcut buys: the instructions of calls with it and without it.
 
-A shortcut is a faster way to a result that another way gives, too. The crates are compiled without their proofs, by rustc.
+A shortcut is a faster way to a result that another way gives, too. The crates are compiled without their proofs, by
+rustc.
 """
 
 import shutil

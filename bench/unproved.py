@@ -16,8 +16,8 @@ sys.path.append(str(ROOT))
 from cargo.strip import replaced, stripped  # noqa: E402
 from tests.mutants.rattle_functions import blanked  # noqa: E402
 
-# The libraries, and the names of the kit's libraries that they use. All become modules of one crate, since the kit, too,
-# gives LLVM the whole program as one module.
+# The libraries, and the names of the kit's libraries that they use. All become modules of one crate, since the kit,
+# too, gives LLVM the whole program as one module.
 CRATES = """
     pf_values pf_text pf_render pf_bounds pf_reduce pf_probes pf_canon pf_compare pf_literals pf_posix pf_whole fmtcanon_c
 """.split()

@@ -3,8 +3,8 @@
     make_crate.py FOLDER
 
 The libraries become modules of one library, below `proved`, which `lib.rs` hands out a part of; the program becomes its
-binary. Contracts are left out (`strip.py`), and so is the allocator that calls of the kit's libraries pass: there is one.
-Nothing in the folder is to be edited or kept.
+binary. Contracts are left out (`strip.py`), and so is the allocator that calls of the kit's libraries pass: there is
+one. Nothing in the folder is to be edited or kept.
 """
 
 import re
@@ -170,7 +170,8 @@ def write(path, text):
 
 
 def sources(name):
-    """The files of a crate below its `src`, without tests, laws, whose bodies are empty, and devices, which tests use."""
+    """The files of a crate below its `src`, without tests, laws, whose bodies are empty, and devices, which tests use.
+    """
     folder = ROOT / "crates" / name / "src"
     for path in sorted(folder.rglob("*.rt")):
         place = path.relative_to(folder)

@@ -1,4 +1,5 @@
-"""Makes a crate of the C library's functions with a `main` that calls each, since `rt try` compiles what a program reaches.
+"""Makes a crate of the C library's functions with a `main` that calls each, since `rt try` compiles what a program
+reaches.
 
 Usage: c_crate.py FOLDER, at the top of the repository. The crate is FOLDER/crates/quick_c, and the others are links.
 """

@@ -1,5 +1,5 @@
-"""Checks the documents against the code: their names, paths, options, callers, numbers, words and versions, and the map;
-and that definitions have distinct names, and that each name is used.
+"""Checks the documents against the code: their names, paths, options, callers, numbers, words and versions, and the
+map; and that definitions have distinct names, and that each name is used.
 """
 
 import json
@@ -272,7 +272,9 @@ def lines_of(pattern, without=("/uses/src/tests", "/uses_low/src/tests")):
 
 
 def test_sizes(trials):
-    """The numbers of callers, of functions of C and of lines in docs/VERIFICATION.md; those of lines within a twentieth."""
+    """The numbers of callers, of functions of C and of lines in docs/VERIFICATION.md; those of lines within a
+    twentieth.
+    """
     text = with_digits((TOP / "docs/VERIFICATION.md").read_text(encoding="utf-8"))
     callers = [
         name
@@ -421,7 +423,9 @@ def test_changes(trials):
 
 
 def test_map(trials):
-    """Each source file says in its first line what it does, and docs/internals/ARCHITECTURE.md has each crate and floor."""
+    """Each source file says in its first line what it does, and docs/internals/ARCHITECTURE.md has each crate and
+    floor.
+    """
     text = (TOP / "docs/internals/ARCHITECTURE.md").read_text(encoding="utf-8")
     for pattern, first in [("crates/*/src/**/*.rt", "//! "), ("python/fmtcanon/**/*.py", '"""')]:
         files = [it for it in TOP.glob(pattern) if not it.read_text(encoding="utf-8").startswith(first)]

@@ -10,9 +10,9 @@ on definitions of FOLDER, and on those of `pf_posix`.
 No file that is reached names anything else than definitions of these folders, declarations of the code, and
 definitions of the library: a word of `proofs/` or of another crate could mean anything.
 
-What is reached is listed in reached.md, also what REFUSALS, those in the whole language, reach, and neither ACCEPTED nor
-FOLDER has. `python3 -m tests.documents.test_reach` writes that file. It has the sizes, too: also of what an answer of the
-program depends on, and of what the calls of the C library do. docs/VERIFICATION.md has these numbers.
+What is reached is listed in reached.md, also what REFUSALS, those in the whole language, reach, and neither ACCEPTED
+nor FOLDER has. `python3 -m tests.documents.test_reach` writes that file. It has the sizes, too: also of what an answer
+of the program depends on, and of what the calls of the C library do. docs/VERIFICATION.md has these numbers.
 """
 
 import re
@@ -41,7 +41,8 @@ REFUSED_BY = [
     ("pf_whole/src/canonical_texts.rt", "check"),
 ]
 ACCEPTED = [(f"{LOWER}.Items", "HasArguments"), (f"{LOWER}.Stretches", "IsUnnumberedAccepted")]
-# The function whose contract is that of the program, and the crate whose exported functions are the calls of the C library.
+# The function whose contract is that of the program, and the crate whose exported functions are the calls of the C
+# library.
 PROGRAM_STARTS = [("fmtcanon/src/run.rt", "run")]
 LIBRARY = "fmtcanon_c/src"
 EXPORTED = re.compile(r'^pub extern "C" fn (\w+)', re.MULTILINE)
@@ -352,7 +353,9 @@ def try_whole(trials, known):
 
 
 def test_sizes(trials):
-    """docs/VERIFICATION.md says how many definitions an answer depends on, in tens, and how many lines they have, in hundreds."""
+    """docs/VERIFICATION.md says how many definitions an answer depends on, in tens, and how many lines they have, in
+    hundreds.
+    """
     text = (TOP / "docs/VERIFICATION.md").read_text(encoding="utf-8").replace(",", "")
     said = re.search(r"answer of the program depends on some (\d+) definitions with (\d+) lines those of the C calls on (\d+) with (\d+)", text)
     found = sizes()

@@ -264,8 +264,8 @@ def test_results(trials):
 
 
 def test_proved(trials):
-    """The README has each crate but the callers, with public calls and laws of it; the kit's logic of docs/INSTALL.md; and
-    the minutes and the cores of docs/CONTRIBUTING.md.
+    """The README has each crate but the callers, with public calls and laws of it; the kit's logic of docs/INSTALL.md;
+    and the minutes and the cores of docs/CONTRIBUTING.md.
     """
     readme, rows = read(TOP / "README.md"), table_of(TOP / "README.md", "What is proved")
     crates = [it.name for it in (TOP / "crates").iterdir() if not it.name.startswith("uses")]

@@ -1,8 +1,8 @@
 """Checks the words of what people read: phrases that this project doesn't use, and the length of each page.
 
-It reads the documents, the manual pages, the header, the examples, the help of the program, the comments of the crates' sources,
-definitions and proofs, the comments, docstrings, texts and words of the Python module, the page and the comments of its
-sources, and the comments and docstrings of the tests.
+It reads the documents, the manual pages, the header, the examples, the help of the program, the comments of the crates'
+sources, definitions and proofs, the comments, docstrings, texts and words of the Python module, the page and the
+comments of its sources, and the comments and docstrings of the tests.
 """
 
 import ast
@@ -13,7 +13,8 @@ import tokenize
 from tests.frame.cases import tests_of
 from tests.frame.harness import TOP
 
-# Phrases that a reader would stumble over, or read in another sense: what is written for them, and a regular expression.
+# Phrases that a reader would stumble over, or read in another sense: what is written for them, and a regular
+# expression.
 PHRASES = {
     "NUL": r"zero bytes?|null characters?|(?:by|with|after) a zero(?= after|[.,;]|$)",
     "allocation": r"growths?(?= (?:is|was|are|were) )|(?:a|one|no|each|all) growths?",

@@ -33,7 +33,8 @@ WRAPPER = """\
 #!/bin/sh
 exec '{emulator}' -0 "$0" -L '{root}' '{root}/usr/bin/python3' "$@"
 """
-# Tests of the module: those that call the library, measure no time, and start few processes, which an emulator takes long for.
+# Tests of the module: those that call the library, measure no time, and start few processes, which an emulator takes
+# long for.
 TESTS = [
     "checker.test_check",
     "diff.test_diff_findings",

@@ -1,5 +1,5 @@
-"""Tries the C library for AArch64 in an emulator: against its header, and against the library for x86-64; the tests of the
-Python module over it (emulated_python.py), and the packages (aarch64_packages.py).
+"""Tries the C library for AArch64 in an emulator: against its header, and against the library for x86-64; the tests of
+the Python module over it (emulated_python.py), and the packages (aarch64_packages.py).
 
 It needs the library of `make library TARGET=aarch64`, and Debian's gcc-aarch64-linux-gnu, libc6-dev-arm64-cross and
 qemu-user.

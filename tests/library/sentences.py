@@ -1,7 +1,7 @@
 """Reads the sentences of fmtcanon-explain: what a directive prints by its sentence alone.
 
-The reader knows phrases of English, and nothing of formats. So where a sentence says too little, or something wrong, other
-bytes are expected than a C library prints.
+The reader knows phrases of English, and nothing of formats. So where a sentence says too little, or something wrong,
+other bytes are expected than a C library prints.
 """
 
 import math
@@ -72,7 +72,9 @@ class Unread(Exception):
 
 
 def with_numbers(sentence, arguments):
-    """A sentence in which numbers replace what it says of them; `arguments` are those of width and precision, by number."""
+    """A sentence in which numbers replace what it says of them; `arguments` are those of width and precision, by
+    number.
+    """
 
     def as_many(found):
         number = arguments[int(found["at"])]
@@ -112,7 +114,9 @@ def read(sentence, arguments):
 
 
 def printed_by(found, type, value):
-    """What is printed for a value of a type by the phrases of a sentence; a pointer's is its text, by the phrase on flags."""
+    """What is printed for a value of a type by the phrases of a sentence; a pointer's is its text, by the phrase on
+    flags.
+    """
     if found["nothing"]:
         return b""
     if found["pointer"]:

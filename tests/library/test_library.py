@@ -339,7 +339,8 @@ def same_lines(module, one, other, model, whole=False):
 
 
 def test_program_rows(module, trials):
-    """The rows against which the program is checked hold for the library, too: of each data model, of both and of all."""
+    """The rows against which the program is checked hold for the library, too: of each data model, of both and of all.
+    """
     found, commands = {"lp64": 0, "ilp32": 0, "llp64": 0, "both": 0, "all": 0}, {}
     for line in ROWS.read_text(encoding="utf-8").splitlines():
         row = json.loads(line)

@@ -1,8 +1,9 @@
 """Checks and builds of a crate over libraries that are proved, with the kit's `rattle`, as `rt ci` calls it.
 
-`rt ci` proves each library from nothing and leaves it in `crates/NAME/out/rlib`; nothing else of its proofs stays. `--mark`
-then writes checksums of these libraries, and of the sources they were made of, to `out/proved.txt`. A run that
-uses a library without its mark ends with a line that says so. A check of some functions needs no proof of the rest of their crate.
+`rt ci` proves each library from nothing and leaves it in `crates/NAME/out/rlib`; nothing else of its proofs stays.
+`--mark` then writes checksums of these libraries, and of the sources they were made of, to `out/proved.txt`. A run that
+uses a library without its mark ends with a line that says so. A check of some functions needs no proof of the rest of
+their crate.
 
 Usage: python3 -m tests.mutants.built --mark            marks the libraries that `rt ci` has just left
        python3 -m tests.mutants.built ARCHIVE WORD..    builds the C library over them, with more words for rattle
@@ -73,7 +74,9 @@ class Built:
         file.write_text("".join(f"{name} {mark}\n" for name, mark in self.marks.items()), encoding="utf-8")
 
     def library(self, name):
-        """Returns a library that is proved, and ends the run if it isn't. `rt` adds a stamp to those of its other commands."""
+        """Returns a library that is proved, and ends the run if it isn't. `rt` adds a stamp to those of its other
+        commands.
+        """
         if not self.is_proved(name) or self.of_ci and (self.place(name).parent / "stamp").exists():
             raise SystemExit(f"{self.place(name)} isn't what rt ci proved of these sources: make gate")
         return self.place(name)

@@ -28,7 +28,8 @@ def name_of(function, mark):
 
 
 def block_of_type(function):
-    """Returns the head of a block of the type of a trait's method: `<R: Read> Read for Cut<R>` is `<R: Read> Cut<R>`."""
+    """Returns the head of a block of the type of a trait's method: `<R: Read> Read for Cut<R>` is `<R: Read> Cut<R>`.
+    """
     _, rest = rattle_functions.split_parameters(function.block)
     return f"{function.block[: len(function.block) - len(rest)]} {type_with_trait(function)}".strip()
 

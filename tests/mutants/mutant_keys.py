@@ -1,5 +1,5 @@
-"""Makes the key of a mutant: a checksum of the mutant, its twin, the functions that it changes, what their clauses mean,
-and the goals that refused it.
+"""Makes the key of a mutant: a checksum of the mutant, its twin, the functions that it changes, what their clauses
+mean, and the goals that refused it.
 
 A refusal says that the clauses of a function refuse a body. So the key has the functions that a mutant changes with
 their clauses, and what these mean: the definitions, types and constants that they reach. It also has the kit and the
@@ -35,7 +35,8 @@ def checksum(*values):
 
 @lru_cache(maxsize=None)
 def kit():
-    """Returns what identifies the kit: the checksum of its archive, and the number of its logic. Its letter is a name."""
+    """Returns what identifies the kit: the checksum of its archive, and the number of its logic. Its letter is a name.
+    """
     page, version = (said_by_rt(it) for it in ("doc", "version"))
     archive = re.search(r"^archive (\w+)$", (Path(page).parent / "WHAT").read_text(encoding="utf-8"), re.MULTILINE)
     logic = re.search(r" logic (\w+)$", version)
@@ -111,7 +112,8 @@ class Keys:
 
     @lru_cache(maxsize=None)
     def whole(self, crate):
-        """Returns the units of all sources of a crate, without comments: each may refuse a mutant outside of functions."""
+        """Returns the units of all sources of a crate, without comments: each may refuse a mutant outside of functions.
+        """
         folder = self.crates.folder(crate)
         files = [it for part in PARTS[:2] for it in sorted((folder / part).rglob("*.*t*"))]
         names = [str(it.relative_to(folder)) for it in files]

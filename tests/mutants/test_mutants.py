@@ -1,7 +1,8 @@
-"""Tries the script of the mutants: each kind of mutant gets its verdict, and a line of a record holds as long as it should.
+"""Tries the script of the mutants: each kind of mutant gets its verdict, and a line of a record holds as long as it
+should.
 
-Its crates are those of toy_crates.py, which the prover checks in seconds. `make mutants` runs it, and not the gate, which
-tries mutants that must be refused with twins that must get through.
+Its crates are those of toy_crates.py, which the prover checks in seconds. `make mutants` runs it, and not the gate,
+which tries mutants that must be refused with twins that must get through.
 """
 
 import os

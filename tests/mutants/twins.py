@@ -1,7 +1,7 @@
 """Makes the twin of a mutant by a rule: the mutant's shape, with what the code means.
 
-Of a copy: each `return` returns what the last expression of its body is, the call of the function. Of an edit of an arm of a
-match or of a field: its value is named first, `{ let it = VALUE; it }`.
+Of a copy: each `return` returns what the last expression of its body is, the call of the function. Of an edit of an arm
+of a match or of a field: its value is named first, `{ let it = VALUE; it }`.
 """
 
 import re

@@ -444,7 +444,9 @@ def test_command_pages(trials):
 
 
 def test_first_command(trials):
-    """`make run`, which proves nothing, prints what the README and docs/INSTALL.md say; asked again, it compiles nothing."""
+    """`make run`, which proves nothing, prints what the README and docs/INSTALL.md say; asked again, it compiles
+    nothing.
+    """
     install, readme = ((TOP / name).read_text(encoding="utf-8") for name in ("docs/INSTALL.md", "README.md"))
     [(first, line)] = re.findall(r"^    (make run)\n\n.*prints `(.*)` in a minute or two", install, re.MULTILINE)
     [again] = re.findall(r'`(make run ASK="[^`]*")`', readme)

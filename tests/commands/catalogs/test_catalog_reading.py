@@ -1,5 +1,5 @@
-"""Tries how fmtcanon-po reads catalogs: bytes that aren't of the charset, long lines and numbers, many catalogs, and what
-it counts.
+"""Tries how fmtcanon-po reads catalogs: bytes that aren't of the charset, long lines and numbers, many catalogs, and
+what it counts.
 """
 
 import subprocess

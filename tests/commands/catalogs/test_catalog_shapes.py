@@ -120,7 +120,8 @@ def test_rejected(case):
 
 
 def test_rejected_specifications(case):
-    """After macros, `%m` and the flag I, where the rejected specification is in the text, and what to write: by hand."""
+    """After macros, `%m` and the flag I, where the rejected specification is in the text, and what to write: by hand.
+    """
     for text, span, instead in [
         (b"%<PRId64> and %-#5d", (14, 19), b"%-5d"),
         (b"%5m%Id %010s|", (7, 12), b"%10s"),

@@ -153,7 +153,8 @@ def run(tool, script, words):
 
 
 def compare(tool, trials, sources, words, least):
-    """Tries that one parse says the same of sources as one for each platform, and is enough for some, but not for all."""
+    """Tries that one parse says the same of sources as one for each platform, and is enough for some, but not for all.
+    """
     for name, text in sources.items():
         tool.put(name, text)
     tool.put_commands(*(["g++" if name.endswith("pp") else "gcc", "-D_GNU_SOURCE", "-c", name] for name in sources))

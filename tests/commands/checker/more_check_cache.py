@@ -1,5 +1,5 @@
-"""Tries what fmtcanon-check keeps of earlier runs: a second run judges nothing again, and says what a first one says. It
-asks compilers only for the short text of each file.
+"""Tries what fmtcanon-check keeps of earlier runs: a second run judges nothing again, and says what a first one says.
+It asks compilers only for the short text of each file.
 
 It needs libclang and gcc.
 """

@@ -383,7 +383,8 @@ NAMED = [
 
 
 def test_names(tool, trials):
-    """A type is named by the typedef of a part that has the same type everywhere, or it is said what it is elsewhere."""
+    """A type is named by the typedef of a part that has the same type everywhere, or it is said what it is elsewhere.
+    """
     front = f"{SAYS}#include <sys/stat.h>\nvoid f(time_t a, time_t b, struct stat *s, size_t n, long l, unsigned long u) {{\n"
     calls = "".join(f'printf("{directive}", {given});\n' for directive, given, _ in NAMED)
     tool.put("names.c", f"{front}{calls}}}\n")
@@ -394,7 +395,8 @@ def test_names(tool, trials):
 
 
 def test_headers_found_twice(tool, trials):
-    """A header that is in the file's own folder and found by -I is read alike by the file's name and from its source."""
+    """A header that is in the file's own folder and found by -I is read alike by the file's name and from its source.
+    """
     tool.put("src/b.h", "#ifndef B\n#define B\n#include <stdio.h>\n\n\n\n#endif\n")
     tool.put("lib/u.h", '#include "b.h"\n')
     text = '#include "b.h"\n#include "u.h"\nvoid f(size_t n, unsigned long m) {\n  printf("%lu\\n", n);\n  printf("%lu\\n", m); }\n'

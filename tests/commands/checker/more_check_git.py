@@ -68,7 +68,8 @@ def places(output):
 
 
 def test_edits(tool, trials):
-    """What a change adds or whose format it changes is reported, with a database, with files, or of all that changed."""
+    """What a change adds or whose format it changes is reported, with a database, with files, or of all that changed.
+    """
     start(tool)
     for words in (["-p", ".", "--git"], ["-p", ".", "--git=HEAD", "a.c", "b.c", "c.c"]):
         trials.expect(f"{words}: nothing changed", tool.run(*words)[:2], (0, ""))

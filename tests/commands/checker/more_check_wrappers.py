@@ -255,7 +255,8 @@ TAKES = OWN.replace("print(f, a)", "while (*f++) putchar(va_arg(a, int))")
 
 
 def test_twins(tool, trials):
-    """If a definition of a name that may be meant doesn't print, none does; what a unit defines itself is meant there."""
+    """If a definition of a name that may be meant doesn't print, none does; what a unit defines itself is meant there.
+    """
     calls = f'{SAYS}void msg(const char *, ...);\nvoid g(size_t z) {{ msg("%d", z); }}\n'
     for first, second, is_said in [
         (HANDED, "", True),
@@ -297,8 +298,8 @@ def test_static_names(tool, trials):
 
 
 def test_summary(tool, trials):
-    """All calls with literals of functions that aren't known are counted; an option is proposed for those alone that don't
-    take their arguments themselves.
+    """All calls with literals of functions that aren't known are counted; an option is proposed for those alone that
+    don't take their arguments themselves.
     """
     calls = "".join(f'one("%d", {it}); ' for it in range(12)) + 'two("%d", 1); three("%d", 1); four("%d", 1);'
     known = 'printf("%zu", z); ' * 4

@@ -1,5 +1,5 @@
-"""Tests of what the calls of a unit are on every platform by what they are on one, without libclang: python3 -m unittest,
-in the folder above.
+"""Tests of what the calls of a unit are on every platform by what they are on one, without libclang: python3 -m
+unittest, in the folder above.
 """
 
 from types import SimpleNamespace

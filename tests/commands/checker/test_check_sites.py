@@ -1,5 +1,5 @@
-"""Tests of where calls of functions with formats may be in preprocessed text, without libclang: python3 -m unittest, in the
-folder above.
+"""Tests of where calls of functions with formats may be in preprocessed text, without libclang: python3 -m unittest, in
+the folder above.
 """
 
 

@@ -1,4 +1,5 @@
-"""Tests of the formats of a source as it is written: the functions that a text declares, arguments, and bounds on work."""
+"""Tests of the formats of a source as it is written: the functions that a text declares, arguments, and bounds on work.
+"""
 
 import tempfile
 import time

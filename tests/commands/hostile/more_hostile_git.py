@@ -71,7 +71,8 @@ def test_filter_of_a_submodule():
 
 @held
 def test_programs_of_a_repository():
-    """Filters, fsmonitor, hooks, textconv, external diff, pagers, aliases, in the configuration and an included file."""
+    """Filters, fsmonitor, hooks, textconv, external diff, pagers, aliases, in the configuration and an included file.
+    """
     folder = Folder()
     folder.committed(a_c=RIGHT, b_c=RIGHT)
     mark = folder.work / "ran"

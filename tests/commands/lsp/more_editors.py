@@ -77,8 +77,8 @@ EMACS = """\
       (forward-line 1))
     (with-temp-file "found" (insert (json-encode (vconcat (nreverse found)))))))
 """
-# What editors show of these files by the server: lines from 1 and columns from 0 in bytes, levels and kinds; what the first
-# line of a hover says in the first place; and the text after the first action there.
+# What editors show of these files by the server: lines from 1 and columns from 0 in bytes, levels and kinds; what the
+# first line of a hover says in the first place; and the text after the first action there.
 SOURCE = """\
 #include <stdio.h>
 void f(int n, double x)

@@ -49,8 +49,8 @@ def test_picture(reader, trials):
 
 
 def test_findings(reader, trials):
-    """Each line of docs/FINDINGS.md is reported, and what is written instead isn't: by the command where it is compiled,
-    and by gcc for 32 bits alone.
+    """Each line of docs/FINDINGS.md is reported, and what is written instead isn't: by the command where it is
+    compiled, and by gcc for 32 bits alone.
     """
     lines = [it for _, it in fences(section(TOP / "docs/FINDINGS.md", "Calls"))]
     trials.expect("lines, each with what is written instead", (len(lines) % 2, len(lines) > 10), (0, True))

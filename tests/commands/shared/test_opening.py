@@ -1,4 +1,5 @@
-"""Tests that files are opened in one place: what somebody else named is read there, and what is written is the user's."""
+"""Tests that files are opened in one place: what somebody else named is read there, and what is written is the user's.
+"""
 
 import ast
 import unittest

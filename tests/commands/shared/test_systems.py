@@ -1,4 +1,6 @@
-"""Tries what runs where there are no signals, processes and limits of POSIX, as on Windows, and what says that it doesn't."""
+"""Tries what runs where there are no signals, processes and limits of POSIX, as on Windows, and what says that it
+doesn't.
+"""
 
 import os
 import subprocess
