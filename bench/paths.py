@@ -66,7 +66,9 @@ def main(folder):
         rows = list(PATHS.items())
         costs = workers.map(lambda it: cost(driver, Path(work), it[0], *it[1][1][:2]), enumerate(rows))
         for (path, (call, _, known)), now in zip(rows, costs):
-            trials.expect(f"{call}: {path}: {now:.0f} instructions, at most {MORE} times {known}", now <= MORE * known, True)
+            trials.expect(
+                f"{call}: {path}: {now:.0f} instructions, at most {MORE} times {known}", now <= MORE * known, True
+            )
     print(trials)
     return 1 if trials.failed else 0
 

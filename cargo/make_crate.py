@@ -202,13 +202,18 @@ def make_c(folder):
     files = [(place, text) for place, text in sources(C) if place.stem != "lib"]
     for place, text in files:
         write(folder / place, of_library(replaced(stripped(text), C_LIBRARY), "c"))
-    head = "//! The calls of the C library, which `fmtcanon.h` declares.\n#![allow(clippy::missing_safety_doc, unused_unsafe)]\n\n"
+    head = (
+        "//! The calls of the C library, which `fmtcanon.h` declares.\n"
+        "#![allow(clippy::missing_safety_doc, unused_unsafe)]\n\n"
+    )
     modules = [place.stem for place, _ in files]
     uses = "use super::*;\nuse crate::support::c_slices as slices;\n"
     structs = "".join(f"use super::{it}::*;\n" for it in modules)
     write(folder / "mod.rs", head + "".join(f"pub mod {it};\n" for it in modules) + "pub mod exports;\n")
     exports = "".join(c_exports(stripped(text), place.stem) for place, text in files)
-    write(folder / "exports.rs", head.replace("unused_unsafe", "unused_unsafe, unused_imports") + uses + structs + exports)
+    write(
+        folder / "exports.rs", head.replace("unused_unsafe", "unused_unsafe, unused_imports") + uses + structs + exports
+    )
 
 
 def make(folder):

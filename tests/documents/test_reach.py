@@ -53,7 +53,9 @@ KNOWN = r"(Rattle\.(std\.specs|\w+\.specs\.declared)|Prim\.Native\.Char)\."
 READERS = ["Rattle.pf_values.specs", "Rattle.pf_text.specs"]
 NAME = r"[^\W\d]\w*"
 # An import: of names of a module, or of a module by another name.
-IMPORT = re.compile(rf"^ *(?:ghost )?(pub )?use ((?:Rattle|Prim)[\w.]+?)(?:\.\{{([^{{}}]*)\}}| as ({NAME}));?$", re.MULTILINE)
+IMPORT = re.compile(
+    rf"^ *(?:ghost )?(pub )?use ((?:Rattle|Prim)[\w.]+?)(?:\.\{{([^{{}}]*)\}}| as ({NAME}));?$", re.MULTILINE
+)
 # What a definition begins with, at the margin or inside a module with parameters.
 HEAD = re.compile(rf"^(?:  )?(?:abbrev |inst )?(?:pub )?(record |data )?({NAME}) *(?:[:({{]|where)")
 WORDS = re.compile(rf"(?<![\w.])({NAME})((?:\.{NAME})*)")
@@ -171,7 +173,9 @@ def reached_from(names):
 def library_starts():
     """The calls of the C library, each with its file."""
     files = [file.relative_to(TOP / "crates") for file in sorted((TOP / "crates" / LIBRARY).glob("*.rt"))]
-    return [(file, name) for file in files for name in EXPORTED.findall((TOP / "crates" / file).read_text(encoding="utf-8"))]
+    return [
+        (file, name) for file in files for name in EXPORTED.findall((TOP / "crates" / file).read_text(encoding="utf-8"))
+    ]
 
 
 def size_of(found):
@@ -229,7 +233,9 @@ def strays(text, folders):
     module = Module()
     rest = imports_of(without_comments(text), module)
     paths = {path for path, _ in module.imports.values()} | set(module.aliases.values())
-    outside = [it for it in paths if not re.match(KNOWN, it + ".") and not it.startswith(tuple(f"{at}." for at in folders))]
+    outside = [
+        it for it in paths if not re.match(KNOWN, it + ".") and not it.startswith(tuple(f"{at}." for at in folders))
+    ]
     return sorted(outside) + re.findall(r"^.*\bRattle\..*$|^ *(?:pub )?use .*$", rest, re.MULTILINE)
 
 
@@ -272,14 +278,22 @@ def of_headlines():
 
 def page():
     """The text of reached.md."""
-    heads = ["The headline and a rejection", "The headline of the whole language, besides", "A rejection in the whole language, besides"]
+    heads = [
+        "The headline and a rejection",
+        "The headline of the whole language, besides",
+        "A rejection in the whole language, besides",
+    ]
     lines = ["# What the headlines depend on", "", "`python3 -m tests.documents.test_reach` writes this file."]
     lines += ["", "| Depends on | Definitions | Lines |", "|---|---|---|"]
     lines += [f"| {name} | {count:,} | {length:,} |" for name, (count, length) in sizes().items()]
     for head, (found, others) in zip(heads, of_headlines()):
         types, constants = of_code(others)
         lines += ["", f"## {head}", "", *by_file(found), ""]
-        lines += [in_line("Types of the code", types), in_line("Constants of the code", constants), in_line("Words of the library", of_library(others))]
+        lines += [
+            in_line("Types of the code", types),
+            in_line("Constants of the code", constants),
+            in_line("Words of the library", of_library(others)),
+        ]
     return "\n".join(lines) + "\n"
 
 
@@ -296,7 +310,9 @@ def test_reach(trials):
     trials.expect(f"definitions that the headline depends on, outside of {FOLDER}", in_words(found - there), [])
     text = (TOP / "docs/DEFINITIONS.md").read_text(encoding="utf-8")
     constants = re.search(r"two constants of the code, `(\w+)`, 4,095, and `(\w+)`, 2\^62", text)
-    trials.expect("constants of the code in docs/DEFINITIONS.md", constants and set(constants.groups()), of_code(others)[1])
+    trials.expect(
+        "constants of the code in docs/DEFINITIONS.md", constants and set(constants.groups()), of_code(others)[1]
+    )
     wanted = lines_there(FOLDER)
     trials.expect("lines in docs/DEFINITIONS.md", counted(text, "The headline and a rejection depend on"), wanted)
     try_whole(trials, others)
@@ -305,7 +321,9 @@ def test_reach(trials):
 def test_strays(trials):
     """What the headlines and refusals depend on is in their folders and in what is known, however it is named."""
     first, whole, refused = ({path for path, _ in found} for found, _ in of_headlines())
-    for paths, folders in [(first, [FOLDER]), (whole, [FOLDER, WHOLE_FOLDER, LOWER]), (refused - whole, [FOLDER, LOWER, *READERS])]:
+    for paths, folders in [
+        (first, [FOLDER]), (whole, [FOLDER, WHOLE_FOLDER, LOWER]), (refused - whole, [FOLDER, LOWER, *READERS])
+    ]:
         for path in sorted(paths):
             trials.expect(f"what {path} names besides", strays(file_of(path).read_text(encoding="utf-8"), folders), [])
 
@@ -324,7 +342,9 @@ def test_planted_strays(trials):
         (f"use {FOLDER}.Spelling.", f"use native.Mathlib.Nat.{{least}}\nuse {FOLDER}.Spelling."),
     ]:
         edited = text.replace(old, new, 1)
-        trials.expect(f"{new}: is in the text, and is seen", (edited != text, strays(edited, [FOLDER]) != []), (True, True))
+        trials.expect(
+            f"{new}: is in the text, and is seen", (edited != text, strays(edited, [FOLDER]) != []), (True, True)
+        )
 
 
 def try_whole(trials, known):
@@ -343,7 +363,10 @@ def try_whole(trials, known):
     page = (TOP / "crates/pf_whole/DEFINITIONS.md").read_text(encoding="utf-8")
     trials.expect("lines in DEFINITIONS.md of pf_whole", counted(page, at), wanted)
     verification = (TOP / "docs/VERIFICATION.md").read_text(encoding="utf-8").replace(",", "")
-    sizes = re.search(r"headlines depend on have (\d+) and (\d+) lines and the second headline uses (\d+) definitions of `pf_posix`", verification)
+    sizes = re.search(
+        r"headlines depend on have (\d+) and (\d+) lines and the second headline uses (\d+) definitions of `pf_posix`",
+        verification,
+    )
     counts = [lines_there(FOLDER)[0], wanted[0], len(lower)]
     trials.expect("lines in docs/VERIFICATION.md", sizes and [int(it) for it in sizes.groups()], counts)
     read = re.search(r"the (\d+) lines of that folder", verification)
@@ -357,7 +380,11 @@ def test_sizes(trials):
     hundreds.
     """
     text = (TOP / "docs/VERIFICATION.md").read_text(encoding="utf-8").replace(",", "")
-    said = re.search(r"answer of the program depends on some (\d+) definitions with (\d+) lines those of the C calls on (\d+) with (\d+)", text)
+    said = re.search(
+        r"answer of the program depends on some (\d+) definitions with (\d+) lines those of the C calls on (\d+) with "
+        r"(\d+)",
+        text,
+    )
     found = sizes()
     wanted = [
         round(number, -digits)

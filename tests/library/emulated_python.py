@@ -80,7 +80,11 @@ def emulated_python(work, trials):
 
 def environment_of(**names):
     """An environment without the program and without the system's modules."""
-    without = {it: value for it, value in os.environ.items() if it not in ("FMTCANON_PROGRAM", "FMTCANON_LIBRARY", "PYTHONPATH")}
+    without = {
+        it: value for it, value in os.environ.items() if it not in (
+            "FMTCANON_PROGRAM", "FMTCANON_LIBRARY", "PYTHONPATH"
+        )
+    }
     return {**without, "PYTHONDONTWRITEBYTECODE": "1", **names}
 
 

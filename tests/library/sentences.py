@@ -11,7 +11,9 @@ import re
 TYPES = {"signed char": (8, True), "unsigned char": (8, False), "short": (16, True), "unsigned short": (16, False)}
 TYPES.update({"int": (32, True), "unsigned int": (32, False), "long": (64, True), "unsigned long": (64, False)})
 TYPES.update({"long long": (64, True), "unsigned long long": (64, False)})
-BASES = {"decimal": "d", "octal": "o", "binary": "b", "hexadecimal with `a` to `f`": "x", "hexadecimal with `A` to `F`": "X"}
+BASES = {
+    "decimal": "d", "octal": "o", "binary": "b", "hexadecimal with `a` to `f`": "x", "hexadecimal with `A` to `F`": "X"
+}
 
 # Phrases about the numbers of arguments.
 AS_MANY = re.compile(
@@ -23,12 +25,17 @@ AT_MOST = re.compile(
     r" if it is negative\)"
 )
 FIELD = re.compile(
-    r"(?P<how>left-justified in|right-justified in|padded with zeros to) at least as many bytes as argument (?P<at>\d+) says"
-    r"(?P<spaces> \(infinity and NaN with spaces\))?(?: \(without its sign\)| \(left-justified if it is negative(?:, otherwise"
-    r" (?P<zeros>padded with zeros) if argument (?P<precision>\d+) is negative)?\)|, or left-justified with spaces if it is"
+    r"(?P<how>left-justified in|right-justified in|padded with zeros to) at least as many bytes as argument "
+    r"(?P<at>\d+) says"
+    r"(?P<spaces> \(infinity and NaN with spaces\))?(?: \(without its sign\)| \(left-justified if it is negative(?:, "
+    r"otherwise"
+    r" (?P<zeros>padded with zeros) if argument (?P<precision>\d+) is negative)?\)|, or left-justified with spaces if "
+    r"it is"
     r" negative)$"
 )
-ZEROS = re.compile(r"right-justified in (at least \d+ bytes) \(padded with zeros if argument (?P<precision>\d+) is negative\)$")
+ZEROS = re.compile(
+    r"right-justified in (at least \d+ bytes) \(padded with zeros if argument (?P<precision>\d+) is negative\)$"
+)
 # What the phrases of a sentence are, in their order, once they have numbers.
 PHRASES = [
     r"(?:the value as an? (?P<converted>[a-z ]+), in )?(?P<base>" + "|".join(BASES) + r")(?! and)",

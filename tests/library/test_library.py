@@ -143,7 +143,9 @@ def test_header(trials):
         ("fmtcanon_argument", "arguments", "CArgument"),
     ]
     for name, source, struct in structs:
-        fields = re.search(rf"^(?:typedef )?struct {name} \{{(.*?)\}}", header_text(), re.DOTALL | re.MULTILINE).group(1)
+        fields = re.search(rf"^(?:typedef )?struct {name} \{{(.*?)\}}", header_text(), re.DOTALL | re.MULTILINE).group(
+            1
+        )
         text = (SOURCES / f"{source}.rt").read_text(encoding="utf-8")
         code = re.search(rf"#\[repr\(C\)\][^{{]*struct {struct}(?:<'a>)? \{{(.*?)\n\}}", text, flags=re.DOTALL).group(1)
         wanted = [one for field, kind in re.findall(r"pub (\w+): ([^,]+),", code) for one in c_fields(field, kind)]
@@ -185,7 +187,9 @@ def try_header_laws(errors, trials):
 
 
 def lines_of(words, **options):
-    done = subprocess.run(words, stdout=subprocess.PIPE, stderr=subprocess.STDOUT, timeout=3 * TIMEOUT, check=False, **options)
+    done = subprocess.run(
+        words, stdout=subprocess.PIPE, stderr=subprocess.STDOUT, timeout=3 * TIMEOUT, check=False, **options
+    )
     return done.returncode, done.stdout.decode(errors="replace")
 
 

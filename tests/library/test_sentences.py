@@ -33,7 +33,11 @@ PLANTED = [
     ("%.3u", "at least {precision} digits", "at least {precision}0 digits"),
     ("%.*u", "(1 if it is negative)", "(2 if it is negative)"),
     ("%*d", "(left-justified if it is negative)", "(without its sign)"),
-    ("%f", "{precision} digits after the decimal point", "up to {precision} significant digits, in the style of `f` or `e`"),
+    (
+        "%f",
+        "{precision} digits after the decimal point",
+        "up to {precision} significant digits, in the style of `f` or `e`",
+    ),
     ("%#g", "{precision} significant digits", "up to {precision} significant digits"),
     ("%+i", "always with a sign", "with a space where there is no sign"),
     ("%.3s", "at most {precision} bytes of it", "no bytes of it"),

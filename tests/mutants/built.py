@@ -98,7 +98,9 @@ class Built:
         words = ["--crate-name", name, root, "--links", f"{name}="]
         words += [word for it in direct for word in ("--extern", f"{it}={given[it]}")]
         words += [word for it in {rlibs, *(it.parent for it in own.values())} for word in ("-L", f"dependency={it}")]
-        words += ["--antt-project", f"{self.kit}/rattle/logic/antt-project.json", "--logic-built", f"{self.kit}/logic_built"]
+        words += [
+            "--antt-project", f"{self.kit}/rattle/logic/antt-project.json", "--logic-built", f"{self.kit}/logic_built"
+        ]
         return words + (["--crate-type", "staticlib"] if self.crates.is_static(name) else [])
 
     def copy(self, name):
@@ -112,7 +114,15 @@ class Built:
 
     def check(self, folder, *words):
         """Returns what a check says of a copy of a crate, over what its earlier checks kept."""
-        command = [self.kit / "bin/rattle", "check", *self.words(folder.name), "--incremental", "out/incremental", "--jobs", "1"]
+        command = [
+            self.kit / "bin/rattle",
+            "check",
+            *self.words(folder.name),
+            "--incremental",
+            "out/incremental",
+            "--jobs",
+            "1",
+        ]
         how = {"stdin": subprocess.DEVNULL, "stdout": subprocess.PIPE, "stderr": subprocess.STDOUT, "errors": "replace"}
         return subprocess.run([*command, *words], cwd=folder, check=False, **how).stdout
 

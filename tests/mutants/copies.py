@@ -55,7 +55,10 @@ def with_copy(text, function, mark, body):
     end = rattle_functions.group_end(rattle_functions.blanked(text), text.index("{", begin))
     if has_own_contract(function):
         uses = "".join(re.findall(r"^ *ghost use [^;]*;\n", text[begin:end], re.MULTILINE))
-        return f"{text[:end]}\n\n{impl(block_of_type(function))} {{\n{uses}\n    {head}\n    {{ {body} }}\n}}\n{text[end:]}"
+        return (
+            f"{text[:end]}\n\n{impl(block_of_type(function))} {{\n{uses}\n    {head}\n    {{ {body} }}\n}}\n"
+            f"{text[end:]}"
+        )
     if not re.search(rf"\bstruct {re.escape(of_type)};", text):
         raise ValueError(f"{function.path} has the contract of a trait, and {of_type} has fields or parameters")
     head = text[begin : function.head] + named(text[function.head : function.start])

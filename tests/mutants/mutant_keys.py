@@ -51,7 +51,9 @@ def said_by_rt(word):
 def judges_sum():
     """Returns a checksum of what the scripts that judge do, whatever their comments say and wherever they lie."""
     texts = [(Path(__file__).parent / f"{it}.py").read_text(encoding="utf-8") for it in JUDGES]
-    texts = [it.replace(f"from {__package__} import ", "import ").replace(f"from {__package__}.", "from ") for it in texts]
+    texts = [
+        it.replace(f"from {__package__} import ", "import ").replace(f"from {__package__}.", "from ") for it in texts
+    ]
     return checksum([ast.dump(ast.parse(it)) for it in texts])
 
 
@@ -100,7 +102,9 @@ class Keys:
     def heads(self, crate, mutant):
         """Returns the functions that a mutant changes, with their attributes."""
         files = sorted({it.file for it in mutant.pairs})
-        found = [it for file in files for it in rattle_functions.functions(*self.source(crate, file), self.homes(crate))]
+        found = [
+            it for file in files for it in rattle_functions.functions(*self.source(crate, file), self.homes(crate))
+        ]
         return [it for it in found if it.path in mutant.functions]
 
     def source(self, crate, file):

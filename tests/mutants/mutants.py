@@ -71,7 +71,10 @@ class Mutants:
             if mutant.twin is None:
                 yield f"{name}/{mutant.name} has no twin"
             elif not self.is_current(name, mutant):
-                yield f"{name}/{mutant.name} has no current line: `python3 -m tests.mutants {name} {mutant.name}` tries it"
+                yield (
+                    f"{name}/{mutant.name} has no current line: `python3 -m tests.mutants {name} {mutant.name}` tries "
+                    f"it"
+                )
         record, names = self.records[name], {it.name for it in self.of_crate[name]}
         for mutant in sorted(record.lines.keys() - names):
             yield f"{name}/{mutant} has a line and is no mutant: `python3 -m tests.mutants {name}` drops it"
@@ -169,7 +172,9 @@ def try_wanted(mutants, options):
 
 
 def main():
-    parser = argparse.ArgumentParser("python3 -m tests.mutants", description="Tries mutants: the prover must refuse each.")
+    parser = argparse.ArgumentParser(
+        "python3 -m tests.mutants", description="Tries mutants: the prover must refuse each."
+    )
     parser.add_argument("--jobs", type=int, default=1, help="how many checks run side by side")
     how = parser.add_mutually_exclusive_group()
     how.add_argument("--all", action="store_true", help="try those with a current line, too")

@@ -15,7 +15,9 @@ def last_expression(body):
     depth = at = 0
     for index, letter in enumerate(body):
         depth += {"(": 1, "[": 1, "{": 1, ")": -1, "]": -1, "}": -1}.get(letter, 0)
-        ends_block = letter == "}" and body[index + 1 : index + 2] == " " and not body.startswith(("else", "."), index + 2)
+        ends_block = letter == "}" and body[index + 1 : index + 2] == " " and not body.startswith(
+            ("else", "."), index + 2
+        )
         if depth == 0 and (letter == ";" or ends_block):
             at = index + 1
     return body[at:].strip()

@@ -108,7 +108,9 @@ def failures(folder, package, names, library, program=None):
     environment = {**os.environ, **given, "INPUT": "4", "OUTPUT": "3"}
     words = [sys.executable, "-m", "unittest", "-q", *(f"tests.{package}.test_{name}" for name in names)]
     done = subprocess.run(words, cwd=TOP, env=environment, capture_output=True, encoding="utf-8", check=False)
-    counts = [tuple(map(int, it)) for it in re.findall(r"^tests\S+: (\d+) passed, (\d+) failed$", done.stdout, re.MULTILINE)]
+    counts = [
+        tuple(map(int, it)) for it in re.findall(r"^tests\S+: (\d+) passed, (\d+) failed$", done.stdout, re.MULTILINE)
+    ]
     return re.findall(r"^FAILED (.*)$", done.stdout, re.MULTILINE), sum(it for it, _ in counts)
 
 

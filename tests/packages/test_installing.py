@@ -122,7 +122,9 @@ def prototypes(text):
     """The functions that a text declares or has inline, each in one line."""
     plain = re.sub(r"/\*.*?\*/", "", text, flags=re.DOTALL)
     plain = re.sub(r"^static inline (.*\))$", r"\1;", plain, flags=re.MULTILINE)
-    return [" ".join(one.split()) for one in re.findall(r"^\w[\w *]* \**fmtcanon_\w+\([^)]*\);", plain, flags=re.MULTILINE)]
+    return [
+        " ".join(one.split()) for one in re.findall(r"^\w[\w *]* \**fmtcanon_\w+\([^)]*\);", plain, flags=re.MULTILINE)
+    ]
 
 
 def calls():

@@ -7,9 +7,9 @@ from typing import List, Set, Tuple
 
 from .. import BadLiteral, decode_literal
 
-# A line marker, in a text that begins with a line break: its line, the source of its file's name, and its flags, of
-# which 1 is that of a file that is entered, and 3 that of a system header. A pattern that begins with plain text is
-# found several times faster, so that of a line begins with its end.
+# A line marker, in a text that begins with a line break: its line, the source of its file's name, and its flags: 1 is
+# that of a file that is entered, and 3 that of a system header. A pattern that begins with plain text is found several
+# times faster, so that of a line begins with its end.
 MARKER = re.compile(r'\n# (\d+) "([^"\\\n]*(?:\\.[^"\\\n]*)*)"([ \d]*)(?![^\n])')
 MARKER_IN_BYTES = re.compile(MARKER.pattern.encode())
 # White space and line markers.

@@ -25,9 +25,9 @@ same bytes for all of them.
 OLD and NEW are formats as C has them between the quotes, so '%i\\n' ends in a newline. A literal is one or more \
 adjacent string literals that make up OLD. It is replaced if it is the format of a call of the C library's printf \
 family, of a function given by --function, or, with --attribute, of one that is declared with the attribute \
-format(printf, m, n). The file's own compiler preprocesses it, and libclang (the package python3-clang) finds the calls in that text. The \
-result is preprocessed again, and checked with the warnings of the compile command: only the replaced literals may \
-differ. Parts that OLD and NEW share keep their spelling.
+format(printf, m, n). The file's own compiler preprocesses it, and libclang (the package python3-clang) finds the \
+calls in that text. The result is preprocessed again, and checked with the warnings of the compile command: only the \
+replaced literals may differ. Parts that OLD and NEW share keep their spelling.
 
 FILE is a file or a folder, whose C and C++ files are all read; links out of it are not followed. Without one, all \
 files of the compile commands in -p are read. All files are reported before the first is replaced."""

@@ -7,7 +7,17 @@ import subprocess
 import tempfile
 from pathlib import Path
 
-from tests.commands.catalogs.test_catalog_edges import CHANGED, FORMS, STRICTER, UNCHANGED, catalog, checked, forms_text, message, pairs_catalog
+from tests.commands.catalogs.test_catalog_edges import (
+    CHANGED,
+    FORMS,
+    STRICTER,
+    UNCHANGED,
+    catalog,
+    checked,
+    forms_text,
+    message,
+    pairs_catalog,
+)
 from tests.commands.catalogs.test_catalogs import CATALOGS, CHECKED
 from tests.commands.pages.test_page_tables import compared
 from tests.frame.cases import tests_of
@@ -48,7 +58,9 @@ def test_msgfmt(folder, msgfmt, trials):
     for catalog, _, ours in CHECKED:
         text = (CATALOGS / catalog).read_text(encoding="utf-8", errors="replace")
         places = r"^([^:\n]+):(\d+):(?=\d+: error)"
-        ours = re.sub(places, lambda it, text=text: f"{it[1]}:{translation_line(text, int(it[2]))}:", ours, flags=re.MULTILINE)
+        ours = re.sub(
+            places, lambda it, text=text: f"{it[1]}:{translation_line(text, int(it[2]))}:", ours, flags=re.MULTILINE
+        )
         # With -c it reads the rule for plural forms, but shows no fault where the header is missing.
         report = "".join(
             subprocess.run(

@@ -248,7 +248,9 @@ def catalog(messages, charset="UTF-8", plural="n != 1"):
 
 
 def fault_lines(report):
-    return sorted({int(line) for line in re.findall(r"^[^:\n]+:(\d+):(?:\d+:)? (?!warning)", report, flags=re.MULTILINE)})
+    return sorted(
+        {int(line) for line in re.findall(r"^[^:\n]+:(\d+):(?:\d+:)? (?!warning)", report, flags=re.MULTILINE)}
+    )
 
 
 def pairs_catalog():
@@ -437,7 +439,12 @@ def test_sizes(folder, work, trials):
         )
     (work / "a.mo").write_bytes(overlapping(60_000, 1_000_000))
     status, report, seconds, memory = checked(folder, ["a.mo"], work)
-    found = (status, report.startswith("a.mo:1: error: it can't be read: its strings overlap"), seconds < TIMES, memory < 200_000)
+    found = (
+        status,
+        report.startswith("a.mo:1: error: it can't be read: its strings overlap"),
+        seconds < TIMES,
+        memory < 200_000,
+    )
     trials.expect("overlapping strings of a .mo file", found, (1, True, True, True))
     file.write_text(catalog([])[0] + 'msgid "a"\nmsgid_plural "b"\nmsgstr[' + "1" * 5000 + '] "c"\n')
     status, report, *_ = checked(folder, ["a.po"], work)

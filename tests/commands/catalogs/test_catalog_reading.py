@@ -82,7 +82,8 @@ def test_bytes(folder, work, trials):
             (work / "a.po").write_bytes(text.encode().replace(b"BAD", bad))
             status, report, *_ = checked(folder, ["a.po"], work)
             lines = [
-                f"a.po:{FIRST + 4 + line}:1: error: '{name}' has a byte that is not of the charset {charset}: 0x{shown} ["
+                f"a.po:{FIRST + 4 + line}:1: error: '{name}' has a byte that is not of the charset {charset}: "
+                f"0x{shown} ["
                 for name, line in names
             ]
             found = [it for it in report.splitlines() if "charset" in it]

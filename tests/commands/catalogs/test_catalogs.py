@@ -264,7 +264,9 @@ def test_binaries(folder, trials):
             file.write_bytes(whole[:size])
             status, out, report = check_po(folder, ["a.mo"], where=work)
             trials.expect(
-                f"{size} bytes of a.mo", (status, out, report.startswith("a.mo:1: error: it can't be read: ")), (1, "", True)
+                f"{size} bytes of a.mo", (status, out, report.startswith("a.mo:1: error: it can't be read: ")), (
+                    1, "", True
+                )
             )
         file.write_bytes(binary(BINARY[:1] + [(b"%d", b"%s")], "<"))
         trials.expect("a warning alone", check_po(folder, ["a.mo"], where=work)[0], 0)
@@ -342,7 +344,11 @@ def test_catalogs(folder, trials):
         )
     for text, line in NO_CATALOGS:
         status, out, report = check_po(folder, ["-"], text.encode())
-        trials.expect(f"no catalog: {text!r}", (status, out, report[: report.find(" ")]), (1, "", f"-:{line}:1:" if line else "-:1:"))
+        trials.expect(
+            f"no catalog: {text!r}",
+            (status, out, report[: report.find(" ")]),
+            (1, "", f"-:{line}:1:" if line else "-:1:"),
+        )
     for words, report in IN_MODELS:
         trials.expect(f"check_po.py {words} models.po", check_po(folder, [*words, "models.po"]), (1, "", report))
     trials.expect("both data models where none is said", check_po(folder, ["models.po"])[2], IN_MODELS[-1][1])

@@ -209,7 +209,11 @@ CALLS = [
         [(6, 25, "size", "%zu")],
     ),
     ('#define SHOW(n) printf("%lu\\n", n)\nvoid f(size_t n) { SHOW(n); SHOW(n); }', [], [(5, 25, "size", "%zu")]),
-    ('#define SHOW(n) printf("%lu\\n", n)\nvoid f(size_t n) { SHOW(n); SHOW(sizeof n); }', [], [(5, 25, "size", "%zu")]),
+    (
+        '#define SHOW(n) printf("%lu\\n", n)\nvoid f(size_t n) { SHOW(n); SHOW(sizeof n); }',
+        [],
+        [(5, 25, "size", "%zu")],
+    ),
     ('void f(size_t n) { printf("%lu", n); printf("%lu", n); }', [], [(5, 28, "size", "%zu"), (5, 46, "size", "%zu")]),
     ('void f(uint64_t n) { printf("%" PRIu64 " %lu", n, n); }', [], [(5, 42, "size", "PRIu64")]),
     ('void f(time_t n) { printf("%ld", n); }', [], [(5, 28, "size", "%jd with a cast to intmax_t")]),
@@ -280,7 +284,11 @@ def test_calls(tool, trials):
 CXX = [
     ('void f(size_t n) { std::printf("%lu", n); }', [(7, 33)]),
     ('void f(std::vector<int> &v, const long &l) { printf("%lu %ld", v.size(), l); }', [(7, 54)]),
-    ('struct o { void say(const char *, ...) __attribute__((format(printf, 2, 3))); };\nvoid f(o p) { p.say("%d", 1L); }', [(8, 22)]),
+    (
+        'struct o { void say(const char *, ...) __attribute__((format(printf, 2, 3))); };\n'
+        'void f(o p) { p.say("%d", 1L); }',
+        [(8, 22)],
+    ),
     ('template <typename T> void f(T t) { printf("%lu", t); }\nvoid g() { f(1); }', []),
     ('void f(int64_t n) { auto g = [](int64_t m) { printf("%ld", m); }; g(n); }', [(7, 54)]),
 ]
@@ -444,7 +452,11 @@ def test_visitor(tool, trials):
 # Lines of an old and a new file, and what is said of the second with its compile command.
 CHANGED = [
     ('printf("%lu a", n);', 'printf("%zu a", n);', 'types differ, and the call fits: "%lu a" and "%zu a"'),
-    ('printf("%d b", (int)m);', 'printf("%ld b", (int)m);', "types differ at argument 1: %d takes int and %ld takes long"),
+    (
+        'printf("%d b", (int)m);',
+        'printf("%ld b", (int)m);',
+        "types differ at argument 1: %d takes int and %ld takes long",
+    ),
     ('printf("%ld c", m);', 'printf("%jd c", (intmax_t)m);', 'types differ, and the call fits: "%ld c" and "%jd c"'),
     ('printf("%d d", 1);', 'printf("%" PRIu64 " d", u);', "types differ, and the call fits: "),
     ('printf("%d e", 1);', 'printf("%d%s e", 1);', "types differ at argument 2: no argument and %s takes string"),
@@ -463,7 +475,9 @@ def test_diff(tool, trials):
     said = [it.split(": ", 2)[2] for it in output.splitlines()]
     for (old, new, wanted), line in zip(CHANGED, said):
         trials.expect(f"{old} {new}: {line} {fault}", line.startswith(wanted), True)
-    trials.expect("the status", (status, len(said), "6 taking different types, 3 of them fitting" in fault), (1, 6, True))
+    trials.expect(
+        "the status", (status, len(said), "6 taking different types, 3 of them fitting" in fault), (1, 6, True)
+    )
     trials.expect("without -p", "and the call fits" in diff.run("old.c", "new.c")[1], False)
     for words in (["--git", "--cached"], ["--git", "HEAD~1", "HEAD"], ["--git", "HEAD~1..HEAD"]):
         status, _, fault = diff.run("-p", ".", *words)

@@ -130,7 +130,9 @@ template <int N> struct Sized { int value; int get(); };
 template <> struct Sized<4> { long long value; long long get(); };
 """
 FRONT = "#define _GNU_SOURCE\n" + SAYS + "".join(
-    f"#include <{it}>\n" for it in ["string.h", "stdlib.h", "wchar.h", "limits.h", "sys/time.h", "sys/types.h", "ucontext.h", "sys/user.h"]
+    f"#include <{it}>\n" for it in [
+        "string.h", "stdlib.h", "wchar.h", "limits.h", "sys/time.h", "sys/types.h", "ucontext.h", "sys/user.h"
+    ]
 )
 OPTIONS = [[], ["--rank", "--sign", "--composed"], ["--model", "llp64"]]
 

@@ -134,7 +134,12 @@ COUNTED = [
     ("#include <stdarg.h>\nvoid f(const char *s, va_list a) { vprintf(s, a); }", [], [], "nothing found\n"),
     # Arguments that no format takes, as gcc and clang say by default.
     *(
-        (f"void f(int n, char *s) {{ {call} }}", [], ["surplus"] if is_found else [], f"{'1 surplus' if is_found else 'found'}\n")
+        (
+            f"void f(int n, char *s) {{ {call} }}",
+            [],
+            ["surplus"] if is_found else [],
+            f"{'1 surplus' if is_found else 'found'}\n",
+        )
         for call, is_found in [
             ('printf("%d", n, 2);', True),
             ('printf("x", n);', True),
@@ -148,7 +153,12 @@ COUNTED = [
     ('void f(int n, char *s) { printf(n ? "%d" : s, n, n); }', [], [], "1 call with a format that wasn't read\n"),
     ("void f(char *s) { printf(s); }", ["--unread"], ["unread"], "1 unread; 1 call with a format that wasn't read\n"),
     # %Lx is judged as %llx, and said to be undefined.
-    ('void f(long long n) { printf("%#Lx %*Ld", n, 1, n); }', [], ["undefined"] * 2, "1 format, 3 arguments: 2 undefined\n"),
+    (
+        'void f(long long n) { printf("%#Lx %*Ld", n, 1, n); }',
+        [],
+        ["undefined"] * 2,
+        "1 format, 3 arguments: 2 undefined\n",
+    ),
     ('void f(int n) { printf("%Lx", n); }', [], ["undefined", "size"], "1 format, 1 argument: 1 size, 1 undefined\n"),
     ('void f(int n) { printf("%La", n); printf("%Lc", n); }', [], ["unjudged", "kind"], "1 kind, 1 unjudged\n"),
     # %m is the C library's, and said once for a file.
@@ -162,7 +172,8 @@ COUNTED = [
     # Question marks that the source keeps from being a trigraph.
     ('void f(size_t n) { printf("?\\?\\?(%d)?\\?=\\n", n); }', [], ["size"], "1 format, 1 argument: 1 size\n"),
     (
-        'enum { N = 1 };\nvoid say(const char *, ...) __attribute__((format(printf, N, N + 1)));\nvoid f(long n) { say("%d", n); }',
+        'enum { N = 1 };\nvoid say(const char *, ...) __attribute__((format(printf, N, N + 1)));\n'
+        'void f(long n) { say("%d", n); }',
         [],
         [],
         "1 call with a format that wasn't read",
@@ -198,7 +209,8 @@ COUNTED = [
         "1 size\n",
     ),
     (
-        'int read_it(const char *, const char *, ...) __attribute__((format(scanf, 2, 3)));\nvoid f(char *s, int *n) { read_it(s, "%d", n); }',
+        'int read_it(const char *, const char *, ...) __attribute__((format(scanf, 2, 3)));\n'
+        'void f(char *s, int *n) { read_it(s, "%d", n); }',
         [],
         [],
         "nothing found\n",
@@ -357,7 +369,12 @@ def test_written(tool, trials):
         ),
         ('void f(uint32_t n) { printf("%ld", n); }', [], False, "; not written: its new text prints something else"),
         ('void f(uint32_t n) { printf("%ld", n); }', ["--wrong"], True, "%ld is now %u, for a uint32_t [fixed]"),
-        ('void f(size_t n, int i) { printf("%lu %ld", n, i); }', ["--wrong"], True, "%ld is now %d, for an int [fixed]"),
+        (
+            'void f(size_t n, int i) { printf("%lu %ld", n, i); }',
+            ["--wrong"],
+            True,
+            "%ld is now %d, for an int [fixed]",
+        ),
         ('void f(unsigned long n) { printf("%zu", n); }', [], False, "; not written: its length modifier names a type"),
         ('void f(long n) { printf("%jd %td", n, n); }', [], False, "; not written: its length modifier names a type"),
         ('void f(size_t n) { printf("x%lu" + 1, n); }', [], False, "; not written: it is only a part of a format"),
@@ -385,7 +402,10 @@ NAMED = [
 def test_names(tool, trials):
     """A type is named by the typedef of a part that has the same type everywhere, or it is said what it is elsewhere.
     """
-    front = f"{SAYS}#include <sys/stat.h>\nvoid f(time_t a, time_t b, struct stat *s, size_t n, long l, unsigned long u) {{\n"
+    front = (
+        f"{SAYS}#include <sys/stat.h>\nvoid f(time_t a, time_t b, struct stat *s, size_t n, long l, unsigned long u) "
+        f"{{\n"
+    )
     calls = "".join(f'printf("{directive}", {given});\n' for directive, given, _ in NAMED)
     tool.put("names.c", f"{front}{calls}}}\n")
     _, output, fault = tool.run("--output", "json", "names.c")
@@ -399,12 +419,17 @@ def test_headers_found_twice(tool, trials):
     """
     tool.put("src/b.h", "#ifndef B\n#define B\n#include <stdio.h>\n\n\n\n#endif\n")
     tool.put("lib/u.h", '#include "b.h"\n')
-    text = '#include "b.h"\n#include "u.h"\nvoid f(size_t n, unsigned long m) {\n  printf("%lu\\n", n);\n  printf("%lu\\n", m); }\n'
+    text = (
+        '#include "b.h"\n#include "u.h"\nvoid f(size_t n, unsigned long m) {\n  printf("%lu\\n", n);\n  printf("%lu\\n'
+        '", m); }\n'
+    )
     tool.put("src/a.c", text)
     words = "--flag=-Isrc", "--flag=-Ilib", "src/a.c"
     for cache in [{}, {"XDG_CACHE_HOME": str(tool.work / "cache")}]:
         status, output, fault = tool.run(*words, **cache)
-        trials.expect(f"{output} {fault}", (status, output.startswith("src/a.c:4:11: error: %lu for a size_t")), (1, True))
+        trials.expect(
+            f"{output} {fault}", (status, output.startswith("src/a.c:4:11: error: %lu for a size_t")), (1, True)
+        )
     status, output, fault = tool.run("--fix", *words)
     fixed = (tool.work / "src/a.c").read_text(encoding="utf-8")
     trials.expect(f"{output} {fault}", (status, fixed), (0, text.replace("%lu", "%zu", 1)))

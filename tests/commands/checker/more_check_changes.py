@@ -22,9 +22,19 @@ SOON = 2
 SIGN = "types differ at argument 1: %d takes int and %u takes unsigned int, in "
 # The same with more of what the compiler knows: how what is said begins and ends. None is nothing.
 KNOWN_HERE = [
-    ('printf("%d a", n);', 'printf("%u a", n);', SIGN, '"%d a" and "%u a"; in the call %u for an int: wrong sign; use %d'),
+    (
+        'printf("%d a", n);',
+        'printf("%u a", n);',
+        SIGN,
+        '"%d a" and "%u a"; in the call %u for an int: wrong sign; use %d',
+    ),
     ('printf("%x b", n);', 'printf("%lx b", m);', "types differ, and the call fits: ", '"%x b" and "%lx b"'),
-    ('printf("%d c", n);', 'printf("%lx c", m);', "types differ at argument 1: ", '"%lx c"; in the call %lx for a long: wrong sign; use a cast to unsigned long'),
+    (
+        'printf("%d c", n);',
+        'printf("%lx c", m);',
+        "types differ at argument 1: ",
+        '"%lx c"; in the call %lx for a long: wrong sign; use a cast to unsigned long',
+    ),
     ('printf("%u d", u);', 'printf("%d d", n);', "types differ, and the call fits: ", '"%u d" and "%d d"'),
     ("#ifdef NEVER\n", "#ifdef NEVER\n", None, None),
     ('printf("%d e", n);', 'printf("%u e", u);', SIGN, "; the call isn't compiled here"),

@@ -146,7 +146,10 @@ def test_programs(tool, trials):
     """
     one = "void say(const char *f, ...) { va_list a; va_start(a, f); vprintf(f, a); va_end(a); }\n"
     two = "void say(int n, const char *f, ...) { va_list a; va_start(a, f); vprintf(f, a); va_end(a); }\n"
-    own = "void say(const char *f, ...) { va_list a; va_start(a, f); while (*f++) putchar(va_arg(a, int)); va_end(a); }\n"
+    own = (
+        "void say(const char *f, ...) { va_list a; va_start(a, f); while (*f++) putchar(va_arg(a, int)); va_end(a); "
+        "}\n"
+    )
     calls = 'void f(size_t n) { say("%d", n); }\n', 'void f(size_t n) { say(1, "%d", n); }\n'
     tool.put("1.c", SAYS + one + calls[0])
     tool.put("2.c", SAYS + two + calls[1])
@@ -209,7 +212,11 @@ GIVING = [
     ("struct log a = { printf }, b = { own };", "a.say", False),
     ("struct log a = { .say = own }, b = { .say = printf };", "a.say", False),
     ("struct log a = { printf }; void set(int (*f)(const char *, ...)) { a.say = f; }", "a.say", False),
-    ("struct log a = { printf }; void set(int (*f)(const char *, ...)) { a.say = f; } void b(void) { set(lib); }", "a.say", True),
+    (
+        "struct log a = { printf }; void set(int (*f)(const char *, ...)) { a.say = f; } void b(void) { set(lib); }",
+        "a.say",
+        True,
+    ),
     ("struct log a = { printf }; void *find(void); void set(void) { a.say = find(); }", "a.say", False),
     ("struct log a = { 0 }; void set(void) { a.say = printf; a.say = NULL; }", "a.say", True),
     ("struct log a = { printf }; void fill(void *); void set(void) { fill(&a.say); }", "a.say", False),
@@ -290,11 +297,16 @@ def test_static_names(tool, trials):
     tool.put("a.c", front + "static void in(const char *f, va_list a) { vprintf(f, a); }\n" + outer)
     other = "static void in(const char *f, va_list a) { print(f, a); }\n" + outer.replace("tell", "other")
     tool.put("b.c", front + other)
-    calls = 'void tell(const char *, ...), other(const char *, ...);\nvoid g(size_t z) { tell("%d", z); other("%d", z); }\n'
+    calls = (
+        'void tell(const char *, ...), other(const char *, ...);\n'
+        'void g(size_t z) { tell("%d", z); other("%d", z); }\n'
+    )
     tool.put("c.c", SAYS + calls)
     for words in (["."], ["c.c"]):
         found, fault = found_by(tool, *words)
-        trials.expect(f"{found} {fault}", [it[2].rpartition(" (")[2] for it in found], ["tell hands its format to in at a.c:8)"])
+        trials.expect(
+            f"{found} {fault}", [it[2].rpartition(" (")[2] for it in found], ["tell hands its format to in at a.c:8)"]
+        )
 
 
 def test_summary(tool, trials):

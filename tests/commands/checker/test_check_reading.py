@@ -163,7 +163,9 @@ def said_of(name, database=True, given=()):
         for one in ("a.c", "b.c", "a.h", "read.me"):
             Path(work, one).write_text("")
         os.mkfifo(os.path.join(work, "fifo.c"))
-        options = SimpleNamespace(database=None, files=[os.path.join(work, it) for it in given or (name,)], flag=[], exclude=[])
+        options = SimpleNamespace(
+            database=None, files=[os.path.join(work, it) for it in given or (name,)], flag=[], exclude=[]
+        )
         files = Files(options)
         options.database = database
         files.database = {os.path.join(work, "a.c"): ["a command"]}

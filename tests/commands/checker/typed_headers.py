@@ -142,7 +142,8 @@ def try_typed_headers(tool, compilers, trials, jobs):
     for platform in LINUX:
         listed = [it[1:] for it in different if it[0] == platform]
         print(
-            f"fmtcanon-check has {counts[platform] - len(listed)} of {counts[platform]} types of headers as {platform} has"
+            f"fmtcanon-check has {counts[platform] - len(listed)} of {counts[platform]} types of headers as "
+            f"{platform} has"
         )
         trials.expect(f"{platform}: enough is compared", counts[platform] > 10000, True)
         trials.expect(f"{platform}: types of headers", [it for it in listed if it[1] not in CHOSEN], [])

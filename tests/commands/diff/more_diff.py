@@ -91,7 +91,8 @@ def test_times(tool, trials):
         tool.put(f"new/{number}.c", f"void f(int x) {{\n{body}}}\n".replace("%d of 500:", "%5d of 500:"))
     (status, output, _), seconds, of_processors = timed(tool, "old", "new")
     print(
-        f"{FILES * LINES_OF_FILE} lines with {FILES} changed files: {seconds:.1f} s, {of_processors:.1f} s of processors"
+        f"{FILES * LINES_OF_FILE} lines with {FILES} changed files: {seconds:.1f} s, {of_processors:.1f} s of "
+        f"processors"
     )
     trials.expect("a tree", (status, len(output.splitlines())), (1, FILES))
     trials.expect(f"a tree in {TREE_SECONDS} seconds", seconds < TREE_SECONDS, True)

@@ -46,7 +46,8 @@ FILE:6:12: note: same: "%d %d\\n" and "%i %d\\n" [same]
 FILE:8:12: error: rejected now: refused 3 Unexpected at byte 3 of "%d%!\\n" [rejected]
 """
 SUMMARY = (
-    "6 formats changed: 1 equivalent, 1 with other words, 1 printing differently, 2 taking different types, 1 rejected now"
+    "6 formats changed: 1 equivalent, 1 with other words, 1 printing differently, 2 taking different types, 1 "
+    "rejected now"
     "; 2 literals added, 1 removed\n"
 )
 # The same of the whole language: the old and the new part of each line, and what is said of it.
@@ -178,7 +179,9 @@ def test_lines(tool, trials):
     )
     tool.put("c.c", 'log_error("%d", x); printf("%d", x); { "CPU% ", 1 };')
     tool.put("d.c", 'log_error("%V", x); printf("%s", x); { "MEM% ", 1 };')
-    words = [["--not-printf", "log_error"], ["--not-printf=other", "--not-printf=log_error"], ["--not-printf", "log_err"]]
+    words = [
+        ["--not-printf", "log_error"], ["--not-printf=other", "--not-printf=log_error"], ["--not-printf", "log_err"]
+    ]
     for given, count in zip(words, [1, 1, 2]):
         lines = tool.run(*given, "c.c", "d.c")[1].splitlines()
         trials.expect(f"fmtcanon-diff {given}: {lines}", len(lines), count)
@@ -299,7 +302,8 @@ def test_git(tool, trials):
     tool.git("commit", "-qam", "third")
     renamed = (
         1,
-        'c.c:9:8: error: types differ at argument 1: %d takes int and %u takes unsigned int, in "%d\\n" and "%u\\n" [types]\n',
+        'c.c:9:8: error: types differ at argument 1: %d takes int and %u takes unsigned int, in "%d\\n" and "%u\\n'
+        '" [types]\n',
         "1 format changed: 1 taking different types; 0 literals added, 0 removed\n",
     )
     for words in [

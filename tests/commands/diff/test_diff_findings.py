@@ -113,14 +113,16 @@ SAID = [
         '"ID: %x (%p)\\n"',
         '"ID: %u (%p)"',
         "different",
-        'different: "ID: %x (%p)\\n" and "ID: %u (%p)" print "ID: ffffffff (%p)\\n" and "ID: 4294967295 (%p)" for 4294967295, any',
+        'different: "ID: %x (%p)\\n" and "ID: %u (%p)" print "ID: ffffffff (%p)\\n'
+        '" and "ID: 4294967295 (%p)" for 4294967295, any',
         "lp64 ilp32 llp64",
     ),
     (
         '"%s: %.20s left"',
         '"%s: %.30s right"',
         "different",
-        'different: "%s: %.20s left" and "%s: %.30s right" print ": AAAAAAAAAAAAAAAAAAAA left" and ": AAAAAAAAAAAAAAAAAAAAA right" for "", "AAAA.." of 21 bytes',
+        'different: "%s: %.20s left" and "%s: %.30s right" print ": AAAAAAAAAAAAAAAAAAAA left" and ": '
+        'AAAAAAAAAAAAAAAAAAAAA right" for "", "AAAA.." of 21 bytes',
         "lp64 ilp32 llp64",
     ),
     ('"%d\u00a0m"', '"%d m"', "words", 'the words differ: "%d\\xa0m" and "%d m"', "lp64 ilp32 llp64"),
@@ -131,7 +133,8 @@ WHOLE = [
         '"%f and %05d %p"',
         '"%f and %.5d %p"',
         "different",
-        'different: "%f and %05d %p" and "%f and %.5d %p" print "%f and -0001 %p" and "%f and -00001 %p" for any, -1, any',
+        'different: "%f and %05d %p" and "%f and %.5d %p" print "%f and -0001 %p" and "%f and -00001 %p" for any, -1, '
+        'any',
     ),
     (
         '"%.6lf %05d"',
@@ -378,7 +381,8 @@ def test_directives_of_any_text(case):
 EDITORS = {
     "vim": r"^(?P<file>[^:]+):(?P<line>\d+):(?:(?P<column>\d+):)?(?P<text>.+)$",
     "Emacs": r"^(?:[A-Za-z][-\w.]+: ?)?(?P<file>(?:[0-9]*[^0-9\n])(?:[^\n :]|\x20[^-/\n]|:[^ \n])*?): ?"
-    r"(?P<line>[0-9]+)(?:[.:](?P<column>[0-9]+))?(?:-[0-9]+(?:\.[0-9]+)?)?:(?: *warning:| *note:|[^0-9\n]|[0-9][0-9][0-9])",
+    r"(?P<line>[0-9]+)(?:[.:](?P<column>[0-9]+))?(?:-[0-9]+(?:\.[0-9]+)?)?:(?: *warning:| "
+    r"*note:|[^0-9\n]|[0-9][0-9][0-9])",
     "VS Code": r"^(?P<file>.*?):(?P<line>\d+):(?P<column>\d*):?\s+(?:fatal\s+)?(?:warning|error):\s+(?P<text>.*)$",
     "reviewdog": r"^(?P<file>.+?):(?P<line>\d+):(?:(?P<column>\d+):)? (?P<text>.+)$",
 }

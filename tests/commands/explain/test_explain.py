@@ -68,7 +68,11 @@ DIRECTIVES = [
     ("%.1f", "1 digit after the decimal point", []),
     ("%.0f", "a whole number, rounded", []),
     ("%F", "6 digits after the decimal point, `INF` and `NAN` in capitals", []),
-    ("%010f", "6 digits after the decimal point, padded with zeros to at least 10 bytes (infinity and NaN with spaces)", []),
+    (
+        "%010f",
+        "6 digits after the decimal point, padded with zeros to at least 10 bytes (infinity and NaN with spaces)",
+        [],
+    ),
     ("%.0e", "one digit and an exponent after `e`", []),
     ("%g", "up to 6 significant digits, in the style of `f` or `e`", []),
     ("%#g", "6 significant digits, in the style of `f` or `e`, always with a decimal point", []),
@@ -79,17 +83,23 @@ DIRECTIVES = [
     ("%+p", "the pointer, as the C library writes it, with the flag `+`", []),
     ("%n", "nothing: the number of bytes printed so far is stored", []),
     ("%ls", "the wide string", []),
-    ("%*d", "decimal, right-justified in at least as many bytes as argument 1 says (left-justified if it is negative)", []),
+    (
+        "%*d",
+        "decimal, right-justified in at least as many bytes as argument 1 says (left-justified if it is negative)",
+        [],
+    ),
     ("%-*d", "decimal, left-justified in at least as many bytes as argument 1 says (without its sign)", []),
     (
         "%0*d",
-        "decimal, padded with zeros to at least as many bytes as argument 1 says, or left-justified with spaces if it is "
+        "decimal, padded with zeros to at least as many bytes as argument 1 says, or left-justified with spaces if it "
+        "is "
         "negative",
         [],
     ),
     (
         "%05.*d",
-        "decimal, at least as many digits as argument 1 says (1 if it is negative), right-justified in at least 5 bytes "
+        "decimal, at least as many digits as argument 1 says (1 if it is negative), right-justified in at least 5 "
+        "bytes "
         "(padded with zeros if argument 1 is negative)",
         [],
     ),
@@ -188,7 +198,9 @@ def test_numbers_of_bytes(case):
 
 def test_names_of_types(case):
     """The name that a length modifier has in C comes before the type that it is (C11 7.21.6.1 p7)."""
-    for text, name in [("%zu", "size_t"), ("%zd", "ssize_t"), ("%ti", "ptrdiff_t"), ("%jx", "uintmax_t"), ("%lu", None)]:
+    for text, name in [
+        ("%zu", "size_t"), ("%zd", "ssize_t"), ("%ti", "ptrdiff_t"), ("%jx", "uintmax_t"), ("%lu", None)
+    ]:
         [part] = asked(text)[1]["directives"]
         case.assertEqual(part["type_name"], name, text)
     case.assertIn("argument 1, size_t: unsigned long (unsigned int in ILP32, ", run("%zu")[1][1])
@@ -343,7 +355,14 @@ def test_what_to_write(case):
 
 def test_where_it_is(case):
     """From the percent sign to the byte that is rejected, or the whole specification that takes a later argument."""
-    rows = [("a%%%-5y", 3, 7), ("%d %#d", 3, 6), ("%d\n%", 3, 5), ("5%5%", 1, 4), ("%1$d%3$5s %4$d", 4, 9), ("%2$d %d", 5, 7)]
+    rows = [
+        ("a%%%-5y", 3, 7),
+        ("%d %#d", 3, 6),
+        ("%d\n%", 3, 5),
+        ("5%5%", 1, 4),
+        ("%1$d%3$5s %4$d", 4, 9),
+        ("%2$d %d", 5, 7),
+    ]
     for text, start, end in rows:
         refusal = asked(text)[1]["refusal"]
         case.assertEqual((refusal["start"], refusal["end"]), (start, end), text)

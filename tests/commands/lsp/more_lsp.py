@@ -47,7 +47,8 @@ FRONT = "#include <stddef.h>\n#include <stdint.h>\n#include <stdio.h>\n#include 
 # Functions of a source that is edited, in C and C++.
 PARTS = [
     'int one(size_t n, long l)\n{\n    return printf("%lu %d", n, l);\n}\n',
-    '#define BOTH "%lu:%d"\nstatic void two(size_t n, int i) {\n    printf(BOTH, n, i);\n    printf(BOTH ".", n, i);\n}\n',
+    '#define BOTH "%lu:%d"\nstatic void two(size_t n, int i) {\n    printf(BOTH, n, i);\n    printf(BOTH ".", n, i);\n'
+    '}\n',
     'void three(uint64_t u, off_t at)\n{\n    fprintf(stderr, "%lu" " %ld\\n", u, at);\n}\n',
     'static const char form[] = "%ld";\nvoid four(off_t at) { printf(form, at); }\n',
     'struct pair { long a; int b; };\nvoid five(struct pair *it)\n{\n    printf("%d %s", it->a, it->b);\n}\n',

@@ -241,7 +241,9 @@ def test_format_of_any_bytes(case):
 def test_numbers_of_formats(case):
     for text, number in [("%llu", 2**64 - 1), ("%lld", -(2**63)), ("%ld", 2**63 - 1), ("%u", 2**32 - 1)]:
         case.assertEqual(fmtcanon.format(text, number), b"%d" % number)
-    for text, number in [("%llu", -1), ("%lld", 2**63), ("%ld", 2**64 - 1), ("%u", 2**32), ("%s", 0), ("%lld", -(2**63) - 1)]:
+    for text, number in [
+        ("%llu", -1), ("%lld", 2**63), ("%ld", 2**64 - 1), ("%u", 2**32), ("%s", 0), ("%lld", -(2**63) - 1)
+    ]:
         with case.assertRaisesRegex(ValueError, "argument 0: wrong type"):
             fmtcanon.format(text, number)
     for number in [10**20, -(10**20)]:

@@ -27,7 +27,9 @@ def formats():
     """Random formats: about half are accepted."""
     chosen = random.Random(5)
     for _ in range(FORMATS):
-        parts = (directive(chosen) if chosen.random() < 0.7 else chosen.choice(WORDS) for _ in range(chosen.randrange(4)))
+        parts = (
+            directive(chosen) if chosen.random() < 0.7 else chosen.choice(WORDS) for _ in range(chosen.randrange(4))
+        )
         yield "".join(parts)
 
 

@@ -21,7 +21,12 @@ SHARED = [
     ("check", ["--exclude=in", "--dry-run", "."], 0, ["a.c:3 fixed"]),
     ("replace", ["--dry-run", "%lu", "%1lu", "a.c"], 1, ["a.c:3 replaced", "a.c:3 skipped"]),
     ("replace", ["--dry-run", "--exclude=in", "--function", "say:2", "%lu", "%1lu", "."], 0, ["a.c:3 replaced"] * 2),
-    ("replace", ["--dry-run", "--exclude=in", "--fail-on=", "%lu", "%1lu", "."], 0, ["a.c:3 replaced", "a.c:3 skipped"]),
+    (
+        "replace",
+        ["--dry-run", "--exclude=in", "--fail-on=", "%lu", "%1lu", "."],
+        0,
+        ["a.c:3 replaced", "a.c:3 skipped"],
+    ),
     ("replace", ["--dry-run", "--exclude=in", "--fail-on=replaced", "%ld", "%li", "."], 1, ["a.c:3 replaced"]),
     ("replace", ["--dry-run", "--exclude=in", "--flag=-fplugin=x", "%ld", "%li", "."], 2, ["a.c:1 skipped"]),
     ("diff", ["old", "."], 1, ["a.c:3 types"] * 3 + ["in/b.c:3 types"] * 3),

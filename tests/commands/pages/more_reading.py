@@ -64,7 +64,9 @@ def test_findings(reader, trials):
         trials.expect(f"{line}: the kinds", set(kinds) - {"size"}, set())
         for words, is_warned in [(["-Wall"], False), (["-m32", *LARGE, "-Wformat"], number % 2 == 0)]:
             words = ["gcc", *words, "-fsyntax-only", "a.c"]
-            done = subprocess.run(words, cwd=reader.work, capture_output=True, encoding="utf-8", timeout=TIMEOUT, check=False)
+            done = subprocess.run(
+                words, cwd=reader.work, capture_output=True, encoding="utf-8", timeout=TIMEOUT, check=False
+            )
             got = (done.returncode, "-Wformat=" in done.stderr)
             trials.expect(f"{words} of {line}", got, (0, is_warned))
 

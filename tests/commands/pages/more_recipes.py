@@ -24,7 +24,9 @@ COMMAND = "::error file=src.c,line=3,col=12,endColumn=20::different: "
 def installed(tool):
     """A folder with the commands, as an installation has them."""
     for name in ["check", "diff", "po"]:
-        tool.put(f"bin/fmtcanon-{name}", f'#!/bin/sh\nexec "{sys.executable}" -m fmtcanon.{PACKAGES.get(name, name)} "$@"\n').chmod(0o755)
+        tool.put(
+            f"bin/fmtcanon-{name}", f'#!/bin/sh\nexec "{sys.executable}" -m fmtcanon.{PACKAGES.get(name, name)} "$@"\n'
+        ).chmod(0o755)
     tool.environment["PATH"] = os.pathsep.join([str(tool.work / "bin"), os.environ["PATH"]])
 
 
@@ -99,7 +101,9 @@ def try_entries(tool, trials):
     tool.environment.update(PRE_COMMIT_FROM_REF="HEAD~1", PRE_COMMIT_TO_REF="HEAD")
     status, output = shell(tool, f"{found['fmtcanon-diff']} --model lp64", shell=True)
     trials.expect(
-        f"the hook fmtcanon-diff in CI: {output}", (status, 'src.c:3:12: error: different: "%.5d\\n"' in output), (1, True)
+        f"the hook fmtcanon-diff in CI: {output}", (status, 'src.c:3:12: error: different: "%.5d\\n"' in output), (
+            1, True
+        )
     )
     for name in ["PRE_COMMIT_FROM_REF", "PRE_COMMIT_TO_REF"]:
         del tool.environment[name]

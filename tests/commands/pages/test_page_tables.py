@@ -68,9 +68,13 @@ def read(name):
 def checked(folder, work, catalog):
     """The lines that fmtcanon-po prints of a catalog."""
     (work / "a.po").write_bytes(catalog)
-    names = {"FMTCANON_LIBRARY": str(folder / SONAME), "FMTCANON_PROGRAM": NO_PROGRAM, "PYTHONPATH": str(TOP / "python")}
+    names = {
+        "FMTCANON_LIBRARY": str(folder / SONAME), "FMTCANON_PROGRAM": NO_PROGRAM, "PYTHONPATH": str(TOP / "python")
+    }
     words = [sys.executable, "-B", "-m", "fmtcanon.po", "a.po"]
-    done = subprocess.run(words, cwd=work, env={**os.environ, **names}, capture_output=True, timeout=TIMEOUT, check=False)
+    done = subprocess.run(
+        words, cwd=work, env={**os.environ, **names}, capture_output=True, timeout=TIMEOUT, check=False
+    )
     return (done.stdout + done.stderr).decode().splitlines()
 
 
@@ -87,7 +91,9 @@ def test_translations(folder, work, trials):
         trials.expect(f"{level}{text}", len(found) > 0, True)
     findings = [it for it in lines if ": error: " in it or ": warning: " in it]
     trials.expect("lines that the table lacks", len(findings), len(shown))
-    mended = CATALOG.replace(b"%d in %s", b"%2$d in %1$s").replace(b"von %lu", b"von %zu").replace(b'"%d %"', b'"%d %%"')
+    mended = CATALOG.replace(b"%d in %s", b"%2$d in %1$s").replace(b"von %lu", b"von %zu").replace(
+        b'"%d %"', b'"%d %%"'
+    )
     mended = mended.replace(b'"%d"', b'"%d und %d"').replace(b"fertig", b"fertig\\n").replace(b"\xff", b"\xc3\xa4")
     texts = [it for it in checked(folder, work, mended) if ": error: " in it]
     trials.expect("errors that are left", [re.search(r"\[(\w+)\]", it)[1] for it in texts], ["plurals"])
@@ -95,7 +101,11 @@ def test_translations(folder, work, trials):
 
 def compared():
     """The rows of docs/TRANSLATIONS.md on msgfmt: a message, its translation, and what both tools say."""
-    rows = re.findall(r"^\| `(%.*?)`, `(%.*?)` \| (\w+) \| (\w+)", section(DOCS / "TRANSLATIONS.md", "Compared with `msgfmt -c`"), re.MULTILINE)
+    rows = re.findall(
+        r"^\| `(%.*?)`, `(%.*?)` \| (\w+) \| (\w+)",
+        section(DOCS / "TRANSLATIONS.md", "Compared with `msgfmt -c`"),
+        re.MULTILINE,
+    )
     header = b'msgid ""\nmsgstr "Content-Type: text/plain; charset=UTF-8\\n"\n\n'
     for first, second, theirs, ours in rows:
         yield header + f'#, c-format\nmsgid "{first}"\nmsgstr "{second}"\n'.encode(), (first, second), theirs, ours
@@ -143,7 +153,10 @@ def test_reduction(module, trials):
     parts = [module.show(it)[0] for it in given]
     cells = [it.strip() for it in reduced.split("|")]
     trials.expect("reduced", cells, [f"{parts[0].core}, {parts[0].trail} spaces", f"0, {parts[1].core}"])
-    bytes_of_int = re.search(r"An `int` has at most (\d+) bytes, as `(-\d+)` has. So a field of (\d+) always ends in (\d+)", read("docs/FAQ.md"))
+    bytes_of_int = re.search(
+        r"An `int` has at most (\d+) bytes, as `(-\d+)` has. So a field of (\d+) always ends in (\d+)",
+        read("docs/FAQ.md"),
+    )
     most, least, width, spaces = bytes_of_int.groups()
     trials.expect("bytes of an int", (int(most), int(width) - int(most)), (len(least), int(spaces)))
     trials.expect("the smallest int", int(least), -(2**31))
@@ -151,7 +164,9 @@ def test_reduction(module, trials):
 
 def test_kinds_of_the_profile(module, trials):
     """docs/REFUSALS.md says which kinds are of the profile alone."""
-    rows = re.findall(r"^\| `(.*?)` \| (\d+) at \d+ \|", section(DOCS / "REFUSALS.md", "What people write"), re.MULTILINE)
+    rows = re.findall(
+        r"^\| `(.*?)` \| (\d+) at \d+ \|", section(DOCS / "REFUSALS.md", "What people write"), re.MULTILINE
+    )
     accepted = set()
     for format, kind in rows:
         try:
@@ -159,13 +174,19 @@ def test_kinds_of_the_profile(module, trials):
             accepted |= {int(kind)} if format != "%m" else set()
         except module.Refused:
             pass
-    singles, first, last = re.search(r"what ([\d, ]+) and (\d+) to (\d+) reject above", read("docs/REFUSALS.md")).groups()
+    singles, first, last = re.search(
+        r"what ([\d, ]+) and (\d+) to (\d+) reject above", read("docs/REFUSALS.md")
+    ).groups()
     named = {*map(int, singles.split(", ")), *range(int(first), int(last) + 1)}
     trials.expect("kinds that the whole language accepts", named, accepted)
     header = read("include/fmtcanon.h")
     never = re.search(r"the whole language never (\d+) and (\d+) to (\d+)\.", header).groups()
     # Without numbered arguments it has 6, too.
-    trials.expect("kinds that it never has, in the header", {int(never[0]), *range(int(never[1]), int(never[2]) + 1)}, accepted - {6})
+    trials.expect(
+        "kinds that it never has, in the header",
+        {int(never[0]), *range(int(never[1]), int(never[2]) + 1)},
+        accepted - {6},
+    )
 
 
 def test_errors(module, trials):

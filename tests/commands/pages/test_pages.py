@@ -109,7 +109,10 @@ def completed(words):
 
 def completed_command(name, words):
     """What bash completes after a command that is written in Python and these words."""
-    script = 'source "$0"; name=$1; COMP_WORDS=("$@"); COMP_CWORD=$(($# - 1)); _fmtcanon_commands "$name"; printf "%s\\n" "${COMPREPLY[@]}"'
+    script = (
+        'source "$0"; name=$1; COMP_WORDS=("$@"); COMP_CWORD=$(($# - 1)); _fmtcanon_commands "$name"; printf "%s\\n'
+        '" "${COMPREPLY[@]}"'
+    )
     words = ["bash", "-c", script, TOP / "completions/fmtcanon-commands.bash", name, *words]
     return subprocess.run(words, stdout=subprocess.PIPE, timeout=TIMEOUT, check=True).stdout.decode().split()
 
@@ -148,7 +151,9 @@ def test_command_completions(trials):
             models, forms = [*models, "both", "all"], ["sarif"]
         trials.expect(f"bash: {command} --model", completed_command(command, ["--model", ""]), models)
         trials.expect(f"bash: {command} --output=s", completed_command(command, ["--output", "=", "s"]), forms)
-        trials.expect(f"bash: {command} --color=n", completed_command(command, ["--color", "=", "n"]), ["never"] * bool(models))
+        trials.expect(
+            f"bash: {command} --color=n", completed_command(command, ["--color", "=", "n"]), ["never"] * bool(models)
+        )
         trials.expect(
             f"bash: {command} --output=j in one word",
             completed_command(command, ["--output=j"]),

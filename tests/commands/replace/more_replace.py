@@ -83,7 +83,8 @@ SOURCES = [
     ("#define TWO(f) printf(f, 1); (void)f[0]", 'TWO("%i\\n");', [], "a macro uses it for something else, too"),
     ("#define CHECK(f) _Static_assert(sizeof f > 1, f); printf(f, 1)", 'CHECK("%i\\n");', [], "replaced"),
     (
-        "#include <stdlib.h>\n#define DIE(s, f) ((void)sizeof(struct { _Static_assert(s + 1, #f); int x; }), printf(f, s))",
+        "#include <stdlib.h>\n#define DIE(s, f) ((void)sizeof(struct { _Static_assert(s + 1, #f); int x; }), "
+        "printf(f, s))",
         'DIE(EXIT_FAILURE, "%i\\n");',
         [],
         "replaced",
@@ -295,11 +296,13 @@ def test_commands(tool, trials):
     tool.put("src/inc/x.h", "#include <stdio.h>\n")
     tool.put(
         "src/a.c",
-        '#include "x.h"\n#ifdef A\nvoid f(void) { printf("%i\\n", 1); }\n#else\n#define printf(...) puts(#__VA_ARGS__)\nvoid f(void) { printf("%i\\n", 1); }\n#endif\n',
+        '#include "x.h"\n#ifdef A\nvoid f(void) { printf("%i\\n", 1); }\n#else\n'
+        '#define printf(...) puts(#__VA_ARGS__)\nvoid f(void) { printf("%i\\n", 1); }\n#endif\n',
     )
     tool.put(
         "src/b.c",
-        '#include "x.h"\n#ifdef A\n#undef A\n#define A(x) x\n#else\n#define A(x) puts(#x)\n#endif\nvoid f(void) { A(printf("%i\\n", 1)); }\n',
+        '#include "x.h"\n#ifdef A\n#undef A\n#define A(x) x\n#else\n#define A(x) puts(#x)\n#endif\n'
+        'void f(void) { A(printf("%i\\n", 1)); }\n',
     )
     tool.put("src/none.c", 'int x = 1; // printf("%i\\n", 1);\nvoid f(void) { printf("%i\\n", 1); }\n')
     commands = []
@@ -435,7 +438,8 @@ def test_sizes(tool, trials):
 
 TREE = {
     "tree/a.c": '#include <stdio.h>\nvoid f(void) { printf("%i\\n", 1); printf("%5c|", 1); }\n',
-    "tree/in/b.c": '#include "b.h"\nvoid g(void) { printf("%-i\\n", 1);\n  puts("%i"); fprintf(stderr, "%d\\n" , 1); printf("%y", 1); }\n',
+    "tree/in/b.c": '#include "b.h"\nvoid g(void) { printf("%-i\\n", 1);\n  puts("%i"); fprintf(stderr, "%d\\n'
+    '" , 1); printf("%y", 1); }\n',
     "tree/in/b.h": '#include <stdio.h>\nstatic inline void h(void) { say("%f"); say("%f"); printf("%d" OWN, 1); }\n',
     "tree/notes": 'printf("%i\\n");\n',
 }
@@ -505,7 +509,9 @@ def test_trees(tool, trials):
         tool.run_by_lines("--output", "github", "--dry-run", OLD, NEW, "tree/a.c"),
         (0, "::notice file=tree/a.c,line=2,col=23,endColumn=29::replaced\n", ""),
     )
-    found = [json.loads(line) for line in tool.run_by_lines("--output", "json", "--pairs", "pairs", "tree")[1].splitlines()]
+    found = [
+        json.loads(line) for line in tool.run_by_lines("--output", "json", "--pairs", "pairs", "tree")[1].splitlines()
+    ]
     wanted = [
         ("tree/a.c", 2, 23, "replaced", "note", "%i\n", "%d\n"),
         ("tree/a.c", 2, 42, "replaced", "note", "%5c|", "    %c|"),

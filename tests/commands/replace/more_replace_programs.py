@@ -40,7 +40,10 @@ class Program(NamedTuple):
 
 MAIN = "#include <stdio.h>\nint main(void) {{ {} return 0; }}\n"
 MINE = "int mine(const char *f, ...) { return fputs(f, stdout); }\n"
-SHORT = '#define LOG(f, ...) do { _Static_assert(sizeof(f) <= 64, "a message has 64 bytes"); printf(f, __VA_ARGS__); } while (0)\n'
+SHORT = (
+    '#define LOG(f, ...) do { _Static_assert(sizeof(f) <= 64, "a message has 64 bytes"); printf(f, __VA_ARGS__); } '
+    'while (0)\n'
+)
 DIGITS = "0123456789" * 5 + "012345678"
 # The files of a program with a part that another file includes, too.
 PARTS = {
@@ -49,7 +52,11 @@ PARTS = {
     '#include "part.c"\nint main(void) { part2(); return 0; }\n',
 }
 LEFT = [
-    Program("a file that another unit includes", PARTS, r"part\.c:1: warning: not judged: all\.c includes it, too \[skipped\]\n"),
+    Program(
+        "a file that another unit includes",
+        PARTS,
+        r"part\.c:1: warning: not judged: all\.c includes it, too \[skipped\]\n",
+    ),
     Program(
         "a file that another unit includes, of a few files",
         PARTS,
@@ -73,13 +80,15 @@ LEFT = [
     Program(
         "a static assertion on the length",
         {"log.c": "#include <stdio.h>\n" + SHORT + f'int main(void) {{ LOG("{DIGITS}%i\\n", 1); return 0; }}\n'},
-        r"log\.c:1: warning: not judged: its compiler rejects the result: log\.c:2:.*a message has 64 bytes.* \[skipped\]\n",
+        r"log\.c:1: warning: not judged: its compiler rejects the result: log\.c:2:.*a message has 64 bytes.* "
+        r"\[skipped\]\n",
         words=("-p", ".", f"{DIGITS}%i\\n", f"{DIGITS}%.1d\\n"),
     ),
     Program(
         "a warning that is an error",
         {"u.c": MAIN.format('printf("%u\\n", 1u);')},
-        r"u\.c:1: warning: not judged: its compiler rejects the result: u\.c:2:.*'?\+'? flag used with .*%u.* \[skipped\]\n",
+        r"u\.c:1: warning: not judged: its compiler rejects the result: u\.c:2:.*'?\+'? flag used with .*%u.* "
+        r"\[skipped\]\n",
         ["-Wall", "-Werror"],
         ("-p", ".", "%u\\n", "%+u\\n"),
     ),
@@ -129,13 +138,15 @@ LEFT = [
             "c.c": '#include <stdio.h>\nint main(void) { return gnu_printf("%i\\n") < 0; }\n',
             "d.c": "#include <stdio.h>\nint gnu_printf(const char *f) { return fputs(f, stdout); }\n",
         },
-        r"c\.c:2: warning: not replaced: (argument of gnu_printf, not a known printf-like function|the function gnu_printf isn't declared) \[skipped\]\n",
+        r"c\.c:2: warning: not replaced: (argument of gnu_printf, not a known printf-like function|the function "
+        r"gnu_printf isn't declared) \[skipped\]\n",
     ),
     Program(
         "an assembler that reads the file",
         {
             "in.c": "#include <stdio.h>\nextern char text[], end[];\nint main(void) {\n"
-            '  __asm__(".pushsection .data\\n.globl text\\ntext: .incbin \\"in.c\\"\\n.globl end\\nend:\\n.popsection");\n'
+            '  __asm__(".pushsection .data\\n.globl text\\ntext: .incbin \\"in.c\\"\\n.globl end\\nend:\\n'
+            '.popsection");\n'
             '  fwrite(text, 1, end - text, stdout);\n  return printf("%i\\n", 1) < 0;\n}\n'
         },
         r"in\.c:1: warning: not judged: an asm names \.incbin \[skipped\]\n",
@@ -195,7 +206,8 @@ REPLACED = [
     Program(
         "an attribute with gcc's name of the language",
         {
-            "say.c": '__attribute__((__format__(__gnu_printf__, 1, 2))) void say(const char *, ...);\nvoid f(void) { say("%i\\n", 1); }\n'
+            "say.c": '__attribute__((__format__(__gnu_printf__, 1, 2))) void say(const char *, ...);\n'
+            'void f(void) { say("%i\\n", 1); }\n'
         },
         r"say\.c:2: note: replaced \[replaced\]\n",
         words=("-p", ".", "--attribute", OLD, NEW),
@@ -266,7 +278,9 @@ def test_words(tool, trials):
             for option in ["--dry-run", "--diff"]:
                 status, report, fault = tool.run_by_lines("-p", ".", option, OLD, NEW, "plain.c")
                 said = re.sub(r":2:\d+:", ":2:", fault) if option == "--diff" else report
-                trials.expect(f"{compiler} {words} {option}", (status, said), (0, "plain.c:2: note: replaced [replaced]\n"))
+                trials.expect(
+                    f"{compiler} {words} {option}", (status, said), (0, "plain.c:2: note: replaced [replaced]\n")
+                )
             found = {
                 it.name: it.read_text(errors="replace")
                 for it in tool.work.iterdir()
@@ -292,7 +306,9 @@ def test_folders(tool, trials):
     trials.expect("a folder", (status, report, fault), (0, wanted, ""))
     trials.expect("a file outside of it", outside.read_text(), PLAIN)
     tool.put("a.c", PLAIN)
-    trials.expect("a file twice", tool.run_by_lines(OLD, NEW, "a.c", "./a.c"), (0, "a.c:2: note: replaced [replaced]\n", ""))
+    trials.expect(
+        "a file twice", tool.run_by_lines(OLD, NEW, "a.c", "./a.c"), (0, "a.c:2: note: replaced [replaced]\n", "")
+    )
     for _ in range(8):
         tool.put("part.c", '#include <stdio.h>\nstatic void part(void) { printf("%i\\n", 2); }\n')
         tool.put("all.c", '#include "part.c"\n' + PLAIN)

@@ -258,7 +258,8 @@ class Fake(Replacer):
     def reports(self, _, pool):
         if "hang" in how:
             list(pool.map(self.hang, names))
-        found = [Report(it, [Finding(it, 1, 1, "replaced", "note", "replaced")], original(it), b"new\\n") for it in names]
+        notes = {it: Finding(it, 1, 1, "replaced", "note", "replaced") for it in names}
+        found = [Report(it, [notes[it]], original(it), b"new\\n") for it in names]
         if how == "edit":
             with open(names[0], "a") as file:
                 file.write("more")

@@ -104,7 +104,10 @@ def test_tokens(case):
 
 
 def test_both_ways(case):
-    text = b'# 1 "a.c"\nint f(void) { return g(L"a\\"b", \'\\n\', 0x1p-3) + 1; }\n\n#pragma x\n static_assert(1, "x"); y\n'
+    text = (
+        b'# 1 "a.c"\nint f(void) { return g(L"a\\"b", \'\\n\', 0x1p-3) + 1; }\n\n#pragma x\n'
+        b' static_assert(1, "x"); y\n'
+    )
     slow = Tokens(text + b'R"(z)"', ASSERTIONS)
     case.assertEqual(
         (slow.words[:-1], slow.lines[:-1]), (Tokens(text, ASSERTIONS).words, Tokens(text, ASSERTIONS).lines)

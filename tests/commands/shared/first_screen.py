@@ -67,7 +67,9 @@ def shown(picture):
     """The lines of text of a picture."""
     lines = {}
     for x, y, text in re.findall(r'<text x="([\d.]+)" y="(\d+)"[^>]*>([^<]*)</text>', picture):
-        plain = text.replace("&lt;", "<").replace("&gt;", ">").replace("&quot;", '"').replace("&#x27;", "'").replace("&amp;", "&")
+        plain = text.replace("&lt;", "<").replace("&gt;", ">").replace("&quot;", '"').replace("&#x27;", "'").replace(
+            "&amp;", "&"
+        )
         column = round((float(x) - MARGIN) / LETTER)
         lines[int(y)] = lines.get(int(y), "").ljust(column) + plain
     return [lines[it] for it in sorted(lines)]

@@ -25,13 +25,23 @@ msgstr "%s Dateien"
 # Each command with its arguments, the status, and a line that it writes.
 ROWS = [
     ("explain", ["%05d", "%.5d"], 1, "  -00001    %.5d: 5 digits, and the sign before them"),
-    ("diff", ["old.c", "new.c"], 1, 'new.c:2:32: error: different: "%05ld" and "%.5ld" print "-0001" and "-00001" for -1 [different]'),
+    (
+        "diff",
+        ["old.c", "new.c"],
+        1,
+        'new.c:2:32: error: different: "%05ld" and "%.5ld" print "-0001" and "-00001" for -1 [different]',
+    ),
     ("po", ["de.po"], 1, "1 message judged, 0 not judged"),
 ]
 # Those that need libclang, and say so without it.
 OF_LIBCLANG = [
     ("checker", ["new.c"], 0, "1 file, 1 format, 1 argument: nothing found"),
-    ("replace", ["--model", "lp64", "%.5ld", "%05ld", "new.c"], 1, "new.c:2:32: warning: not replaced: the two print different bytes for -1 [skipped]"),
+    (
+        "replace",
+        ["--model", "lp64", "%.5ld", "%05ld", "new.c"],
+        1,
+        "new.c:2:32: warning: not replaced: the two print different bytes for -1 [skipped]",
+    ),
 ]
 
 
