@@ -4,7 +4,7 @@ folder above.
 
 import unittest
 
-from fmtcanon.compiling.call_sites import call_sites, declared_names
+from fmtcanon.compiling.call_sites import call_sites, declared_names, names_in
 from fmtcanon.compiling.retargeting import own_spans
 
 # Declarations, and the names in them whose calls may have formats.
@@ -60,7 +60,8 @@ class Sites(unittest.TestCase):
     def test_calls(self):
         for text, wanted in CALLS:
             text = FRONT + text
-            sites = call_sites(text, own_spans(text), ["given"])
+            spans = own_spans(text)
+            sites = call_sites(text, spans, names_in(text, spans, ["given"]))
             self.assertEqual({text[it] for it in sites} - {"("}, set(), text)
             found = [self.word_before(text, it) for it in sites]
             self.assertEqual(found, wanted, text)

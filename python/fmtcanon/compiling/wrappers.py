@@ -14,7 +14,7 @@ from ..source.known import BUILT_IN_PREFIX, GETTEXT, Shape
 from .closure import LEFT, TAKING, Candidate, Handing
 from .formats import AROUND, bare_of
 from .functions import FUNCTIONS, Callees, is_list, is_system, keys_of
-from .parsing import LINE_MARKER, Parsed
+from .parsing import Parsed
 from .retargeting import SPACE
 
 # Where a function may begin a list of its further arguments, or have a parameter that is one. Patterns that begin with
@@ -127,8 +127,7 @@ class Reading:
     def operands(self, cursor: Any, children: Sequence[Any], use: str) -> Sequence[Used]:
         """Returns the operands of an operator, and what becomes of them: a parameter may be replaced by its translation."""
         first, second = children
-        between = self.unit.text[first.extent.end.offset : second.extent.start.offset]
-        operator = LINE_MARKER.sub("", between.decode(errors="replace")).strip()
+        operator = self.unit.operator_of(children)
         if operator == "=":
             index = self.parameter_of(first)
             return () if index is not None and self.format_of(second) == index else [(first, CHANGED), (second, GIVEN)]
