@@ -339,7 +339,7 @@ class Judging(unittest.TestCase):
             ([('"%lu"', ""), ('" "', "")], False),
         ]:
             fault = fault_in(tokens)
-            self.assertEqual(composing.is_composed(fault, Defined(b""), None), is_composed, tokens)
+            self.assertEqual(composing.is_composed(fault, Defined(b""), lambda: None), is_composed, tokens)
 
     def test_own_macros(self):
         """A macro of the program that is one of <inttypes.h> may be another after `#if`."""
@@ -366,7 +366,7 @@ class Judging(unittest.TestCase):
             places = list(runs_in(source)) if source else []
             pieces = [Piece(it, 0) for it in places[:1]]
             where = Located(Original("a.c", source or b"", os.stat(".")), {(fault.key, 0): (b"%lu", pieces)})
-            found = composing.is_composed(fault, Defined(definitions), where)
+            found = composing.is_composed(fault, Defined(definitions), lambda: where)
             self.assertEqual(found, is_composed, (source, definitions))
 
     def test_shown(self):
