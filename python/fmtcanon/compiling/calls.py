@@ -144,7 +144,7 @@ class FormatCalls(Calls):
         self.candidates: List[Candidate] = []
         # The keys of the variadic functions and pointers that aren't known and are called.
         self.called: Set[str] = set()
-        # The names of functions that may have formats, of which no platform has another one.
+        # The names of functions that may have formats. They are the same on each platform.
         self.callable = functions.callable
         # One character for each byte.
         plain = self.text.decode("latin-1")

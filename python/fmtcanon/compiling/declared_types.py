@@ -89,7 +89,7 @@ def typedef_of_operands(cursor: Any, unit: Parsed) -> str:
 
 
 def operands_of(cursor: Any, unit: Parsed) -> List[Any]:
-    """Returns the operands that give an expression its type; none if it is no operator, or one that does otherwise."""
+    """Returns the operands that give an expression its type; none if it is anything else."""
     kind, children = cursor.kind.name, list(cursor.get_children())
     if kind == "CONDITIONAL_OPERATOR":
         return children[1:]
