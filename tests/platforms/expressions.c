@@ -1,4 +1,5 @@
-/* Calls of all sorts. The compilers of more_check.py say what is wrong with them on each platform. */
+/* Calls of all sorts, as in a file that is also for _WIN32. The compilers of more_check.py say what is wrong with them on
+   each platform. */
 #include <limits.h>
 #include <stdio.h>
 #include <stdlib.h>

@@ -3,7 +3,7 @@ there libclang is asked what is called, so that nobody walks its trees.
 """
 
 import re
-from typing import Iterable, Iterator, List, Sequence, Set, Tuple
+from typing import AbstractSet, Iterable, Iterator, List, Sequence, Set, Tuple
 
 from ..source.known import BUILT_IN_PREFIX, KNOWN
 from .line_markers import SPACE
@@ -40,11 +40,17 @@ FURTHER = 4
 Span = Tuple[int, int]
 
 
-def call_sites(text: str, spans: Sequence[Span], given: Iterable[str]) -> List[int]:
-    """Returns where the parentheses of calls are, in these parts of a text, that may call a function with a format: one
-    that is given, is known by its name, or is declared as variadic or with the attribute in the text.
+def names_in(text: str, spans: Sequence[Span], given: Iterable[str]) -> AbstractSet[str]:
+    """Returns the names of functions that may have a format, in these parts of a text: those that are given, are known, or
+    are declared as variadic or with the attribute in the text.
     """
-    names = {*given, *KNOWN, *(BUILT_IN_PREFIX + it for it in KNOWN), *declared_names(text, spans)}
+    return {*given, *KNOWN, *(BUILT_IN_PREFIX + it for it in KNOWN), *declared_names(text, spans)}
+
+
+def call_sites(text: str, spans: Sequence[Span], names: AbstractSet[str]) -> List[int]:
+    """Returns where the parentheses of calls are, in these parts of a text, that may call a function with one of these
+    names.
+    """
     stems = stems_of(names)
     found: Set[int] = set()
     for start, end in spans:
@@ -54,7 +60,7 @@ def call_sites(text: str, spans: Sequence[Span], given: Iterable[str]) -> List[i
     return sorted(found)
 
 
-def after_names(own: str, names: Set[str], stems: Sequence[str]) -> Iterator[int]:
+def after_names(own: str, names: AbstractSet[str], stems: Sequence[str]) -> Iterator[int]:
     """Yields where parentheses are in a text after these names, which have these stems; or after any, if operators are
     among them.
     """

@@ -12,7 +12,7 @@ from ..kinds import Type
 from ..models import Model
 from ..source.files import known_bytes, lines_in
 from ..source.known import Shape
-from .call_sites import call_sites
+from .call_sites import call_sites, names_in
 from .closure import Candidate, own_among, without_defined
 from .compile_commands import CompileCommand
 from .declared_types import is_declared_long, part_name, typedef_of
@@ -132,6 +132,8 @@ class FormatCalls(Calls):
         self.others: Counter[str] = collections.Counter()
         # Whether all calls are the same elsewhere, if their arguments have the types there that are declared.
         self.is_settled = True
+        # The arguments that are integers.
+        self.integers: List[Any] = []
         self.overloads = Overloads(self) if command.is_cxx() else None
         # The functions of the unit that hand their formats on. On other platforms they are the same, and known.
         self.own: Dict[str, Tuple[Wrapper, ...]] = {}
@@ -139,6 +141,8 @@ class FormatCalls(Calls):
         self.candidates: List[Candidate] = []
         # The keys of the variadic functions and pointers that aren't known and are called.
         self.called: Set[str] = set()
+        # The names of functions that may have formats. They are the same on each platform.
+        self.callable = functions.callable
         # One character for each byte.
         plain = self.text.decode("latin-1")
         spans = own_spans(plain)
@@ -155,7 +159,8 @@ class FormatCalls(Calls):
             self.walk()
             return
         given = (it.encode().decode("latin-1") for it in functions.given)
-        for at in call_sites(plain, spans, given):
+        self.callable = functions.callable or names_in(plain, spans, given)
+        for at in call_sites(plain, spans, self.callable):
             self.note(self.cursor_at(at))
 
     def walk(self) -> None:
@@ -194,6 +199,8 @@ class FormatCalls(Calls):
         read = list(self.formats.read(arguments[shape.format]))
         if None in read:
             self.note_unread(cursor, callee)
+        given = [argument_of(it, self) for it in arguments[shape.first :]]
+        self.integers += [it for it, one in zip(arguments[shape.first :], given) if one.type]
         line = cursor.location.line
         number = self.in_line[line, name]
         self.in_line[line, name] += 1
@@ -201,7 +208,7 @@ class FormatCalls(Calls):
             *self.place_of(cursor.location),
             name,
             tuple(it for it in read if it),
-            tuple(argument_of(it, self) for it in arguments[shape.first :]),
+            tuple(given),
             self.last_line(cursor.extent.end),
             callee.key,
             callee.is_library,

@@ -2,9 +2,9 @@
 the C library, whose type on each platform is known.
 """
 
-from typing import Any
+from typing import Any, List, Set
 
-from .formats import unparenthesized
+from .formats import AROUND, unparenthesized
 from .functions import is_system
 from .parsing import Parsed
 from .platforms import COMPILED, FILE_TYPES, OF_FILES, OF_TIMES, PLATFORMS
@@ -13,6 +13,9 @@ from .retargeting import TYPE_MARK
 REFERENCES = ("DECL_REF_EXPR", "MEMBER_REF_EXPR")
 CASTS = ("CSTYLE_CAST_EXPR", "CXX_STATIC_CAST_EXPR", "CXX_FUNCTIONAL_CAST_EXPR")
 OPERATORS = ("BINARY_OPERATOR", "UNARY_OPERATOR", "CONDITIONAL_OPERATOR")
+# The operators whose result has the type that both operands are converted to; and types that `int` has all values of.
+ARITHMETIC = tuple("+-*/%&|^")
+SMALL = ("BOOL", "CHAR_S", "CHAR_U", "SCHAR", "UCHAR", "SHORT", "USHORT", "INT")
 VARIABLES = ("VAR_DECL", "PARM_DECL", "FIELD_DECL")
 FUNCTIONS = ("FUNCTION_DECL", "CXX_METHOD")
 # Where typedefs are whose types depend on no parameter of a template.
@@ -63,7 +66,38 @@ def typedef_of(cursor: Any, unit: Parsed) -> str:
     if is_indirect or kind == "ARRAY_SUBSCRIPT_EXPR":
         pointer = unparenthesized(next(iter(cursor.get_children()), cursor))
         return named_by(cursor.type) if is_own_variable(pointer) else ""
-    return ""
+    return typedef_of_operands(cursor, unit) if kind in OPERATORS else ""
+
+
+def typedef_of_operands(cursor: Any, unit: Parsed) -> str:
+    """Returns the name of the typedef that all operands of an expression have which are `long`, if the others are
+    converted to it on each platform, or nothing.
+    """
+    names: Set[str] = set()
+    has_unsigned, waiting = False, operands_of(cursor, unit)
+    while waiting:
+        part = unparenthesized(waiting.pop())
+        kind = part.type.get_canonical().kind.name
+        has_unsigned = has_unsigned or kind == "UINT"
+        if kind in ("LONG", "ULONG"):
+            operands = operands_of(part, unit)
+            waiting += operands
+            names.update(() if operands else [typedef_of(part, unit)])
+        elif kind not in (*SMALL, "UINT"):
+            return ""
+    name = names.pop() if len(names) == 1 else ""
+    return "" if has_unsigned and TYPEDEFS.get(name) == "long" else name
+
+
+def operands_of(cursor: Any, unit: Parsed) -> List[Any]:
+    """Returns the operands that give an expression its type; none if it is anything else."""
+    kind, children = cursor.kind.name, list(cursor.get_children())
+    if kind == "CONDITIONAL_OPERATOR":
+        return children[1:]
+    if kind == "UNARY_OPERATOR":
+        return children if unit.text_of(cursor).startswith(("+", "-", "~")) else []
+    is_known = kind == "BINARY_OPERATOR" and unit.operator_of(children) in ARITHMETIC
+    return children if is_known else []
 
 
 def named_by(type: Any) -> str:

@@ -1,7 +1,7 @@
 """Which functions are known to take a format: by an option, by an attribute, or as the C library's."""
 
 import re
-from typing import Any, Dict, Iterator, List, Mapping, NamedTuple, Optional, Sequence, Tuple
+from typing import AbstractSet, Any, Dict, Iterator, List, Mapping, NamedTuple, Optional, Sequence, Tuple
 
 from ..source.attributes import FORMAT
 from ..source.known import BUILT_IN, BUILT_IN_PREFIX, KNOWN, Shape
@@ -31,13 +31,15 @@ class Wrapper(NamedTuple):
 
 class Functions(NamedTuple):
     """What is known of functions: where some have their formats, by the options, whether attributes count, those that
-    hand their formats on, by what tells them apart, and whether those of a unit count that nothing else does.
+    hand their formats on, by what tells them apart; whether those of a unit count that nothing else does; and the names
+    of those that a unit may call, if it was read before.
     """
 
     given: Mapping[str, Shape] = {}
     by_attribute: bool = True
     found: Mapping[str, Tuple[Wrapper, ...]] = {}
     with_own: bool = False
+    callable: AbstractSet[str] = frozenset()
 
 
 class Callee(NamedTuple):

@@ -119,6 +119,12 @@ class Parsed:
     def text_of(self, cursor: Any) -> str:
         return self.text[cursor.extent.start.offset : cursor.extent.end.offset].decode()
 
+    def operator_of(self, operands: Sequence[Any]) -> str:
+        """Returns the operator that is between two operands."""
+        first, second = operands
+        between = self.text[first.extent.end.offset : second.extent.start.offset]
+        return LINE_MARKER.sub("", between.decode(errors="replace")).strip()
+
     def attributes_of(self, declaration: Any) -> List[str]:
         """Returns the texts of the attributes about formats, for which libclang has no kind, without line markers."""
         extent = declaration.extent

@@ -128,10 +128,9 @@ class Giving:
                     self.give(parameter, values[at])
 
     def note_assignment(self, cursor: Any) -> None:
-        first, second = list(cursor.get_children())[:2]
+        first, second = operands = list(cursor.get_children())[:2]
         declared = bare_of(first).referenced if type_of(first) else None
-        between = self.unit.text[first.extent.end.offset : second.extent.start.offset].strip()
-        if declared is not None and between == b"=" and declared.kind.name in POINTERS:
+        if declared is not None and self.unit.operator_of(operands) == "=" and declared.kind.name in POINTERS:
             self.give(declared, second)
 
     def note_members(self, values: Any) -> None:

@@ -15,7 +15,7 @@ from .closure import LEFT, TAKING, Candidate, Handing
 from .formats import AROUND, bare_of
 from .functions import FUNCTIONS, Callees, is_list, is_system, keys_of
 from .line_markers import SPACE
-from .parsing import LINE_MARKER, Parsed
+from .parsing import Parsed
 
 # Where a function may begin a list of its further arguments, or have a parameter that is one. Patterns that begin with
 # plain text are found several times faster.
@@ -129,8 +129,7 @@ class Reading:
         translation.
         """
         first, second = children
-        between = self.unit.text[first.extent.end.offset : second.extent.start.offset]
-        operator = LINE_MARKER.sub("", between.decode(errors="replace")).strip()
+        operator = self.unit.operator_of(children)
         if operator == "=":
             index = self.parameter_of(first)
             return () if index is not None and self.format_of(second) == index else [(first, CHANGED), (second, GIVEN)]

@@ -6,11 +6,12 @@ import functools
 import itertools
 import os
 import re
-from typing import Dict, Iterator, List, Optional, Sequence, Tuple
+from typing import Any, Dict, FrozenSet, Iterator, List, Optional, Sequence, Tuple
 
 from .. import BadLiteral, Refused, decode_literal, encode_literal
 from ..compiling.calls import Argument, Call, FormatCalls, Key
 from ..compiling.formats import Format, Literal
+from ..compiling.functions import typedefs_of
 from ..compiling.parsing import LINE_MARKER
 from ..compiling.platforms import COMPILED, PLATFORMS, Platform
 from ..compiling.retargeting import BIT_FIELD, TYPE_MARK, own_spans
@@ -28,6 +29,9 @@ IS_ARRAY = re.compile(
     r"__builtin_types_compatible_p\s*\(\s*(?:__)?typeof(?:__)?\s*\((?P<array>[^()]*)\)\s*,"
     r"\s*(?:__)?typeof(?:__)?\s*\(\s*&\s*\((?P=array)\)\s*\[0\]\s*\)\s*\)"
 )
+# The kinds of types that a unit gives no name, and of integers that aren't `long`.
+UNNAMED = ("UNEXPOSED", "AUTO")
+OTHER_INTEGERS = ("INT", "UINT", "SHORT", "USHORT", "LONGLONG", "ULONGLONG")
 # Structs of the C library whose members are all `long` where they have other types elsewhere.
 OF_LONG = {"stat64", "r_debug", "link_map", "dl_phdr_info", "imaxdiv_t", "sigcontext", "timex", "_IO_FILE"}
 OF_LONG |= {"_G_fpos_t", "timeval", "dirent"}
@@ -74,6 +78,12 @@ def choosing_names() -> "re.Pattern[str]":
 
 
 @functools.lru_cache(maxsize=None)
+def choosing_types() -> FrozenSet[str]:
+    """Returns the names of the typedefs among these."""
+    return frozenset(it for name in differing("types") for it in (name, TYPE_MARK + name))
+
+
+@functools.lru_cache(maxsize=None)
 def structs() -> "re.Pattern[str]":
     """Returns the pattern of structs whose members may have other types elsewhere."""
     names = sorted({name for it in PLATFORMS for name in it.members} - OF_LONG)
@@ -89,11 +99,34 @@ def calls_on_all(unit: FormatCalls, text: str) -> Optional[List[Dict[Key, Call]]
         return None
     calls = {key: call_on_all(call) for key, call in unit.found.items()}
     own = own_text(text)
-    if None in calls.values() or choosing_names().search(own) or structs().search(own) or BIT_FIELD.search(text):
+    if None in calls.values() or does_choose(unit, own) or structs().search(own) or BIT_FIELD.search(text):
         return None
     if unit.command.is_cxx() and OF_TEMPLATES.search(own):
         return None
     return [{key: it[at] for key, it in calls.items() if it} for at in range(len(PLATFORMS))]
+
+
+def does_choose(unit: FormatCalls, own: str) -> bool:
+    """Returns whether something in a text chooses what its calls are: a typedef does so only in arguments, in C."""
+    found, types = set(choosing_names().findall(own)), choosing_types()
+    if not found <= types or unit.command.is_cxx():
+        return bool(found)
+    return bool(found) and any(is_named(it, types) for it in unit.integers)
+
+
+def is_named(expression: Any, names: FrozenSet[str]) -> bool:
+    """Returns whether a part of an expression has a type that one of these typedefs names, or that has no name."""
+    waiting = [expression]
+    while waiting:
+        part = waiting.pop()
+        function = part.referenced if part.kind.name == "CALL_EXPR" else None
+        types = [part.type, *([function.result_type] if function is not None else [])]
+        if any(it.kind.name in UNNAMED and it.get_canonical().kind.name in OTHER_INTEGERS for it in types):
+            return True
+        if any(it.spelling in names for type in types for it in typedefs_of(type)):
+            return True
+        waiting += part.get_children()
+    return False
 
 
 def own_text(text: str) -> str:

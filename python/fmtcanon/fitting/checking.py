@@ -81,7 +81,7 @@ class JudgedUnit:
 
     def kind_in(self, fault: Fault, models: Sequence[Model]) -> Optional[str]:
         """Returns the kind of a fault in these data models, or None."""
-        return reporting.kind_of(fault, models, lambda it: is_composed(it, self.unit, self.where))
+        return reporting.kind_of(fault, models, lambda it: is_composed(it, self.unit, lambda: self.where))
 
     def kind_of(self, fault: Fault) -> Optional[str]:
         """Returns the kind of the finding of a fault, or None if it isn't reported."""

@@ -3,7 +3,7 @@ is a PRI macro that the source names next to it, or a macro of the program that 
 """
 
 import re
-from typing import Optional, Set
+from typing import Callable, Optional, Set
 
 from ..source.tokens import GAP, NAME, STRING
 from .judging import Fault
@@ -17,12 +17,13 @@ DEFINITION = re.compile(rb"^#define (\w+)((?:[ \t]+(?:" + STRING + rb"|[A-Za-z_]
 DIRECTIVE = re.compile(rb"^[ \t]*#[ \t]*(\w+)(?:[^\\\n]|\\[\s\S])*", re.MULTILINE)
 
 
-def is_composed(fault: Fault, unit: Unit, where: Optional[Located]) -> bool:
+def is_composed(fault: Fault, unit: Unit, located: Callable[[], Optional[Located]]) -> bool:
     """Returns whether `#if` may have chosen the length modifier of a directive."""
     tokens = [it for it, _, _ in fault.tokens]
     macros = {it.macro.encode() for it in tokens if it.macro}
     if len(tokens) < 2 or not macros:
         return len(tokens) > 1
+    where = located()
     piece = where.piece_of(fault, fault.span.start) if where else None
     if where is None or piece is None:
         return bool(own_macros(unit, macros))

@@ -3,7 +3,7 @@
 import dataclasses
 import functools
 import os
-from typing import Dict, List, Mapping, NamedTuple, Optional, Sequence, Set, Tuple
+from typing import AbstractSet, Dict, List, Mapping, NamedTuple, Optional, Sequence, Set, Tuple
 
 from ..compiling.calls import Call, Calls, FormatCalls, Key, words_for
 from ..compiling.closure import Candidate, Wrappers, is_local, needs_of
@@ -59,9 +59,10 @@ class Unit:
         self.command, self.settings, self.source = read_command(command, settings), settings, source
         # The functions that hand their formats on: those that are known, and the unit's own.
         self.known = settings.found
+        self.callable: AbstractSet[str] = frozenset()
         self.read = read = self.text(self.original().source) if text is None else as_utf8(text).decode()
         first = self.parsed(read, COMPILED)
-        self.known, self.wrappers = first.known, first.own
+        self.known, self.wrappers, self.callable = first.known, first.own, first.callable
         known = None if settings.types else calls_on_all(first, read)
         others = [it for it in PLATFORMS if it is not COMPILED]
         self.calls: List[Dict[Key, Call]] = known or [first.found, *(self.parsed(read, it).found for it in others)]
@@ -114,7 +115,7 @@ class Unit:
 
     def parsed(self, text: str, platform: Platform) -> FormatCalls:
         own = {name: platform.types.get(type, type) for name, type in self.settings.types.items()}
-        functions = Functions(self.settings.functions, found=self.known)
+        functions = Functions(self.settings.functions, found=self.known, callable=self.callable)
         return FormatCalls(self.command, retargeted(text, platform, own).encode(), platform, functions, self.source)
 
     def marked(self, text: str) -> Dict[Key, Call]:

@@ -185,22 +185,22 @@ COUNTED = [
         [],
         "2 calls of say (--function say:2)",
     ),
-    # From ten calls on a function is always named.
+    # From ten calls on a function is always named; one alone in any case.
     (
-        "void say(int, const char *, ...), tell(const char *, ...);\nvoid f(int n) { "
+        "void say(int, const char *, ...), tell(const char *, ...), ask(const char *, ...);\nvoid f(int n) { "
         + 'printf("%d", n); ' * 9
-        + 'tell("%d", n); '
+        + 'tell("%d", n); ask("%d", n); '
         + 'say(1, "%d", n); ' * 10
         + "}",
         [],
         [],
-        "%: 10 calls of say (--function say:2), 1 call of 1 other\n",
+        "%: 10 calls of say (--function say:2), 2 calls of 2 others\n",
     ),
     (
         "void say(int, const char *, ...);\nvoid f(int n) { " + 'printf("%d", n); say(1, "%d", n); ' * 9 + "}",
         [],
         [],
-        "9 formats, 9 arguments: nothing found\n",
+        "nothing found; functions that aren't known get literals with %: 9 calls of say (--function say:2)\n",
     ),
     (
         'void say(int, const char *, ...);\nvoid f(long n) { say(1, "%d", n); }',

@@ -346,7 +346,7 @@ def test_composed(case):
         ([('"%lu"', ""), ('" "', "")], False),
     ]:
         fault = fault_in(tokens)
-        case.assertEqual(composing.is_composed(fault, Defined(b""), None), is_composed, tokens)
+        case.assertEqual(composing.is_composed(fault, Defined(b""), lambda: None), is_composed, tokens)
 
 
 def test_own_macros(case):
@@ -374,7 +374,7 @@ def test_own_macros(case):
         places = list(runs_in(source)) if source else []
         pieces = [Piece(it, 0) for it in places[:1]]
         where = Located(Original("a.c", source or b"", os.stat(".")), {(fault.key, 0): (b"%lu", pieces)})
-        found = composing.is_composed(fault, Defined(definitions), where)
+        found = composing.is_composed(fault, Defined(definitions), lambda: where)
         case.assertEqual(found, is_composed, (source, definitions))
 
 

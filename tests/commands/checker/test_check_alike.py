@@ -90,11 +90,11 @@ FRONT = '# 1 "a.c"\n# 1 "/usr/include/stddef.h" 1 3 4\n'
 TEXTS = [
     ('# 1 "a.c"\nint x = sizeof(long);\n', True),
     (f'{FRONT}typedef int wchar_t;\n# 2 "a.c" 2\nint x;\n', True),
-    (f'{FRONT}typedef int wchar_t;\n# 2 "a.c" 2\nwchar_t x;\n', False),
+    (f'{FRONT}typedef int wchar_t;\n# 2 "a.c" 2\nwchar_t x;\n', True),
     # A macro of another header in a system header, whose markers lack the flag.
     (f'{FRONT}typedef\n# 2 "/usr/include/stddef.h"\nfmtcanon_type_wchar_t\n# 2 "a.c" 2\nint x;\n', True),
     # A macro of a system header in the file itself, whose marker has the flag.
-    (f'{FRONT}# 2 "a.c" 2\nvoid *p =\n# 2 "a.c" 3 4\n0\n# 2 "a.c"\n; wchar_t x;\n', False),
+    (f'{FRONT}# 2 "a.c" 2\nvoid *p =\n# 2 "a.c" 3 4\n0\n# 2 "a.c"\n; L"x";\n', False),
     ('# 1 "a.c"\nint x = (fmtcanon_WCHAR_MAX + 2147483647);\n', False),
     ('# 1 "a.c"\nlong x = (fmtcanon_UINT64_C + 1UL);\n', True),
     ('# 1 "a.c"\nlong x = (fmtcanon_LONG_MIN + -9223372036854775807L - 1);\n', True),
@@ -109,7 +109,7 @@ TEXTS = [
     ('# 1 "a.c"\nint user;\n', True),
     ('# 1 "a.c"\nucontext_t *context;\n', False),
     ('# 1 "a.c"\nstruct timeval t;\n', True),
-    ('# 1 "a.c"\ngreg_t x;\n', False),
+    ('# 1 "a.c"\ngreg_t x;\n', True),
 ]
 
 
@@ -122,7 +122,7 @@ def unit(calls=(), is_cxx=False, is_computed=False, is_settled=True):
     found = dict(enumerate(calls))
     command = SimpleNamespace(is_cxx=lambda: is_cxx)
     formats = SimpleNamespace(is_computed=is_computed)
-    return SimpleNamespace(command=command, formats=formats, is_settled=is_settled, found=found)
+    return SimpleNamespace(command=command, formats=formats, is_settled=is_settled, found=found, integers=[])
 
 
 def is_known(text, **given):

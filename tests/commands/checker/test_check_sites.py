@@ -1,9 +1,6 @@
-"""Tests of where calls of functions with formats may be in preprocessed text, without libclang: python3 -m unittest, in
-the folder above.
-"""
+"""Tests of where calls of functions with formats may be in preprocessed text, without libclang."""
 
-
-from fmtcanon.compiling.call_sites import call_sites, declared_names
+from fmtcanon.compiling.call_sites import call_sites, declared_names, names_in
 from fmtcanon.compiling.retargeting import own_spans
 
 from tests.frame.cases import tests_of
@@ -30,10 +27,7 @@ DECLARATIONS = [
     ("void f(void) { try { g(); } catch (...) { } }", set()),
     ("switch (x) { case 1 ... 2: break; }", set()),
 ]
-FRONT = (
-    '# 1 "a.c"\n# 1 "/usr/include/x.h" 1 3 4\nint say(const char *, ...);\nint in_x(void) { say("x"); }\n# 2 "a.c" 2\n'
-    ''
-)
+FRONT = '# 1 "a.c"\n# 1 "/usr/include/x.h" 1 3 4\nint say(const char *, ...);\nint in_x(void) { say("x"); }\n# 2 "a.c" 2\n'
 # Texts of a file that includes a header, and what is before each parenthesis that may be of a call.
 CALLS = [
     ('void f(void) { say("x"); }', ["say"]),
@@ -64,7 +58,8 @@ def test_names(case):
 def test_calls(case):
     for text, wanted in CALLS:
         text = FRONT + text
-        sites = call_sites(text, own_spans(text), ["given"])
+        spans = own_spans(text)
+        sites = call_sites(text, spans, names_in(text, spans, ["given"]))
         case.assertEqual({text[it] for it in sites} - {"("}, set(), text)
         found = [word_before(text, it) for it in sites]
         case.assertEqual(found, wanted, text)

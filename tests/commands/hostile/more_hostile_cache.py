@@ -25,7 +25,7 @@ typedef unsigned num_t;
 #else
 typedef unsigned long num_t;
 #endif
-void f(num_t m) {{ printf("%lu\n", m); }}
+void f(num_t m) {{ printf("%lu\\n", m); }}
 """
 
 

@@ -9,8 +9,10 @@ from tests.commands.shared import first_screen
 from tests.commands.checker.more_check import LARGE
 from tests.commands.shared.reader import Reader
 from tests.frame.cases import tests_of
-from tests.frame.harness import TIMEOUT, TOP, fences, section
+from tests.frame.harness import TIMEOUT, TOP, section
 
+# A line of docs/FINDINGS.md, and whether it is one to write.
+LINE = re.compile(r"(Write)?\n\n```c\n(.*?)```", re.DOTALL)
 # What the lines of docs/FINDINGS.md need: the declarations of each, as the program has them.
 DECLARED = """\
 #define _GNU_SOURCE
@@ -49,20 +51,20 @@ def test_picture(reader, trials):
 
 
 def test_findings(reader, trials):
-    """Each line of docs/FINDINGS.md is reported, and what is written instead isn't: by the command where it is
-    compiled, and by gcc for 32 bits alone.
+    """Each line of docs/FINDINGS.md is reported, and one that is to be written isn't: by the command where it is compiled,
+    and by gcc for 32 bits alone.
     """
-    lines = [it for _, it in fences(section(TOP / "docs/FINDINGS.md", "Calls"))]
-    trials.expect("lines, each with what is written instead", (len(lines) % 2, len(lines) > 10), (0, True))
-    for number, line in enumerate(lines):
+    lines = LINE.findall(section(TOP / "docs/FINDINGS.md", "Calls that other systems get wrong"))
+    trials.expect("lines, and one to write", (len(lines) > 4, any(it for it, _ in lines)), (True, True))
+    for write, line in lines:
         # stdio.h has a function of this name with other parameters.
         text = DECLARED + line + "}\n"
         reader.put("a.c", text.replace("dprintf(", "own_dprintf("))
         found = reader.screen("fmtcanon-check --no-cache --output json a.c")
         kinds = re.findall(r'"kind": "(\w+)"', found)
-        trials.expect(f"{line} {found}", bool(kinds), number % 2 == 0)
+        trials.expect(f"{line} {found}", bool(kinds), not write)
         trials.expect(f"{line}: the kinds", set(kinds) - {"size"}, set())
-        for words, is_warned in [(["-Wall"], False), (["-m32", *LARGE, "-Wformat"], number % 2 == 0)]:
+        for words, is_warned in [(["-Wall"], False), (["-m32", *LARGE, "-Wformat"], not write)]:
             words = ["gcc", *words, "-fsyntax-only", "a.c"]
             done = subprocess.run(
                 words, cwd=reader.work, capture_output=True, encoding="utf-8", timeout=TIMEOUT, check=False
