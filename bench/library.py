@@ -4,8 +4,8 @@
     bench/library.py FOLDER
 
 FOLDER has libfmtcanon.a, as `make library` leaves it. The formats are those of shapes.nul, and those of them alone that
-have a directive with a flag, a width, a precision, `i`, or a length modifier other than `h`, `hh`, `l` and `ll`. The calls
-of the whole language are counted over formats that each have a directive that the profile lacks. It needs gcc and
+have a directive with a flag, a width, a precision, `i`, or a length modifier other than `h`, `hh`, `l` and `ll`. The
+calls of the whole language are counted over formats that each have a directive that the profile lacks. It needs gcc and
 valgrind, and prints the first tables of RESULTS.md. The last one is of `printing.c`.
 """
 import re
@@ -22,7 +22,15 @@ from formats import records, shapes, whole_shapes
 BENCH = Path(__file__).resolve().parent
 HEADERS = BENCH.parent / "include"
 ONE = ["check", "types", "bounds", "arguments", "is_canonical", "canonical", "canonical_length"]
-TWO = ["fits, itself", "fits_fewer, itself", "fits_fewer, the last directive left out", "same, itself", "same, first byte changed", "same, a byte appended", "same, last byte changed"]
+TWO = [
+    "fits, itself",
+    "fits_fewer, itself",
+    "fits_fewer, the last directive left out",
+    "same, itself",
+    "same, first byte changed",
+    "same, a byte appended",
+    "same, last byte changed",
+]
 WHOLE = ["arguments", "directives", "specifications", "whole_canonical", "whole_canonical_length"]
 # Counted for a shortcut alone: pairs that go on alike up to their ends, and are both accepted.
 ALIKE = ["same, last conversion changed", "same, `%%` appended", "whole_same, last conversion changed"]
@@ -35,7 +43,9 @@ BARE = re.compile(rb"(?:[^%]|%[%diuoxXbcs])*")
 
 def build(folder, work, name):
     driver = work / name
-    words = ["gcc", "-std=gnu11", "-Wall", "-Wextra", "-O2", f"-I{HEADERS}", BENCH / f"{name}.c", folder / "libfmtcanon.a"]
+    words = [
+        "gcc", "-std=gnu11", "-Wall", "-Wextra", "-O2", f"-I{HEADERS}", BENCH / f"{name}.c", folder / "libfmtcanon.a"
+    ]
     subprocess.run([*words, "-Wl,-z,now", "-o", driver], check=True)
     return driver
 

@@ -3,8 +3,8 @@
     make_crate.py FOLDER
 
 The libraries become modules of one library, below `proved`, which `lib.rs` hands out a part of; the program becomes its
-binary. Contracts are left out (`strip.py`), and so is the allocator that calls of the kit's libraries pass: there is one.
-Nothing in the folder is to be edited or kept.
+binary. Contracts are left out (`strip.py`), and so is the allocator that calls of the kit's libraries pass: there is
+one. Nothing in the folder is to be edited or kept.
 """
 
 import re
@@ -170,7 +170,8 @@ def write(path, text):
 
 
 def sources(name):
-    """The files of a crate below its `src`, without tests, laws, whose bodies are empty, and devices, which tests use."""
+    """The files of a crate below its `src`, without tests, laws, whose bodies are empty, and devices, which tests use.
+    """
     folder = ROOT / "crates" / name / "src"
     for path in sorted(folder.rglob("*.rt")):
         place = path.relative_to(folder)
@@ -201,13 +202,18 @@ def make_c(folder):
     files = [(place, text) for place, text in sources(C) if place.stem != "lib"]
     for place, text in files:
         write(folder / place, of_library(replaced(stripped(text), C_LIBRARY), "c"))
-    head = "//! The calls of the C library, which `fmtcanon.h` declares.\n#![allow(clippy::missing_safety_doc, unused_unsafe)]\n\n"
+    head = (
+        "//! The calls of the C library, which `fmtcanon.h` declares.\n"
+        "#![allow(clippy::missing_safety_doc, unused_unsafe)]\n\n"
+    )
     modules = [place.stem for place, _ in files]
     uses = "use super::*;\nuse crate::support::c_slices as slices;\n"
     structs = "".join(f"use super::{it}::*;\n" for it in modules)
     write(folder / "mod.rs", head + "".join(f"pub mod {it};\n" for it in modules) + "pub mod exports;\n")
     exports = "".join(c_exports(stripped(text), place.stem) for place, text in files)
-    write(folder / "exports.rs", head.replace("unused_unsafe", "unused_unsafe, unused_imports") + uses + structs + exports)
+    write(
+        folder / "exports.rs", head.replace("unused_unsafe", "unused_unsafe, unused_imports") + uses + structs + exports
+    )
 
 
 def make(folder):

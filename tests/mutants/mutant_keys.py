@@ -1,5 +1,5 @@
-"""Makes the key of a mutant: a checksum of the mutant, its twin, the functions that it changes, what their clauses mean,
-and the goals that refused it.
+"""Makes the key of a mutant: a checksum of the mutant, its twin, the functions that it changes, what their clauses
+mean, and the goals that refused it.
 
 A refusal says that the clauses of a function refuse a body. So the key has the functions that a mutant changes with
 their clauses, and what these mean: the definitions, types and constants that they reach. It also has the kit and the
@@ -36,7 +36,8 @@ def checksum(*values):
 
 @lru_cache(maxsize=None)
 def kit():
-    """Returns what identifies the kit: the checksum of its archive, and the number of its logic. Its letter is a name."""
+    """Returns what identifies the kit: the checksum of its archive, and the number of its logic. Its letter is a name.
+    """
     page, version = (said_by_rt(it) for it in ("doc", "version"))
     archive = re.search(r"^archive (\w+)$", (Path(page).parent / "WHAT").read_text(encoding="utf-8"), re.MULTILINE)
     logic = re.search(r" logic (\w+)$", version)
@@ -51,7 +52,9 @@ def said_by_rt(word):
 def judges_sum():
     """Returns a checksum of what the scripts that judge do, whatever their comments say and wherever they lie."""
     texts = [(Path(__file__).parent / f"{it}.py").read_text(encoding="utf-8") for it in JUDGES]
-    texts = [it.replace(f"from {__package__} import ", "import ").replace(f"from {__package__}.", "from ") for it in texts]
+    texts = [
+        it.replace(f"from {__package__} import ", "import ").replace(f"from {__package__}.", "from ") for it in texts
+    ]
     return checksum([ast.dump(ast.parse(it)) for it in texts])
 
 
@@ -96,7 +99,9 @@ class Keys:
     def heads(self, crate, mutant):
         """Returns the functions that a mutant changes, with their attributes."""
         files = sorted({it.file for it in mutant.pairs})
-        found = [it for file in files for it in rattle_functions.functions(*self.source(crate, file), self.homes(crate))]
+        found = [
+            it for file in files for it in rattle_functions.functions(*self.source(crate, file), self.homes(crate))
+        ]
         return [it for it in found if it.path in mutant.functions]
 
     def source(self, crate, file):
@@ -108,7 +113,8 @@ class Keys:
 
     @lru_cache(maxsize=None)
     def whole(self, crate):
-        """Returns the units of all sources of a crate, without comments: each may refuse a mutant outside of functions."""
+        """Returns the units of all sources of a crate, without comments: each may refuse a mutant outside of functions.
+        """
         folder = self.crates.folder(crate)
         names = [*sources_of(folder), *(str(it.relative_to(folder)) for it in sorted((folder / "specs").rglob("*.antt")))]
         return [Unit(crate, it, "", without_comments(it, self.definitions.text(crate, it))) for it in names]

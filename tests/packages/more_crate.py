@@ -1,9 +1,9 @@
-"""Tries the package for Cargo that `make crate` packs: it builds offline from its archive alone, its examples run, and its
-program and C library answer as the rows and the proved library do.
+"""Tries the package for Cargo that `make crate` packs: it builds offline from its archive alone, its examples run, and
+its program and C library answer as the rows and the proved library do.
 
-It needs cargo with rustfmt, and the packages librust-{arrayvec,clap,itoa,memchr,smallvec,thiserror}-dev of Debian, which
-replace the registry. For AArch64, and for a check of macOS and Windows, it needs rustc-web, cargo-web and rust-web-src,
-gcc-aarch64-linux-gnu, and qemu-user; what is missing is named.
+It needs cargo with rustfmt, and the packages librust-{arrayvec,clap,itoa,memchr,smallvec,thiserror}-dev of Debian,
+which replace the registry. For AArch64, and for a check of macOS and Windows, it needs rustc-web, cargo-web and
+rust-web-src, gcc-aarch64-linux-gnu, and qemu-user; what is missing is named.
 """
 
 import atexit
@@ -108,7 +108,9 @@ def failures(folder, package, names, library, program=None):
     environment = {**os.environ, **given, "INPUT": "4", "OUTPUT": "3"}
     words = [sys.executable, "-m", "unittest", "-q", *(f"tests.{package}.test_{name}" for name in names)]
     done = subprocess.run(words, cwd=TOP, env=environment, capture_output=True, encoding="utf-8", check=False)
-    counts = [tuple(map(int, it)) for it in re.findall(r"^tests\S+: (\d+) passed, (\d+) failed$", done.stdout, re.MULTILINE)]
+    counts = [
+        tuple(map(int, it)) for it in re.findall(r"^tests\S+: (\d+) passed, (\d+) failed$", done.stdout, re.MULTILINE)
+    ]
     return re.findall(r"^FAILED (.*)$", done.stdout, re.MULTILINE), sum(it for it, _ in counts)
 
 
