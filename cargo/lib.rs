@@ -39,7 +39,7 @@
 //! ```
 //!
 //! These are the sources of the proved libraries of fmtcanon without their contracts. What rustc makes of them isn't proved:
-//! the README says what is, and what this package is tested for.
+//! the README says what else isn't, and what this package is tested for.
 
 #![cfg_attr(not(feature = "c"), forbid(unsafe_code))]
 #![deny(missing_docs)]
@@ -47,12 +47,11 @@
 #![allow(dead_code, unused_imports, unused_variables)]
 
 #[cfg(feature = "c")]
+#[allow(clippy::style, clippy::complexity)]
+mod c;
+// All that the libraries show one another, for the program. It has no promise. The bodies have the form that was proved.
 #[doc(hidden)]
-#[allow(missing_docs)]
-pub mod c;
-// All that the libraries show one another, for the program. It has no promise.
-#[doc(hidden)]
-#[allow(missing_docs)]
+#[allow(missing_docs, clippy::style, clippy::complexity)]
 pub mod proved;
 #[doc(hidden)]
 pub mod support;
