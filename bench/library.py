@@ -3,8 +3,8 @@
 
     bench/library.py FOLDER [OTHER]
 
-FOLDER has libfmtcanon.a, as `make library` leaves it. If OTHER has another build of it, this prints one table alone, of a few
-calls of both. The formats are those of shapes.nul, and those of them alone that
+FOLDER has libfmtcanon.a, as `make library` leaves it. If OTHER has another build of it, this prints one table alone,
+of a few calls of both. The formats are those of shapes.nul, and those of them alone that
 have a directive with a flag, a width, a precision, `i`, or a length modifier other than `h`, `hh`, `l` and `ll`. The calls
 of the whole language are counted over formats that each have a directive that the profile lacks. It needs gcc and
 valgrind, and prints the first tables of RESULTS.md. The last one is of `printing.c`.

@@ -2,9 +2,9 @@
 
     make_crate.py FOLDER
 
-The libraries become modules of one library, below `proved`, which `lib.rs` hands out a part of; the program becomes its
-binary. Contracts are left out (`strip.py`), and so is the allocator that calls of the kit's libraries pass: there is one.
-Nothing in the folder is to be edited or kept.
+The libraries become modules of one library, below `proved`, which `lib.rs` hands out a part of; the program becomes
+its binary. Contracts are left out (`strip.py`), and so is the allocator that calls of the kit's libraries pass: there
+is one. Nothing in the folder is to be edited or kept.
 """
 
 import re
@@ -101,7 +101,10 @@ def as_rust(text):
 
 # The calls of the C library, whose parameters are slices and places.
 C_CALL = r"(?<=#\[unsafe\(no_mangle\)\]\n)pub extern \"C\" fn (\w+)\(([^)]*)\)( -> \w+)\s*\{"
-C_STRING = [(r"\bstring: &'a \[u8\]", "string: crate::support::c_slices::Bytes<'a>"), (r"\bself\.string\b", "self.string.get()")]
+C_STRING = [
+    (r"\bstring: &'a \[u8\]", "string: crate::support::c_slices::Bytes<'a>"),
+    (r"\bself\.string\b", "self.string.get()"),
+]
 
 
 def c_parameter(name, kind):
@@ -111,8 +114,9 @@ def c_parameter(name, kind):
         made = f"let {name} = unsafe {{ crate::support::c_slices::{call}({name}, {name}_len) }};\n"
         return f"{name}: {pointer} {of[2]}, {name}_len: usize", made
     if place := re.match(r"&mut (.*)", kind):
-        none = f"let mut no_{name} = unsafe {{ std::mem::zeroed() }};\n"
-        return f"{name}: *mut {place[1]}", f"{none}let {name} = unsafe {{ {name}.as_mut() }}.unwrap_or(&mut no_{name});\n"
+        made = f"let mut no_{name} = unsafe {{ std::mem::zeroed() }};\n"
+        made += f"let {name} = unsafe {{ {name}.as_mut() }}.unwrap_or(&mut no_{name});\n"
+        return f"{name}: *mut {place[1]}", made
     return f"{name}: {kind}", ""
 
 
@@ -143,7 +147,7 @@ def of_program(text):
 
 
 def sources(name):
-    """The files of a crate below its `src`, without tests, laws, whose bodies are empty, and devices, which tests use."""
+    """The files of a crate below its `src`, without laws, whose bodies are empty, tests, and devices for them."""
     folder = ROOT / "crates" / name / "src"
     for path in sorted(folder.rglob("*.rt")):
         place = path.relative_to(folder)
@@ -162,13 +166,13 @@ def make(folder):
         for place, text in sources(name):
             place = "mod.rs" if str(place) == "lib.rs" else place
             write(folder / "src" / path.replace("::", "/") / place, of_library(text, name))
-    modules = "".join(f"pub mod {name};\n" for name in LIBRARIES)
-    write(folder / "src/proved/mod.rs", f"//! The libraries, whose sources are proved with their contracts.\n\n{modules}")
+    modules = "//! The libraries, whose sources are proved with their contracts.\n\n"
+    write(folder / "src/proved/mod.rs", modules + "".join(f"pub mod {name};\n" for name in LIBRARIES))
     commands = dict(sources("fmtcanon"))
     for place, text in commands.items():
         write(folder / "src/program" / place, of_program(text))
-    modules = "".join(f"pub mod {place.stem};\n" for place in commands)
-    write(folder / "src/program/mod.rs", f"//! The commands.\n\n{modules}")
+    modules = "//! The commands.\n\n" + "".join(f"pub mod {place.stem};\n" for place in commands)
+    write(folder / "src/program/mod.rs", modules)
     copy_own(folder)
     subprocess.run(["cargo", "fmt"], cwd=folder, check=True)
 

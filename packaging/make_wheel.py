@@ -4,9 +4,9 @@ compiler or a network.
 
 Usage: make_wheel.py FOLDER PLATFORM LIBRARY [PROGRAM]
 
-LIBRARY is the shared library. The metadata comes from python/pyproject.toml and the file VERSION. PLATFORM is a processor,
-for Linux: then the name says which version of the GNU C library the wheel needs, the latest that the library or the program
-needs. Otherwise it is the platform tag of another system, as win_amd64 or macosx_11_0_arm64.
+LIBRARY is the shared library. The metadata comes from python/pyproject.toml and the file VERSION. PLATFORM is a
+processor, for Linux: then the name says which version of the GNU C library the wheel needs, the latest that the library
+or the program needs. Otherwise it is the platform tag of another system, as win_amd64 or macosx_11_0_arm64.
 """
 
 import base64

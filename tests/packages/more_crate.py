@@ -1,9 +1,8 @@
-"""Tries the package for Cargo that `make crate` packs: it builds offline from its archive alone, its examples run, and its
-program and C library answer as the rows and the proved library do.
+"""Tries the package for Cargo that `make crate` packs: it builds offline from its archive alone, its examples run, and
+its program and C library answer as the rows and the proved library do.
 
 It needs cargo with rustfmt and clippy, the rights of root, and packages of Debian: librust-{arrayvec,clap,itoa,memchr,
-smallvec,thiserror}-dev, which replace the registry; and for other systems rust-web-src, libc6-dev-arm64-cross and those of
-TOOLS.
+smallvec,thiserror}-dev, which replace the registry; for other systems rust-web-src, libc6-dev-arm64-cross and TOOLS.
 """
 
 import atexit
@@ -58,7 +57,7 @@ def cargo(folder, *words, command="cargo", **environment):
 
 
 def folder():
-    """The package's folder, as whoever has the archive unpacks it, next to a home of cargo. The archive is made once."""
+    """The package's folder, as whoever has the archive unpacks it, next to a home of cargo. It is made once."""
     made = Path(tempfile.gettempdir()) / f"fmtcanon-crate-{os.getpid()}"
     package = made / f"fmtcanon-{VERSION}"
     if not made.is_dir():
@@ -105,8 +104,9 @@ def test_build(folder, trials):
 
 
 def test_install(folder, trials, work):
-    """The commands of docs/INSTALL.md install the program from the archive, where neither the kit nor this tree is seen."""
-    [commands] = re.findall(r"^    tar xf .*\n(?:    .*\n)*", section(TOP / "docs/INSTALL.md", "With cargo"), re.MULTILINE)
+    """The commands of docs/INSTALL.md install the program from the archive, where neither kit nor tree is seen."""
+    page = section(TOP / "docs/INSTALL.md", "With cargo")
+    [commands] = re.findall(r"^    tar xf .*\n(?:    .*\n)*", page, re.MULTILINE)
     shutil.copy(ARCHIVE, work)
     hidden = f"mount -t tmpfs none /opt\nmount -t tmpfs none {TOP}\ncd {work}\n! command -v rt\n{commands}"
     path = f"{work}/bin:{Path(shutil.which('cargo')).parent}:/usr/bin:/bin"
@@ -120,7 +120,8 @@ def failures(folder, package, names, library, program):
     # It reads and writes copies of its standard streams, with the numbers 4 and 3.
     given = {"FMTCANON_PROGRAM": str(program), "FMTCANON_LIBRARY": str(library), "INPUT": "4", "OUTPUT": "3"}
     words = [sys.executable, "-m", "unittest", "-q", *(f"tests.{package}.test_{name}" for name in names)]
-    done = subprocess.run(words, cwd=TOP, env={**os.environ, **given}, capture_output=True, encoding="utf-8", check=False)
+    given = {**os.environ, **given}
+    done = subprocess.run(words, cwd=TOP, env=given, capture_output=True, encoding="utf-8", check=False)
     passed = sum(map(int, re.findall(r"^tests\S+: (\d+) passed, \d+ failed$", done.stdout, re.MULTILINE)))
     return re.findall(r"^FAILED (.*)$", done.stdout, re.MULTILINE), passed
 
@@ -148,9 +149,10 @@ def test_answers(folder, trials, work):
 
 
 def test_wheel(folder, trials, work):
-    """A wheel over its library installs and answers. One for another system has its library where the module looks for it."""
+    """A wheel over its library installs and answers. One for another system has it where the module looks for it."""
     library, made = built_library(folder), {}
-    for platform, name in [("x86_64", SONAME), ("macosx_11_0_arm64", "libfmtcanon.dylib"), ("win_amd64", "fmtcanon.dll")]:
+    names = {"x86_64": SONAME, "macosx_11_0_arm64": "libfmtcanon.dylib", "win_amd64": "fmtcanon.dll"}
+    for platform, name in names.items():
         status, out, _ = run(sys.executable, ["-B", TOP / "packaging/make_wheel.py", work, platform, library])
         made[platform] = Path(out.decode().strip())
         trials.expect(f"the wheel for {platform}", (status, made[platform].stem.endswith(platform)), (0, True))
