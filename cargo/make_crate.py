@@ -18,7 +18,7 @@ ROOT = CARGO.parent
 sys.path.append(str(ROOT))
 
 from cargo.strip import replaced, stripped  # noqa: E402
-from tests.mutants.rattle_functions import NO_CODE, blanked  # noqa: E402
+from tests.mutants.rattle_functions import NO_CODE  # noqa: E402
 
 # The libraries, lowest first, without their `pf_`, and the paths of the modules that the crates become.
 LIBRARIES = "values text render bounds reduce probes canon compare literals posix whole".split()
@@ -71,7 +71,7 @@ CLAP = [
     (r"&ArgMatches<'\w+>", "&'static ArgMatches"),
     (r"\bOk\(matches\) => matches,", "Ok(matches) => &*Box::leak(Box::new(matches)),"),
     (r"\blet Ok\(command\) = definition\(\) else \{[^}]*\};", "let command = definition();"),
-    (r"\bif error.kind\(\) == ErrorKind::OutOfMemory \{[^}]*\}", ""),
+    (r"\bif error\.kind\(\) == ErrorKind::OutOfMemory \{[^}]*\}", ""),
     (r"\.value_parser\(row\.models\)", ".value_parser(row.models.to_vec())"),
 ]
 
