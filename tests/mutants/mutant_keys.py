@@ -55,7 +55,20 @@ def judges_sum():
     texts = [
         it.replace(f"from {__package__} import ", "import ").replace(f"from {__package__}.", "from ") for it in texts
     ]
-    return checksum([ast.dump(ast.parse(it)) for it in texts])
+    return checksum([ast.dump(without_docstrings(ast.parse(it))) for it in texts])
+
+
+def without_docstrings(tree):
+    """Returns the tree of a script without the texts that stand alone in it."""
+    for node in ast.walk(tree):
+        body = getattr(node, "body", None)
+        if isinstance(body, list):
+            node.body = [it for it in body if not is_text(it)]
+    return tree
+
+
+def is_text(node):
+    return isinstance(node, ast.Expr) and isinstance(node.value, ast.Constant) and isinstance(node.value.value, str)
 
 
 class Keys:
