@@ -232,6 +232,54 @@ def test_limits(trials):
     trials.expect("pages with limits", len(found) > 4, True)
 
 
+def test_forms(trials):
+    """The numbers of docs/DECISIONS.md and docs/USING.md for what the program can answer are those of the code."""
+    rows = {row[0]: row[1] for row in table_of(DOCS / "DECISIONS.md", "Forms that differ")}
+    outcomes = read(TOP / "crates/fmtcanon/src/outcome.rt").split("pub enum Outcome {\n")[1].split("\n}\n")[0]
+    kinds = len(re.findall(r"^    [A-Z]", outcomes, re.MULTILINE))
+    said = rows["18 kinds of refusal, and 11 outcomes"]
+    trials.expect("refusals and outcomes", said, f"{max(Kind).value} and {kinds}")
+    ints = re.search(r"INTS: \[Candidate; (\d+)\]", read(TOP / "crates/pf_probes/src/candidate_rows.rt"))[1]
+    trials.expect("renderings", rows["`renderings` up to 16"], f"up to {ints}")
+    digits = re.search(r"MAX_DIGITS: usize = (\d+)", read(TOP / "crates/fmtcanon/src/arguments.rt"))[1]
+    said = re.findall(r"A number has 1 to (\d+) digits", read(DOCS / "USING.md"))
+    trials.expect("digits of an argument", said, [digits])
+
+
+def test_normal_forms(trials):
+    """The numbers above 1 in each row of docs/DEFINITIONS.md on a normal form are those of its record."""
+    definitions = read(TOP / "crates/pf_values/specs/meaning/Normal.antt")
+    records = dict(re.findall(r"^pub record (IsNormal\w+) .*\n((?:  .*\n)+)", definitions, re.MULTILINE))
+    rows = [row for row in table_of(DOCS / "DEFINITIONS.md", "Normal") if "`IsNormal" in row[0]]
+    trials.expect("forms with a record", len(rows), len(records))
+    for form, condition in rows:
+        texts = [condition, records[re.search(r"`(IsNormal\w+)`", form)[1]]]
+        numbers = [{it for it in re.findall(r"\b\d+\b", text) if int(it) > 1} for text in texts]
+        trials.expect(f"numbers of {form}", *numbers)
+
+
+def test_see_also(trials):
+    """Each page of ours that a manual page names is there, in that section."""
+    there = {it.name for it in (TOP / "man").iterdir()}
+    for page in sorted((TOP / "man").iterdir()):
+        found = re.findall(r"\b(fmtcanon[-\w]*) \((\d)\)", read(page).replace("\\", ""))
+        named = {f"{name}.{number}" for name, number in found}
+        trials.expect(f"pages that {page.name} names", (named - there, len(named) > 0), (set(), True))
+
+
+def test_counting(trials):
+    """Pages of the program count from 0, and those of the commands from 1; functions with ten calls are named."""
+    pages = [*DOCS.glob("*.md"), *(TOP / "man").iterdir(), TOP / "README.md"]
+    found = {it.name: set(re.findall(r"counted from (\d+)", read(it))) for it in pages}
+    from_0 = {"USING.md", "REFUSALS.md", "fmtcanon.1", "fmtcanon.3", "C.md", "PYTHON.md"}
+    for name, numbers in found.items():
+        trials.expect(f"counted from, in {name}", numbers <= ({"0"} if name in from_0 else {"1"}), True)
+    trials.expect("pages that count", len([it for it in found.values() if it]) > 6, True)
+    words = re.search(r"it names those with (\w+) such calls", read(TOP / "man/fmtcanon-check.1"))[1]
+    least = re.search(r"NAMED_FROM\b.*? = (\d+)", read(TOP / "python/fmtcanon/checker/command.py"))[1]
+    trials.expect("calls of a function that is named", (words, least), ("ten", "10"))
+
+
 def numbers_in(text):
     return re.findall(r"\d[\d,]*\d|\d", text)
 
@@ -291,6 +339,40 @@ def test_results(trials):
     )
 
 
+BENCH = TOP / "bench/RESULTS.md"
+
+
+def bases(row, value, ratio):
+    """What `parse_printf_format` took, by one row's ratio: the smallest and the largest number of instructions. What
+    compares two formats is divided by two calls of it.
+    """
+    calls = 2 if row[0].startswith(("`fits", "`same", "`whole_same")) else 1
+    count, quotient = float(row[value].replace(",", "")), float(row[ratio])
+    return (count - 0.5) / (quotient + 0.005) / calls, (count + 0.5) / (quotient - 0.005) / calls
+
+
+def test_ratios(trials):
+    """In the tables of the C library's calls each ratio is one to the same call: what `parse_printf_format` takes."""
+    calls, whole, bounds, prints = (table_of(BENCH, "Calls of the C library", number) for number in range(4))
+    for name, rows, columns in [("all", calls, (1, 2)), ("the 509", calls, (3, 4)), ("whole", whole, (1, 2))]:
+        found = [bases(row, *columns) for row in rows]
+        least, greatest = max(low for low, _ in found), min(high for _, high in found)
+        trials.expect(f"a base of {name}: {least:.1f} to {greatest:.1f}", least <= greatest, True)
+    for row in [*bounds, *prints]:
+        one, other, quotient = (float(it.replace(",", "")) for it in row[1:])
+        divided = other / one if row in bounds else one / other
+        trials.expect(f"the ratio of {row[0]}", abs(divided - quotient) <= 0.006, True)
+    with_all = {}
+    for row in table_of(BENCH, "Shortcuts"):
+        for set_of_texts, count in enumerate(row[2::2]):
+            with_all.setdefault((row[1], set_of_texts), []).append(int(count.replace(",", "")))
+    for (call, _), counts in with_all.items():
+        trials.expect(f"{call} with all shortcuts, in one row and another", max(counts) <= 1.08 * min(counts), True)
+    for row in table_of(DOCS / "PERFORMANCE.md", "Calls per second"):
+        nanoseconds, a_second = (int(it.replace(",", "")) for it in row[1:3])
+        trials.expect(f"{row[0]} from C", abs(a_second * nanoseconds / 1e9 - 1) <= 0.51 / nanoseconds + 0.005, True)
+
+
 def test_proved(trials):
     """The README has each crate but the callers, with public calls and laws of it; the kit's logic of docs/INSTALL.md;
     and the minutes and the cores of docs/CONTRIBUTING.md.
@@ -306,12 +388,12 @@ def test_proved(trials):
             function = rf"^pub fn {name.split('::')[-1]}\b"
             trials.expect(f"{name} of {crate}", any(re.search(function, it, re.MULTILINE) for it in texts), True)
     logic = r"logic(?: `rt version` gives as)? `(\w+)`"
-    trials.expect(
-        "the kit's logic", re.search(logic, readme)[1], re.search(r"whose " + logic, read(DOCS / "INSTALL.md"))[1]
-    )
-    minutes = re.search(r"make test +# (\d+) minutes on four cores", readme)[1]
-    measured = re.search(r"from nothing, on four cores \| (\d+) min", read(DOCS / "CONTRIBUTING.md"))[1]
-    trials.expect("minutes of the gate, in tens", int(minutes), round(int(measured), -1))
+    installed = re.search(r"whose " + logic, read(DOCS / "INSTALL.md"))[1]
+    trials.expect("the kit's logic", re.search(logic, readme)[1], installed)
+    minutes = re.search(r"make test +# (\d+) minutes on two cores, (\d+) on four", readme).groups()
+    measured = re.findall(r"from nothing, on (?:two|four) cores \| (\d+) min", read(DOCS / "CONTRIBUTING.md"))
+    in_fives = [5 * round(int(it) / 5) for it in measured]
+    trials.expect("minutes of the gate, in fives", [int(it) for it in minutes], in_fives)
 
 
 def test_kinds_of_findings(trials):

@@ -5,7 +5,7 @@ use Rattle.pf_whole.specs.declared.parts.Part.TheVariants.{Flag}
 use Rattle.pf_whole.specs.Needless.{AreGathered, GathersPart}
 use Rattle.pf_whole.specs.Parts.{all_parts, no_parts}
 use Rattle.pf_whole.proofs.NeedlessLemmas.{none_gathered}
-use Rattle.pf_whole.proofs.needless.Question.together.Goals as goal
+use Rattle.pf_whole.proofs.needless.NeedlessQuestion.together.Goals as goal
 
 pub returns-then-is_empty : goal.returns-then-is_empty
 returns-then-is_empty c =

@@ -4,7 +4,7 @@ use Rattle.pf_values.specs.meaning.Canonical.{item_spelling}
 use Rattle.pf_values.specs.meaning.Text.{space, zero_digit}
 use Rattle.pf_text.specs.CanonicalRuns.{silents}
 use Rattle.pf_canon.specs.Output.{text_after_zeros}
-use Rattle.pf_canon.proofs.output.Output.put.Goals as goal
+use Rattle.pf_canon.proofs.output.SettledText.put.Goals as goal
 
 pub returns : goal.returns
 returns g c =

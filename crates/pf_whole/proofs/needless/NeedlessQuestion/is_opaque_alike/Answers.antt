@@ -2,7 +2,7 @@ use Rattle.std.proofs.Common.{◌∙◌, ap, refl, sym}
 use Rattle.pf_posix.specs.Opaque.{is_opaque}
 use Rattle.pf_whole.specs.meaning.NormalSpellings.{directive_spelling}
 use Rattle.pf_whole.proofs.NeedlessLemmas.{called, not_called}
-use Rattle.pf_whole.proofs.needless.Question.is_opaque_alike.Goals as goal
+use Rattle.pf_whole.proofs.needless.NeedlessQuestion.is_opaque_alike.Goals as goal
 
 pub returns-then-not-is_opaque : goal.returns-then-not-is_opaque
 returns-then-not-is_opaque c =

@@ -1,7 +1,7 @@
 use Rattle.std.proofs.Common.{◌≡◌, ◌∙◌, ap, false, sym, true}
 use Rattle.pf_whole.specs.Parts.{with_part}
 use Rattle.pf_whole.proofs.NeedlessLemmas.{found_more, found_same}
-use Rattle.pf_whole.proofs.needless.Question.ask.Goals as goal
+use Rattle.pf_whole.proofs.needless.NeedlessQuestion.ask.Goals as goal
 
 pub returns-then-not-has : goal.returns-then-not-has
 returns-then-not-has c asked h =

@@ -3,7 +3,7 @@ use Rattle.std.proofs.lemmas.List.{drop-replicate, length-replicate}
 use Rattle.pf_values.specs.meaning.Text.{space, zero_digit}
 use Rattle.pf_canon.specs.Output.{text_after_zeros}
 use Rattle.pf_canon.proofs.OffsetLemmas.{front_of_first, front_of_second}
-use Rattle.pf_canon.proofs.output.Output.front.Goals as goal
+use Rattle.pf_canon.proofs.output.SettledText.front.Goals as goal
 
 pub returns-then-at-spaces : goal.returns-then-at-spaces
 returns-then-at-spaces c =

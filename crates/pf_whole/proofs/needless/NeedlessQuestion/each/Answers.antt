@@ -2,7 +2,7 @@ use Rattle.std.proofs.Common.{subst, sym}
 use Rattle.pf_whole.specs.Needless.{AreFound}
 use Rattle.pf_whole.specs.Parts.{no_parts}
 use Rattle.pf_whole.proofs.NeedlessLemmas.{all_asked, found_none}
-use Rattle.pf_whole.proofs.needless.Question.each.Goals as goal
+use Rattle.pf_whole.proofs.needless.NeedlessQuestion.each.Goals as goal
 
 pub returns : goal.returns
 returns c part =

@@ -7,7 +7,7 @@ use Rattle.pf_text.specs.CanonicalRuns.{silents}
 use Rattle.pf_canon.specs.Output.{IsFrontOf}
 use Rattle.pf_canon.proofs.OutputLemmas.{length-silents}
 use Rattle.pf_canon.proofs.OffsetLemmas.{front_all, front_of_first, front_of_second}
-use Rattle.pf_canon.proofs.output.Output.front_after_zeros.Goals as goal
+use Rattle.pf_canon.proofs.output.SettledText.front_after_zeros.Goals as goal
 
 pub returns-then-at-silents : goal.returns-then-at-silents
 returns-then-at-silents c =

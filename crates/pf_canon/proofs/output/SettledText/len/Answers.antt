@@ -1,6 +1,6 @@
 use Rattle.std.proofs.Common.{arith}
 use Rattle.pf_canon.proofs.OutputLemmas.{length-whole}
-use Rattle.pf_canon.proofs.output.Output.len.Goals as goal
+use Rattle.pf_canon.proofs.output.SettledText.len.Goals as goal
 
 pub returns-clause-total : goal.returns-clause-total
 returns-clause-total c =

@@ -4,7 +4,7 @@ use Rattle.pf_posix.specs.Items.{Specification, IsWholeReadAs}
 use Rattle.pf_posix.specs.Opaque.{is_opaque}
 use Rattle.pf_posix.specs.OpaqueParts.{narrow}
 use Rattle.pf_whole.proofs.NeedlessLemmas.{printed, spelled_without, still_narrow}
-use Rattle.pf_whole.proofs.needless.Question.have_no_effect.Goals as goal
+use Rattle.pf_whole.proofs.needless.NeedlessQuestion.have_no_effect.Goals as goal
 
 pub narrow-requires-2-clause-spelled : goal.narrow-requires-2-clause-spelled
 narrow-requires-2-clause-spelled c =

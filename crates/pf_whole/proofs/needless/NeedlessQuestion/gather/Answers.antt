@@ -1,5 +1,5 @@
 use Rattle.std.proofs.Common.{◌≡◌, ◌∙◌, false, inl, inr, sym, true, refl}
-use Rattle.pf_whole.proofs.needless.Question.gather.Goals as goal
+use Rattle.pf_whole.proofs.needless.NeedlessQuestion.gather.Goals as goal
 
 pub returns-then-not-has : goal.returns-then-not-has
 returns-then-not-has c = inr (λ h. (let no : true ≡ false = sym h.0 ∙ sym c.has.ensures ∙ c.if-not-has.true in cc), refl)

@@ -1,7 +1,7 @@
 use Rattle.std.proofs.Common.{arith, subst}
 use Rattle.pf_posix.specs.Laws.{IsFirstDifference}
 use Rattle.pf_posix.proofs.DifferenceLemmas.{ends_first}
-use Rattle.pf_posix.proofs.comparison.Comparison.excess.Goals as goal
+use Rattle.pf_posix.proofs.comparison.TypeComparison.excess.Goals as goal
 
 pub returns-else-index-self : goal.returns-else-index-self
 returns-else-index-self c a b h e =
