@@ -14,6 +14,7 @@ from typing import Any, Dict, FrozenSet, Iterable, List, Mapping, NamedTuple, Op
 from ..compiling.closure import Candidate, Handing, Wrappers, is_local, names_of_taking, needs_of, wrappers_among
 from ..compiling.compile_commands import SOURCES
 from ..compiling.left import Left, own_trouble
+from ..compiling.pointers import ASSIGNED, is_value, names_at
 from ..compiling.sources import Files, Name
 from ..fitting.asking import job_of
 from ..fitting.checking import Answer, Job, Question, answer
@@ -24,22 +25,14 @@ from ..source.known import KNOWN
 from .cache import DAMAGED, Cache, read_unit
 
 # What a file has that defines such a function, and one that declares a pointer to one, or a typedef of one.
-MAY_DEFINE = re.compile(rb"va_(?:list|start)|VA_START")
-POINTER = re.compile(rb"\(\s*\*[^()]*\)\s*\([^;{}]*(?:\.\.\.|va_list)|typedef[^;{}]*\.\.\.")
-# What is before and after a name that may be a value, and no call: what has one in parentheses after a keyword gives it
-# to nobody. And what is after one that gets a value.
-BEFORE = re.compile(
-    rb"(?:[=,?:{&]|\*/|(?<!\bif)(?<!\breturn)(?<!\bwhile)(?<!\bswitch)\s?\()\s*(?:\(\s*void\s*\*\s*\)\s*)?\Z"
-)
-AFTER, LONGEST = re.compile(rb"\s*[,);}:]"), 80
-ASSIGNED = re.compile(rb"\s*(?:\[[^\]=;]*\]\s*)*=(?!=)")
-LETTER = re.compile(rb"[\w$]")
+MAY_DEFINE = re.compile(r"va_(?:list|start)|VA_START")
+POINTER = re.compile(r"\(\s*\*[^()]*\)\s*\([^;{}]*(?:\.\.\.|va_list)|typedef[^;{}]*\.\.\.")
 # After the name of a function that a text defines: its parameters, what macros say of it, and its body.
-BRACKETS = rb"\((?:[^(){};]|\([^(){};]*\))*\)"
-BODY = re.compile(rb"\s*\)?\s*\((?:[^(){};]|" + BRACKETS + rb")*\)(?:[^;{}()=]|" + BRACKETS + rb")*\{")
+BRACKETS = r"\((?:[^(){};]|\([^(){};]*\))*\)"
+BODY = re.compile(rf"\s*\)?\s*\((?:[^(){{}};]|{BRACKETS})*\)(?:[^;{{}}()=]|{BRACKETS})*\{{")
 # A definition of a function with further arguments, and a name that may be called.
-DEFINED = re.compile(rb"(\w+)\s*\((?:[^(){};]|\([^(){};]*\))*\.\.\.\s*\)[^;{}]*\{")
-CALLED = re.compile(rb"(\w+)\s*\(")
+DEFINED = re.compile(r"(\w+)\s*\((?:[^(){};]|\([^(){};]*\))*\.\.\.\s*\)[^;{}]*\{")
+CALLED = re.compile(r"(\w+)\s*\(")
 # Functions of the C library that pointers are given: without those whose names are variables more often, as `error`.
 LOGGING = ("syslog", "vsyslog", "warnx", "vwarnx", "errx", "verrx")
 GIVEN = frozenset(it for it in KNOWN if it.endswith("printf") or it in LOGGING)
@@ -99,7 +92,7 @@ class Search:
         """Searches all files that may define such a function, and those that may give a pointer one, or another. What
         is defined in no other file is judged, too, so that it isn't read again.
         """
-        texts = {path: bytes_of(path) for path in self.jobs}
+        texts = {path: text_of(path) for path in self.jobs}
         is_any = any(POINTER.search(it) for it in texts.values())
         found = [path for path, text in texts.items() if MAY_DEFINE.search(text)]
         alone = alone_among({it: texts[it] for it in found})
@@ -111,7 +104,7 @@ class Search:
             values = GIVEN | {it.name for it in listed if (is_any or names) and not is_local(it.key)}
             targets = names if any(it.is_pointer for it in listed) else set()
             rest = [(path, text) for path, text in texts.items() if path not in self.facts]
-            found = [it for it, text in rest if has_one(text, values, is_value) or has_one(text, targets, is_target)]
+            found = [path for path, text in rest if has_value(text, values) or has_target(text, targets)]
 
     def search_for(self, keys: Iterable[str]) -> None:
         """Searches the files that define the functions with these keys, and those that they hand their formats on to;
@@ -119,18 +112,18 @@ class Search:
         """
         waiting: Set[str] = set(keys)
         seen: Set[str] = set()
-        texts: Dict[str, bytes] = {}
+        texts: Dict[str, str] = {}
         while waiting - seen:
             names = {name_of(it) for it in waiting - seen}
             if "" in names:
                 self.search_all()
                 return
             seen |= waiting
-            texts = texts or {path: bytes_of(path) for path in self.jobs}
+            texts = texts or {path: text_of(path) for path in self.jobs}
             self.search(
                 path
                 for path, text in texts.items()
-                if path not in self.facts and MAY_DEFINE.search(text) and has_one(text, names, is_defined)
+                if path not in self.facts and MAY_DEFINE.search(text) and has_body(text, names)
             )
             waiting = {it for one in self.facts.values() for it in needs_of(one.candidates)}
 
@@ -176,33 +169,27 @@ def paths_of(files: Files) -> Sequence[str]:
     return list(dict.fromkeys([*given, *(os.path.realpath(it) for it in beside if SOURCES.fullmatch(it))]))
 
 
-def is_value(text: bytes, start: int, end: int) -> bool:
-    return bool(AFTER.match(text, end) and BEFORE.search(text[max(0, start - LONGEST) : start]))
+def text_of(path: str) -> str:
+    """Returns a source with one character for each byte."""
+    return bytes_of(path).decode("latin-1")
 
 
-def is_target(text: bytes, start: int, end: int) -> bool:
-    return bool(ASSIGNED.match(text, end))
+def has_value(text: str, names: Iterable[str]) -> bool:
+    """Returns whether one of these names may be a value in a text."""
+    return any(is_value(text, *it) for it in names_at(text, names))
 
 
-def is_defined(text: bytes, start: int, end: int) -> bool:
-    return bool(BODY.match(text, end))
+def has_target(text: str, names: Iterable[str]) -> bool:
+    """Returns whether one of these names gets a value in a text."""
+    return any(ASSIGNED.match(text, end) for _, end in names_at(text, names))
 
 
-def has_one(text: bytes, names: Iterable[str], is_so: Any) -> bool:
-    """Returns whether one of some names is so in a text. To look for one after another is faster than a pattern of all.
-    """
-    for name in (it.encode() for it in names):
-        at = text.find(name)
-        while at >= 0:
-            end = at + len(name)
-            is_whole = not LETTER.match(text[at - 1 : at] if at else b"") and not LETTER.match(text[end : end + 1])
-            if is_whole and is_so(text, at, end):
-                return True
-            at = text.find(name, end)
-    return False
+def has_body(text: str, names: Iterable[str]) -> bool:
+    """Returns whether a text defines a function with one of these names."""
+    return any(BODY.match(text, end) for _, end in names_at(text, names))
 
 
-def alone_among(texts: Mapping[str, bytes]) -> FrozenSet[str]:
+def alone_among(texts: Mapping[str, str]) -> FrozenSet[str]:
     """Returns the files that seem to call no function with further arguments that another one defines: what is found in
     them will most likely stay.
     """

@@ -3,7 +3,7 @@ a typedef names.
 """
 
 import re
-from typing import Any, Dict, Iterator, List, Sequence, Set, Tuple
+from typing import Any, Dict, Iterable, Iterator, List, Optional, Sequence, Set, Tuple
 
 from ..source.known import KNOWN, Shape
 from .call_sites import KEYWORDS, VARIADIC, beginning, declarators, is_byte
@@ -16,8 +16,12 @@ from .parsing import CALL_EXPR, VISIT_INSIDE, Parsed
 # A declaration of a pointer to a function with a list or further arguments, or a typedef of such a function.
 POINTER = re.compile(rf"\){SPACE}\((?:[^()]|\([^()]*\))*(?:\.\.\.|va_list\s*\w*){SPACE}\)")
 TYPEDEF = re.compile(rf"typedef\b[^;{{}}]*\.\.\.{SPACE}\)")
-# What is before and after a name that may be a value, and no call; and what is after one that gets a value.
-BEFORE, AFTER = re.compile(r"[=,(?:{&.>]\s*(?:\(\s*void\s*\*\s*\)\s*)?\Z"), re.compile(r"\s*[,);}:]")
+# What is before and after a name that may be a value, and no call: what has one in parentheses after a keyword gives it to
+# nobody. And what is after one that gets a value.
+BEFORE = re.compile(
+    r"(?:[=,?:{&.>]|\*/|(?<!\bif)(?<!\breturn)(?<!\bwhile)(?<!\bswitch)\s?\()\s*(?:\(\s*void\s*\*\s*\)\s*)?\Z"
+)
+AFTER = re.compile(r"\s*[,);}:]")
 ASSIGNED = re.compile(r"\s*(?:\[[^\]=;]*\]\s*)*=(?!=)")
 LONGEST = 80
 # As the C interface of libclang numbers them: a variable, operators of two operands and of one, and a list of values.
@@ -61,7 +65,7 @@ def given_in(unit: Parsed, callees: Callees, names: Set[str], spans: Sequence[Sp
     giving = Giving(unit, callees)
     for start, end in spans:
         done = start
-        for at in sorted(at for name in wanted for at in places_of(plain, name, start, end)):
+        for at in sorted(at for at, last in names_at(plain, wanted, start, end) if is_given(plain, at, last)):
             owner = unit.cursor_at(at).semantic_parent if at >= done else None
             if owner is not None and owner.kind.name in OWNERS:
                 done = max(done, owner.extent.end.offset)
@@ -69,18 +73,25 @@ def given_in(unit: Parsed, callees: Callees, names: Set[str], spans: Sequence[Sp
     yield from giving.found.values()
 
 
-def places_of(text: str, name: str, start: int, end: int) -> Iterator[int]:
-    """Yields where a name may be a value or get one in a part of a text. To look for one after another is faster than a
-    pattern of all.
-    """
-    at = text.find(name, start, end)
-    while at >= 0:
-        last = at + len(name)
-        if not is_byte(text[at - 1]) and not is_byte(text[last : last + 1] or " "):
-            is_value = AFTER.match(text, last) and BEFORE.search(text[max(0, at - LONGEST) : at])
-            if is_value or ASSIGNED.match(text, last):
-                yield at
-        at = text.find(name, last, end)
+def names_at(text: str, names: Iterable[str], start: int = 0, end: Optional[int] = None) -> Iterator[Span]:
+    """Yields where these names are in a part of a text. To look for one after another is faster than a pattern of all."""
+    for name in names:
+        at = text.find(name, start, end)
+        while at >= 0:
+            last = at + len(name)
+            if not is_byte(text[at - 1 : at] or " ") and not is_byte(text[last : last + 1] or " "):
+                yield at, last
+            at = text.find(name, last, end)
+
+
+def is_value(text: str, at: int, last: int) -> bool:
+    """Returns whether a name may be a value."""
+    return bool(AFTER.match(text, last) and BEFORE.search(text[max(0, at - LONGEST) : at]))
+
+
+def is_given(text: str, at: int, last: int) -> bool:
+    """Returns whether a name may be a value, or get one."""
+    return is_value(text, at, last) or ASSIGNED.match(text, last) is not None
 
 
 class Giving:
