@@ -17,8 +17,8 @@ LINE = re.compile(
 
 
 class SourceDirective(NamedTuple):
-    """A directive: its word; the name that comes after it, or in angle brackets a header; where its line begins, and that
-    after its last one; and in how many `#if` it is.
+    """A directive: its word; the name that comes after it, or in angle brackets a header; where its line begins, and
+    that after its last one; and in how many `#if` it is.
     """
 
     word: bytes

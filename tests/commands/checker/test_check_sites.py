@@ -27,7 +27,10 @@ DECLARATIONS = [
     ("void f(void) { try { g(); } catch (...) { } }", set()),
     ("switch (x) { case 1 ... 2: break; }", set()),
 ]
-FRONT = '# 1 "a.c"\n# 1 "/usr/include/x.h" 1 3 4\nint say(const char *, ...);\nint in_x(void) { say("x"); }\n# 2 "a.c" 2\n'
+FRONT = (
+    '# 1 "a.c"\n# 1 "/usr/include/x.h" 1 3 4\nint say(const char *, ...);\nint in_x(void) { say("x"); }\n# 2 "a.c" 2\n'
+    ''
+)
 # Texts of a file that includes a header, and what is before each parenthesis that may be of a call.
 CALLS = [
     ('void f(void) { say("x"); }', ["say"]),

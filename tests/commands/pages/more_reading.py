@@ -51,8 +51,8 @@ def test_picture(reader, trials):
 
 
 def test_findings(reader, trials):
-    """Each line of docs/FINDINGS.md is reported, and one that is to be written isn't: by the command where it is compiled,
-    and by gcc for 32 bits alone.
+    """Each line of docs/FINDINGS.md is reported, and one that is to be written isn't: by the command where it is
+    compiled, and by gcc for 32 bits alone.
     """
     lines = LINE.findall(section(TOP / "docs/FINDINGS.md", "Calls that other systems get wrong"))
     trials.expect("lines, and one to write", (len(lines) > 4, any(it for it, _ in lines)), (True, True))
