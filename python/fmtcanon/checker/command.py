@@ -23,7 +23,7 @@ from .baseline import Baseline
 from .cache import Cache, answers_of, cache_folder
 from .changes import GitChange, change_of
 from .jobs import jobs_of, name_files
-from .options import NAME, is_writing, parsed
+from .check_options import NAME, is_writing, parsed
 from .wrapping import Search, Wrapped
 
 

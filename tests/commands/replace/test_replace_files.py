@@ -16,7 +16,7 @@ from fmtcanon.compiling.left import Left
 from fmtcanon.compiling.sources import Files
 from fmtcanon.compiling.stand_ins import StandIn, original
 from fmtcanon.frame.interrupting import Interrupted, interruptible
-from fmtcanon.rewriting.files import put_in_place
+from fmtcanon.rewriting.rewritten_files import put_in_place
 
 from tests.frame.cases import tests_of
 from tests.frame.fixtures import prepared

@@ -11,7 +11,7 @@ import unittest
 from pathlib import Path
 from unittest import mock
 
-from fmtcanon.catalogs.sources import CatalogSource, Mark
+from fmtcanon.catalogs.catalog_lines import CatalogSource, Mark
 from fmtcanon.frame import progress
 from fmtcanon.frame.excerpts import Excerpt, excerpt_lines, shown_finding
 from fmtcanon.frame.terminals import Style, columns, style_of
