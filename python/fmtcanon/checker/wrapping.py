@@ -26,8 +26,8 @@ from .cache import DAMAGED, Cache, read_unit
 # What a file has that defines such a function, and one that declares a pointer to one, or a typedef of one.
 MAY_DEFINE = re.compile(rb"va_(?:list|start)|VA_START")
 POINTER = re.compile(rb"\(\s*\*[^()]*\)\s*\([^;{}]*(?:\.\.\.|va_list)|typedef[^;{}]*\.\.\.")
-# What is before and after a name that may be a value, and no call: what has one in parentheses after a keyword gives it to
-# nobody. And what is after one that gets a value.
+# What is before and after a name that may be a value, and no call: what has one in parentheses after a keyword gives it
+# to nobody. And what is after one that gets a value.
 BEFORE = re.compile(
     rb"(?:[=,?:{&]|\*/|(?<!\bif)(?<!\breturn)(?<!\bwhile)(?<!\bswitch)\s?\()\s*(?:\(\s*void\s*\*\s*\)\s*)?\Z"
 )
@@ -35,7 +35,8 @@ AFTER, LONGEST = re.compile(rb"\s*[,);}:]"), 80
 ASSIGNED = re.compile(rb"\s*(?:\[[^\]=;]*\]\s*)*=(?!=)")
 LETTER = re.compile(rb"[\w$]")
 # After the name of a function that a text defines: its parameters, what macros say of it, and its body.
-BODY = re.compile(rb"\s*\)?\s*\((?:[^(){};]|\((?:[^(){};]|\([^(){};]*\))*\))*\)(?:[^;{}()=]|\((?:[^(){};]|\([^(){};]*\))*\))*\{")
+BRACKETS = rb"\((?:[^(){};]|\([^(){};]*\))*\)"
+BODY = re.compile(rb"\s*\)?\s*\((?:[^(){};]|" + BRACKETS + rb")*\)(?:[^;{}()=]|" + BRACKETS + rb")*\{")
 # A definition of a function with further arguments, and a name that may be called.
 DEFINED = re.compile(rb"(\w+)\s*\((?:[^(){};]|\([^(){};]*\))*\.\.\.\s*\)[^;{}]*\{")
 CALLED = re.compile(rb"(\w+)\s*\(")
@@ -65,7 +66,8 @@ class Searched(NamedTuple):
 
 class Wrapped(NamedTuple):
     """The functions that hand their formats on, and the pointers that are given only such functions; and the names of
-    functions that take their arguments by themselves; and by their files what is found in those that were judged by then.
+    functions that take their arguments by themselves; and by their files what is found in those that were judged by
+    then.
     """
 
     wrappers: Wrappers = {}
@@ -94,8 +96,8 @@ class Search:
         return Wrapped(found, frozenset(names_of_taking(listed)), self.facts)
 
     def search_all(self) -> None:
-        """Searches all files that may define such a function, and those that may give a pointer one, or another. What is
-        defined in no other file is judged, too, so that it isn't read again.
+        """Searches all files that may define such a function, and those that may give a pointer one, or another. What
+        is defined in no other file is judged, too, so that it isn't read again.
         """
         texts = {path: bytes_of(path) for path in self.jobs}
         is_any = any(POINTER.search(it) for it in texts.values())
@@ -112,8 +114,8 @@ class Search:
             found = [it for it, text in rest if has_one(text, values, is_value) or has_one(text, targets, is_target)]
 
     def search_for(self, keys: Iterable[str]) -> None:
-        """Searches the files that define the functions with these keys, and those that they hand their formats on to; all
-        files if one is a pointer, which any may give a function.
+        """Searches the files that define the functions with these keys, and those that they hand their formats on to;
+        all files if one is a pointer, which any may give a function.
         """
         waiting: Set[str] = set(keys)
         seen: Set[str] = set()
@@ -187,7 +189,8 @@ def is_defined(text: bytes, start: int, end: int) -> bool:
 
 
 def has_one(text: bytes, names: Iterable[str], is_so: Any) -> bool:
-    """Returns whether one of some names is so in a text. To look for one after another is faster than a pattern of all."""
+    """Returns whether one of some names is so in a text. To look for one after another is faster than a pattern of all.
+    """
     for name in (it.encode() for it in names):
         at = text.find(name)
         while at >= 0:

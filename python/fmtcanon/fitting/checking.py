@@ -25,7 +25,9 @@ from .unit import Settings, Unit
 
 
 class Question(NamedTuple):
-    """What is asked: the data models, the kinds of findings and of fixes that only an option adds, and how units are read."""
+    """What is asked: the data models, the kinds of findings and of fixes that only an option adds, and how units are
+    read.
+    """
 
     models: Sequence[Model]
     added: Sequence[str]
@@ -42,7 +44,8 @@ class JudgedUnit:
 
     @functools.cached_property
     def models(self) -> Sequence[Model]:
-        """The data models that are asked about, without that of 64-bit Windows among others if the unit can't be there."""
+        """The data models that are asked about, without that of 64-bit Windows among others if the unit can't be there.
+        """
         asked = self.question.models
         rest = [it for it in asked if it is not LLP64.model]
         return rest if rest and len(rest) < len(asked) and self.unit.is_abroad() else asked
@@ -211,7 +214,8 @@ def answer(job: Job) -> Answer:
             called = frozenset(it for one in units for it in one.needed())
             names = frozenset(it for one in units for it in one.names)
             included = frozenset(it for one in units for it in job.told & one.files()) if job.told else job.told
-            result = result._replace(is_whole=True, called=called, candidates=candidates, names=names, included=included)
+            result = result._replace(is_whole=True, called=called, candidates=candidates)
+            result = result._replace(names=names, included=included)
     except Left as why:
         add_left(result, job.question, str(why))
     if len(fixes) < len(job.commands):
@@ -269,7 +273,8 @@ def add_left(answer: Answer, question: Question, why: str) -> None:
 def add(answer: Answer, one: JudgedUnit) -> None:
     """Adds what is found in a unit."""
     unit, result, models = one.unit, one.result, one.question.models
-    abroad = {key_of(it, SIZE, one.spot_of(it)) for it in result.faults if not one.kind_of(it) and one.is_only_abroad(it)}
+    faults = (it for it in result.faults if not one.kind_of(it) and one.is_only_abroad(it))
+    abroad = {key_of(it, SIZE, one.spot_of(it)) for it in faults}
     answer.counts["abroad"] += len(abroad)
     answer.counts.update(formats=result.formats, arguments=result.arguments, unread_calls=len(unit.unread))
     answer.others.update(unit.others)
