@@ -81,7 +81,7 @@ def test_formats_in_headers():
 
 @held
 def test_an_included_file_that_is_staged_in_part():
-    """With --cached, an included file of any ending that isn't judged as it is staged is told, and only if it is included."""
+    """With --cached, an included file of any ending that isn't judged as it is staged is named, and no other file."""
     table = 'void f(size_t n) { printf("%zu\\n", n); }\n'
     folder = Folder()
     folder.committed(a_c=HEAD + '#include "m.tbl"\n')
